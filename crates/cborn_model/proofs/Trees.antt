@@ -1,0 +1,78 @@
+-- The definitions over nodes, in std's words: nodes one after another, their number, and how deep they are.
+use Rattle.std.proofs.Common.{◌≡◌, ℕ, ◌+◌, ◌<◌, ◌≤◌, max, List, [], ◌∷◌, ◌++◌, length, take, get_or, refl, sym, ap, ◌∙◌, subst, arith}
+use Rattle.std.specs.List.{flat_map}
+use Rattle.std.proofs.lemmas.List.{take_more}
+use Rattle.std.proofs.lemmas.List.Recursion.{max_push, max_bounds}
+use Rattle.cborn_model.specs.Tree.{Tree, trees, entries, count, count_entries, depth, depth_all, depth_entries}
+use Rattle.cborn_model.specs.Spelled.{spelled, spelled_all, spelled_entries}
+
+abbrev pub spelled_pair : Tree × Tree → List ℕ
+spelled_pair p = spelled p.0 ++ spelled p.1
+
+abbrev pub pair_depth : Tree × Tree → ℕ
+pair_depth p = max (depth p.0) (depth p.1)
+
+pub spelled_all-trees : (xs : List Tree) → spelled_all (trees xs) ≡ flat_map spelled xs
+spelled_all-trees [] = refl
+spelled_all-trees (x ∷ xs) = ap (λ b. spelled x ++ b) (spelled_all-trees xs)
+
+pub spelled_entries-entries : (xs : List (Tree × Tree)) → spelled_entries (entries xs) ≡ flat_map spelled_pair xs
+spelled_entries-entries [] = refl
+spelled_entries-entries (x ∷ xs) =
+    ap (λ b. spelled x.0 ++ spelled x.1 ++ b) (spelled_entries-entries xs)
+
+pub count-trees : (xs : List Tree) → count (trees xs) ≡ length xs
+count-trees [] = refl
+count-trees (x ∷ xs) = omega (arith, count-trees xs)
+
+pub count_entries-entries : (xs : List (Tree × Tree)) → count_entries (entries xs) ≡ length xs
+count_entries-entries [] = refl
+count_entries-entries (x ∷ xs) = omega (arith, count_entries-entries xs)
+
+pub trees-injective : (xs ys : List Tree) → trees xs ≡ trees ys → xs ≡ ys
+trees-injective [] [] e = refl
+trees-injective [] (y ∷ ys) e = cc
+trees-injective (x ∷ xs) [] e = cc
+trees-injective (x ∷ xs) (y ∷ ys) e =
+    let first : x ≡ y = cc in
+    let others : trees xs ≡ trees ys = cc in rw (first, trees-injective xs ys others)
+
+same_pair : (a b c d : Tree) → a ≡ c → b ≡ d → let p : Tree × Tree = (a, b) in p ≡ (c, d)
+same_pair a b c d e f = rw (e, f)
+
+pub entries-injective : (xs ys : List (Tree × Tree)) → entries xs ≡ entries ys → xs ≡ ys
+entries-injective [] [] e = refl
+entries-injective [] (y ∷ ys) e = cc
+entries-injective (x ∷ xs) [] e = cc
+entries-injective (x ∷ xs) (y ∷ ys) e =
+    let first : x.0 ≡ y.0 = cc in
+    let second : x.1 ≡ y.1 = cc in
+    let others : entries xs ≡ entries ys = cc in
+    let pair : x ≡ y = same_pair x.0 x.1 y.0 y.1 first second in
+    rw (pair, entries-injective xs ys others)
+
+-- one more child, as a loop over the children meets it
+pub depth-take_more : (xs : List Tree) (i : ℕ) (x : Tree) → i < length xs → x ≡ get_or xs i x → depth_all (trees (take (i + 1) xs)) ≡ max (depth_all (trees (take i xs))) (depth x)
+depth-take_more xs i x h e =
+    let F : List Tree → ℕ = λ ts. depth_all (trees ts) in
+    ap F (take_more xs i x h) ∙ max_push F depth refl (λ _ _. refl) (take i xs) (get_or xs i x) ∙ ap (λ y. max (F (take i xs)) (depth y)) (sym e)
+
+pub pair_depth-take_more : (xs : List (Tree × Tree)) (i : ℕ) (x : Tree × Tree) → i < length xs → x ≡ get_or xs i x → depth_entries (entries (take (i + 1) xs)) ≡ max (depth_entries (entries (take i xs))) (max (depth x.0) (depth x.1))
+pair_depth-take_more xs i x h e =
+    let F : List (Tree × Tree) → ℕ = λ ps. depth_entries (entries ps) in
+    ap F (take_more xs i x h) ∙ max_push F pair_depth refl (λ _ _. refl) (take i xs) (get_or xs i x) ∙ ap (λ y. max (F (take i xs)) (pair_depth y)) (sym e)
+
+-- a child is no deeper than all of them
+pub depth_of_item : (xs : List Tree) (i : ℕ) (x : Tree) → i < length xs → x ≡ get_or xs i x → depth x ≤ depth_all (trees xs)
+depth_of_item xs i x h e =
+    let bound = max_bounds (λ ts. depth_all (trees ts)) depth refl (λ _ _. refl) xs i x h in
+    subst (λ (y : Tree). depth y ≤ depth_all (trees xs)) (sym e) bound
+
+pub depth_of_pair : (xs : List (Tree × Tree)) (i : ℕ) (x : Tree × Tree) → i < length xs → x ≡ get_or xs i x → pair_depth x ≤ depth_entries (entries xs)
+depth_of_pair xs i x h e =
+    let bound = max_bounds (λ ps. depth_entries (entries ps)) pair_depth refl (λ _ _. refl) xs i x h in
+    subst (λ (y : Tree × Tree). pair_depth y ≤ depth_entries (entries xs)) (sym e) bound
+
+pub ruleset depths = (depth-take_more, pair_depth-take_more)
+
+pub ruleset spellings = (spelled_all-trees, spelled_entries-entries, count-trees, count_entries-entries)

@@ -1,0 +1,12 @@
+use Rattle.std.proofs.Common.{arith}
+use Rattle.cborn_model.proofs.OneMagnitude.{read_more}
+use Rattle.cborn_model.proofs.SomeMagnitude.{number_above}
+use Rattle.cborn_model.proofs.magnitudes.word_of.Goals as goal
+
+pub returns-then-n-ge72057594037927936-clause-number : goal.returns-then-n-ge72057594037927936-clause-number
+returns-then-n-ge72057594037927936-clause-number c =
+    number_above c.args.bytes.now c.loop-byte.byte-index c.loop-byte.n (omega arith) (omega arith) c.loop-byte.invariant
+
+pub loop-byte-preserved : goal.loop-byte-preserved
+loop-byte-preserved c =
+    read_more c.args.bytes.now c.loop-byte.byte-index c.loop-byte.n 0 (omega arith) c.loop-byte.invariant

@@ -1,0 +1,23 @@
+use Rattle.std.proofs.Common.{arith}
+use Rattle.cborn_model.proofs.Trees.{depth-take_more, pair_depth-take_more, depth_of_item, depth_of_pair}
+use Rattle.cborn_model.proofs.spellings.+depth.Goals as goal
+
+pub items_depth-depth-requires : goal.items_depth-depth-requires
+items_depth-depth-requires t c =
+    (omega (arith, depth_of_item c.args.items.now c.loop-item.item-index c.item-item.result (omega arith) c.item-item.is), tt)
+
+pub items_depth-loop-item-preserved : goal.items_depth-loop-item-preserved
+items_depth-loop-item-preserved t c =
+    omega (arith, depth-take_more c.args.items.now c.loop-item.item-index c.item-item.result (omega arith) c.item-item.is)
+
+pub pairs_depth-depth-requires : goal.pairs_depth-depth-requires
+pairs_depth-depth-requires t c =
+    (omega (arith, depth_of_pair c.args.pairs.now c.loop-key.key-index c.loop-key-item.result (omega arith) c.loop-key-item.is), tt)
+
+pub pairs_depth-depth-requires-in-loop-key : goal.pairs_depth-depth-requires-in-loop-key
+pairs_depth-depth-requires-in-loop-key t c =
+    (omega (arith, depth_of_pair c.args.pairs.now c.loop-key.key-index c.loop-key-item.result (omega arith) c.loop-key-item.is), tt)
+
+pub pairs_depth-loop-key-preserved : goal.pairs_depth-loop-key-preserved
+pairs_depth-loop-key-preserved t c =
+    omega (arith, pair_depth-take_more c.args.pairs.now c.loop-key.key-index c.loop-key-item.result (omega arith) c.loop-key-item.is)

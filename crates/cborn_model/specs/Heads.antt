@@ -1,0 +1,85 @@
+-- Heads (RFC 8949 section 3): an initial byte with the major type in its high three bits and the additional information in its low five, and the bytes of an argument that follows it.
+use Rattle.std.specs.Prelude.{◌≡◌, ℕ, ◌+◌, ◌*◌, ◌^◌, ◌<◌, List, [], ◌∷◌, if◌then◌else◌, nat_lt}
+use Rattle.std.specs.Int.{w16, w32, w64, to_be_bytes}
+use Rattle.cborn_model.specs.declared.heads.Width.{Width}
+use Rattle.cborn_model.specs.declared.heads.Width.TheVariants.{Direct, One, Two, Four, Eight}
+use Rattle.cborn_model.specs.declared.heads.Size.{Size}
+use Rattle.cborn_model.specs.declared.heads.Size.TheVariants.{Fixed, Endless}
+
+-- the eight major types, from 0 to 7
+pub data Major : Type 0 where
+  Unsigned Negative ByteString TextString Array Map Tag Other : Major
+
+abbrev pub code : Major → ℕ
+code Unsigned = 0
+code Negative = 1
+code ByteString = 2
+code TextString = 3
+code Array = 4
+code Map = 5
+code Tag = 6
+code Other = 7
+
+-- a head of this width has room for the argument n
+abbrev pub Holds : Width → ℕ → Type 0
+Holds Direct n = n < 24
+Holds One n = n < 256
+Holds Two n = n < 2 ^ 16
+Holds Four n = n < 2 ^ 32
+Holds Eight n = n < 2 ^ 64
+
+-- the additional information
+abbrev pub information : Width → ℕ → ℕ
+information Direct n = n
+information One n = 24
+information Two n = 25
+information Four n = 26
+information Eight n = 27
+
+-- the bytes of the argument behind the initial byte, the highest first
+abbrev pub following : Width → ℕ → List ℕ
+following Direct n = []
+following One n = n ∷ []
+following Two n = to_be_bytes w16 n
+following Four n = to_be_bytes w32 n
+following Eight n = to_be_bytes w64 n
+
+-- the bytes of a head of the major type with this number
+abbrev pub head_bytes : ℕ → Width → ℕ → List ℕ
+head_bytes major w n = (32 * major + information w n) ∷ following w n
+
+-- x is the head of the major type with the argument n
+abbrev pub IsHead : ℕ → Width → ℕ → List ℕ → Type 0
+IsHead major w n x = Holds w n × (x ≡ head_bytes major w n)
+
+-- the first width that has room for n
+abbrev pub least : ℕ → Width
+least n =
+    if nat_lt n 24 then Direct
+    else if nat_lt n 256 then One
+    else if nat_lt n (2 ^ 16) then Two
+    else if nat_lt n (2 ^ 32) then Four
+    else Eight
+
+-- x is the shortest head of the major type with the argument n (RFC 8949 section 4.2.1)
+abbrev pub IsLeastHead : ℕ → ℕ → List ℕ → Type 0
+IsLeastHead major n x = IsHead major (least n) n x
+
+-- what a head says beside its major type: an argument, or that the length is indefinite
+pub data Argument : Type 0 where
+  Given : Width → ℕ → Argument
+  Unbounded : Argument
+
+abbrev pub head : Major → Argument → List ℕ
+head m (Given w n) = head_bytes (code m) w n
+head m Unbounded = (32 * code m + 31) ∷ []
+
+-- of an array or a map of n entries
+abbrev pub argument : Size → ℕ → Argument
+argument (Fixed w) n = Given w n
+argument Endless n = Unbounded
+
+-- n entries fit the head
+abbrev pub SizeFits : Size → ℕ → Type 0
+SizeFits (Fixed w) n = Holds w n
+SizeFits Endless n = Unit {0}

@@ -1,0 +1,27 @@
+-- The two orders of keys by their encodings (RFC 8949 sections 4.2.1 and 4.2.3), and when keys rise.
+use Rattle.std.specs.Prelude.{◌≡◌, ℕ, List, [], ◌∷◌, length, ⊤}
+use Rattle.std.specs.declared.cmp.Ordering.{Ordering}
+use Rattle.std.specs.declared.cmp.Ordering.TheVariants.{Less, Equal}
+use Rattle.std.specs.Ordering.{nat_cmp, ordering_then, ordering_reverse}
+use Rattle.std.specs.Cmp.Lexicographic.{slice_cmp}
+
+-- what any order of keys has
+pub record IsKeyOrder (order : List ℕ → List ℕ → Ordering) : Type 0 where
+  pub exact : (a b : List ℕ) → order a b ≡ Equal → a ≡ b
+  pub itself : (a : List ℕ) → order a a ≡ Equal
+  pub turned : (a b : List ℕ) → order b a ≡ ordering_reverse (order a b)
+  pub along : (a b c : List ℕ) → order a b ≡ Less → order b c ≡ Less → order a c ≡ Less
+
+-- lexicographic on bytes: a proper prefix comes first
+abbrev pub bytewise : List ℕ → List ℕ → Ordering
+bytewise = slice_cmp nat_cmp
+
+-- the shorter first, and equal lengths bytewise
+abbrev pub length_first : List ℕ → List ℕ → Ordering
+length_first a b = ordering_then (nat_cmp (length a) (length b)) (bytewise a b)
+
+-- each key is below the next
+abbrev pub Rising : (List ℕ → List ℕ → Ordering) → List (List ℕ) → Type 0
+Rising order [] = ⊤
+Rising order (k ∷ []) = ⊤
+Rising order (k ∷ l ∷ ks) = (order k l ≡ Less) × Rising order (l ∷ ks)

@@ -1,0 +1,31 @@
+//! Laws of the definitions. Each function's contract is the law, and its body says nothing more.
+
+ghost use Rattle.std.specs.Prelude.{◌≡◌};
+ghost use Rattle.cborn_model.specs.Value.{Value, Values, Same, SameValues};
+
+use crate::Limit;
+
+/// Each item is the same as itself.
+pub fn same_itself()
+    ensures items { (a : Value) → Same a a }
+    ensures sequences { (a : Values) → SameValues a a }
+{}
+
+/// If one item is the same as another, that is the same as the one.
+pub fn same_turned()
+    ensures items { (a b : Value) → Same a b → Same b a }
+    ensures sequences { (a b : Values) → SameValues a b → SameValues b a }
+{}
+
+/// Items that are the same as one between them are the same.
+pub fn same_chained()
+    ensures items { (a b c : Value) → Same a b → Same b c → Same a c }
+    ensures sequences { (a b c : Values) → SameValues a b → SameValues b c → SameValues a c }
+{}
+
+/// The usual limit, which is 128.
+pub fn usual_limit() -> Limit
+    ensures { result ≡ 128 }
+{
+    Limit::USUAL
+}

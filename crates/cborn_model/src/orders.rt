@@ -1,0 +1,47 @@
+//! Orders of keys by their encodings (RFC 8949 sections 4.2.1 and 4.2.3).
+
+ghost use Rattle.std.specs.Prelude.{◌≡◌, ℕ, List};
+ghost use Rattle.std.proofs.Common.{Ordering};
+ghost use Rattle.cborn_model.specs.Orders.{IsKeyOrder, bytewise, length_first};
+ghost use Rattle.cborn_model.specs.OrderLaws.{bytewise_order, length_first_order};
+
+use std::cmp::Ordering;
+
+/// An order of keys by their encodings.
+pub trait KeyOrder {
+    /// How two lists of bytes compare.
+    ghost order: { List ℕ → List ℕ → Ordering };
+
+    /// How `a` compares with `b`. Takes no memory.
+    fn compare(a: &[u8], b: &[u8]) -> Ordering
+        ensures { result ≡ order a.now b.now };
+
+    /// Only equal lists tie; turning the arguments round turns the answer round; less than is transitive.
+    ghost laws: { IsKeyOrder order };
+}
+
+/// Lexicographic on bytes: a proper prefix comes first (RFC 8949 section 4.2.1).
+pub struct Bytewise;
+
+impl KeyOrder for Bytewise {
+    ghost order = { bytewise };
+
+    fn compare(a: &[u8], b: &[u8]) -> Ordering {
+        a.cmp(b)
+    }
+
+    ghost laws = { bytewise_order };
+}
+
+/// The shorter first, and equal lengths bytewise (RFC 8949 section 4.2.3).
+pub struct LengthFirst;
+
+impl KeyOrder for LengthFirst {
+    ghost order = { length_first };
+
+    fn compare(a: &[u8], b: &[u8]) -> Ordering {
+        a.len().cmp(&b.len()).then(a.cmp(b))
+    }
+
+    ghost laws = { length_first_order };
+}

@@ -1,0 +1,177 @@
+//! Nodes that spell bytes.
+
+ghost use Rattle.std.specs.Prelude.{◌≡◌, ◌-◌, ◌^◌, ◌↔◌, min, length, IsTrue};
+ghost use Rattle.cborn_model.specs.Heads.{Holds, SizeFits};
+ghost use Rattle.cborn_model.specs.Tree.{depth, depth_all, depth_entries, trees, entries};
+ghost use Rattle.cborn_model.specs.Spelled.{Fits, FitsAll, FitsEntries, ChunksFit, IsSpelled};
+
+use crate::{Chunk, Form, Node, Size, Width};
+use std::marker::Model;
+
+/// A node that spells some bytes and is at most 1,024 deep.
+#[derive(Drop)]
+pub struct Spelled {
+    node: Node,
+}
+
+impl Model for Spelled {
+    ghost use Rattle.cborn_model.specs.Tree.{Tree};
+    ghost use Rattle.cborn_model.specs.TreeCode.{tree_code};
+
+    ghost Value = { Tree };
+
+    ghost coded = { tree_code };
+
+    ghost use Rattle.cborn_model.specs.Spelled.{IsSpelled};
+
+    ghost view = { λ s. s.node };
+
+    ghost invariant = { λ s. IsSpelled s.node };
+}
+
+impl Spelled {
+    /// Keeps `node`. Takes no memory.
+    pub fn new(node: Node) -> Spelled
+        requires { IsSpelled node }
+        ensures { result ≡ node }
+    {
+        Spelled { node }
+    }
+
+    /// The node.
+    pub fn node(&self) -> &Node
+        ensures same { result.now ≡ self.now }
+        ensures spelled { IsSpelled self.now }
+    {
+        &self.node
+    }
+
+    /// Gives the node back.
+    pub fn into_node(self) -> Node
+        ensures same { result ≡ self }
+        ensures spelled { IsSpelled self }
+    {
+        self.node
+    }
+}
+
+/// How many arrays, maps and tags stand around the deepest part of `node`, or `u64::MAX` where that
+/// is more. Takes no memory.
+#[cycle(depth)]
+pub fn depth(node: &Node) -> u64
+    ensures { result ≡ min (depth node.now) (2 ^ 64 - 1) }
+{
+    match &node.form {
+        Form::Items(_, items) => items_depth(items).saturating_add(1),
+        Form::Pairs(_, pairs) => pairs_depth(pairs).saturating_add(1),
+        Form::Tagged(_, _, item) => depth(item).saturating_add(1),
+        _ => 0,
+    }
+}
+
+#[cycle(depth)]
+fn items_depth(items: &[Node]) -> u64
+    ensures { result ≡ min (depth_all (trees items.now)) (2 ^ 64 - 1) }
+{
+    let mut deepest = 0u64;
+    for item in items {
+        deepest = deepest.max(depth(item));
+    }
+    deepest
+}
+
+#[cycle(depth)]
+fn pairs_depth(pairs: &[(Node, Node)]) -> u64
+    ensures { result ≡ min (depth_entries (entries pairs.now)) (2 ^ 64 - 1) }
+{
+    let mut deepest = 0u64;
+    for (key, value) in pairs {
+        deepest = deepest.max(depth(key)).max(depth(value));
+    }
+    deepest
+}
+
+/// Whether `node` spells bytes: each argument, length and count fits its width, no simple value is
+/// from 24 to 31, and the depth is at most 1,024. Takes no memory.
+pub fn fits(node: &Node) -> bool
+    ensures { IsTrue result ↔ IsSpelled node.now }
+{
+    depth(node) <= 1024 && has_room(node)
+}
+
+/// Whether each argument, length and count fits its width, and no simple value is from 24 to 31.
+#[cycle(has_room)]
+fn has_room(node: &Node) -> bool
+    ensures { IsTrue result ↔ Fits node.now }
+{
+    match &node.form {
+        Form::Uint(width, n) => holds(*width, *n),
+        Form::Nint(width, n) => holds(*width, *n),
+        Form::Bytes(width, bytes) => holds(*width, bytes.as_slice().len() as u64),
+        Form::Text(width, bytes) => holds(*width, bytes.as_slice().len() as u64),
+        Form::ByteChunks(chunks) => chunks_fit(chunks),
+        Form::TextChunks(chunks) => chunks_fit(chunks),
+        Form::Items(size, items) => size_fits(*size, items.len() as u64) && items_have_room(items),
+        Form::Pairs(size, pairs) => size_fits(*size, pairs.len() as u64) && pairs_have_room(pairs),
+        Form::Tagged(width, n, item) => holds(*width, *n) && has_room(item),
+        Form::Simple(n) => *n < 24 || *n >= 32,
+    }
+}
+
+#[cycle(has_room)]
+fn items_have_room(items: &[Node]) -> bool
+    ensures { IsTrue result ↔ FitsAll (trees items.now) }
+{
+    for item in items {
+        if !has_room(item) {
+            return false;
+        }
+    }
+    true
+}
+
+#[cycle(has_room)]
+fn pairs_have_room(pairs: &[(Node, Node)]) -> bool
+    ensures { IsTrue result ↔ FitsEntries (entries pairs.now) }
+{
+    for (key, value) in pairs {
+        if !has_room(key) || !has_room(value) {
+            return false;
+        }
+    }
+    true
+}
+
+fn chunks_fit(chunks: &[Chunk]) -> bool
+    ensures { IsTrue result ↔ ChunksFit chunks.now }
+{
+    for chunk in chunks {
+        if !holds(chunk.width, chunk.bytes.as_slice().len() as u64) {
+            return false;
+        }
+    }
+    true
+}
+
+/// Whether a head of this width has room for `n`.
+fn holds(width: Width, n: u64) -> bool
+    ensures { IsTrue result ↔ Holds width n }
+{
+    match width {
+        Width::Direct => n < 24,
+        Width::One => n < 256,
+        Width::Two => n < 65536,
+        Width::Four => n < 4294967296,
+        Width::Eight => true,
+    }
+}
+
+/// Whether an array or a map of `n` entries may have this size.
+fn size_fits(size: Size, n: u64) -> bool
+    ensures { IsTrue result ↔ SizeFits size n }
+{
+    match size {
+        Size::Fixed(width) => holds(width, n),
+        Size::Endless => true,
+    }
+}

@@ -1,0 +1,190 @@
+//! Items that are valid.
+
+ghost use Rattle.std.specs.Prelude.{◌≡◌, ◌-◌, ◌^◌, ◌<◌, ◌↔◌, min, map, length, string_bytes, IsTrue, IsUtf8};
+ghost use Rattle.cborn_model.specs.Bytes.{AreBytes, IsShortest};
+ghost use Rattle.cborn_model.specs.ItemView.{item_value, pair_value};
+ghost use Rattle.cborn_model.specs.Value.{values_of, pairs_of};
+ghost use Rattle.cborn_model.specs.Valid.{HasNewKeys, IsProper, AreProper, HasProperPairs, IsValid, value_depth, values_depth, pairs_depth};
+
+use crate::comparisons::value_of;
+use crate::{ByteString, Item, Magnitude, Number};
+use std::marker::Model;
+
+/// A valid item (RFC 8949 section 5.3), at most 1,024 deep.
+#[derive(Drop)]
+pub struct Valid {
+    item: Item,
+}
+
+impl Model for Valid {
+    ghost use Rattle.cborn_model.specs.Value as model;
+    ghost use Rattle.cborn_model.specs.ValueCode.{value_code};
+
+    ghost Value = { model.Value };
+
+    ghost coded = { value_code };
+
+    ghost use Rattle.cborn_model.specs.ItemView.{item_value};
+    ghost use Rattle.cborn_model.specs.Valid.{IsValid};
+
+    ghost view = { λ v. item_value v.item };
+
+    ghost invariant = { λ v. IsValid (item_value v.item) };
+}
+
+impl Valid {
+    /// Keeps `item`. Takes no memory.
+    pub fn new(item: Item) -> Valid
+        requires { IsValid (item_value item) }
+        ensures { result ≡ item_value item }
+    {
+        Valid { item }
+    }
+
+    /// The item.
+    pub fn item(&self) -> &Item
+        ensures same { item_value result.now ≡ self.now }
+        ensures valid { IsValid self.now }
+    {
+        &self.item
+    }
+
+    /// Gives the item back.
+    pub fn into_item(self) -> Item
+        ensures same { item_value result ≡ self }
+        ensures valid { IsValid self }
+    {
+        self.item
+    }
+}
+
+/// Whether `item` is valid and at most 1,024 deep: magnitudes without leading zeros, no tag 2 or 3,
+/// no simple value from 24 to 31, and no two keys of a map the same (RFC 8949 sections 3.4.3 and
+/// 5.3). An integer outside 64 bits counts as one deep. Takes no memory. The keys of a map are
+/// compared each with each.
+pub fn is_valid(item: &Item) -> bool
+    ensures { IsTrue result ↔ IsValid (item_value item.now) }
+{
+    is_proper(item) && item_depth(item) <= 1024
+}
+
+/// Whether `item` is valid, however deep.
+#[cycle(is_proper)]
+fn is_proper(item: &Item) -> bool
+    ensures { IsTrue result ↔ IsProper (item_value item.now) }
+{
+    match item {
+        Item::Int { magnitude, .. } => is_proper_magnitude(magnitude),
+        Item::Bytes(bytes) => is_proper_string(bytes),
+        Item::Text(text) => is_proper_text(text),
+        Item::Items(items) => are_proper(items.as_slice()),
+        Item::Pairs(pairs) => {
+            let pairs = pairs.as_slice();
+            has_proper_pairs(pairs) && has_new_keys(pairs)
+        }
+        Item::Tagged(tag, content) => *tag != 2 && *tag != 3 && is_proper(content.get()),
+        Item::Simple(n) => *n < 24 || *n >= 32,
+    }
+}
+
+#[cycle(is_proper)]
+fn are_proper(items: &[Item]) -> bool
+    ensures { IsTrue result ↔ AreProper (values_of (map item_value items.now)) × (length items.now < 2 ^ 64) }
+{
+    for item in items {
+        if !is_proper(item) {
+            return false;
+        }
+    }
+    true
+}
+
+#[cycle(is_proper)]
+fn has_proper_pairs(pairs: &[(Item, Item)]) -> bool
+    ensures { IsTrue result ↔ HasProperPairs (pairs_of (map pair_value pairs.now)) × (length pairs.now < 2 ^ 64) }
+{
+    for (key, value) in pairs {
+        if !is_proper(key) || !is_proper(value) {
+            return false;
+        }
+    }
+    true
+}
+
+/// Whether no two keys are the same.
+fn has_new_keys(pairs: &[(Item, Item)]) -> bool
+    requires { HasProperPairs (pairs_of (map pair_value pairs.now)) }
+    ensures { IsTrue result ↔ HasNewKeys (pairs_of (map pair_value pairs.now)) }
+{
+    let mut rest = pairs;
+    while let [pair, after @ ..] = rest {
+        if value_of(after, &pair.0).is_some() {
+            return false;
+        }
+        rest = after;
+    }
+    true
+}
+
+/// Whether there is no leading zero: the type has the bounds.
+fn is_proper_magnitude(magnitude: &Magnitude) -> bool
+    ensures { IsTrue result ↔ AreBytes magnitude.now × IsShortest magnitude.now × (length magnitude.now < 2 ^ 64) }
+{
+    let _number = magnitude.number();
+    magnitude.is_shortest()
+}
+
+/// Always: the type has the bounds.
+fn is_proper_string(bytes: &ByteString) -> bool
+    ensures { IsTrue result ↔ AreBytes bytes.now × (length bytes.now < 2 ^ 64) }
+{
+    let _length = bytes.as_slice().len();
+    true
+}
+
+/// Always: the type has the bounds.
+fn is_proper_text(text: &String) -> bool
+    ensures { IsTrue result ↔ IsUtf8 (string_bytes text.now) × (length (string_bytes text.now) < 2 ^ 64) }
+{
+    let _length = text.as_str().len();
+    true
+}
+
+/// How deep `item` is, or `u64::MAX` where that is more.
+#[cycle(item_depth)]
+fn item_depth(item: &Item) -> u64
+    ensures { result ≡ min (value_depth (item_value item.now)) (2 ^ 64 - 1) }
+{
+    match item {
+        Item::Int { magnitude, .. } => match magnitude.number() {
+            Number::Word(_) => 0,
+            Number::Long(_) => 1,
+        },
+        Item::Items(items) => items_depth(items.as_slice()).saturating_add(1),
+        Item::Pairs(pairs) => pairs_depth(pairs.as_slice()).saturating_add(1),
+        Item::Tagged(_, content) => item_depth(content.get()).saturating_add(1),
+        _ => 0,
+    }
+}
+
+#[cycle(item_depth)]
+fn items_depth(items: &[Item]) -> u64
+    ensures { result ≡ min (values_depth (values_of (map item_value items.now))) (2 ^ 64 - 1) }
+{
+    let mut deepest = 0u64;
+    for item in items {
+        deepest = deepest.max(item_depth(item));
+    }
+    deepest
+}
+
+#[cycle(item_depth)]
+fn pairs_depth(pairs: &[(Item, Item)]) -> u64
+    ensures { result ≡ min (pairs_depth (pairs_of (map pair_value pairs.now))) (2 ^ 64 - 1) }
+{
+    let mut deepest = 0u64;
+    for (key, value) in pairs {
+        deepest = deepest.max(item_depth(key)).max(item_depth(value));
+    }
+    deepest
+}
