@@ -1,0 +1,163 @@
+-- What `read_head` answers, at each kind of initial byte.
+use Rattle.std.proofs.Common.{◌≡◌, refl, sym, ap, ◌∙◌, subst, ℕ, zero, suc, ◌+◌, ◌-◌, ◌*◌, ◌/◌, ◌%◌, ◌<◌, ◌≤◌, List, [], ◌∷◌, ◌++◌, length, take, drop, get_or, true, false, None, arith, length-append}
+use Rattle.std.proofs.lemmas.List.{take-append-drop, length-take-le}
+use Rattle.cborn_model.specs.Bytes.{AreBytes}
+use Rattle.cborn_model.specs.declared.heads.Width.{Width}
+use Rattle.cborn_model.specs.declared.heads.Width.TheVariants.{Direct}
+use Rattle.cborn_model.specs.Heads.{Major, Unsigned, Negative, ByteString, TextString, Array, Map, Tag, Other, code, information, following}
+use Rattle.cborn_model.specs.Heads as heads
+use Rattle.cborn_wire.specs.declared.heads.Argument.TheVariants.{Given, Endless}
+use Rattle.cborn_wire.specs.declared.heads.HeadRead.{HeadRead}
+use Rattle.cborn_wire.specs.HeadReading.{reason_alone, IsHeadOf, IsFrontOfHead, ReadsHead}
+use Rattle.cborn_wire.specs.Slots.{element_or_end}
+use Rattle.cborn_wire.specs.Faults.{Info, Now, Next, Unended, Reserved, major_at, info_at, is_unended, is_always_bounded, is_other, reason_of}
+use Rattle.cborn_wire.specs.Machine.{width_bytes, number}
+use Rattle.cborn_wire.proofs.AllBytes.{bytes-append, bytes-left}
+use Rattle.cborn_wire.proofs.TakesHeads.{info_at-now}
+use Rattle.cborn_wire.proofs.SoundRuns.{code_at, IsWide, InfoIs, info_is, again, wide_information}
+
+module _ (y : List ℕ) where
+  now_free : (m : Major) (n : ℕ) → reason_of element_or_end false m (Now n) y ≡ None
+  now_free Unsigned n = refl
+  now_free Negative n = refl
+  now_free ByteString n = refl
+  now_free TextString n = refl
+  now_free Array n = refl
+  now_free Map n = refl
+  now_free Tag n = refl
+  now_free Other n = refl
+
+  endless_free : (m : Major) → is_always_bounded m ≡ false → reason_of element_or_end false m Unended y ≡ None
+  endless_free Unsigned e = cc
+  endless_free Negative e = cc
+  endless_free ByteString e = refl
+  endless_free TextString e = refl
+  endless_free Array e = refl
+  endless_free Map e = refl
+  endless_free Tag e = cc
+  endless_free Other e = refl
+
+  pub direct_head : (b : ℕ) → b < 256 → b % 32 < 24 → IsHeadOf (b ∷ y) (record { major = b / 32; argument = Given Direct (b % 32) }) 1
+  direct_head b small h =
+      let same : b ≡ 32 * code (major_at (b / 32)) + b % 32 = omega (arith, code_at (b / 32) (omega arith)) in
+      record {
+        rest = y;
+        major = omega arith;
+        fits = h;
+        whole = ap (λ c. c ∷ y) same;
+        len = refl;
+        free = ap (λ i. reason_of element_or_end false (major_at (b / 32)) i y) (info_at-now (b % 32) h) ∙ now_free (major_at (b / 32)) (b % 32);
+      }
+
+  pub endless_head : (b m : ℕ) → m < 8 → b / 32 ≡ m → info_at (b % 32) ≡ Unended → is_always_bounded (major_at m) ≡ false → IsHeadOf (b ∷ y) (record { major = m; argument = Endless }) 1
+  endless_head b m small e i free =
+      let low : b % 32 ≡ 31 = subst (InfoIs (b % 32)) i (info_is (b % 32)) in
+      let same : b ≡ 32 * code (major_at m) + 31 = omega (arith, code_at m small, e, low) in
+      record {
+        rest = y;
+        major = small;
+        fits = tt;
+        whole = ap (λ c. c ∷ y) same;
+        len = refl;
+        free = ap (λ n. reason_of element_or_end false (major_at n) (info_at (b % 32)) y) e ∙ ap (λ j. reason_of element_or_end false (major_at m) j y) i ∙ endless_free (major_at m) free;
+      }
+
+  -- the initial byte of a head with a wide argument
+  wide_first : (b m n : ℕ) (w : Width) → m < 8 → b / 32 ≡ m → info_at (b % 32) ≡ Next w → (b ≡ 32 * code (major_at m) + information w n) × IsWide w
+  wide_first b m n w small e i =
+      let low : (b % 32 ≡ information w 0) × IsWide w = subst (InfoIs (b % 32)) i (info_is (b % 32)) in
+      (omega (arith, code_at m small, e, low.0, wide_information w n low.1), low.1)
+
+  pub wide_head : (b m n k : ℕ) (w : Width) → m < 8 → b / 32 ≡ m → info_at (b % 32) ≡ Next w → AreBytes y → width_bytes w ≤ length y → n ≡ number w (take (width_bytes w) y) → k ≡ width_bytes w → reason_alone (b ∷ y) ≡ None
+      → IsHeadOf (b ∷ y) (record { major = m; argument = Given w n }) (1 + k)
+  wide_head b m n k w small e i are all value len free =
+      let got = take (width_bytes w) y in
+      let first = wide_first b m n w small e i in
+      let bytes : AreBytes got = bytes-left got (drop (width_bytes w) y) (subst AreBytes (sym (take-append-drop (width_bytes w) y)) are) in
+      let many : length got ≡ width_bytes w = length-take-le (width_bytes w) y all in
+      let same = again w got first.1 many bytes in
+      let follows : following w n ≡ got = ap (following w) value ∙ same.0 in
+      record {
+        rest = drop (width_bytes w) y;
+        major = small;
+        fits = subst (heads.Holds w) (sym value) same.1;
+        whole = ap (λ c. c ∷ y) first.0 ∙ ap (λ l. (32 * code (major_at m) + information w n) ∷ l) (sym (take-append-drop (width_bytes w) y) ∙ ap (λ l. l ++ drop (width_bytes w) y) (sym follows));
+        len = omega (arith, ap length follows, many, len);
+        free = free;
+      }
+
+  zeros : ℕ → List ℕ
+  zeros zero = []
+  zeros (suc n) = 0 ∷ zeros n
+
+  length_zeros : (n : ℕ) → length (zeros n) ≡ n
+  unfolding zeros
+  length_zeros zero = refl
+  length_zeros (suc n) = ap suc (length_zeros n)
+
+  bytes_zeros : (n : ℕ) → AreBytes (zeros n)
+  unfolding zeros
+  bytes_zeros zero = tt
+  bytes_zeros (suc n) = (omega arith, bytes_zeros n)
+
+  pub wide_front : (b m : ℕ) (w : Width) → m < 8 → b / 32 ≡ m → info_at (b % 32) ≡ Next w → AreBytes y → length y < width_bytes w → reason_alone (b ∷ y) ≡ None → IsFrontOfHead (b ∷ y)
+  wide_front b m w small e i are short free =
+      let missing = zeros (width_bytes w - length y) in
+      let got = y ++ missing in
+      let many : length got ≡ width_bytes w = omega (arith, length-append y missing, length_zeros (width_bytes w - length y)) in
+      let first = wide_first b m (number w got) w small e i in
+      let same = again w got first.1 many (bytes-append y missing are (bytes_zeros (width_bytes w - length y))) in
+      record {
+        major = major_at m;
+        argument = heads.Given w (number w got);
+        missing = missing;
+        fits = same.1;
+        whole = ap (λ c. c ∷ got) first.0 ∙ ap (λ l. (32 * code (major_at m) + information w (number w got)) ∷ l) (sym same.0);
+        some = omega (arith, length_zeros (width_bytes w - length y));
+        free = free;
+      }
+
+pub no_head : (x : List ℕ) → length x < 1 → IsFrontOfHead x
+no_head [] h = record { major = Unsigned; argument = heads.Given Direct 0; missing = 0 ∷ []; fits = omega arith; whole = refl; some = omega arith; free = refl }
+no_head (b ∷ x) h = absurd (omega arith)
+
+unended_is : (i : Info) → is_unended i ≡ true → i ≡ Unended
+unended_is (Now n) e = cc
+unended_is (Next w) e = cc
+unended_is Reserved e = cc
+unended_is Unended e = refl
+
+no_other : (n : ℕ) → n < 8 → (n ≡ 7 → ⊥) → is_other (major_at n) ≡ false
+no_other zero h e = refl
+no_other (suc zero) h e = refl
+no_other (suc (suc zero)) h e = refl
+no_other (suc (suc (suc zero))) h e = refl
+no_other (suc (suc (suc (suc zero)))) h e = refl
+no_other (suc (suc (suc (suc (suc zero))))) h e = refl
+no_other (suc (suc (suc (suc (suc (suc zero)))))) h e = refl
+no_other (suc (suc (suc (suc (suc (suc (suc n))))))) h e = absurd (e (omega arith))
+
+next_free : (y : List ℕ) (m : Major) (w : Width) → is_other m ≡ false → reason_of element_or_end false m (Next w) y ≡ None
+next_free y Unsigned w e = refl
+next_free y Negative w e = refl
+next_free y ByteString w e = refl
+next_free y TextString w e = refl
+next_free y Array w e = refl
+next_free y Map w e = refl
+next_free y Tag w e = refl
+next_free y Other w e = cc
+
+pub direct_front : (x : List ℕ) → AreBytes x → 1 ≤ length x → get_or x 0 0 % 32 < 24 → IsHeadOf x (record { major = get_or x 0 0 / 32; argument = Given Direct (get_or x 0 0 % 32) }) 1
+direct_front [] are h low = absurd (omega arith)
+direct_front (b ∷ y) are h low = direct_head y b are.0 low
+
+pub endless_front : (x : List ℕ) (r : HeadRead) → 1 ≤ length x → is_unended (info_at (get_or x 0 0 % 32)) ≡ true
+    → ((b : ℕ) (y : List ℕ) → b / 32 ≡ get_or x 0 0 / 32 → info_at (b % 32) ≡ Unended → ReadsHead (b ∷ y) r) → ReadsHead x r
+endless_front [] r h e reads = absurd (omega arith)
+endless_front (b ∷ y) r h e reads = reads b y refl (unended_is (info_at (b % 32)) e)
+
+pub wide_fronts : (x rest : List ℕ) (r : HeadRead) (w : Width) → rest ≡ drop 1 x → AreBytes x → 1 ≤ length x → info_at (get_or x 0 0 % 32) ≡ Next w → (get_or x 0 0 / 32 ≡ 7 → ⊥)
+    → ((b : ℕ) → b / 32 ≡ get_or x 0 0 / 32 → info_at (b % 32) ≡ Next w → reason_alone (b ∷ rest) ≡ None → ReadsHead (b ∷ rest) r) → ReadsHead x r
+wide_fronts [] rest r w same are h i e reads = absurd (omega arith)
+wide_fronts (b ∷ y) rest r w same are h i e reads =
+    subst (λ (l : List ℕ). ReadsHead (b ∷ l) r) same (reads b refl i (ap (λ j. reason_of element_or_end false (major_at (b / 32)) j rest) i ∙ next_free rest (major_at (b / 32)) w (no_other (b / 32) (omega (arith, are.0)) e)))

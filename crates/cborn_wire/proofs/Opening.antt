@@ -1,0 +1,32 @@
+-- The stack's frames, as the machine's list of what is open.
+use Rattle.std.proofs.Common.{◌≡◌, refl, ap, ◌∙◌, ℕ, ◌+◌, List, [], ◌∷◌, ◌++◌, length, Option, Some, None, MatchOption, vec_len, arith}
+use Rattle.std.specs.Option.{option_to_list}
+use Rattle.std.specs.declared.vec.Vec.{Vec}
+use Rattle.std.specs.declared.alloc.Global.{Global}
+use Rattle.cborn_wire.specs.declared.frames.Frame.{Frame}
+use Rattle.cborn_wire.specs.Slots.{Begun}
+use Rattle.cborn_wire.specs.StackView.{seen_frame, seen_outer, seen_open}
+
+seen_outer-push : (os : List Begun) (fs : List Frame) (f : Frame) → seen_outer os (fs ++ f ∷ []) ≡ seen_frame f ∷ seen_outer os fs
+seen_outer-push os [] f = refl
+seen_outer-push os (g ∷ fs) f = seen_outer-push (seen_frame g ∷ os) fs f
+
+pub empty_list : {A : Type 0} (xs : List A) → length xs ≡ 0 → xs ≡ []
+empty_list [] e = refl
+empty_list (x ∷ xs) e = absurd (omega arith)
+
+-- The innermost of what is around is taken off.
+pub open_pop : (v w : Vec Frame Global) (o : Option Frame) → v.items ≡ w.items ++ option_to_list o → MatchOption o ((vec_len v ≡ 0) × (vec_len w ≡ 0)) (λ _. vec_len w + 1 ≡ vec_len v) → seen_outer [] v.items ≡ seen_open o w.items
+open_pop v w None e h = ap (seen_outer []) (empty_list v.items (omega (arith, h.0, v.ok.0)))
+open_pop v w (Some f) e h = ap (seen_outer []) e ∙ seen_outer-push [] w.items f
+
+-- One more is opened.
+pub open_push : (top : Frame) (fs gs : List Frame) (f : Frame) → gs ≡ fs ++ f ∷ [] → seen_open (Some top) gs ≡ seen_frame top ∷ seen_open (Some f) fs
+open_push top fs gs f e = ap (λ l. seen_frame top ∷ seen_outer [] l) e ∙ ap (λ l. seen_frame top ∷ l) (seen_outer-push [] fs f)
+
+pub outer_length : (os : List Begun) (fs : List Frame) → length (seen_outer os fs) ≡ length fs + length os
+outer_length os [] = omega arith
+outer_length os (f ∷ fs) = omega (arith, outer_length (seen_frame f ∷ os) fs)
+
+pub open_length : (top : Option Frame) (f : Frame) (v : Vec Frame Global) (n : ℕ) → top ≡ Some f → n ≡ vec_len v → n + 1 ≡ length (seen_open top v.items)
+open_length top f v n e h = rw e (omega (arith, outer_length [] v.items, h, v.ok.0))

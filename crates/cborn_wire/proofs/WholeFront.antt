@@ -1,0 +1,96 @@
+-- What the machine does doesn't depend on the items that were whole before.
+use Rattle.std.proofs.Common.{◌≡◌, refl, ap, ◌∙◌, ℕ, suc, ◌/◌, ◌%◌, List, [], ◌∷◌, ◌++◌, length, Bool, true, false, cond, ltb, leb, Option, Some, None}
+use Rattle.cborn_model.specs.declared.heads.Width.{Width}
+use Rattle.cborn_model.specs.declared.heads.Width.TheVariants.{Direct, One, Two, Four, Eight}
+use Rattle.cborn_model.specs.declared.heads.Size.TheVariants.{Endless}
+use Rattle.cborn_model.specs.Heads.{Major, Unsigned, Negative, ByteString, TextString, Array, Map, Tag, Other, Argument, Given, Unbounded}
+use Rattle.cborn_model.specs.Tree.{Tree, Items, Pairs, Tagged, Trees, no_item, more, count, count_entries}
+use Rattle.cborn_wire.specs.declared.faults.WireReason.{WireReason}
+use Rattle.cborn_wire.specs.Slots.{Kind, OfBytes, OfText, Begun, begun_items, begun_pairs, begun_value, begun_tag, begun_chunks}
+use Rattle.cborn_wire.specs.Faults.{Info, Now, Next, Reserved, Unended, major_at, info_at}
+use Rattle.cborn_wire.specs.Machine.{append_trees, snoc, snoc_entry, width_bytes, number, Goal, argument_of, content_of, nothing, gathering, State, Live, Failed, is_full, items_tree, pairs_tree, string_tree, chunks_tree, finished, string_done, ended, gather, begin_head, after_head, unless, step, run}
+
+abbrev pub with_front : Trees → State → State
+with_front front (Live fed ready os part) = Live fed (append_trees front ready) os part
+with_front front (Failed ready p r) = Failed (append_trees front ready) p r
+
+snoc-append : (front ts : Trees) (t : Tree) → snoc (append_trees front ts) t ≡ append_trees front (snoc ts t)
+snoc-append no_item ts t = refl
+snoc-append (more u front) ts t = ap (more u) (snoc-append front ts t)
+
+either : (front : Trees) (c : Bool) (a b a' b' : State) → a ≡ with_front front a' → b ≡ with_front front b' → cond c a b ≡ with_front front (cond c a' b')
+either front true a b a' b' e h = e
+either front false a b a' b' e h = h
+
+module _ (front : Trees) where
+  pub front_finished : (os : List Begun) (fed : ℕ) (ready : Trees) (t : Tree) → finished fed (append_trees front ready) os t ≡ with_front front (finished fed ready os t)
+  front_finished [] fed ready t = ap (λ l. Live fed l [] nothing) (snoc-append front ready t)
+  front_finished (begun_items p a ts ∷ os) fed ready t = either front (is_full a (count (snoc ts t))) _ _ _ _ (front_finished os fed ready (items_tree p a (snoc ts t))) refl
+  front_finished (begun_pairs p a es ∷ os) fed ready t = refl
+  front_finished (begun_value p a es k ∷ os) fed ready t = either front (is_full a (count_entries (snoc_entry es k t))) _ _ _ _ (front_finished os fed ready (pairs_tree p a (snoc_entry es k t))) refl
+  front_finished (begun_tag p w n ∷ os) fed ready t = front_finished os fed ready (Tagged p w n t)
+  front_finished (begun_chunks p k cs ∷ os) fed ready t = refl
+
+  front_string : (os : List Begun) (fed p : ℕ) (ready : Trees) (k : Kind) (w : Width) (bytes : List ℕ) → string_done fed p (append_trees front ready) os k w bytes ≡ with_front front (string_done fed p ready os k w bytes)
+  front_string [] fed p ready k w bytes = front_finished [] fed ready (string_tree p k w bytes)
+  front_string (begun_items q a ts ∷ os) fed p ready k w bytes = front_finished (begun_items q a ts ∷ os) fed ready (string_tree p k w bytes)
+  front_string (begun_pairs q a es ∷ os) fed p ready k w bytes = refl
+  front_string (begun_value q a es t ∷ os) fed p ready k w bytes = front_finished (begun_value q a es t ∷ os) fed ready (string_tree p k w bytes)
+  front_string (begun_tag q v n ∷ os) fed p ready k w bytes = front_finished (begun_tag q v n ∷ os) fed ready (string_tree p k w bytes)
+  front_string (begun_chunks q l cs ∷ os) fed p ready k w bytes = refl
+
+  front_ended : (os : List Begun) (fed : ℕ) (ready : Trees) → ended fed (append_trees front ready) os ≡ with_front front (ended fed ready os)
+  front_ended [] fed ready = refl
+  front_ended (begun_items p (Given w n) ts ∷ os) fed ready = refl
+  front_ended (begun_items p Unbounded ts ∷ os) fed ready = front_finished os fed ready (Items p Endless ts)
+  front_ended (begun_pairs p (Given w n) es ∷ os) fed ready = refl
+  front_ended (begun_pairs p Unbounded es ∷ os) fed ready = front_finished os fed ready (Pairs p Endless es)
+  front_ended (begun_value p a es t ∷ os) fed ready = refl
+  front_ended (begun_tag p w n ∷ os) fed ready = refl
+  front_ended (begun_chunks p k cs ∷ os) fed ready = front_finished os fed ready (chunks_tree p k cs)
+
+  front_content : (os : List Begun) (fed p : ℕ) (ready : Trees) (k : Kind) (w : Width) (n : ℕ) (got : List ℕ) → gather fed p (append_trees front ready) os (content_of k w) n got ≡ with_front front (gather fed p ready os (content_of k w) n got)
+  front_content os fed p ready k w n got = either front (leb n (length got)) _ _ _ _ (front_string os fed p ready k w got) refl
+
+  front_head : (m : Major) (a : Argument) (os : List Begun) (fed p : ℕ) (ready : Trees) → after_head fed p (append_trees front ready) os m a ≡ with_front front (after_head fed p ready os m a)
+  front_head Unsigned (Given w n) os fed p ready = front_finished os fed ready _
+  front_head Negative (Given w n) os fed p ready = front_finished os fed ready _
+  front_head ByteString (Given w n) os fed p ready = front_content os fed p ready OfBytes w n []
+  front_head TextString (Given w n) os fed p ready = front_content os fed p ready OfText w n []
+  front_head Array a os fed p ready = either front (is_full a 0) _ _ _ _ (front_finished os fed ready _) refl
+  front_head Map a os fed p ready = either front (is_full a 0) _ _ _ _ (front_finished os fed ready _) refl
+  front_head Tag (Given w n) os fed p ready = refl
+  front_head Other (Given Direct n) os fed p ready = front_finished os fed ready _
+  front_head Other (Given One n) os fed p ready = either front (ltb n 32) _ _ _ _ refl (front_finished os fed ready _)
+  front_head Other (Given Two n) os fed p ready = refl
+  front_head Other (Given Four n) os fed p ready = refl
+  front_head Other (Given Eight n) os fed p ready = refl
+  front_head Other Unbounded os fed p ready = front_ended os fed ready
+  front_head Unsigned Unbounded os fed p ready = refl
+  front_head Negative Unbounded os fed p ready = refl
+  front_head ByteString Unbounded os fed p ready = refl
+  front_head TextString Unbounded os fed p ready = refl
+  front_head Tag Unbounded os fed p ready = refl
+
+  front_gather : (g : Goal) (os : List Begun) (fed p : ℕ) (ready : Trees) (n : ℕ) (got : List ℕ) → gather fed p (append_trees front ready) os g n got ≡ with_front front (gather fed p ready os g n got)
+  front_gather (argument_of m w) os fed p ready n got = either front (leb n (length got)) _ _ _ _ (front_head m (Given w (number w got)) os fed p ready) refl
+  front_gather (content_of k w) os fed p ready n got = front_content os fed p ready k w n got
+
+  front_begin : (i : Info) (m : Major) (os : List Begun) (fed : ℕ) (ready : Trees) → begin_head fed (append_trees front ready) os m i ≡ with_front front (begin_head fed ready os m i)
+  front_begin (Now n) m os fed ready = front_head m (Given Direct n) os (suc fed) fed ready
+  front_begin (Next w) m os fed ready = front_gather (argument_of m w) os (suc fed) fed ready (width_bytes w) []
+  front_begin Unended m os fed ready = front_head m Unbounded os (suc fed) fed ready
+  front_begin Reserved m os fed ready = refl
+
+  front_unless : (o : Option WireReason) (ready : Trees) (p : ℕ) (s s' : State) → s ≡ with_front front s' → unless o (append_trees front ready) p s ≡ with_front front (unless o ready p s')
+  front_unless None ready p s s' e = e
+  front_unless (Some r) ready p s s' e = refl
+
+  front_step : (limit : ℕ) (s : State) (b : ℕ) → step limit (with_front front s) b ≡ with_front front (step limit s b)
+  front_step limit (Failed ready p r) b = refl
+  front_step limit (Live fed ready os nothing) b = front_unless _ ready fed _ _ (front_begin (info_at (b % 32)) (major_at (b / 32)) os fed ready)
+  front_step limit (Live fed ready os (gathering p g n got)) b = front_gather g os (suc fed) p ready n (got ++ b ∷ [])
+
+  pub front_run : (limit : ℕ) (x : List ℕ) (s : State) → run limit (with_front front s) x ≡ with_front front (run limit s x)
+  front_run limit [] s = refl
+  front_run limit (b ∷ x) s = ap (λ u. run limit u x) (front_step limit s b) ∙ front_run limit x (step limit s b)

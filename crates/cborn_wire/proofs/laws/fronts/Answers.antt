@@ -1,0 +1,5 @@
+use Rattle.cborn_wire.proofs.FaultLaws.{fronts}
+use Rattle.cborn_wire.proofs.laws.fronts.Goals as goal
+
+pub returns : goal.returns
+returns c = fronts

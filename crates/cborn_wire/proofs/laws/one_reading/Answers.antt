@@ -1,0 +1,8 @@
+use Rattle.cborn_wire.proofs.OneReading.{one_placed_reading, one_spelling}
+use Rattle.cborn_wire.proofs.laws.one_reading.Goals as goal
+
+pub returns-clause-placed : goal.returns-clause-placed
+returns-clause-placed c = one_placed_reading
+
+pub returns-clause-aside : goal.returns-clause-aside
+returns-clause-aside c = one_spelling

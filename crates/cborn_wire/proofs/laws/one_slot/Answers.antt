@@ -1,0 +1,5 @@
+use Rattle.cborn_wire.proofs.FaultLaws.{one_slot}
+use Rattle.cborn_wire.proofs.laws.one_slot.Goals as goal
+
+pub returns : goal.returns
+returns c = one_slot

@@ -1,0 +1,61 @@
+-- What stands at the front of some bytes, read as a head (RFC 8949 section 3).
+use Rattle.std.specs.Prelude.{◌≡◌, ℕ, ◌/◌, ◌%◌, ◌<◌, List, [], ◌∷◌, ◌++◌, length, Bool, true, false, Option, Some, None}
+use Rattle.cborn_model.specs.declared.heads.Size.{Size}
+use Rattle.cborn_model.specs.declared.heads.Size.TheVariants.{Fixed, Endless}
+use Rattle.cborn_model.specs.Heads.{Major, Holds, Given, Unbounded, head}
+use Rattle.cborn_model.specs.Heads as heads
+use Rattle.cborn_wire.specs.declared.faults.WireReason.{WireReason}
+use Rattle.cborn_wire.specs.declared.heads.Argument.{Argument}
+use Rattle.cborn_wire.specs.declared.heads.Argument.TheVariants as arguments
+use Rattle.cborn_wire.specs.declared.heads.Head.{Head}
+use Rattle.cborn_wire.specs.declared.heads.HeadRead.{HeadRead}
+use Rattle.cborn_wire.specs.declared.heads.HeadRead.TheVariants.{Full, Short, Bad}
+use Rattle.cborn_wire.specs.Slots.{element_or_end}
+use Rattle.cborn_wire.specs.Faults.{major_at, info_at, reason_of}
+
+abbrev pub seen_argument : Argument → heads.Argument
+seen_argument (arguments.Given w n) = Given w n
+seen_argument arguments.Endless = Unbounded
+
+abbrev pub seen_bounded : Argument → Bool
+seen_bounded (arguments.Given w n) = true
+seen_bounded arguments.Endless = false
+
+abbrev pub seen_size : Argument → Size
+seen_size (arguments.Given w n) = Fixed w
+seen_size arguments.Endless = Endless
+
+-- the argument fits its width
+abbrev pub ArgumentFits : heads.Argument → Type 0
+ArgumentFits (Given w n) = Holds w n
+ArgumentFits Unbounded = Unit {0}
+
+-- The first line of the table of faults that applies to these bytes wherever an item or a break may stand: a reserved information, an indefinite length that isn't allowed, a float, a bad simple value.
+abbrev pub reason_alone : List ℕ → Option WireReason
+reason_alone [] = None
+reason_alone (b ∷ y) = reason_of element_or_end false (major_at (b / 32)) (info_at (b % 32)) y
+
+-- The first n of the bytes x are this head.
+pub record IsHeadOf (x : List ℕ) (h : Head) (n : ℕ) : Type 0 where
+  pub rest : List ℕ
+  pub major : h.major < 8
+  pub fits : ArgumentFits (seen_argument h.argument)
+  pub whole : x ≡ head (major_at h.major) (seen_argument h.argument) ++ rest
+  pub len : n ≡ length (head (major_at h.major) (seen_argument h.argument))
+  pub free : reason_alone x ≡ None
+
+-- The bytes x are not a whole head, and begin one.
+pub record IsFrontOfHead (x : List ℕ) : Type 0 where
+  pub major : Major
+  pub argument : heads.Argument
+  pub missing : List ℕ
+  pub fits : ArgumentFits argument
+  pub whole : x ++ missing ≡ head major argument
+  pub some : 0 < length missing
+  pub free : reason_alone x ≡ None
+
+-- this is what stands at the front of x
+abbrev pub ReadsHead : List ℕ → HeadRead → Type 0
+ReadsHead x (Full h n) = IsHeadOf x h n
+ReadsHead x Short = IsFrontOfHead x
+ReadsHead x (Bad r) = reason_alone x ≡ Some r

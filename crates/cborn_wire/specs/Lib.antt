@@ -1,0 +1,10 @@
+pub mod Slots
+pub mod Faults
+pub mod Places
+pub mod Machine
+pub mod Feeding
+pub mod FeedingCode
+pub mod Reading
+pub mod HeadReading
+pub mod StackView
+pub mod FeederView

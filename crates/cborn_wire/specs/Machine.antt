@@ -1,0 +1,211 @@
+-- A device of the proofs: a machine that takes one byte after another, and is at each moment what the bytes so far make of it. It is no definition of what is well-formed and what is a fault, and no definition cites it; the contracts of the crate's own functions do. That it agrees with the definitions is proved in proofs/.
+use Rattle.std.specs.Prelude.{◌≡◌, ℕ, suc, ◌+◌, ◌*◌, ◌/◌, ◌%◌, List, [], ◌∷◌, ◌++◌, length, Bool, false, if◌then◌else◌, nat_lt, nat_le, Option, Some, None, slice_index, ◌⊎◌}
+use Rattle.std.specs.Int.{w16, w32, w64, from_be_bytes}
+use Rattle.cborn_model.specs.Bytes.{AreBytes}
+use Rattle.cborn_model.specs.declared.heads.Width.{Width}
+use Rattle.cborn_model.specs.declared.heads.Width.TheVariants.{Direct, One, Two, Four, Eight}
+use Rattle.cborn_model.specs.declared.heads.Size.TheVariants.{Fixed, Endless}
+use Rattle.cborn_model.specs.declared.nodes.Chunk.{Chunk}
+use Rattle.cborn_model.specs.Heads.{Major, Unsigned, Negative, ByteString, TextString, Array, Map, Tag, Other, code, information, Argument, Given, Unbounded, head}
+use Rattle.cborn_model.specs.Tree.{Tree, Uint, Nint, Bytes, Text, ByteChunks, TextChunks, Items, Pairs, Tagged, Simple, Trees, no_item, more, Entries, no_entry, entry, count, count_entries}
+use Rattle.cborn_model.specs.Spelled.{spelled_all}
+use Rattle.cborn_wire.specs.declared.faults.WireFault.{WireFault}
+use Rattle.cborn_wire.specs.declared.faults.WireFault.TheVariants as faults
+use Rattle.cborn_wire.specs.declared.faults.WireReason.{WireReason}
+use Rattle.cborn_wire.specs.declared.faults.WireReason.TheVariants.{ReservedInfo, EndlessNotAllowed, BadChunk, UnexpectedBreak, FloatLeftOut, BadSimple}
+use Rattle.cborn_wire.specs.Slots.{Kind, OfBytes, OfText, Begun, begun_items, begun_pairs, begun_value, begun_tag, begun_chunks, beginnings, major_of, slot, open_depth}
+use Rattle.cborn_wire.specs.Faults.{Info, Now, Next, Reserved, Unended, major_at, info_at, reason_of}
+
+-- one list of nodes after another, and a node or a pair at the end of a list
+
+abbrev pub append_trees : Trees → Trees → Trees
+append_trees no_item ts = ts
+append_trees (more u us) ts = more u (append_trees us ts)
+
+abbrev pub snoc : Trees → Tree → Trees
+snoc no_item t = more t no_item
+snoc (more u ts) t = more u (snoc ts t)
+
+abbrev pub snoc_entry : Entries → Tree → Tree → Entries
+snoc_entry no_entry k v = entry k v no_entry
+snoc_entry (entry l w es) k v = entry l w (snoc_entry es k v)
+
+-- An argument of a width: how many bytes follow the initial byte, and the number that they write.
+
+abbrev pub width_bytes : Width → ℕ
+width_bytes Direct = 0
+width_bytes One = 1
+width_bytes Two = 2
+width_bytes Four = 4
+width_bytes Eight = 8
+
+abbrev pub number : Width → List ℕ → ℕ
+number Direct bytes = 0
+number One bytes = slice_index bytes 0
+number Two bytes = from_be_bytes w16 bytes
+number Four bytes = from_be_bytes w32 bytes
+number Eight bytes = from_be_bytes w64 bytes
+
+-- what bytes are gathered for: the argument of a head, or the content of a definite string
+pub data Goal : Type 0 where
+  argument_of : Major → Width → Goal
+  content_of : Kind → Width → Goal
+
+-- A part of a head or of a definite string: the place of its head, what is gathered, how many bytes there have to be, and those that came.
+pub data Partial : Type 0 where
+  nothing : Partial
+  gathering : ℕ → Goal → ℕ → List ℕ → Partial
+
+-- `Live`: the offset of the next byte, the whole items, what is open, the innermost first, and a part. `Failed`: the items that were whole before the fault, its place and its reason.
+pub data State : Type 0 where
+  Live : ℕ → Trees → List Begun → Partial → State
+  Failed : Trees → ℕ → WireReason → State
+
+-- before any byte, the first being at p
+abbrev pub start : ℕ → State
+start p = Live p no_item [] nothing
+
+abbrev pub IsLive : State → Type 0
+IsLive (Live fed ready os part) = Unit {0}
+IsLive (Failed ready p r) = ⊥
+
+abbrev pub ready_in : State → Trees
+ready_in (Live fed ready os part) = ready
+ready_in (Failed ready p r) = ready
+
+-- the bytes of whole items and of what is open
+abbrev pub front : Trees → List Begun → List ℕ
+front ready os = spelled_all ready ++ beginnings os
+
+abbrev pub part_bytes : Partial → List ℕ
+part_bytes nothing = []
+part_bytes (gathering p (argument_of m w) n got) = (32 * code m + information w 0) ∷ got
+part_bytes (gathering p (content_of k w) n got) = head (major_of k) (Given w n) ++ got
+
+-- the bytes that a live state stands for
+abbrev pub held : State → List ℕ
+held (Live fed ready os part) = front ready os ++ part_bytes part
+held (Failed ready p r) = []
+
+-- as many parts as the head announced
+abbrev pub is_full : Argument → ℕ → Bool
+is_full (Given w n) k = nat_le n k
+is_full Unbounded k = false
+
+abbrev pub items_tree : ℕ → Argument → Trees → Tree
+items_tree p (Given w n) ts = Items p (Fixed w) ts
+items_tree p Unbounded ts = Items p Endless ts
+
+abbrev pub pairs_tree : ℕ → Argument → Entries → Tree
+pairs_tree p (Given w n) es = Pairs p (Fixed w) es
+pairs_tree p Unbounded es = Pairs p Endless es
+
+abbrev pub string_tree : ℕ → Kind → Width → List ℕ → Tree
+string_tree p OfBytes w bytes = Bytes p w bytes
+string_tree p OfText w bytes = Text p w bytes
+
+abbrev pub chunks_tree : ℕ → Kind → List Chunk → Tree
+chunks_tree p OfBytes cs = ByteChunks p cs
+chunks_tree p OfText cs = TextChunks p cs
+
+-- a whole item, at what is open around it
+abbrev pub finished : ℕ → Trees → List Begun → Tree → State
+finished fed ready [] t = Live fed (snoc ready t) [] nothing
+finished fed ready (begun_items p a ts ∷ os) t = if is_full a (count (snoc ts t)) then finished fed ready os (items_tree p a (snoc ts t)) else Live fed ready (begun_items p a (snoc ts t) ∷ os) nothing
+finished fed ready (begun_pairs p a es ∷ os) t = Live fed ready (begun_value p a es t ∷ os) nothing
+finished fed ready (begun_value p a es k ∷ os) t = if is_full a (count_entries (snoc_entry es k t)) then finished fed ready os (pairs_tree p a (snoc_entry es k t)) else Live fed ready (begun_pairs p a (snoc_entry es k t) ∷ os) nothing
+finished fed ready (begun_tag p w n ∷ os) t = finished fed ready os (Tagged p w n t)
+finished fed ready (begun_chunks p k cs ∷ os) t = Failed ready fed BadChunk
+
+-- an array with these items so far
+abbrev pub items_at : ℕ → Trees → List Begun → ℕ → Argument → Trees → State
+items_at fed ready os p a ts = if is_full a (count ts) then finished fed ready os (items_tree p a ts) else Live fed ready (begun_items p a ts ∷ os) nothing
+
+-- a map with these pairs so far
+abbrev pub pairs_at : ℕ → Trees → List Begun → ℕ → Argument → Entries → State
+pairs_at fed ready os p a es = if is_full a (count_entries es) then finished fed ready os (pairs_tree p a es) else Live fed ready (begun_pairs p a es ∷ os) nothing
+
+-- a whole definite string: a chunk, where an indefinite string is open, else an item
+abbrev pub string_done : ℕ → ℕ → Trees → List Begun → Kind → Width → List ℕ → State
+string_done fed p ready [] k w bytes = finished fed ready [] (string_tree p k w bytes)
+string_done fed p ready (begun_items q a ts ∷ os) k w bytes = finished fed ready (begun_items q a ts ∷ os) (string_tree p k w bytes)
+string_done fed p ready (begun_pairs q a es ∷ os) k w bytes = finished fed ready (begun_pairs q a es ∷ os) (string_tree p k w bytes)
+string_done fed p ready (begun_value q a es t ∷ os) k w bytes = finished fed ready (begun_value q a es t ∷ os) (string_tree p k w bytes)
+string_done fed p ready (begun_tag q v n ∷ os) k w bytes = finished fed ready (begun_tag q v n ∷ os) (string_tree p k w bytes)
+string_done fed p ready (begun_chunks q l cs ∷ os) k w bytes = Live fed ready (begun_chunks q l (cs ++ record { place = p; width = w; bytes = bytes } ∷ []) ∷ os) nothing
+
+-- a definite string's head and these bytes of its content
+abbrev pub content_at : ℕ → ℕ → Trees → List Begun → Kind → Width → ℕ → List ℕ → State
+content_at fed p ready os k w n got = if nat_le n (length got) then string_done fed p ready os k w got else Live fed ready os (gathering p (content_of k w) n got)
+
+-- a break
+abbrev pub ended : ℕ → Trees → List Begun → State
+ended fed ready (begun_items p Unbounded ts ∷ os) = finished fed ready os (Items p Endless ts)
+ended fed ready (begun_pairs p Unbounded es ∷ os) = finished fed ready os (Pairs p Endless es)
+ended fed ready (begun_chunks p k cs ∷ os) = finished fed ready os (chunks_tree p k cs)
+ended fed ready _ = Failed ready fed UnexpectedBreak
+
+-- a whole head, at p
+abbrev pub after_head : ℕ → ℕ → Trees → List Begun → Major → Argument → State
+after_head fed p ready os Unsigned (Given w n) = finished fed ready os (Uint p w n)
+after_head fed p ready os Negative (Given w n) = finished fed ready os (Nint p w n)
+after_head fed p ready os ByteString (Given w n) = content_at fed p ready os OfBytes w n []
+after_head fed p ready os TextString (Given w n) = content_at fed p ready os OfText w n []
+after_head fed p ready os ByteString Unbounded = Live fed ready (begun_chunks p OfBytes [] ∷ os) nothing
+after_head fed p ready os TextString Unbounded = Live fed ready (begun_chunks p OfText [] ∷ os) nothing
+after_head fed p ready os Array a = items_at fed ready os p a no_item
+after_head fed p ready os Map a = pairs_at fed ready os p a no_entry
+after_head fed p ready os Tag (Given w n) = Live fed ready (begun_tag p w n ∷ os) nothing
+after_head fed p ready os Other (Given Direct n) = finished fed ready os (Simple p n)
+after_head fed p ready os Other (Given One n) = if nat_lt n 32 then Failed ready p BadSimple else finished fed ready os (Simple p n)
+after_head fed p ready os Other Unbounded = ended fed ready os
+after_head fed p ready os Other (Given w n) = Failed ready p FloatLeftOut
+after_head fed p ready os m Unbounded = Failed ready p EndlessNotAllowed
+
+-- all bytes that were wanted
+abbrev pub gathered : ℕ → ℕ → Trees → List Begun → Goal → List ℕ → State
+gathered fed p ready os (argument_of m w) got = after_head fed p ready os m (Given w (number w got))
+gathered fed p ready os (content_of k w) got = string_done fed p ready os k w got
+
+-- these bytes so far, of n
+abbrev pub gather : ℕ → ℕ → Trees → List Begun → Goal → ℕ → List ℕ → State
+gather fed p ready os g n got = if nat_le n (length got) then gathered fed p ready os g got else Live fed ready os (gathering p g n got)
+
+-- an initial byte that may stand in the slot
+abbrev pub begin_head : ℕ → Trees → List Begun → Major → Info → State
+begin_head fed ready os m (Now n) = after_head (suc fed) fed ready os m (Given Direct n)
+begin_head fed ready os m (Next w) = gather (suc fed) fed ready os (argument_of m w) (width_bytes w) []
+begin_head fed ready os m Unended = after_head (suc fed) fed ready os m Unbounded
+begin_head fed ready os m Reserved = Failed ready fed ReservedInfo
+
+abbrev pub unless : Option WireReason → Trees → ℕ → State → State
+unless None ready p s = s
+unless (Some r) ready p s = Failed ready p r
+
+-- an initial byte, in the slot that what is open leaves
+abbrev pub at_slot : ℕ → ℕ → Trees → List Begun → Major → Info → State
+at_slot limit fed ready os m i = unless (reason_of (slot os) (nat_le limit (open_depth os)) m i []) ready fed (begin_head fed ready os m i)
+
+-- one byte
+abbrev pub step : ℕ → State → ℕ → State
+step limit (Failed ready p r) b = Failed ready p r
+step limit (Live fed ready os nothing) b = at_slot limit fed ready os (major_at (b / 32)) (info_at (b % 32))
+step limit (Live fed ready os (gathering p g n got)) b = gather (suc fed) p ready os g n (got ++ b ∷ [])
+
+-- all bytes of a list, in order
+abbrev pub run : ℕ → State → List ℕ → State
+run limit s [] = s
+run limit s (b ∷ x) = run limit (step limit s b) x
+
+-- what some bytes make, the first being at base
+abbrev pub IsReached : ℕ → ℕ → State → Type 0
+IsReached limit base s = (x : List ℕ) × AreBytes x × (run limit (start base) x ≡ s)
+
+-- The whole items are as they were, or one more is whole and nothing is left open.
+abbrev pub Settles : Trees → State → Type 0
+Settles ready s = (ready_in s ≡ ready) ⊎ ((fed : ℕ) × (t : Tree) × (s ≡ Live fed (snoc ready t) [] nothing))
+
+-- A reader that is handed the bytes x in the state s stops with this fault, and then has these whole items: the machine fails, or memory was refused after some front of x.
+abbrev pub Stops : ℕ → State → List ℕ → WireFault → Trees → Type 0
+Stops limit s x (faults.Refused p r) ready = run limit s x ≡ Failed ready p r
+Stops limit s x faults.OutOfMemory ready = (y : List ℕ) × (z : List ℕ) × (x ≡ y ++ z) × (ready_in (run limit s y) ≡ ready)

@@ -1,0 +1,96 @@
+-- Where the next head may stand: the slots, and the fronts of inputs that end at one.
+use Rattle.std.specs.Prelude.{◌≡◌, ℕ, suc, ◌+◌, ◌<◌, ◌≤◌, List, [], ◌∷◌, ◌++◌}
+use Rattle.cborn_model.specs.declared.heads.Width.{Width}
+use Rattle.cborn_model.specs.declared.nodes.Chunk.{Chunk}
+use Rattle.cborn_model.specs.Heads.{Major, ByteString, TextString, Array, Map, Tag, Holds, Argument, Given, Unbounded, head}
+use Rattle.cborn_model.specs.Tree.{Tree, Trees, Entries, count, count_entries, depth, depth_all, depth_entries}
+use Rattle.cborn_model.specs.Spelled.{chunks, spelled, spelled_all, spelled_entries, ChunksFit, Fits, FitsAll, FitsEntries}
+
+-- the two kinds of string
+pub data Kind : Type 0 where
+  OfBytes OfText : Kind
+
+abbrev pub major_of : Kind → Major
+major_of OfBytes = ByteString
+major_of OfText = TextString
+
+-- Where a head stands. `item`: at the top, in a definite array, as a key of a definite map, as a tag's content. `value`: a map's value, in either kind of map. `element_or_end`: in an indefinite array. `key_or_end`: a key of an indefinite map. `chunk`: in an indefinite string.
+pub data Slot : Type 0 where
+  item value element_or_end key_or_end : Slot
+  chunk : Kind → Slot
+
+-- What has begun and not ended, with the whole parts that it has so far. The first number of each is its place.
+pub data Begun : Type 0 where
+  begun_items : ℕ → Argument → Trees → Begun
+  begun_pairs : ℕ → Argument → Entries → Begun
+  -- a map, up to a key whose value is missing
+  begun_value : ℕ → Argument → Entries → Tree → Begun
+  begun_tag : ℕ → Width → ℕ → Begun
+  begun_chunks : ℕ → Kind → List Chunk → Begun
+
+-- the bytes that it has so far (RFC 8949 sections 3.1 to 3.4)
+abbrev pub beginning : Begun → List ℕ
+beginning (begun_items p a ts) = head Array a ++ spelled_all ts
+beginning (begun_pairs p a es) = head Map a ++ spelled_entries es
+beginning (begun_value p a es k) = head Map a ++ spelled_entries es ++ spelled k
+beginning (begun_tag p w n) = head Tag (Given w n)
+beginning (begun_chunks p k cs) = chunks (major_of k) cs
+
+-- one inside another, the innermost first
+abbrev pub beginnings : List Begun → List ℕ
+beginnings [] = []
+beginnings (o ∷ os) = beginnings os ++ beginning o
+
+abbrev pub slot_in : Begun → Slot
+slot_in (begun_items p (Given w n) ts) = item
+slot_in (begun_items p Unbounded ts) = element_or_end
+slot_in (begun_pairs p (Given w n) es) = item
+slot_in (begun_pairs p Unbounded es) = key_or_end
+slot_in (begun_value p a es k) = value
+slot_in (begun_tag p w n) = item
+slot_in (begun_chunks p k cs) = chunk k
+
+abbrev pub slot : List Begun → Slot
+slot [] = item
+slot (o ∷ os) = slot_in o
+
+abbrev pub levels : Begun → ℕ
+levels (begun_items p a ts) = 1
+levels (begun_pairs p a es) = 1
+levels (begun_value p a es k) = 1
+levels (begun_tag p w n) = 1
+levels (begun_chunks p k cs) = 0
+
+-- how many arrays, maps and tags are open
+abbrev pub open_depth : List Begun → ℕ
+open_depth [] = 0
+open_depth (o ∷ os) = levels o + open_depth os
+
+-- the head announces more than the k parts that there are so far
+abbrev pub HasRoom : Argument → ℕ → Type 0
+HasRoom (Given w n) k = Holds w n × (k < n)
+HasRoom Unbounded k = Unit {0}
+
+abbrev pub IsNoChunk : Slot → Type 0
+IsNoChunk item = Unit {0}
+IsNoChunk value = Unit {0}
+IsNoChunk element_or_end = Unit {0}
+IsNoChunk key_or_end = Unit {0}
+IsNoChunk (chunk k) = ⊥
+
+-- This may be open inside k arrays, maps and tags: it has room for a further part, and neither it nor what it has so far is too deep.
+abbrev pub MayBegin : ℕ → ℕ → Begun → Type 0
+MayBegin limit k (begun_items p a ts) = HasRoom a (count ts) × FitsAll ts × (k + suc (depth_all ts) ≤ limit)
+MayBegin limit k (begun_pairs p a es) = HasRoom a (count_entries es) × FitsEntries es × (k + suc (depth_entries es) ≤ limit)
+MayBegin limit k (begun_value p a es t) = HasRoom a (count_entries es) × FitsEntries es × (k + suc (depth_entries es) ≤ limit) × Fits t × (k + suc (depth t) ≤ limit)
+MayBegin limit k (begun_tag p w n) = Holds w n × (k < limit)
+MayBegin limit k (begun_chunks p kind cs) = ChunksFit cs
+
+-- each may be open inside those that follow it, and none is inside an indefinite string
+abbrev pub AreBegun : ℕ → List Begun → Type 0
+AreBegun limit [] = Unit {0}
+AreBegun limit (o ∷ os) = MayBegin limit (open_depth os) o × IsNoChunk (slot os) × AreBegun limit os
+
+-- The front f of some input ends at the slot s inside k open arrays, maps and tags: it is whole items, and the beginnings of what is open at its end.
+abbrev pub Open : ℕ → List ℕ → Slot → ℕ → Type 0
+Open limit f s k = (ts : Trees) × (os : List Begun) × FitsAll ts × (depth_all ts ≤ limit) × AreBegun limit os × (f ≡ spelled_all ts ++ beginnings os) × (s ≡ slot os) × (k ≡ open_depth os)

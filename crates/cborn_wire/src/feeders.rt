@@ -1,0 +1,121 @@
+//! A reader that is fed by pieces.
+
+use crate::stacks::Stack;
+use crate::{WireFault, WireReason};
+use cborn_model::{Limit, Spelled};
+use std::alloc::Global;
+use std::marker::Model;
+
+/// Reads a sequence of items (RFC 8742) that comes in pieces, cut anywhere. What it keeps of the bytes is the items to take and the unfinished item; nothing is reserved by a length or a count that the bytes declare. A piece costs time in proportion to its length, and to take an item costs no more than moving it.
+#[derive(Drop)]
+pub struct Feeder {
+    limit: u64,
+    fed: u64,
+    fault: Option<WireFault>,
+    stack: Stack,
+}
+
+impl Model for Feeder {
+    ghost use Rattle.cborn_wire.specs.Feeding.{Feeding};
+    ghost use Rattle.cborn_wire.specs.FeedingCode.{feeding_code};
+
+    ghost Value = { Feeding };
+
+    ghost coded = { feeding_code };
+
+    ghost use Rattle.cborn_wire.specs.FeederView.{told, Keeps};
+
+    ghost view = { told };
+
+    ghost invariant = { Keeps };
+}
+
+impl Feeder {
+    ghost use Rattle.std.specs.Prelude.{◌≡◌, ◌+◌, ◌^◌, ◌<◌, ◌++◌, [], length, None, Some, Err, IfOk, OnErr};
+    ghost use Rattle.std.specs.Option.{option_to_list};
+    ghost use Rattle.std.specs.List.{flat_map};
+    ghost use Rattle.cborn_model.specs.Tree.{trees};
+    ghost use Rattle.cborn_model.specs.Spelled.{spelled, Wellformed};
+    ghost use Rattle.cborn_wire.specs.declared.faults.WireFault.{WireFault};
+    ghost use Rattle.cborn_wire.specs.declared.faults.WireFault.TheVariants.{Refused};
+    ghost use Rattle.cborn_wire.specs.declared.faults.WireReason.TheVariants.{Truncated};
+    ghost use Rattle.cborn_wire.specs.Faults.{Fault};
+    ghost use Rattle.cborn_wire.specs.Feeding.{fresh, IsFed, Feeds};
+
+    /// A feeder to which nothing was fed, and which allows `limit` arrays, maps and tags around one another. Takes no memory.
+    pub fn new(alloc: Global, limit: Limit) -> Feeder
+        ensures { result ≡ fresh limit }
+    {
+        Feeder {
+            limit: limit.get(),
+            fed: 0,
+            fault: None,
+            stack: Stack::new(alloc, 0),
+        }
+    }
+
+    /// The number of bytes in the pieces that were accepted.
+    pub fn fed(&self) -> u64
+        ensures { result ≡ self.now.fed }
+    {
+        self.fed
+    }
+
+    /// Takes a piece. It is refused, at the offset of the head in the whole input, where a head in it may stand in no well-formed input that begins so; `OutOfMemory` where memory was. After either, this and each later call answers that same fault, `fed` stays as it is, and the items that were complete before the fault's place are still to take (where memory was refused, some of them).
+    pub fn feed(&mut self, piece: &[u8]) -> Result<(), WireFault>
+        requires { self.old.fed + length piece.now < 2 ^ 64 }
+        ensures fed { self.old.fault ≡ None → Feeds piece.now self.old result self.new }
+        ensures again { (e : WireFault) → self.old.fault ≡ Some e → (result ≡ Err e) × (self.new ≡ self.old) }
+    {
+        match self.fault {
+            Some(fault) => return Err(fault),
+            None => {}
+        }
+        match self.stack.feed(self.limit, piece) {
+            Ok(()) => {
+                self.fed += piece.len() as u64;
+                Ok(())
+            }
+            Err(fault) => {
+                self.fault = Some(fault);
+                Err(fault)
+            }
+        }
+    }
+
+    /// The first complete item that was not yet taken. Takes no memory.
+    pub fn take(&mut self) -> Option<Spelled>
+        ensures first { self.old.items ≡ option_to_list result ++ self.new.items }
+        ensures none { result ≡ None → self.old.items ≡ [] }
+        ensures rest { self.new ≡ record self.old { held = self.new.held; items = self.new.items } }
+        ensures held { self.old.fault ≡ None → self.old.held ≡ flat_map spelled (option_to_list result) ++ self.new.held }
+        ensures fed { self.old.fault ≡ None → IsFed self.new }
+    {
+        self.stack.ready.pop_front()
+    }
+
+    /// The complete items that were not yet taken, where the input ends here: `Truncated`, at its length, where an item is unfinished, and the fault of an earlier refusal. Takes no memory.
+    pub fn finish(self) -> Result<Vec<Spelled>, WireFault>
+        ensures items { self.fault ≡ None → IfOk result (λ v. (v.items ≡ self.items) × Wellformed self.limit (trees self.items) self.held) }
+        ensures cut { self.fault ≡ None → OnErr result ((result ≡ Err (Refused self.fed Truncated)) × Fault self.limit self.held (length self.held) Truncated) }
+        ensures again { (e : WireFault) → self.fault ≡ Some e → result ≡ Err e }
+    {
+        let Feeder {
+            limit: _,
+            fed,
+            fault,
+            stack,
+        } = self;
+        if let Some(fault) = fault {
+            return Err(fault);
+        }
+        if !stack.is_whole() {
+            return Err(WireFault::Refused {
+                place: fed,
+                reason: WireReason::Truncated,
+            });
+        }
+        let Stack { ready, .. } = stack;
+        Ok(ready.into_vec())
+    }
+}

@@ -1,0 +1,183 @@
+//! What a reader has begun and not ended.
+
+ghost use Rattle.std.specs.Prelude.{◌≡◌};
+ghost use Rattle.cborn_wire.specs.Slots.{slot_in};
+ghost use Rattle.cborn_wire.specs.Faults.{needs_item};
+ghost use Rattle.cborn_wire.specs.StackView.{seen_frame, Puts, Closes};
+
+use crate::{Argument, WireFault, WireReason};
+use cborn_model::{Chunk, Form, Node, Size, Width};
+use std::alloc::Global;
+
+/// The two kinds of string.
+#[derive(Clone, Copy, PartialEq, Eq, Debug)]
+pub(crate) enum Kind {
+    Bytes,
+    Text,
+}
+
+/// An array, a map, a tag or an indefinite string that has begun, with its whole parts so far. `place` is the offset of its head.
+#[derive(Drop)]
+pub(crate) enum Frame {
+    Items {
+        place: u64,
+        argument: Argument,
+        items: Vec<Node>,
+    },
+    /// `key` is one whose value is missing.
+    Pairs {
+        place: u64,
+        argument: Argument,
+        pairs: Vec<(Node, Node)>,
+        key: Option<Node>,
+    },
+    Tag {
+        place: u64,
+        width: Width,
+        number: u64,
+    },
+    Chunks {
+        place: u64,
+        kind: Kind,
+        chunks: Vec<Chunk>,
+    },
+}
+
+/// A head or a string of which a part came. `place` is the offset of its head.
+#[derive(Drop)]
+pub(crate) enum Partial {
+    Nothing,
+    /// The first `len` of `bytes` follow the initial byte.
+    Argument {
+        place: u64,
+        major: u8,
+        width: Width,
+        bytes: [u8; 8],
+        len: usize,
+    },
+    /// A string of `len` bytes, and those that came.
+    Content {
+        place: u64,
+        kind: Kind,
+        width: Width,
+        len: u64,
+        bytes: Vec<u8>,
+    },
+}
+
+impl Frame {
+    /// Puts a whole item that ends at `at` into what is open: the node that is whole with it, or none where the frame stays open.
+    pub(crate) fn put(
+        &mut self,
+        alloc: Global,
+        at: u64,
+        node: Node,
+    ) -> Result<Option<Node>, WireFault>
+        ensures { Puts at self.old self.new node result }
+    {
+        match self {
+            Frame::Items {
+                place,
+                argument,
+                items,
+            } => {
+                items.push(node)?;
+                if !argument.is_met(items.len()) {
+                    return Ok(None);
+                }
+                let items = std::mem::replace(items, Vec::new(alloc));
+                let form = Form::Items(argument.size(), items);
+                let place = *place;
+                Ok(Some(Node { place, form }))
+            }
+            Frame::Pairs {
+                place,
+                argument,
+                pairs,
+                key,
+            } => {
+                let Some(first) = key.take() else {
+                    *key = Some(node);
+                    return Ok(None);
+                };
+                pairs.push((first, node))?;
+                if !argument.is_met(pairs.len()) {
+                    return Ok(None);
+                }
+                let pairs = std::mem::replace(pairs, Vec::new(alloc));
+                let form = Form::Pairs(argument.size(), pairs);
+                let place = *place;
+                Ok(Some(Node { place, form }))
+            }
+            Frame::Tag {
+                place,
+                width,
+                number,
+            } => {
+                let item = Box::new(alloc, node)?;
+                let form = Form::Tagged(*width, *number, item);
+                let place = *place;
+                Ok(Some(Node { place, form }))
+            }
+            Frame::Chunks { .. } => Err(WireFault::Refused {
+                place: at,
+                reason: WireReason::BadChunk,
+            }),
+        }
+    }
+
+    /// The node that a break makes whole, or none where a break may not stand.
+    pub(crate) fn close(self) -> Option<Node>
+        ensures { Closes self result }
+    {
+        match self {
+            Frame::Items {
+                place,
+                argument,
+                items,
+            } => match argument {
+                Argument::Endless => {
+                    let form = Form::Items(Size::Endless, items);
+                    Some(Node { place, form })
+                }
+                Argument::Given(_, _) => None,
+            },
+            Frame::Pairs {
+                place,
+                argument,
+                pairs,
+                key,
+            } => match (argument, key) {
+                (Argument::Endless, None) => {
+                    let form = Form::Pairs(Size::Endless, pairs);
+                    Some(Node { place, form })
+                }
+                _ => None,
+            },
+            Frame::Tag { .. } => None,
+            Frame::Chunks {
+                place,
+                kind,
+                chunks,
+            } => {
+                let form = match kind {
+                    Kind::Bytes => Form::ByteChunks(chunks),
+                    Kind::Text => Form::TextChunks(chunks),
+                };
+                Some(Node { place, form })
+            }
+        }
+    }
+
+    /// An item has to stand next, and no break.
+    pub(crate) fn needs_item(&self) -> bool
+        ensures { result ≡ needs_item (slot_in (seen_frame self.now)) }
+    {
+        match self {
+            Frame::Items { argument, .. } => argument.is_bounded(),
+            Frame::Pairs { argument, key, .. } => argument.is_bounded() || key.is_some(),
+            Frame::Tag { .. } => true,
+            Frame::Chunks { .. } => false,
+        }
+    }
+}

@@ -1,0 +1,276 @@
+//! Heads: an initial byte, with the major type in its high three bits and the additional information in its low five, and the bytes of an argument behind it (RFC 8949 section 3).
+
+ghost use Rattle.std.specs.Prelude.{◌≡◌, ◌≤◌, ◌<◌, ◌++◌, ◌+◌, ◌%◌, ◌∷◌, ◌/◌, ℕ, List, length, ◌&&◌, take, MatchOption, OnOk, OnErr};
+ghost use Rattle.cborn_model.specs.Heads.{Holds, IsHead, head_bytes};
+ghost use Rattle.cborn_wire.specs.Faults.{Next, Unended, major_at, info_at, is_reserved, is_unended, is_always_bounded, is_break, is_other, is_float, is_container};
+ghost use Rattle.cborn_wire.specs.Machine.{width_bytes, number, is_full};
+ghost use Rattle.cborn_wire.specs.HeadReading.{ReadsHead, reason_alone, seen_argument, seen_bounded, seen_size};
+ghost use Rattle.cborn_model.specs.declared.heads.Width.TheVariants.{One};
+
+use crate::WireReason;
+use cborn_model::{Size, Width};
+use std::alloc::AllocError;
+
+/// What a head says beside its major type.
+#[derive(Clone, Copy, PartialEq, Eq, Debug)]
+pub enum Argument {
+    /// An argument, and the width of the head that holds it.
+    Given(Width, u64),
+    /// That the length is indefinite.
+    Endless,
+}
+
+impl Argument {
+    /// The array or the map that this announces is whole with `count` items or pairs.
+    pub(crate) fn is_met(&self, count: usize) -> bool
+        ensures { result ≡ is_full (seen_argument self.now) count }
+    {
+        match self {
+            Argument::Given(_, n) => *n <= count as u64,
+            Argument::Endless => false,
+        }
+    }
+
+    /// It is a number, and not an indefinite length.
+    pub(crate) fn is_bounded(&self) -> bool
+        ensures { result ≡ seen_bounded self.now }
+    {
+        matches!(self, Argument::Given(_, _))
+    }
+
+    /// How an array or a map with this argument says where it ends.
+    pub(crate) fn size(&self) -> Size
+        ensures { result ≡ seen_size self.now }
+    {
+        match self {
+            Argument::Given(width, _) => Size::Fixed(*width),
+            Argument::Endless => Size::Endless,
+        }
+    }
+}
+
+/// The head of a data item, or the break, which is major type 7 and `Endless`.
+#[derive(Clone, Copy, PartialEq, Eq, Debug)]
+pub struct Head {
+    /// The major type, from 0 to 7.
+    pub major: u8,
+    /// What the head says beside it.
+    pub argument: Argument,
+}
+
+/// What stands at the front of some bytes.
+#[derive(Clone, Copy, PartialEq, Eq, Debug)]
+pub enum HeadRead {
+    /// A head, and its length in bytes, from 1 to 9.
+    Full(Head, usize),
+    /// The front of a head, or nothing.
+    Short,
+    /// No head of a data item, whatever follows.
+    Bad(WireReason),
+}
+
+/// The head at the front of `bytes`; what follows it isn't looked at. It is `Bad` for the reasons that hold wherever an item or a break may stand: `ReservedInfo`, `EndlessNotAllowed`, `FloatLeftOut` and `BadSimple` (RFC 8949 sections 3, 3.2.1 and 3.3).
+pub fn read_head(bytes: &[u8]) -> HeadRead
+    ensures { ReadsHead bytes.now result }
+{
+    let [first, rest @ ..] = bytes else {
+        return HeadRead::Short;
+    };
+    let major = *first / 32;
+    let information = *first % 32;
+    if information < 24 {
+        let argument = Argument::Given(Width::Direct, information as u64);
+        return HeadRead::Full(Head { major, argument }, 1);
+    }
+    if is_endless(information) {
+        return read_endless(major);
+    }
+    if is_reserved(information) {
+        return HeadRead::Bad(WireReason::ReservedInfo);
+    }
+    if major != 7 {
+        return read_wide(major, wide_width(information), rest);
+    }
+    if is_float(major, information) {
+        return HeadRead::Bad(WireReason::FloatLeftOut);
+    }
+    read_simple(rest)
+}
+
+// A head whose argument is `rest`'s front.
+fn read_wide(major: u8, width: Width, rest: &[u8]) -> HeadRead
+    requires { major < 8 }
+    ensures { (first : ℕ) → first / 32 ≡ major → info_at (first % 32) ≡ Next width → reason_alone (first ∷ rest.now) ≡ None → ReadsHead (first ∷ rest.now) result }
+{
+    match read_number(width, rest) {
+        Some(n) => {
+            let argument = Argument::Given(width, n);
+            HeadRead::Full(Head { major, argument }, 1 + width_len(width))
+        }
+        None => HeadRead::Short,
+    }
+}
+
+// A simple value of two bytes, the second of which is `rest`'s first (RFC 8949 section 3.3).
+fn read_simple(rest: &[u8]) -> HeadRead
+    ensures { (first : ℕ) → first / 32 ≡ 7 → info_at (first % 32) ≡ Next One → ReadsHead (first ∷ rest.now) result }
+{
+    match rest {
+        [0..32, ..] => HeadRead::Bad(WireReason::BadSimple),
+        _ => read_wide(7, Width::One, rest),
+    }
+}
+
+// A head of an indefinite length, or the break (RFC 8949 section 3.2).
+fn read_endless(major: u8) -> HeadRead
+    requires { major < 8 }
+    ensures { (first : ℕ) (rest : List ℕ) → first / 32 ≡ major → info_at (first % 32) ≡ Unended → ReadsHead (first ∷ rest) result }
+{
+    if is_always_bounded(major) {
+        return HeadRead::Bad(WireReason::EndlessNotAllowed);
+    }
+    let argument = Argument::Endless;
+    HeadRead::Full(Head { major, argument }, 1)
+}
+
+// How many bytes follow the initial byte in a head of this width.
+fn width_len(width: Width) -> usize
+    ensures { result ≡ width_bytes width }
+{
+    match width {
+        Width::Direct => 0,
+        Width::One => 1,
+        Width::Two => 2,
+        Width::Four => 4,
+        Width::Eight => 8,
+    }
+}
+
+/// The information has no meaning (RFC 8949 section 3).
+pub(crate) fn is_reserved(information: u8) -> bool
+    requires { information < 32 }
+    ensures { result ≡ is_reserved (info_at information) }
+{
+    information > 27 && information < 31
+}
+
+/// The information of an indefinite length and of the break.
+pub(crate) fn is_endless(information: u8) -> bool
+    requires { information < 32 }
+    ensures { result ≡ is_unended (info_at information) }
+{
+    information == 31
+}
+
+/// The major types that have no indefinite form.
+pub(crate) fn is_always_bounded(major: u8) -> bool
+    requires { major < 8 }
+    ensures { result ≡ is_always_bounded (major_at major) }
+{
+    matches!(major, 0 | 1 | 6)
+}
+
+/// The break.
+pub(crate) fn is_break(major: u8, information: u8) -> bool
+    requires major { major < 8 }
+    requires information { information < 32 }
+    ensures { result ≡ is_break (major_at major) (info_at information) }
+{
+    major == 7 && is_endless(information)
+}
+
+/// A float (RFC 8949 section 3.3).
+pub(crate) fn is_float(major: u8, information: u8) -> bool
+    requires major { major < 8 }
+    requires information { information < 32 }
+    ensures { result ≡ (is_other (major_at major) && is_float (info_at information)) }
+{
+    major == 7 && matches!(information, 25..=27)
+}
+
+/// Arrays, maps and tags.
+pub(crate) fn is_container(major: u8) -> bool
+    requires { major < 8 }
+    ensures { result ≡ is_container (major_at major) }
+{
+    matches!(major, 4..=6)
+}
+
+/// The width of a head with this additional information, from 24 to 27.
+pub(crate) fn wide_width(information: u8) -> Width
+    requires least { 24 ≤ information }
+    requires most { information ≤ 27 }
+    ensures { info_at information ≡ Next result }
+{
+    match information {
+        24 => Width::One,
+        25 => Width::Two,
+        26 => Width::Four,
+        _ => Width::Eight,
+    }
+}
+
+/// The number that the first bytes make, as many as a head of this width has behind its initial byte; `None` if there are fewer.
+pub(crate) fn read_number(width: Width, bytes: &[u8]) -> Option<u64>
+    ensures { MatchOption result (length bytes.now < width_bytes width) (λ n. (width_bytes width ≤ length bytes.now) × (n ≡ number width (take (width_bytes width) bytes.now))) }
+{
+    match width {
+        Width::Direct => Some(0),
+        Width::One => Some(u64::from(*bytes.first()?)),
+        Width::Two => Some(u64::from(u16::from_be_bytes(*bytes.first_chunk::<2>()?))),
+        Width::Four => Some(u64::from(u32::from_be_bytes(*bytes.first_chunk::<4>()?))),
+        Width::Eight => Some(u64::from_be_bytes(*bytes.first_chunk::<8>()?)),
+    }
+}
+
+/// The head of major type `major`, from 0 to 6, with the argument `n`, which fits the width: its bytes stand first in the array, and the number is their count.
+pub fn head_bytes(major: u8, width: Width, n: u64) -> ([u8; 9], usize)
+    requires major { major ≤ 6 }
+    requires fits { Holds width n }
+    ensures len { result.1 ≤ 9 }
+    ensures head { IsHead major width n (take result.1 result.0) }
+{
+    first_bytes(major, width, n)
+}
+
+// The head, of any major type.
+fn first_bytes(major: u8, width: Width, n: u64) -> ([u8; 9], usize)
+    requires major { major ≤ 7 }
+    requires fits { Holds width n }
+    ensures len { result.1 ≤ 9 }
+    ensures head { take result.1 result.0 ≡ head_bytes major width n }
+{
+    let first = 32 * major;
+    let mut bytes = [0; 9];
+    match width {
+        Width::Direct => bytes[0] = first + n as u8,
+        Width::One => {
+            bytes[0] = first + 24;
+            bytes[1] = n as u8;
+        }
+        Width::Two => {
+            bytes[0] = first + 25;
+            bytes[1..3].copy_from_slice(&(n as u16).to_be_bytes());
+        }
+        Width::Four => {
+            bytes[0] = first + 26;
+            bytes[1..5].copy_from_slice(&(n as u32).to_be_bytes());
+        }
+        Width::Eight => {
+            bytes[0] = first + 27;
+            bytes[1..9].copy_from_slice(&n.to_be_bytes());
+        }
+    }
+    (bytes, 1 + width_len(width))
+}
+
+/// Appends the head of major type `major`, from 0 to 7, with the argument `n`, which fits the width. Where memory is refused `out` stays as it was.
+pub fn push_head(out: &mut Vec<u8>, major: u8, width: Width, n: u64) -> Result<(), AllocError>
+    requires major { major ≤ 7 }
+    requires fits { Holds width n }
+    ensures added { OnOk result (out.new.items ≡ out.old.items ++ head_bytes major width n) }
+    ensures kept { OnErr result (out.new.items ≡ out.old.items) }
+{
+    let (bytes, len) = first_bytes(major, width, n);
+    out.extend_from_slice(&bytes[..len])
+}

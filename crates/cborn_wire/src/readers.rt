@@ -1,0 +1,51 @@
+//! Reading input that is held whole.
+
+ghost use Rattle.std.specs.Prelude.{◌≡◌, ◌+◌, ◌≤◌, ℕ, length, drop, Err, IfOk};
+ghost use Rattle.cborn_model.specs.Tree.{trees};
+ghost use Rattle.cborn_model.specs.Spelled.{Wellformed};
+ghost use Rattle.cborn_model.specs.Placed.{PlacedAll};
+ghost use Rattle.cborn_wire.specs.declared.faults.WireFault.TheVariants.{Refused};
+ghost use Rattle.cborn_wire.specs.declared.faults.WireReason.{WireReason};
+ghost use Rattle.cborn_wire.specs.Faults.{Fault};
+ghost use Rattle.cborn_wire.specs.Reading.{IsFirstItem, ItemFault};
+
+use crate::stacks::Stack;
+use crate::{Feeder, WireFault, WireReason};
+use cborn_model::{Limit, Spelled};
+use std::alloc::Global;
+
+/// The items of `bytes`, a sequence (RFC 8742) in which at most `limit` arrays, maps and tags stand around one another. Where the bytes are no such sequence, the one fault that they have.
+pub fn read_all(alloc: Global, limit: Limit, bytes: &[u8]) -> Result<Vec<Spelled>, WireFault>
+    ensures items { IfOk result (λ v. Wellformed limit (trees v.items) bytes.now × PlacedAll 0 (trees v.items)) }
+    ensures fault { (p : ℕ) (r : WireReason) → result ≡ Err (Refused p r) → Fault limit bytes.now p r }
+{
+    let mut feeder = Feeder::new(alloc, limit);
+    feeder.feed(bytes)?;
+    feeder.finish()
+}
+
+/// The item that stands in `bytes` from the offset `start` on, and the offset of what follows it, which isn't judged. Places count from the start of `bytes`; where they end before the item does, or at `start`, it is `Truncated` at their length.
+pub fn read_one(
+    alloc: Global,
+    limit: Limit,
+    bytes: &[u8],
+    start: usize,
+) -> Result<(Spelled, usize), WireFault>
+    requires { start ≤ length bytes.now }
+    ensures item { IfOk result (λ r. (r.1 ≤ length bytes.now) × IsFirstItem limit start r.0 (drop start bytes.now) (drop r.1 bytes.now)) }
+    ensures fault { (p : ℕ) (r : WireReason) → result ≡ Err (Refused p r) → (q : ℕ) × (p ≡ start + q) × ItemFault limit (drop start bytes.now) q r }
+{
+    let limit = limit.get();
+    let mut stack = Stack::new(alloc, start as u64);
+    let mut end = start;
+    while end < bytes.len() {
+        end += stack.advance(limit, &bytes[end..])?;
+        if let Some(item) = stack.ready.pop_front() {
+            return Ok((item, end));
+        }
+    }
+    Err(WireFault::Refused {
+        place: bytes.len() as u64,
+        reason: WireReason::Truncated,
+    })
+}
