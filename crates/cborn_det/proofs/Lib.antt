@@ -1,0 +1,6 @@
+pub mod Rising
+pub mod Reading
+pub mod Canon
+pub mod Arranging
+pub mod Cutting
+pub mod Steps

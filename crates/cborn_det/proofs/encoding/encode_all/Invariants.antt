@@ -1,0 +1,7 @@
+use Rattle.std.proofs.Common.{take}
+use Rattle.cborn_det.specs.Det.{DetSeq}
+use Rattle.cborn_det.proofs.encoding.encode_all.Given as goal
+
+-- the items so far
+abbrev pub invariant-loop-item : goal.invariant-loop-item
+invariant-loop-item g l = DetSeq g.O.KeyOrder.order (take l.item-index l.items) l.out.items

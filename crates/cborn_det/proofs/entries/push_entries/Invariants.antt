@@ -1,0 +1,7 @@
+use Rattle.std.proofs.Common.{◌≡◌, ◌++◌, drop}
+use Rattle.cborn_det.specs.Det.{joined}
+use Rattle.cborn_det.specs.Appending.{entries_of}
+use Rattle.cborn_det.proofs.entries.push_entries.Given as goal
+
+abbrev pub invariant-loop-key : goal.invariant-loop-key
+invariant-loop-key l = l.out.items ++ joined (entries_of (drop l.key-index l.entries)) ≡ l.initial.out.items ++ joined (entries_of l.entries)

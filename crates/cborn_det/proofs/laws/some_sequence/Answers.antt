@@ -1,0 +1,7 @@
+use Rattle.std.proofs.lemmas.List.Elements.{recursion_from_All}
+use Rattle.cborn_model.specs.Valid.{IsProper}
+use Rattle.cborn_det.proofs.Canon.{seq_exists}
+use Rattle.cborn_det.proofs.laws.some_sequence.Goals as goal
+
+pub returns : goal.returns
+returns g c vs p = seq_exists g.O.KeyOrder.order g.met.O.KeyOrder.laws vs (recursion_from_All IsProper vs p)

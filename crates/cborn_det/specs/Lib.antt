@@ -1,0 +1,2 @@
+pub mod Det
+pub mod Appending

@@ -1,0 +1,162 @@
+//! The encoder.
+
+ghost use Rattle.std.specs.Prelude.{◌≡◌, ℕ, List, ◌↔◌, ◌++◌, IfOk, IsTrue, MatchResult, map};
+ghost use Rattle.cborn_model.specs.ItemView.{item_value, pair_value};
+ghost use Rattle.cborn_model.specs.Valid.{IsProper, AreProper, HasProperPairs, HasNewKeys};
+ghost use Rattle.cborn_model.specs.Value.{Same, values_of, pairs_of, dict};
+ghost use Rattle.cborn_det.specs.Appending.{Appends, AppendsPair, BeginsWith, IsWritten, Writes};
+ghost use Rattle.cborn_det.specs.Det.{Det, DetSeq, DetPairs, Entry};
+
+use crate::entries::arrange;
+use crate::parts::{push_head, push_integer, push_simple, push_string};
+use cborn_model::{Item, KeyOrder, Valid};
+use std::alloc::{AllocError, Global};
+
+/// The deterministic encoding of `valid`, the keys of its maps in the order `O` (RFC 8949 section
+/// 4.2). An error says that memory was refused.
+pub fn encode<O: KeyOrder>(alloc: Global, valid: &Valid) -> Result<Vec<u8>, AllocError>
+    ensures { IfOk result (λ bytes. Det O.order valid.now bytes.items) }
+{
+    encode_item::<O>(alloc, valid.item())
+}
+
+/// The deterministic encodings of `items`, one after another. An error says that memory was
+/// refused.
+pub fn encode_all<O: KeyOrder>(alloc: Global, items: &[Valid]) -> Result<Vec<u8>, AllocError>
+    ensures { IfOk result (λ bytes. DetSeq O.order items.now bytes.items) }
+{
+    let mut out = Vec::new(alloc);
+    for item in items {
+        push_encoding::<O>(alloc, item.item(), &mut out)?;
+    }
+    Ok(out)
+}
+
+/// Whether `a` and `b` have one deterministic encoding, which is exactly if they are the same item.
+/// An error says that memory was refused.
+pub fn equal_bytes<O: KeyOrder>(alloc: Global, a: &Valid, b: &Valid) -> Result<bool, AllocError>
+    ensures same { IfOk result (λ equal. IsTrue equal ↔ Same a.now b.now) }
+    ensures bytes { IfOk result (λ equal. (x y : List ℕ) → Det O.order a.now x → Det O.order b.now y → IsTrue equal ↔ x ≡ y) }
+{
+    let first = encode_item::<O>(alloc, a.item())?;
+    let second = encode_item::<O>(alloc, b.item())?;
+    Ok(first == second)
+}
+
+/// The deterministic encoding of `item`.
+fn encode_item<O: KeyOrder>(alloc: Global, item: &Item) -> Result<Vec<u8>, AllocError>
+    requires { IsProper (item_value item.now) }
+    ensures { IfOk result (λ bytes. Det O.order (item_value item.now) bytes.items) }
+{
+    let mut out = Vec::new(alloc);
+    push_encoding::<O>(alloc, item, &mut out)?;
+    Ok(out)
+}
+
+/// Appends the deterministic encoding of `item` to `out`. An error says that memory was refused;
+/// `out` then still begins with what it had.
+#[cycle(encoder)]
+pub fn push_encoding<O: KeyOrder>(
+    alloc: Global,
+    item: &Item,
+    out: &mut Vec<u8>,
+) -> Result<(), AllocError>
+    requires { IsProper (item_value item.now) }
+    ensures { Writes result (Det O.order (item_value item.now)) out.old.items out.new.items }
+{
+    match item {
+        Item::Int {
+            negative,
+            magnitude,
+        } => push_integer(*negative, magnitude, out),
+        Item::Bytes(bytes) => push_string(2, bytes.as_slice(), out),
+        Item::Text(text) => push_string(3, text.as_bytes(), out),
+        Item::Items(items) => {
+            let items = items.as_slice();
+            push_head(4, items.len() as u64, out)?;
+            push_items::<O>(alloc, items, out)?;
+            Ok(())
+        }
+        Item::Pairs(pairs) => {
+            push_map::<O>(alloc, pairs.as_slice(), out)?;
+            Ok(())
+        }
+        Item::Tagged(tag, content) => {
+            push_head(6, *tag, out)?;
+            push_encoding::<O>(alloc, content.get(), out)?;
+            Ok(())
+        }
+        Item::Simple(n) => push_simple(*n, out),
+    }
+}
+
+/// Appends the encodings of `items`, one after another.
+#[cycle(encoder)]
+fn push_items<O: KeyOrder>(
+    alloc: Global,
+    items: &[Item],
+    out: &mut Vec<u8>,
+) -> Result<(), AllocError>
+    requires { AreProper (values_of (map item_value items.now)) }
+    ensures { Writes result (DetSeq O.order (map item_value items.now)) out.old.items out.new.items }
+{
+    for item in items {
+        push_encoding::<O>(alloc, item, out)?;
+    }
+    Ok(())
+}
+
+/// Appends the encoding of a map: its pairs as they stand, which are then arranged where they lie.
+#[cycle(encoder)]
+fn push_map<O: KeyOrder>(
+    alloc: Global,
+    pairs: &[(Item, Item)],
+    out: &mut Vec<u8>,
+) -> Result<(), AllocError>
+    requires proper { HasProperPairs (pairs_of (map pair_value pairs.now)) }
+    requires new { HasNewKeys (pairs_of (map pair_value pairs.now)) }
+    ensures { Writes result (Det O.order (dict (pairs_of (map pair_value pairs.now)))) out.old.items out.new.items }
+{
+    push_head(5, pairs.len() as u64, out)?;
+    let start = out.len();
+    let lengths = push_pairs::<O>(alloc, pairs, out)?;
+    arrange::<O>(alloc, &lengths, start, out)?;
+    Ok(())
+}
+
+/// Appends the pairs as they stand, and gives the lengths of each key and value.
+#[cycle(encoder)]
+fn push_pairs<O: KeyOrder>(
+    alloc: Global,
+    pairs: &[(Item, Item)],
+    out: &mut Vec<u8>,
+) -> Result<Vec<(usize, usize)>, AllocError>
+    requires { HasProperPairs (pairs_of (map pair_value pairs.now)) }
+    ensures { MatchResult result (λ lengths. (es : List Entry) × DetPairs O.order (pairs_of (map pair_value pairs.now)) es × Appends (IsWritten es lengths.items) out.old.items out.new.items) (λ _. BeginsWith out.old.items out.new.items) }
+{
+    let mut lengths = Vec::with_capacity(alloc, pairs.len())?;
+    for pair in pairs {
+        let both = push_pair::<O>(alloc, pair, out)?;
+        lengths.push(both)?;
+    }
+    Ok(lengths)
+}
+
+/// Appends a pair, and gives the lengths of its key and its value.
+#[cycle(encoder)]
+fn push_pair<O: KeyOrder>(
+    alloc: Global,
+    pair: &(Item, Item),
+    out: &mut Vec<u8>,
+) -> Result<(usize, usize), AllocError>
+    requires key { IsProper (item_value pair.now.0) }
+    requires value { IsProper (item_value pair.now.1) }
+    ensures { MatchResult result (λ lengths. AppendsPair O.order (pair_value pair.now) lengths out.old.items out.new.items) (λ _. BeginsWith out.old.items out.new.items) }
+{
+    let start = out.len();
+    push_encoding::<O>(alloc, &pair.0, out)?;
+    let middle = out.len();
+    push_encoding::<O>(alloc, &pair.1, out)?;
+    let end = out.len();
+    Ok((middle - start, end - middle))
+}

@@ -1,0 +1,109 @@
+//! The entries of a map, each the bytes of a key and of its value, as they lie one after another in
+//! a buffer.
+
+ghost use Rattle.std.specs.Prelude.{◌≡◌, ℕ, List, ◌++◌, IfOk, OnOk, IsPermutation, IsTrue, ◌≤◌, length, take, drop};
+ghost use Rattle.cborn_model.specs.Orders.{Rising};
+ghost use Rattle.cborn_det.specs.Appending.{BeginsWith, IsWritten, entries_of};
+ghost use Rattle.cborn_det.specs.Det.{Entry, HasDistinctKeys, joined, keys};
+
+use cborn_model::KeyOrder;
+use std::alloc::{AllocError, Global};
+
+/// Arranges the entries that `out` has from `start` on, so that their keys rise. `lengths` are
+/// those of each key and value. Where the keys rise as they stand, nothing is moved.
+pub(crate) fn arrange<O: KeyOrder>(
+    alloc: Global,
+    lengths: &[(usize, usize)],
+    start: usize,
+    out: &mut Vec<u8>,
+) -> Result<(), AllocError>
+    requires inside { start ≤ length out.old.items }
+    requires written { (es : List Entry) × IsWritten es lengths.now (drop start out.old.items) × HasDistinctKeys es }
+    ensures arranged { OnOk result ((es : List Entry) → IsWritten es lengths.now (drop start out.old.items) → (fs : List Entry) × IsPermutation es fs × Rising O.order (keys fs) × (out.new.items ≡ take start out.old.items ++ joined fs)) }
+    ensures before { BeginsWith (take start out.old.items) out.new.items }
+{
+    if !rise::<O>(lengths, &out[start..]) {
+        let arranged = arranged::<O>(alloc, lengths, &out[start..])?;
+        out.truncate(start);
+        out.extend_from_slice(&arranged)?;
+    }
+    Ok(())
+}
+
+/// Whether the keys rise as they stand. `lengths` are those of each key and value in `written`.
+fn rise<O: KeyOrder>(lengths: &[(usize, usize)], written: &[u8]) -> bool
+    requires { (es : List Entry) × IsWritten es lengths.now written.now }
+    ensures { IsTrue result → (es : List Entry) → IsWritten es lengths.now written.now → Rising O.order (keys es) }
+{
+    let mut rest = written;
+    let mut before: Option<&[u8]> = None;
+    for (key_len, value_len) in lengths {
+        let (key, after) = rest.split_at(*key_len);
+        let (_, after) = after.split_at(*value_len);
+        if let Some(before) = before {
+            if !O::compare(before, key).is_lt() {
+                return false;
+            }
+        }
+        before = Some(key);
+        rest = after;
+    }
+    true
+}
+
+/// The bytes of the entries, so arranged that the keys rise.
+fn arranged<O: KeyOrder>(
+    alloc: Global,
+    lengths: &[(usize, usize)],
+    written: &[u8],
+) -> Result<Vec<u8>, AllocError>
+    requires { (es : List Entry) × IsWritten es lengths.now written.now × HasDistinctKeys es }
+    ensures { IfOk result (λ v. (es : List Entry) → IsWritten es lengths.now written.now → (fs : List Entry) × IsPermutation es fs × Rising O.order (keys fs) × (v.items ≡ joined fs)) }
+{
+    let mut entries = entries_in(alloc, lengths, written)?;
+    sort::<O>(&mut entries)?;
+    let mut out = Vec::with_capacity(alloc, written.len())?;
+    push_entries(&entries, &mut out)?;
+    Ok(out)
+}
+
+/// The entries, as they lie in the bytes.
+fn entries_in<'a>(
+    alloc: Global,
+    lengths: &[(usize, usize)],
+    written: &'a [u8],
+) -> Result<Vec<(&'a [u8], &'a [u8])>, AllocError>
+    requires { (es : List Entry) × IsWritten es lengths.now written.now }
+    ensures { IfOk result (λ v. IsWritten (entries_of v.items) lengths.now written.now) }
+{
+    let mut entries = Vec::with_capacity(alloc, lengths.len())?;
+    let mut rest = written;
+    for (key_len, value_len) in lengths {
+        let (key, after) = rest.split_at(*key_len);
+        let (value, after) = after.split_at(*value_len);
+        entries.push((key, value))?;
+        rest = after;
+    }
+    Ok(entries)
+}
+
+/// Arranges entries so that their keys rise.
+fn sort<O: KeyOrder>(entries: &mut Vec<(&[u8], &[u8])>) -> Result<(), AllocError>
+    requires { HasDistinctKeys (entries_of entries.old.items) }
+    ensures same { IsPermutation (entries_of entries.old.items) (entries_of entries.new.items) }
+    ensures rising { OnOk result (Rising O.order (keys (entries_of entries.new.items))) }
+{
+    entries.sort_by(|a, b| O::compare(a.0, b.0))?;
+    Ok(())
+}
+
+/// Appends entries one after another.
+fn push_entries(entries: &[(&[u8], &[u8])], out: &mut Vec<u8>) -> Result<(), AllocError>
+    ensures { OnOk result (out.new.items ≡ out.old.items ++ joined (entries_of entries.now)) }
+{
+    for (key, value) in entries {
+        out.extend_from_slice(key)?;
+        out.extend_from_slice(value)?;
+    }
+    Ok(())
+}

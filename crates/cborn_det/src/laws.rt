@@ -1,0 +1,50 @@
+//! Laws of the deterministic encoding (RFC 8949 section 4.2), over the definitions alone. Each
+//! function does nothing: its contract is the law, for any order of keys.
+
+ghost use Rattle.std.specs.Prelude.{◌≡◌, ℕ, List, [], ◌++◌, ◌↔◌, All, IsPermutation};
+ghost use Rattle.std.specs.List.{AllZip};
+ghost use Rattle.cborn_model.specs.Orders.{Rising};
+ghost use Rattle.cborn_model.specs.Valid.{IsProper};
+ghost use Rattle.cborn_model.specs.Value.{Value, Couples, dict, Same};
+ghost use Rattle.cborn_det.specs.Det.{Det, DetSeq, DetMap, Entry, keys};
+
+use cborn_model::KeyOrder;
+
+/// Two valid items, however deep, have one encoding exactly if they are the same.
+pub fn one_encoding<O: KeyOrder>()
+    ensures { (a b : Value) (x y : List ℕ) → IsProper a → IsProper b → Det O.order a x → Det O.order b y → (x ≡ y) ↔ Same a b }
+{}
+
+/// Every valid item, however deep, has an encoding.
+pub fn some_encoding<O: KeyOrder>()
+    ensures { (a : Value) → IsProper a → (x : List ℕ) × Det O.order a x }
+{}
+
+/// What begins with an encoding begins with no other, and in particular no encoding is a proper
+/// prefix of another.
+pub fn one_front<O: KeyOrder>()
+    ensures reading { (a b : Value) (x y r s : List ℕ) → Det O.order a x → Det O.order b y → x ++ r ≡ y ++ s → (x ≡ y) × (r ≡ s) }
+    ensures prefix { (a b : Value) (x y r : List ℕ) → Det O.order a x → Det O.order b y → x ++ r ≡ y → r ≡ [] }
+{}
+
+/// Two rearrangements of one list of keys, or of entries, that both rise are one list. Keys that
+/// rise are distinct.
+pub fn one_arrangement<O: KeyOrder>()
+    ensures keys { (ks ls ms : List (List ℕ)) → IsPermutation ks ls → IsPermutation ks ms → Rising O.order ls → Rising O.order ms → ls ≡ ms }
+    ensures entries { (es fs gs : List Entry) → IsPermutation es fs → IsPermutation es gs → Rising O.order (keys fs) → Rising O.order (keys gs) → fs ≡ gs }
+{}
+
+/// The encoding of a map may be said by a rearrangement of its pairs as well.
+pub fn by_pairs<O: KeyOrder>()
+    ensures { (ps : Couples) (x : List ℕ) → Det O.order (dict ps) x ↔ DetMap O.order ps x }
+{}
+
+/// Two sequences of valid items have one encoding exactly if they are the same, item by item.
+pub fn one_sequence<O: KeyOrder>()
+    ensures { (vs ws : List Value) (x y : List ℕ) → All IsProper vs → All IsProper ws → DetSeq O.order vs x → DetSeq O.order ws y → (x ≡ y) ↔ AllZip Same vs ws }
+{}
+
+/// Every sequence of valid items has an encoding.
+pub fn some_sequence<O: KeyOrder>()
+    ensures { (vs : List Value) → All IsProper vs → (x : List ℕ) × DetSeq O.order vs x }
+{}

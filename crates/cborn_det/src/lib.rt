@@ -1,0 +1,23 @@
+//! The deterministic encoding of data items (RFC 8949 section 4.2): each head as short as it can
+//! be,
+//! definite lengths alone, an integer within 64 bits as a head, and the pairs of each map in the
+//! order of their keys' encodings, under any order of keys that has the laws.
+//!
+//! An item is written to the end of one buffer: `encoding` goes over what is inside it, `parts`
+//! appends heads, strings and numbers, and `entries` arranges the pairs of a map where they lie,
+//! once all are written. Where the keys of a map rise as its pairs stand, nothing is moved; another
+//! map is copied once, with all that is in it.
+//!
+//! `laws` says what follows from the definitions: two valid items have one encoding exactly if they
+//! are the same.
+#![tactic(auto)]
+
+mod encoding;
+mod entries;
+pub mod laws;
+mod parts;
+
+pub use encoding::{encode, encode_all, equal_bytes, push_encoding};
+
+#[cfg(test)]
+mod tests;
