@@ -1,0 +1,61 @@
+-- The first of what two searches found.
+use Rattle.std.proofs.Common.{◌≡◌, ℕ, ◌⊎◌, inl, inr, refl, sym, ◌∙◌, subst, arith, Option, None, Some}
+use Rattle.std.specs.Prelude.{◌↔◌}
+use Rattle.cborn_model.specs.First.{NoLater, IsFirst}
+use Rattle.cborn_judge.specs.Judged.{IsEarlier, IsEarliest, Finds}
+
+no_later_on : (a b c : ℕ × ℕ) → NoLater a b → NoLater b c → NoLater a c
+no_later_on a b c (inl h) (inl k) = inl (omega arith)
+no_later_on a b c (inl h) (inr k) = inl (omega arith)
+no_later_on a b c (inr h) (inl k) = inl (omega arith)
+no_later_on a b c (inr h) (inr k) = inr ((omega arith), (omega arith))
+
+abbrev pub Either : {R : Type 0} → (ℕ → R → Type 0) → (ℕ → R → Type 0) → ℕ → R → Type 0
+Either F G p r = F p r ⊎ G p r
+
+module _ {X R : Type 0} (rank : R → ℕ) (place_of : X → ℕ) (reason_of : X → R) where
+  abbrev First : (ℕ → R → Type 0) → X → Type 0
+  First F x = IsFirst rank F (place_of x) (reason_of x)
+
+  abbrev Found : (ℕ → R → Type 0) → Option X → Type 0
+  Found = Finds rank place_of reason_of
+
+  pub earlier_of : (F G : ℕ → R → Type 0) (x y z : X) → First F x → First G y → IsEarlier rank place_of reason_of x y z → First (Either F G) z
+  earlier_of F G x y z h k e = record {
+    is = elim e.0 [
+      | inl i ↦ subst (λ v. Either F G (place_of v) (reason_of v)) (sym i) (inl h.is)
+      | inr i ↦ subst (λ v. Either F G (place_of v) (reason_of v)) (sym i) (inr k.is)
+    ];
+    first = λ q s d. elim d [
+      | inl i ↦ no_later_on (place_of z, rank (reason_of z)) (place_of x, rank (reason_of x)) (q, rank s) e.1 (h.first q s i)
+      | inr i ↦ no_later_on (place_of z, rank (reason_of z)) (place_of y, rank (reason_of y)) (q, rank s) e.2 (k.first q s i)
+    ];
+  }
+
+  first_left : (F G : ℕ → R → Type 0) (x : X) → First F x → Found G None → First (Either F G) x
+  first_left F G x h n = record { is = inl h.is; first = λ q s k. elim k [ inl f ↦ h.first q s f | inr g ↦ absurd (n q s g) ] }
+
+  first_right : (F G : ℕ → R → Type 0) (x : X) → Found F None → First G x → First (Either F G) x
+  first_right F G x n h = record { is = inr h.is; first = λ q s k. elim k [ inl f ↦ absurd (n q s f) | inr g ↦ h.first q s g ] }
+
+  pub found_both : (F G : ℕ → R → Type 0) (a b o : Option X) → Found F a → Found G b → IsEarliest rank place_of reason_of a b o → Found (Either F G) o
+  found_both F G None None o h k e = subst (Found (Either F G)) (sym e) (λ p r d. elim d [ inl f ↦ h p r f | inr g ↦ k p r g ])
+  found_both F G None (Some y) o h k e = subst (Found (Either F G)) (sym e) (first_right F G y h k)
+  found_both F G (Some x) None o h k e = subst (Found (Either F G)) (sym e) (first_left F G x h k)
+  found_both F G (Some x) (Some y) None h k e = absurd e
+  found_both F G (Some x) (Some y) (Some z) h k e = earlier_of F G x y z h k e
+
+  pub found_alike : (F G : ℕ → R → Type 0) (o : Option X) → ((p : ℕ) (r : R) → F p r ↔ G p r) → Found F o → Found G o
+  found_alike F G None e h = λ p r g. h p r ((e p r).1 g)
+  found_alike F G (Some x) e h = record { is = (e (place_of x) (reason_of x)).0 h.is; first = λ q s g. h.first q s ((e q s).1 g) }
+
+  -- the earliest of two is none only if both are
+  pub none_of_both : (a : Option X) (y : X) → IsEarliest rank place_of reason_of a (Some y) None → ⊥
+  none_of_both None y e = cc
+  none_of_both (Some x) y e = e
+
+  pub none_both : (a b o : Option X) → IsEarliest rank place_of reason_of a b o → o ≡ None → (a ≡ None) × (b ≡ None)
+  none_both None b o e n = (refl, sym e ∙ n)
+  none_both (Some x) None o e n = let f : Some x ≡ None = sym e ∙ n in cc
+  none_both (Some x) (Some y) None e n = absurd e
+  none_both (Some x) (Some y) (Some z) e n = cc

@@ -1,0 +1,104 @@
+-- What nodes and pairs mean, or their first flaw, as a loop over them meets them.
+use Rattle.std.proofs.Common.{◌≡◌, ℕ, ◌+◌, ◌<◌, ◌≤◌, ◌⊎◌, ◌^◌, inl, inr, List, [], ◌∷◌, ◌++◌, length, map, get_or, take, refl, sym, ap, ◌∙◌, subst, arith, Option, None, Some}
+use Rattle.std.specs.Prelude.{◌↔◌}
+use Rattle.std.proofs.lemmas.List.{take_more, take_all, map-append, length-map}
+use Rattle.cborn_model.specs.First.{IsFirst}
+use Rattle.cborn_model.specs.ItemView.{item_value}
+use Rattle.cborn_model.specs.Meaning.{Means, AllMean}
+use Rattle.cborn_model.specs.Tree.{Tree, Items, trees}
+use Rattle.cborn_model.specs.Valid.{IsProper, AreProper}
+use Rattle.cborn_model.specs.Value.{Value, values_of, value_count, array}
+use Rattle.cborn_model.specs.declared.items.Item.{Item}
+use Rattle.cborn_model.specs.declared.heads.Size.{Size}
+use Rattle.cborn_model.proofs.Values.{value_count-values_of}
+use Rattle.cborn_judge.specs.Flaws.{Within, WithinAll, Flaw, IsFirstFlaw, flaw_rank}
+use Rattle.cborn_judge.specs.Judged.{FindsFlaw, IsEarliestFlaw, FlawIn, MeansItem, AreJudged}
+use Rattle.cborn_judge.specs.declared.faults.Flaw as flaw
+use Rattle.cborn_judge.specs.declared.faults.InvalidReason.{InvalidReason}
+use Rattle.cborn_judge.proofs.Firsts.{Either, found_both, found_alike, none_of_both}
+use Rattle.cborn_judge.proofs.Judging.{sound_all, no_flaw}
+use Rattle.cborn_judge.proofs.Steps.{flaw_items}
+
+abbrev EarliestOf : Option flaw.Flaw → flaw.Flaw → Option flaw.Flaw → Type 0
+EarliestOf o f g = IsEarliestFlaw o (Some f) g
+
+not_none : (o g : Option flaw.Flaw) (f : flaw.Flaw) → EarliestOf o f g → g ≡ None → ⊥
+not_none o g f e n = none_of_both flaw_rank (λ f. f.place) (λ f. f.reason) o f (subst (EarliestOf o f) n e)
+
+-- ---- the nodes of an array
+
+pub after : (xs : List Tree) (x : Tree) (q : Tree) → WithinAll q (trees (xs ++ x ∷ [])) → WithinAll q (trees xs) ⊎ Within q x
+after [] x q (inl h) = inr h
+after [] x q (inr h) = absurd h
+after (y ∷ ys) x q (inl h) = inl (inl h)
+after (y ∷ ys) x q (inr h) = elim (after ys x q h) [ inl k ↦ inl (inr k) | inr k ↦ inr k ]
+
+pub before : (xs : List Tree) (x : Tree) (q : Tree) → WithinAll q (trees xs) → WithinAll q (trees (xs ++ x ∷ []))
+before [] x q h = absurd h
+before (y ∷ ys) x q (inl h) = inl h
+before (y ∷ ys) x q (inr h) = inr (before ys x q h)
+
+pub last : (xs : List Tree) (x : Tree) (q : Tree) → Within q x → WithinAll q (trees (xs ++ x ∷ []))
+last [] x q h = inl h
+last (y ∷ ys) x q h = inr (last ys x q h)
+
+pub one_more : (xs : List Tree) (x : Tree) (p : ℕ) (r : InvalidReason) → Either (FlawIn (trees xs)) (Flaw x) p r ↔ FlawIn (trees (xs ++ x ∷ [])) p r
+one_more xs x p r = (to, (λ f. elim (after xs x f.0 f.1) [ inl k ↦ inl (f.0, k, f.2) | inr k ↦ inr (f.0, k, f.2) ]))
+  where
+    to : Either (FlawIn (trees xs)) (Flaw x) p r → FlawIn (trees (xs ++ x ∷ [])) p r
+    to (inl f) = (f.0, before xs x f.0 f.1, f.2)
+    to (inr f) = (f.0, last xs x f.0 f.1, f.2)
+
+mean_more : (xs : List Tree) (vs : List Value) (x : Tree) (v : Value) → AllMean (trees xs) (values_of vs) → Means x v → AllMean (trees (xs ++ x ∷ [])) (values_of (vs ++ v ∷ []))
+mean_more [] [] x v h m = (m, tt)
+mean_more [] (w ∷ ws) x v h m = absurd h
+mean_more (y ∷ ys) [] x v h m = absurd h
+mean_more (y ∷ ys) (w ∷ ws) x v h m = (h.0, mean_more ys ws x v h.1 m)
+
+proper_more : (vs : List Value) (v : Value) → AreProper (values_of vs) → IsProper v → AreProper (values_of (vs ++ v ∷ []))
+proper_more [] v h p = (p, tt)
+proper_more (w ∷ ws) v h p = (h.0, proper_more ws v h.1 p)
+
+found : (xs : List Tree) (o : Option flaw.Flaw) (ys : List Item) → AreJudged xs o ys → FindsFlaw (FlawIn (trees xs)) o
+found xs None ys h = λ p r f. sound_all (trees xs) (values_of (map item_value ys)) h.0 f.0 f.1 p r f.2
+found xs (Some f) ys h = h
+
+judged_from : (xs : List Tree) (o : Option flaw.Flaw) (ys : List Item) → (o ≡ None → ⊥) → FindsFlaw (FlawIn (trees xs)) o → AreJudged xs o ys
+judged_from xs None ys n h = absurd (n refl)
+judged_from xs (Some f) ys n h = h
+
+valid_more : (xs : List Tree) (x : Tree) (o : Option flaw.Flaw) (ys : List Item) (y : Item) → AreJudged xs o ys → MeansItem x y → AreJudged (xs ++ x ∷ []) o (ys ++ y ∷ [])
+valid_more xs x None ys y h m =
+    let e = sym (map-append item_value ys (y ∷ [])) in
+    (subst (λ l. AllMean (trees (xs ++ x ∷ [])) (values_of l)) e (mean_more xs (map item_value ys) x (item_value y) h.0 m.0), subst (λ l. AreProper (values_of l)) e (proper_more (map item_value ys) (item_value y) h.1 m.1))
+valid_more xs x (Some f) ys y h m =
+    found_alike flaw_rank (λ f. f.place) (λ f. f.reason) (Either (FlawIn (trees xs)) (Flaw x)) (FlawIn (trees (xs ++ x ∷ []))) (Some f) (one_more xs x)
+    (found_both flaw_rank (λ f. f.place) (λ f. f.reason) (FlawIn (trees xs)) (Flaw x) (Some f) None (Some f) h (no_flaw x (item_value y) m.0) refl)
+
+flawed_more : (xs : List Tree) (x : Tree) (o g : Option flaw.Flaw) (ys : List Item) (f : flaw.Flaw) → AreJudged xs o ys → IsFirstFlaw x f.place f.reason → EarliestOf o f g → AreJudged (xs ++ x ∷ []) g ys
+flawed_more xs x o g ys f h k e =
+    judged_from (xs ++ x ∷ []) g ys (not_none o g f e)
+    (found_alike flaw_rank (λ f. f.place) (λ f. f.reason) (Either (FlawIn (trees xs)) (Flaw x)) (FlawIn (trees (xs ++ x ∷ []))) g (one_more xs x)
+    (found_both flaw_rank (λ f. f.place) (λ f. f.reason) (FlawIn (trees xs)) (Flaw x) o (Some f) g (found xs o ys h) k e))
+
+front : {A : Type 0} (xs : List A) (i : ℕ) (x : A) → i < length xs → x ≡ get_or xs i x → take (i + 1) xs ≡ take i xs ++ x ∷ []
+front {A} xs i x l e = take_more xs i x l ∙ ap (λ (z : A). take i xs ++ z ∷ []) (sym e)
+
+pub valid-take_more : (xs : List Tree) (i : ℕ) (x : Tree) (o : Option flaw.Flaw) (ys zs : List Item) (y : Item) → i < length xs → x ≡ get_or xs i x → AreJudged (take i xs) o ys → MeansItem x y → zs ≡ ys ++ y ∷ [] → AreJudged (take (i + 1) xs) o zs
+valid-take_more xs i x o ys zs y l e h m z =
+    subst (λ t. AreJudged t o zs) (sym (front xs i x l e)) (subst (AreJudged (take i xs ++ x ∷ []) o) (sym z) (valid_more (take i xs) x o ys y h m))
+
+pub flawed-take_more : (xs : List Tree) (i : ℕ) (x : Tree) (o g : Option flaw.Flaw) (ys : List Item) (f : flaw.Flaw) → i < length xs → x ≡ get_or xs i x → AreJudged (take i xs) o ys → IsFirstFlaw x f.place f.reason → EarliestOf o f g → AreJudged (take (i + 1) xs) g ys
+flawed-take_more xs i x o g ys f l e h k m = subst (λ t. AreJudged t g ys) (sym (front xs i x l e)) (flawed_more (take i xs) x o g ys f h k m)
+
+pub all_valid : (p : ℕ) (s : Size) (xs : List Tree) (i : ℕ) (o : Option flaw.Flaw) (ys : List Item) → length xs ≤ i → length ys < 2 ^ 64 → AreJudged (take i xs) o ys → o ≡ None
+    → Means (Items p s (trees xs)) (array (values_of (map item_value ys))) × IsProper (array (values_of (map item_value ys)))
+all_valid p s xs i o ys l k h e =
+    let w : AreJudged xs None ys = subst (λ z. AreJudged xs z ys) e (subst (λ t. AreJudged t o ys) (take_all i xs l) h) in
+    let c : value_count (values_of (map item_value ys)) < 2 ^ 64 = omega (arith, value_count-values_of (map item_value ys), length-map ys item_value) in
+    ((values_of (map item_value ys), w.0, refl), (w.1, c))
+
+pub some_flawed : (p : ℕ) (s : Size) (xs : List Tree) (i : ℕ) (o : Option flaw.Flaw) (ys : List Item) (f : flaw.Flaw) → length xs ≤ i → AreJudged (take i xs) o ys → o ≡ Some f → IsFirstFlaw (Items p s (trees xs)) f.place f.reason
+some_flawed p s xs i o ys f l h e =
+    let w : IsFirst flaw_rank (FlawIn (trees xs)) f.place f.reason = subst (λ z. AreJudged xs z ys) e (subst (λ t. AreJudged t o ys) (take_all i xs l) h) in
+    found_alike flaw_rank (λ f. f.place) (λ f. f.reason) (FlawIn (trees xs)) (Flaw (Items p s (trees xs))) (Some f) (λ q r. let k = flaw_items p s (trees xs) q r in (k.1, k.0)) w

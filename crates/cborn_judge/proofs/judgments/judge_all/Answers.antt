@@ -1,0 +1,12 @@
+use Rattle.std.proofs.Common.{rules, arith, subst, sym}
+use Rattle.cborn_judge.proofs.Sequences.{mean-take_more, refused_at, passed_on}
+use Rattle.cborn_judge.specs.Flaws.{IsRefusalOfAll}
+use Rattle.cborn_judge.proofs.judgments.judge_all.Goals as goal
+
+pub returns-in_err-item-clause-refused : goal.returns-in_err-item-clause-refused
+returns-in_err-item-clause-refused c =
+    let r = refused_at c.args.spelled.now c.loop-node.node-index c.node-item.result c.loop-node.items.items c.in_err-item.field-0.0 (omega arith) c.node-item.is c.loop-node.invariant c.in_err-item.ensures.refused in
+    passed_on c.from_residual.result _ (IsRefusalOfAll c.args.spelled.now) (λ e p. subst (IsRefusalOfAll c.args.spelled.now) (sym p) r) c.from_residual.ensures
+
+pub loop-node-preserved : goal.loop-node-preserved
+loop-node-preserved c = mean-take_more c.args.spelled.now c.loop-node.node-index c.node-item.result c.loop-node.items.items c.push.new.self.items c.in_ok-item.item (omega arith) c.node-item.is c.loop-node.invariant c.in_ok-item.ensures.meant (search rules)

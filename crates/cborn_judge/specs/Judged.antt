@@ -1,0 +1,122 @@
+-- What the parts of the judge answer. No public contract cites it.
+use Rattle.std.specs.Prelude.{◌≡◌, ℕ, ◌^◌, ◌<◌, ◌⊎◌, Bool, List, length, map, Option, None, Some}
+use Rattle.cborn_model.specs.Bytes.{AreBytes, IsShortest, big_endian}
+use Rattle.cborn_model.specs.First.{NoLater, IsFirst}
+use Rattle.cborn_model.specs.ItemView.{item_value, pair_value}
+use Rattle.cborn_model.specs.Meaning.{joined_chunks, IsByteString, IsBignum, ChunksAreText, Means, AllMean, EntriesMean}
+use Rattle.cborn_model.specs.Tree.{Tree, Trees, Entries, trees, entries}
+use Rattle.cborn_model.specs.Spelled.{Fits}
+use Rattle.cborn_model.specs.Valid.{IsProper, AreProper, HasProperPairs}
+use Rattle.cborn_model.specs.Value.{values_of, pairs_of}
+use Rattle.cborn_model.specs.declared.items.Item.{Item}
+use Rattle.cborn_judge.specs.Flaws.{WithinAll, WithinEntries, flaw_rank, HasRepeat, HasBadChunk, FlawAt, Flaw, IsFirstFlaw}
+use Rattle.cborn_judge.specs.declared.faults.Flaw as flaw
+use Rattle.cborn_judge.specs.declared.faults.InvalidReason.{InvalidReason}
+use Rattle.cborn_judge.specs.declared.faults.InvalidReason.TheVariants.{NotUtf8, DuplicateKey}
+use Rattle.cborn_model.specs.declared.nodes.Chunk.{Chunk}
+use Rattle.cborn_judge.specs.declared.judgments.Judged.{Judged}
+use Rattle.cborn_judge.specs.declared.judgments.Judged.TheVariants as judged
+use Rattle.cborn_judge.specs.declared.judgments.JudgedPair.{JudgedPair}
+use Rattle.cborn_judge.specs.declared.judgments.JudgedPair.TheVariants as judged_pair
+
+-- ---- the first of what was found
+
+module _ {X R : Type 0} (rank : R → ℕ) (place_of : X → ℕ) (reason_of : X → R) where
+  -- x comes no later than y
+  abbrev pub Precedes : X → X → Type 0
+  Precedes x y = NoLater (place_of x, rank (reason_of x)) (place_of y, rank (reason_of y))
+
+  -- z is one of the two, and neither comes before it
+  abbrev pub IsEarlier : X → X → X → Type 0
+  IsEarlier x y z = ((z ≡ x) ⊎ (z ≡ y)) × Precedes z x × Precedes z y
+
+  -- o is the first of what two searches found
+  abbrev pub IsEarliest : Option X → Option X → Option X → Type 0
+  IsEarliest None b o = o ≡ b
+  IsEarliest (Some x) None o = o ≡ Some x
+  IsEarliest (Some x) (Some y) None = ⊥
+  IsEarliest (Some x) (Some y) (Some z) = IsEarlier x y z
+
+  -- o is the first of these faults, if there is one
+  abbrev pub Finds : (ℕ → R → Type 0) → Option X → Type 0
+  Finds fault None = (p : ℕ) (r : R) → fault p r → ⊥
+  Finds fault (Some x) = IsFirst rank fault (place_of x) (reason_of x)
+
+abbrev pub IsEarlierFlaw : flaw.Flaw → flaw.Flaw → flaw.Flaw → Type 0
+IsEarlierFlaw = IsEarlier flaw_rank (λ f. f.place) (λ f. f.reason)
+
+abbrev pub IsEarliestFlaw : Option flaw.Flaw → Option flaw.Flaw → Option flaw.Flaw → Type 0
+IsEarliestFlaw = IsEarliest flaw_rank (λ f. f.place) (λ f. f.reason)
+
+abbrev pub FindsFlaw : (ℕ → InvalidReason → Type 0) → Option flaw.Flaw → Type 0
+FindsFlaw = Finds flaw_rank (λ f. f.place) (λ f. f.reason)
+
+-- ---- judgments
+
+-- the flaws of some nodes, and of the keys and values of some pairs, each by itself
+abbrev pub FlawIn : Trees → ℕ → InvalidReason → Type 0
+FlawIn ts p r = (q : Tree) × WithinAll q ts × FlawAt q p r
+
+abbrev pub FlawAmong : Entries → ℕ → InvalidReason → Type 0
+FlawAmong es p r = (q : Tree) × WithinEntries q es × FlawAt q p r
+
+-- a key at this place is the same as an earlier one
+abbrev pub RepeatFlaw : Entries → ℕ → InvalidReason → Type 0
+RepeatFlaw es p r = (r ≡ DuplicateKey) × HasRepeat es p
+
+-- the node means this item, which is proper
+abbrev pub MeansItem : Tree → Item → Type 0
+MeansItem t item = Means t (item_value item) × IsProper (item_value item)
+
+abbrev pub IsJudged : Tree → Judged → Type 0
+IsJudged t (judged.Valid item) = MeansItem t item
+IsJudged t (judged.Flawed f) = IsFirstFlaw t f.place f.reason
+
+abbrev pub PairFlaw : Tree × Tree → ℕ → InvalidReason → Type 0
+PairFlaw n p r = Flaw n.0 p r ⊎ Flaw n.1 p r
+
+abbrev pub IsJudgedPair : Tree × Tree → JudgedPair → Type 0
+IsJudgedPair n (judged_pair.Valid key value) = MeansItem n.0 key × MeansItem n.1 value
+IsJudgedPair n (judged_pair.Flawed f) = IsFirst flaw_rank (PairFlaw n) f.place f.reason
+
+-- the first flaw of these nodes, or without one what they mean
+abbrev pub AreJudged : List Tree → Option flaw.Flaw → List Item → Type 0
+AreJudged ts None items = AllMean (trees ts) (values_of (map item_value items)) × AreProper (values_of (map item_value items))
+AreJudged ts (Some f) items = IsFirst flaw_rank (FlawIn (trees ts)) f.place f.reason
+
+abbrev pub ArePairsJudged : List (Tree × Tree) → Option flaw.Flaw → List (Item × Item) → Type 0
+ArePairsJudged ns None pairs = EntriesMean (entries ns) (pairs_of (map pair_value pairs)) × HasProperPairs (pairs_of (map pair_value pairs))
+ArePairsJudged ns (Some f) pairs = IsFirst flaw_rank (FlawAmong (entries ns)) f.place f.reason
+
+-- the first flaw of these chunks of a text string, or without one the text that they are
+abbrev pub ChunkFlaw : List Chunk → ℕ → InvalidReason → Type 0
+ChunkFlaw cs p r = (r ≡ NotUtf8) × HasBadChunk cs p
+
+abbrev pub AreChunksJudged : List Chunk → Option flaw.Flaw → List ℕ → Type 0
+AreChunksJudged cs None b = ChunksAreText cs × (b ≡ joined_chunks cs)
+AreChunksJudged cs (Some f) b = IsFirst flaw_rank (ChunkFlaw cs) f.place f.reason
+
+-- the integer of tag 2 or 3 over this node, or none where it is no byte string
+abbrev pub IsBignumItem : Bool → Tree → Option Item → Type 0
+IsBignumItem negative t None = (b : List ℕ) → IsByteString t b → ⊥
+IsBignumItem negative t (Some item) = IsBignum negative t (item_value item) × IsProper (item_value item)
+
+-- the first of a flaw and of that of what was judged next, if it has one
+abbrev pub IsFirstWith : flaw.Flaw → Judged → flaw.Flaw → Type 0
+IsFirstWith f (judged.Valid item) g = g ≡ f
+IsFirstWith f (judged.Flawed next) g = IsEarlierFlaw f next g
+
+-- the tag is 2 or 3, and its content no byte string
+abbrev pub IsBadBignum : ℕ → Tree → Type 0
+IsBadBignum n t = ((n ≡ 2) ⊎ (n ≡ 3)) × ((b : List ℕ) → IsByteString t b → ⊥)
+
+-- the bytes of the big-endian number of b, without leading zeros
+pub record IsMagnitudeOf (b m : List ℕ) : Type 0 where
+  pub bytes : AreBytes m
+  pub shortest : IsShortest m
+  pub number : big_endian m ≡ big_endian b
+  pub short : length m < 2 ^ 64
+
+-- a key and its value fit
+abbrev pub PairFits : Tree × Tree → Type 0
+PairFits n = Fits n.0 × Fits n.1

@@ -1,0 +1,92 @@
+//! What integers mean.
+
+ghost use Rattle.std.specs.Prelude.{◌≡◌, ◌≤◌, ℕ, IfOk, length};
+ghost use Rattle.cborn_model.specs.declared.heads.Width.{Width};
+ghost use Rattle.cborn_model.specs.Bytes.{AreBytes, IsShortest, big_endian};
+ghost use Rattle.cborn_model.specs.ItemView.{item_value};
+ghost use Rattle.cborn_model.specs.Meaning.{IsNumber};
+ghost use Rattle.cborn_model.specs.Spelled.{Fits};
+ghost use Rattle.cborn_judge.specs.Judged.{IsBignumItem, IsMagnitudeOf};
+
+use crate::strings::join;
+use cborn_model::{Form, Item, Magnitude, Node};
+use std::alloc::{AllocError, Global};
+
+/// The integer `n`, or -1 - `n`.
+pub(crate) fn small_integer(negative: bool, n: u64) -> Item
+    ensures { IsNumber negative n (item_value result) }
+{
+    let magnitude = Magnitude::word(n);
+    Item::Int {
+        negative,
+        magnitude,
+    }
+}
+
+/// The integer of tag 2 or 3 over `content` (RFC 8949 section 3.4.3), if `content` is a byte string.
+pub(crate) fn judge_bignum(
+    alloc: Global,
+    negative: bool,
+    content: &Node,
+) -> Result<Option<Item>, AllocError>
+    requires { Fits content.now }
+    ensures { IfOk result (IsBignumItem negative content.now) }
+{
+    match &content.form {
+        Form::Bytes(_, bytes) => {
+            let magnitude = magnitude_of(alloc, bytes.as_slice())?;
+            Ok(Some(Item::Int {
+                negative,
+                magnitude,
+            }))
+        }
+        Form::ByteChunks(chunks) => {
+            let bytes = join(alloc, chunks)?;
+            let magnitude = magnitude_of(alloc, &bytes)?;
+            Ok(Some(Item::Int {
+                negative,
+                magnitude,
+            }))
+        }
+        _ => Ok(None),
+    }
+}
+
+/// The magnitude of the big-endian number of `bytes`.
+fn magnitude_of(alloc: Global, bytes: &[u8]) -> Result<Magnitude, AllocError>
+    requires { AreBytes bytes.now }
+    ensures { IfOk result (IsMagnitudeOf bytes.now) }
+{
+    let digits = without_zeros(bytes);
+    if digits.len() <= 8 {
+        return Ok(Magnitude::word(number_of(digits)));
+    }
+    let digits = digits.to_vec(alloc)?;
+    Ok(Magnitude::new(digits))
+}
+
+/// The bytes behind the leading zeros.
+fn without_zeros(bytes: &[u8]) -> &[u8]
+    requires { AreBytes bytes.now }
+    ensures bytes { AreBytes result.now }
+    ensures shortest { IsShortest result.now }
+    ensures number { big_endian result.now ≡ big_endian bytes.now }
+{
+    let mut rest = bytes;
+    while let [0, after @ ..] = rest {
+        rest = after;
+    }
+    rest
+}
+
+/// The big-endian number of at most eight bytes.
+fn number_of(bytes: &[u8]) -> u64
+    requires { length bytes.now ≤ 8 }
+    ensures { result ≡ big_endian bytes.now }
+{
+    let mut n: u64 = 0;
+    for byte in bytes {
+        n = n * 256 + u64::from(*byte);
+    }
+    n
+}
