@@ -1,0 +1,9 @@
+use Rattle.std.proofs.Common.{◌≡◌, true, take, length, ◌-◌}
+use Rattle.cborn_lex.specs.Strings.{is_content}
+use Rattle.cborn_lex.proofs.escaped.content_end.Given as goal
+
+abbrev pub invariant-loop-at : goal.invariant-loop-at
+invariant-loop-at l = is_content l.q (take l.at l.tail) ≡ true
+
+abbrev pub decreases-loop-at : goal.decreases-loop-at
+decreases-loop-at l = length l.tail - l.at

@@ -1,0 +1,7 @@
+pub mod Tokens
+pub mod Numbers
+pub mod Strings
+pub mod Forms
+pub mod Lex
+pub mod View
+pub mod Scan

@@ -1,0 +1,126 @@
+-- What the contents of strings stand for.
+use Rattle.std.specs.Prelude.{◌≡◌, ℕ, ◌+◌, ◌-◌, ◌*◌, ◌%◌, Bool, true, ◌||◌, ◌&&◌, not, List, [], ◌∷◌, ◌++◌, length, map, filter, replicate, flat_map, ◌==◌, nat_le, nat_lt, codes, Ok, if◌then◌else◌, encode_utf8}
+use Rattle.std.specs.List.{list_all, list_any}
+use Rattle.std.specs.Str.{byte}
+use Rattle.std.specs.Char.{is_digit, digit_value}
+use Rattle.hex.specs.Hex.{decode_of, IsBytes}
+use Rattle.base64.specs.GeneralPurpose.{encode_of}
+use Rattle.base64.specs.Engines.{standard}
+use Rattle.cborn_lex.specs.Tokens.{is_white, is_not}
+
+-- Quoted strings. A backslash takes the next character with it, and no other character is the quote q.
+
+abbrev pub is_content : ℕ → List ℕ → Bool
+is_content q [] = true
+is_content q (c ∷ []) = not (c == byte "\\") && is_not q c
+is_content q (c ∷ d ∷ x) = if c == byte "\\" then is_content q x else is_not q c && is_content q (d ∷ x)
+
+-- the same of a content that may end in a backslash, since no quote follows
+abbrev pub is_unclosed : ℕ → List ℕ → Bool
+is_unclosed q [] = true
+is_unclosed q (c ∷ []) = is_not q c
+is_unclosed q (c ∷ d ∷ x) = if c == byte "\\" then is_unclosed q x else is_not q c && is_unclosed q (d ∷ x)
+
+-- one character of a content, as it is written
+pub data Letter : Type 0 where
+  raw : ℕ → Letter
+  escaped : ℕ → Letter
+  unit : ℕ → ℕ → ℕ → ℕ → Letter  -- \uXXXX
+  pair : ℕ → ℕ → ℕ → ℕ → ℕ → ℕ → ℕ → ℕ → Letter  -- \uXXXX\uXXXX
+
+abbrev pub four : ℕ → ℕ → ℕ → ℕ → List ℕ
+four a b c d = byte "\\" ∷ byte "u" ∷ a ∷ b ∷ c ∷ d ∷ []
+
+abbrev pub written : Letter → List ℕ
+written (raw c) = c ∷ []
+written (escaped e) = byte "\\" ∷ e ∷ []
+written (unit a b c d) = four a b c d
+written (pair a b c d e f g h) = four a b c d ++ four e f g h
+
+-- the number of four hexadecimal digits
+abbrev pub code : ℕ → ℕ → ℕ → ℕ → ℕ
+code a b c d = ((digit_value a * 16 + digit_value b) * 16 + digit_value c) * 16 + digit_value d
+
+abbrev pub are_hex : ℕ → ℕ → ℕ → ℕ → Bool
+are_hex a b c d = (is_digit a 16 && is_digit b 16) && (is_digit c 16 && is_digit d 16)
+
+abbrev pub is_high : ℕ → Bool
+is_high n = nat_le 0xD800 n && nat_lt n 0xDC00
+
+abbrev pub is_low : ℕ → Bool
+is_low n = nat_le 0xDC00 n && nat_lt n 0xE000
+
+-- the escapes of JSON (RFC 8259 section 7), \" \\ \/ \b \f \n \r \t, and \' between single quotes
+abbrev pub is_escape : ℕ → ℕ → Bool
+is_escape q e = list_any (λ c. e == c) (codes "\"\\/bfnrt") || ((e == byte "'") && (q == byte "'"))
+
+abbrev pub escape_code : ℕ → ℕ
+escape_code e =
+    if e == byte "b" then 8
+    else if e == byte "f" then 12
+    else if e == byte "n" then 10
+    else if e == byte "r" then 13
+    else if e == byte "t" then 9
+    else e
+
+abbrev pub is_letter : ℕ → Letter → Bool
+is_letter q (raw c) = nat_le 32 c && not (c == byte "\\")
+is_letter q (escaped e) = is_escape q e
+is_letter q (unit a b c d) = are_hex a b c d && not (is_high (code a b c d) || is_low (code a b c d))
+is_letter q (pair a b c d e f g h) = (are_hex a b c d && is_high (code a b c d)) && (are_hex e f g h && is_low (code e f g h))
+
+-- its bytes in UTF-8. A raw character's are its own.
+abbrev pub meant : Letter → List ℕ
+meant (raw c) = c ∷ []
+meant (escaped e) = escape_code e ∷ []
+meant (unit a b c d) = encode_utf8 (code a b c d)
+meant (pair a b c d e f g h) = encode_utf8 (0x1_0000 + (code a b c d - 0xD800) * 0x400 + (code e f g h - 0xDC00))
+
+pub record IsText (q : ℕ) (content bytes : List ℕ) : Type 0 where
+  pub letters : List Letter
+  pub allowed : list_all (is_letter q) letters ≡ true
+  pub whole : content ≡ flat_map written letters
+  pub value : bytes ≡ flat_map meant letters
+
+-- Hexadecimal (RFC 4648 section 8): digits in either case, and between them white space and comments (RFC 8610 appendix G.1, G.6).
+
+pub data Mote : Type 0 where
+  digit : ℕ → Mote
+  space : ℕ → Mote
+  comment : List ℕ → Mote
+
+abbrev pub mote : Mote → List ℕ
+mote (digit c) = c ∷ []
+mote (space c) = c ∷ []
+mote (comment body) = byte "/" ∷ (body ++ byte "/" ∷ [])
+
+abbrev pub is_mote : Mote → Bool
+is_mote (digit c) = is_digit c 16
+is_mote (space c) = is_white c
+is_mote (comment body) = list_all (is_not (byte "/")) body
+
+abbrev pub digits : Mote → List ℕ
+digits (digit c) = c ∷ []
+digits (space c) = []
+digits (comment body) = []
+
+pub record IsHex (content bytes : List ℕ) : Type 0 where
+  pub motes : List Mote
+  pub allowed : list_all is_mote motes ≡ true
+  pub whole : content ≡ flat_map mote motes
+  pub value : decode_of (flat_map digits motes) ≡ Ok bytes
+
+-- Base64 (RFC 4648 sections 4 and 5): white space is dropped, both alphabets are one, and without padding it is filled up. It is the encoding of some bytes, so unused bits are 0.
+
+abbrev pub to_standard : ℕ → ℕ
+to_standard c = if c == byte "-" then byte "+" else if c == byte "_" then byte "/" else c
+
+abbrev pub filled : List ℕ → List ℕ
+filled x = if list_any (λ c. c == byte "=") x then x else x ++ replicate ((4 - length x % 4) % 4) (byte "=")
+
+abbrev pub base64_text : List ℕ → List ℕ
+base64_text content = filled (map to_standard (filter (λ c. not (is_white c)) content))
+
+pub record IsBase64 (content bytes : List ℕ) : Type 0 where
+  pub are_bytes : IsBytes bytes
+  pub value : base64_text content ≡ encode_of standard bytes

@@ -1,0 +1,33 @@
+//! What holds of every text.
+
+ghost use Rattle.std.specs.Prelude.{◌≡◌, ℕ, ◌<◌, List, ◌⊎◌, length, drop};
+ghost use Rattle.hex.specs.Hex.{IsBytes};
+ghost use Rattle.cborn_lex.specs.declared.classes.Token.{Token};
+ghost use Rattle.cborn_lex.specs.Lex.{Lex, Stop, HasNoPiece, SpansRise};
+
+use crate::classes::Profile;
+use crate::faults::LexReason;
+
+/// A text has one list of tokens or one stop, never both or two.
+pub fn one_answer()
+    ensures some { (profile : Profile) (text : List ℕ) → IsBytes text → ((ts : List Token) × Lex profile text ts) ⊎ ((p : ℕ) × (r : LexReason) × Stop profile text p r) }
+    ensures not_both { (profile : Profile) (text : List ℕ) (ts : List Token) (p : ℕ) (r : LexReason) → Lex profile text ts → Stop profile text p r → ⊥ }
+    ensures one_list { (profile : Profile) (text : List ℕ) (ts us : List Token) → Lex profile text ts → Lex profile text us → ts ≡ us }
+    ensures one_stop { (profile : Profile) (text : List ℕ) (p q : ℕ) (r s : LexReason) → Stop profile text p r → Stop profile text q s → (p ≡ q) × (r ≡ s) }
+{}
+
+/// The tokens of a text aren't empty, rise and don't overlap, and end within it.
+pub fn spans_rise()
+    ensures { (profile : Profile) (text : List ℕ) (ts : List Token) → Lex profile text ts → SpansRise 0 ts (length text) }
+{}
+
+/// A stop stands inside the text, and there is no white space, comment or token.
+pub fn no_token_at_stop()
+    ensures inside { (profile : Profile) (text : List ℕ) (p : ℕ) (r : LexReason) → Stop profile text p r → p < length text }
+    ensures no_piece { (profile : Profile) (text : List ℕ) (p : ℕ) (r : LexReason) → Stop profile text p r → HasNoPiece profile (drop p text) }
+{}
+
+/// A text of profile 1 has the same tokens, at the same places, in profile 2.
+pub fn both_profiles()
+    ensures { (text : List ℕ) (ts : List Token) → Lex Profile.One text ts → Lex Profile.Two text ts }
+{}

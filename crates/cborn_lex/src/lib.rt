@@ -1,0 +1,35 @@
+//! The tokens of CBOR's diagnostic notation (RFC 8949 section 8, RFC 8610 appendix G).
+//!
+//! A text is read from left to right as white space, comments and tokens, each as long as its form allows:
+//!
+//! ```text
+//! [_ 1_1, 24(h'01'), "é"]  / a comment /
+//! ─┬ ─┬─│ ─┬─ ──┬──│ ─┬─ └ ArrayClose
+//!  │  │ │  │    │  │  └ Text, the bytes c3 a9
+//!  │  │ │  │    │  └ ParenClose
+//!  │  │ │  │    └ Bytes, the byte 01
+//!  │  │ │  └ TagOpen, the number 24
+//!  │  │ └ Comma
+//!  │  └ Number, 1 with the indicator Wide(Two)
+//!  └ ArrayOpen, with the indicator Endless
+//! ```
+//!
+//! `specs/Forms.antt` has the forms, and `specs/Lex.antt` says what the tokens of a text are and where a text stops being tokens. [`tokens`] gives exactly these, and [`laws`] says that each text has one or the other.
+#![tactic(auto)]
+
+mod classes;
+mod encoded;
+mod escaped;
+mod faults;
+mod fronts;
+mod integers;
+mod keywords;
+pub mod laws;
+mod lexer;
+mod slices;
+#[cfg(test)]
+mod tests;
+
+pub use classes::{Class, Mark, Profile, Token};
+pub use faults::{LexFault, LexReason};
+pub use lexer::tokens;
