@@ -1,0 +1,46 @@
+-- The tokens of the rows of the fixed notation, from the first item on.
+use Rattle.std.proofs.Common.{◌≡◌, sym, ap, ◌∙◌, List, [], ◌∷◌, ◌++◌, append_assoc, append-nil}
+use Rattle.cborn_model.specs.declared.nodes.Chunk.{Chunk}
+use Rattle.cborn_model.specs.Tree.{Trees, no_item as no_node, more, Entries, no_entry, entry}
+use Rattle.cborn_lex.specs.declared.classes.Class.TheVariants.{Comma, Colon}
+use Rattle.cborn_lex.specs.declared.classes.Token.{Token}
+use Rattle.cborn_edn.specs.Syntax.{Item, StringsBefore, strings, after_strings, RowBefore, row, after_row, PairsBefore, pairs, after_pairs, token, tokens_of, tokens_of_pieces, tokens_of_strings, tokens_of_strings_before, tokens_of_row, tokens_of_row_before, tokens_of_pairs, tokens_of_pairs_before}
+use Rattle.cborn_edn.specs.declared.strings.Kind.{Kind}
+use Rattle.cborn_edn.specs.Shown.{nowhere, chunk_pieces, chunk_row, notated, notated_row, notated_pairs}
+
+abbrev comma : Token
+comma = token nowhere Comma
+
+-- what stands behind the first
+
+abbrev pub more_tokens : Trees → List Token
+more_tokens no_node = []
+more_tokens (more t ts) = token nowhere Comma ∷ (tokens_of (notated t) ++ more_tokens ts)
+
+abbrev pub more_pair_tokens : Entries → List Token
+more_pair_tokens no_entry = []
+more_pair_tokens (entry k v es) = token nowhere Comma ∷ (tokens_of (notated k) ++ (token nowhere Colon ∷ (tokens_of (notated v) ++ more_pair_tokens es)))
+
+abbrev pub more_chunk_tokens : Kind → List Chunk → List Token
+more_chunk_tokens k [] = []
+more_chunk_tokens k (c ∷ cs) = token nowhere Comma ∷ (tokens_of_pieces (chunk_pieces k c) ++ more_chunk_tokens k cs)
+
+regroup : (b i w : List Token) (c : Token) → ((b ++ i) ++ c ∷ []) ++ w ≡ b ++ (i ++ c ∷ w)
+regroup b i w c = simp append_assoc
+
+pub row_tokens : (ts : Trees) (b : RowBefore) (i : Item) → tokens_of_row (notated_row ts b i) ≡ tokens_of_row_before b ++ (tokens_of i ++ more_tokens ts)
+row_tokens no_node b i = ap (λ x. tokens_of_row_before b ++ x) (sym (append-nil (tokens_of i)))
+row_tokens (more t ts) b i = row_tokens ts (after_row (row b i) nowhere) (notated t) ∙ regroup (tokens_of_row_before b) (tokens_of i) (tokens_of (notated t) ++ more_tokens ts) comma
+
+pub chunk_tokens : (k : Kind) (cs : List Chunk) (b : StringsBefore) (c : Chunk) → tokens_of_strings (chunk_row k cs b c) ≡ tokens_of_strings_before b ++ (tokens_of_pieces (chunk_pieces k c) ++ more_chunk_tokens k cs)
+chunk_tokens k [] b c = ap (λ x. tokens_of_strings_before b ++ x) (sym (append-nil (tokens_of_pieces (chunk_pieces k c))))
+chunk_tokens k (d ∷ cs) b c = chunk_tokens k cs (after_strings (strings b (chunk_pieces k c)) nowhere) d ∙ regroup (tokens_of_strings_before b) (tokens_of_pieces (chunk_pieces k c)) (tokens_of_pieces (chunk_pieces k d) ++ more_chunk_tokens k cs) comma
+
+regroup_pair : (b i j w : List Token) (c d : Token) → ((b ++ (i ++ (d ∷ j))) ++ c ∷ []) ++ w ≡ b ++ (i ++ (d ∷ (j ++ c ∷ w)))
+regroup_pair b i j w c d = simp append_assoc
+
+pub pair_tokens : (es : Entries) (b : PairsBefore) (i j : Item) → tokens_of_pairs (notated_pairs es b i j) ≡ tokens_of_pairs_before b ++ (tokens_of i ++ (token nowhere Colon ∷ (tokens_of j ++ more_pair_tokens es)))
+pair_tokens no_entry b i j = ap (λ x. tokens_of_pairs_before b ++ (tokens_of i ++ (token nowhere Colon ∷ x))) (sym (append-nil (tokens_of j)))
+pair_tokens (entry k v es) b i j =
+    pair_tokens es (after_pairs (pairs b i nowhere j) nowhere) (notated k) (notated v)
+    ∙ regroup_pair (tokens_of_pairs_before b) (tokens_of i) (tokens_of j) (tokens_of (notated k) ++ (token nowhere Colon ∷ (tokens_of (notated v) ++ more_pair_tokens es))) comma (token nowhere Colon)

@@ -1,0 +1,51 @@
+-- Texts of the notation: what they say is one thing, and what was shown reads back.
+use Rattle.std.proofs.Common.{◌≡◌, sym, ap, ◌∙◌, subst, ℕ, ◌≤◌, List, [], map as list_map, Some, arith}
+use Rattle.cborn_model.specs.Tree.{Trees, depth_all}
+use Rattle.cborn_model.specs.Spelled.{FitsAll, spelled_all}
+use Rattle.cborn_lex.specs.declared.classes.Profile.{Profile}
+use Rattle.cborn_lex.specs.declared.classes.Profile.TheVariants.{One as ProfileOne, Two as ProfileTwo}
+use Rattle.cborn_lex.specs.declared.classes.Token.{Token}
+use Rattle.cborn_lex.specs.Lex.{Lex}
+use Rattle.cborn_lex.proofs.Chains.{one_list, both_profiles as both_lexed}
+use Rattle.cborn_edn.specs.Syntax.{Input, tokens_of_input}
+use Rattle.cborn_edn.specs.Parse.{Parse}
+use Rattle.cborn_edn.specs.Meaning.{Says, means_input}
+use Rattle.cborn_edn.specs.Shown.{bare, notated_input, Shown, shown_lines, unplaced_all}
+use Rattle.cborn_edn.specs.Notates.{Notates}
+use Rattle.cborn_edn.proofs.Chained.{HasBare, whole_text}
+use Rattle.cborn_edn.proofs.NodeTexts.{lines_text}
+use Rattle.cborn_edn.proofs.Erase.{reads_same}
+use Rattle.cborn_edn.proofs.OneTree.{one_tree, both_profiles}
+
+one_said : (t u : Input) (us vs : Trees) → t ≡ u → Says t us → Says u vs → us ≡ vs
+one_said t u us vs e f g =
+    let same : Some us ≡ Some vs = sym f ∙ (ap means_input e ∙ g) in
+    cc
+
+pub one_notation : (profile : Profile) (limit most : ℕ) (text : List ℕ) (us vs : Trees) → Notates profile limit text us → Notates profile most text vs → us ≡ vs
+one_notation profile limit most text us vs h k =
+    let e : h.tokens ≡ k.tokens = one_list profile text h.tokens k.tokens h.lex k.lex in
+    let parse : Parse profile k.tokens h.tree = subst (λ (ts : List Token). Parse profile ts h.tree) e h.parse in
+    one_said h.tree k.tree us vs (one_tree profile profile k.tokens h.tree k.tree parse k.parse) h.says k.says
+
+pub larger : (profile : Profile) (limit most : ℕ) (text : List ℕ) (nodes : Trees) → limit ≤ most → Notates profile limit text nodes → Notates profile most text nodes
+larger profile limit most text nodes l h = let s = h.shallow in record { tokens = h.tokens; lex = h.lex; tree = h.tree; parse = h.parse; shallow = omega arith; says = h.says }
+
+pub both_notate : (limit : ℕ) (text : List ℕ) (nodes : Trees) → Notates ProfileOne limit text nodes → Notates ProfileTwo limit text nodes
+both_notate limit text nodes h = record { tokens = h.tokens; lex = both_lexed text h.tokens h.lex; tree = h.tree; parse = both_profiles h.tokens h.tree h.parse; shallow = h.shallow; says = h.says }
+
+pub shown_tokens : (profile : Profile) (nodes : Trees) (text : List ℕ) → FitsAll nodes → Shown nodes text → (tokens : List Token) × Lex profile text tokens × (list_map bare tokens ≡ tokens_of_input (notated_input nodes))
+shown_tokens profile nodes text fits shown = subst (λ (x : List ℕ). HasBare profile x (tokens_of_input (notated_input nodes))) (sym shown.1) (whole_text profile (shown_lines nodes) (tokens_of_input (notated_input nodes)) (lines_text nodes [] fits))
+
+-- LAW: what was shown reads back
+pub shown_back : (profile : Profile) (limit : ℕ) (nodes : Trees) (text : List ℕ) → FitsAll nodes → Shown nodes text → depth_all nodes ≤ limit → (says : Trees) × Notates profile limit text says × (unplaced_all says ≡ unplaced_all nodes) × (spelled_all says ≡ spelled_all nodes)
+shown_back profile limit nodes text fits shown low =
+    let r = shown_tokens profile nodes text fits shown in
+    let b = reads_same profile limit nodes r.0 fits shown.0 low r.2 in
+    (b.0.says, record { tokens = r.0; lex = r.1; tree = b.0.tree; parse = b.0.parse; shallow = b.0.shallow; says = b.0.said }, b.1, b.0.bytes)
+
+pub shown_only : (profile : Profile) (limit : ℕ) (nodes : Trees) (text : List ℕ) (says : Trees) → FitsAll nodes → Shown nodes text → Notates profile limit text says → (unplaced_all says ≡ unplaced_all nodes) × (spelled_all says ≡ spelled_all nodes)
+shown_only profile limit nodes text says fits shown h =
+    let r = shown_back profile (depth_all nodes) nodes text fits shown (omega arith) in
+    let e : says ≡ r.0 = one_notation profile limit (depth_all nodes) text says r.0 h r.1 in
+    (ap unplaced_all e ∙ r.2, ap spelled_all e ∙ r.3)

@@ -1,0 +1,5 @@
+use Rattle.cborn_edn.proofs.OneTree.{larger_limit}
+use Rattle.cborn_edn.proofs.laws.larger_limit.Goals as goal
+
+pub returns : goal.returns
+returns c = larger_limit

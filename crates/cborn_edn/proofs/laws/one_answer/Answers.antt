@@ -1,0 +1,5 @@
+use Rattle.cborn_edn.proofs.OneTree.{answered, not_both, not_two}
+use Rattle.cborn_edn.proofs.laws.one_answer.Goals as goal
+
+pub returns : goal.returns
+returns c = record { some = answered; not_both = not_both; not_two = λ p limit end ts. not_two p limit ts end }

@@ -1,0 +1,10 @@
+use Rattle.cborn_edn.proofs.Unplaced.{same_fit, same_depth, same_bytes, same_meaning}
+use Rattle.cborn_edn.proofs.laws.places_aside.Goals as goal
+
+pub returns : goal.returns
+returns c = record {
+  fits = same_fit;
+  depth = same_depth;
+  bytes = same_bytes;
+  meaning = λ nodes others items e. same_meaning nodes others e items;
+}

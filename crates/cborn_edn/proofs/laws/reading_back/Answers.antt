@@ -1,0 +1,5 @@
+use Rattle.cborn_edn.proofs.Erase.{reads_back}
+use Rattle.cborn_edn.proofs.laws.reading_back.Goals as goal
+
+pub returns : goal.returns
+returns c = reads_back

@@ -1,0 +1,8 @@
+use Rattle.std.proofs.Common.{◌≡◌, ◌≤◌, ◌-◌, ◌++◌, take, drop}
+use Rattle.std.specs.List.{flat_map}
+use Rattle.cborn_edn.specs.Shown.{escaped}
+use Rattle.cborn_edn.proofs.Escapes.{Written}
+use Rattle.cborn_edn.proofs.writing.push_escaped.Given as goal
+
+abbrev pub invariant-loop-i : goal.invariant-loop-i
+invariant-loop-i l = Written l.initial.out.items l.out.items l.text l.from l.i

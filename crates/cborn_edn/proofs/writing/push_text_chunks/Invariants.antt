@@ -1,0 +1,8 @@
+use Rattle.std.proofs.Common.{◌≡◌, ◌++◌, take, codes}
+use Rattle.cborn_edn.specs.declared.strings.Kind.TheVariants.{Bytes as OfBytes, Text as OfText}
+use Rattle.cborn_edn.specs.Between.{separated}
+use Rattle.cborn_edn.proofs.Separated.{shown_chunk}
+use Rattle.cborn_edn.proofs.writing.push_text_chunks.Given as goal
+
+abbrev pub invariant-loop-i : goal.invariant-loop-i
+invariant-loop-i l = l.out.items ≡ l.initial.out.items ++ separated (codes ", ") (shown_chunk OfText) (take l.i l.chunks)

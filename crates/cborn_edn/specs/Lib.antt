@@ -1,0 +1,10 @@
+pub mod Syntax
+pub mod Parse
+pub mod Notates
+pub mod Meaning
+pub mod Shown
+pub mod TreesCode
+pub mod Draft
+pub mod Lowest
+pub mod Between
+pub mod Levels

@@ -1,0 +1,46 @@
+-- Which tokens are a text of the grammar, and the first token with which no such text goes on.
+use Rattle.std.specs.Prelude.{◌≡◌, ℕ, ◌≤◌, List, [], ◌∷◌, ◌++◌}
+use Rattle.cborn_lex.specs.declared.classes.Profile.{Profile}
+use Rattle.cborn_lex.specs.declared.classes.Profile.TheVariants.{One as ProfileOne, Two as ProfileTwo}
+use Rattle.cborn_edn.specs.declared.faults.EdnReason.{EdnReason}
+use Rattle.cborn_edn.specs.declared.faults.EdnReason.TheVariants.{UnexpectedToken, UnexpectedEnd, TooDeep, IndicatorTooNarrow, IndicatorNotAllowed, MixedString, MixedChunks, TextNotUtf8, BadSimple, TagTooLarge}
+use Rattle.cborn_lex.specs.declared.classes.Token.{Token}
+use Rattle.cborn_edn.specs.Syntax.{Input, tokens_of_input, depth_of_input, commas_of_input}
+
+-- Profile 1 has no comma before a closing bracket.
+abbrev pub Allows : Profile → ℕ → Type 0
+Allows ProfileOne n = n ≡ 0
+Allows ProfileTwo n = Unit {0}
+
+pub record Parse (profile : Profile) (tokens : List Token) (tree : Input) : Type 0 where
+  pub is : tokens_of_input tree ≡ tokens
+  pub allowed : Allows profile (commas_of_input tree)
+
+abbrev pub HasTree : Profile → ℕ → List Token → Type 0
+HasTree profile limit tokens = (tree : Input) × Parse profile tokens tree × (depth_of_input tree ≤ limit)
+
+abbrev pub GoesOn : Profile → ℕ → List Token → Type 0
+GoesOn profile limit tokens = (more : List Token) × HasTree profile limit (tokens ++ more)
+
+abbrev pub GoesOnAtAnyDepth : Profile → List Token → Type 0
+GoesOnAtAnyDepth profile tokens = (limit : ℕ) × GoesOn profile limit tokens
+
+-- no text goes on with t, which stands behind f
+pub record StopsAt (profile : Profile) (limit : ℕ) (tokens f : List Token) (t : Token) : Type 0 where
+  pub y : List Token
+  pub split : tokens ≡ f ++ t ∷ y
+  pub before : GoesOn profile limit f
+  pub here : GoesOn profile limit (f ++ t ∷ []) → ⊥
+
+-- The text's length is the place of its end.
+abbrev pub Jam : Profile → ℕ → ℕ → List Token → ℕ → EdnReason → Type 0
+Jam profile limit end tokens p UnexpectedEnd = (p ≡ end) × GoesOn profile limit tokens × (HasTree profile limit tokens → ⊥)
+Jam profile limit end tokens p UnexpectedToken = (f : List Token) × (t : Token) × StopsAt profile limit tokens f t × (p ≡ t.start) × (GoesOnAtAnyDepth profile (f ++ t ∷ []) → ⊥)
+Jam profile limit end tokens p TooDeep = (f : List Token) × (t : Token) × StopsAt profile limit tokens f t × (p ≡ t.start) × GoesOnAtAnyDepth profile (f ++ t ∷ [])
+Jam profile limit end tokens p IndicatorTooNarrow = ⊥
+Jam profile limit end tokens p IndicatorNotAllowed = ⊥
+Jam profile limit end tokens p MixedString = ⊥
+Jam profile limit end tokens p MixedChunks = ⊥
+Jam profile limit end tokens p TextNotUtf8 = ⊥
+Jam profile limit end tokens p BadSimple = ⊥
+Jam profile limit end tokens p TagTooLarge = ⊥

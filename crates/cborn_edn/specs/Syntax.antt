@@ -1,0 +1,272 @@
+-- The trees of the grammar of the notation, with the place of each token.
+use Rattle.std.specs.Prelude.{ℕ, zero, suc, ◌+◌, List, [], ◌∷◌, ◌++◌, Bool, true, false, nat_lt, max, ◌^◌, if◌then◌else◌}
+use Rattle.cborn_lex.specs.declared.classes.Mark.{Mark}
+use Rattle.cborn_lex.specs.declared.classes.Class.{Class}
+use Rattle.cborn_lex.specs.declared.classes.Class.TheVariants.{ArrayOpen, MapOpen, ArrayClose, MapClose, ParenClose, Comma, Colon, EmbedOpen, EmbedClose, ChunkOpen, Number, TagOpen, Word, SimpleOpen, Text, Bytes}
+use Rattle.cborn_lex.specs.declared.classes.Token.{Token}
+
+-- where a token stands
+pub record Span : Type 0 where
+  pub start : ℕ
+  pub stop : ℕ
+
+abbrev pub token : Span → Class → Token
+token at c = record { start = at.start; stop = at.stop; class = c }
+
+abbrev pub span : Token → Span
+span t = record { start = t.start; stop = t.stop }
+
+-- The trees of the grammar, with the place of each token.
+--   item     = Number | Word | TagOpen item ")" | "simple(" Number ")" | pieces | "(_" strings ")"
+--            | "[" content "]" | "{" fields "}"
+--   piece    = Text | Bytes | "<<" content ">>"
+--   pieces   = piece | pieces piece
+--   strings  = [ strings "," ] pieces
+--   row      = [ row "," ] item
+--   content  = nothing | row "," | row                a comma at the end is one of profile 2
+--   pairs    = [ pairs "," ] item ":" item
+--   fields   = nothing | pairs "," | pairs            here too
+mutual
+  pub data Item : Type 0 where
+    number : Span → Bool → ℕ → Mark → Item
+    word : Span → ℕ → Item
+    tag : Span → ℕ → Mark → Item → Span → Item
+    simple : Span → Span → Bool → ℕ → Mark → Span → Item
+    string : Pieces → Item
+    chunked : Span → Strings → Span → Item
+    array : Span → Mark → Content → Span → Item
+    map : Span → Mark → Fields → Span → Item
+
+  pub data Piece : Type 0 where
+    text : Span → List ℕ → Mark → Piece
+    bytes : Span → Bool → List ℕ → Mark → Piece
+    embedded : Span → Content → Span → Mark → Piece
+
+  pub data Pieces : Type 0 where
+    piece : Piece → Pieces
+    also : Pieces → Piece → Pieces
+
+  pub data Strings : Type 0 where
+    strings : StringsBefore → Pieces → Strings
+
+  pub data StringsBefore : Type 0 where
+    no_string : StringsBefore
+    after_strings : Strings → Span → StringsBefore
+
+  pub data Row : Type 0 where
+    row : RowBefore → Item → Row
+
+  -- what stands before an item: nothing, or items and a comma
+  pub data RowBefore : Type 0 where
+    no_item : RowBefore
+    after_row : Row → Span → RowBefore
+
+  pub data Content : Type 0 where
+    loose : RowBefore → Content  -- nothing, or a comma at the end
+    tight : Row → Content
+
+  pub data Pairs : Type 0 where
+    pairs : PairsBefore → Item → Span → Item → Pairs
+
+  pub data PairsBefore : Type 0 where
+    no_pair : PairsBefore
+    after_pairs : Pairs → Span → PairsBefore
+
+  pub data Fields : Type 0 where
+    loose_fields : PairsBefore → Fields
+    tight_fields : Pairs → Fields
+
+-- a whole text
+pub data Input : Type 0 where
+  nothing : Input
+  items : Row → Input
+
+-- The tokens of a tree.
+abbrev mutual
+  pub tokens_of : Item → List Token
+  tokens_of (number at n v m) = token at (Number n v m) ∷ []
+  tokens_of (word at n) = token at (Word n) ∷ []
+  tokens_of (tag at n m i end) = token at (TagOpen n m) ∷ tokens_of i ++ token end ParenClose ∷ []
+  tokens_of (simple at b n v m end) = token at SimpleOpen ∷ token b (Number n v m) ∷ token end ParenClose ∷ []
+  tokens_of (string ps) = tokens_of_pieces ps
+  tokens_of (chunked at ss end) = token at ChunkOpen ∷ tokens_of_strings ss ++ token end ParenClose ∷ []
+  tokens_of (array at m c end) = token at (ArrayOpen m) ∷ tokens_of_content c ++ token end ArrayClose ∷ []
+  tokens_of (map at m f end) = token at (MapOpen m) ∷ tokens_of_fields f ++ token end MapClose ∷ []
+
+  pub tokens_of_piece : Piece → List Token
+  tokens_of_piece (text at x m) = token at (Text x m) ∷ []
+  tokens_of_piece (bytes at q x m) = token at (Bytes q x m) ∷ []
+  tokens_of_piece (embedded at c end m) = token at EmbedOpen ∷ tokens_of_content c ++ token end (EmbedClose m) ∷ []
+
+  pub tokens_of_pieces : Pieces → List Token
+  tokens_of_pieces (piece p) = tokens_of_piece p
+  tokens_of_pieces (also ps p) = tokens_of_pieces ps ++ tokens_of_piece p
+
+  pub tokens_of_strings : Strings → List Token
+  tokens_of_strings (strings b ps) = tokens_of_strings_before b ++ tokens_of_pieces ps
+
+  pub tokens_of_strings_before : StringsBefore → List Token
+  tokens_of_strings_before no_string = []
+  tokens_of_strings_before (after_strings ss c) = tokens_of_strings ss ++ token c Comma ∷ []
+
+  pub tokens_of_row : Row → List Token
+  tokens_of_row (row b i) = tokens_of_row_before b ++ tokens_of i
+
+  pub tokens_of_row_before : RowBefore → List Token
+  tokens_of_row_before no_item = []
+  tokens_of_row_before (after_row r c) = tokens_of_row r ++ token c Comma ∷ []
+
+  pub tokens_of_content : Content → List Token
+  tokens_of_content (loose b) = tokens_of_row_before b
+  tokens_of_content (tight r) = tokens_of_row r
+
+  pub tokens_of_pairs : Pairs → List Token
+  tokens_of_pairs (pairs b k c v) = tokens_of_pairs_before b ++ (tokens_of k ++ (token c Colon ∷ tokens_of v))
+
+  pub tokens_of_pairs_before : PairsBefore → List Token
+  tokens_of_pairs_before no_pair = []
+  tokens_of_pairs_before (after_pairs ps c) = tokens_of_pairs ps ++ token c Comma ∷ []
+
+  pub tokens_of_fields : Fields → List Token
+  tokens_of_fields (loose_fields b) = tokens_of_pairs_before b
+  tokens_of_fields (tight_fields ps) = tokens_of_pairs ps
+
+abbrev pub tokens_of_input : Input → List Token
+tokens_of_input nothing = []
+tokens_of_input (items r) = tokens_of_row r
+
+-- below zero; -0 is 0
+abbrev pub is_below : Bool → ℕ → Bool
+is_below true zero = false
+is_below true (suc v) = true
+is_below false v = false
+
+-- n for n, and for -1-n
+abbrev pub argument_of : Bool → ℕ → ℕ
+argument_of true zero = 0
+argument_of true (suc v) = v
+argument_of false v = v
+
+-- whether an integer literal is from -2^64 to 2^64-1
+abbrev pub is_small : Bool → ℕ → Bool
+is_small n v = nat_lt (argument_of n v) (2 ^ 64)
+
+-- an integer outside 64 bits is a tag over a string
+abbrev pub depth_of_number : Bool → ℕ → ℕ
+depth_of_number n v = if is_small n v then 0 else 1
+
+-- How deep arrays, maps, tags, embedded items and integers outside 64 bits stand in one another.
+abbrev mutual
+  pub depth : Item → ℕ
+  depth (number at n v m) = depth_of_number n v
+  depth (word at n) = 0
+  depth (tag at n m i end) = suc (depth i)
+  depth (simple at b n v m end) = depth_of_number n v
+  depth (string ps) = depth_of_pieces ps
+  depth (chunked at ss end) = depth_of_strings ss
+  depth (array at m c end) = suc (depth_of_content c)
+  depth (map at m f end) = suc (depth_of_fields f)
+
+  pub depth_of_piece : Piece → ℕ
+  depth_of_piece (text at x m) = 0
+  depth_of_piece (bytes at q x m) = 0
+  depth_of_piece (embedded at c end m) = suc (depth_of_content c)
+
+  pub depth_of_pieces : Pieces → ℕ
+  depth_of_pieces (piece p) = depth_of_piece p
+  depth_of_pieces (also ps p) = max (depth_of_pieces ps) (depth_of_piece p)
+
+  pub depth_of_strings : Strings → ℕ
+  depth_of_strings (strings b ps) = max (depth_of_strings_before b) (depth_of_pieces ps)
+
+  pub depth_of_strings_before : StringsBefore → ℕ
+  depth_of_strings_before no_string = 0
+  depth_of_strings_before (after_strings ss c) = depth_of_strings ss
+
+  pub depth_of_row : Row → ℕ
+  depth_of_row (row b i) = max (depth_of_row_before b) (depth i)
+
+  pub depth_of_row_before : RowBefore → ℕ
+  depth_of_row_before no_item = 0
+  depth_of_row_before (after_row r c) = depth_of_row r
+
+  pub depth_of_content : Content → ℕ
+  depth_of_content (loose b) = depth_of_row_before b
+  depth_of_content (tight r) = depth_of_row r
+
+  pub depth_of_pairs : Pairs → ℕ
+  depth_of_pairs (pairs b k c v) = max (depth_of_pairs_before b) (max (depth k) (depth v))
+
+  pub depth_of_pairs_before : PairsBefore → ℕ
+  depth_of_pairs_before no_pair = 0
+  depth_of_pairs_before (after_pairs ps c) = depth_of_pairs ps
+
+  pub depth_of_fields : Fields → ℕ
+  depth_of_fields (loose_fields b) = depth_of_pairs_before b
+  depth_of_fields (tight_fields ps) = depth_of_pairs ps
+
+abbrev pub depth_of_input : Input → ℕ
+depth_of_input nothing = 0
+depth_of_input (items r) = depth_of_row r
+
+abbrev pub last_comma : RowBefore → ℕ
+last_comma no_item = 0
+last_comma (after_row r c) = 1
+
+abbrev pub last_pair_comma : PairsBefore → ℕ
+last_pair_comma no_pair = 0
+last_pair_comma (after_pairs ps c) = 1
+
+-- How many commas stand before a closing bracket.
+abbrev mutual
+  pub commas : Item → ℕ
+  commas (number at n v m) = 0
+  commas (word at n) = 0
+  commas (tag at n m i end) = commas i
+  commas (simple at b n v m end) = 0
+  commas (string ps) = commas_of_pieces ps
+  commas (chunked at ss end) = commas_of_strings ss
+  commas (array at m c end) = commas_of_content c
+  commas (map at m f end) = commas_of_fields f
+
+  pub commas_of_piece : Piece → ℕ
+  commas_of_piece (text at x m) = 0
+  commas_of_piece (bytes at q x m) = 0
+  commas_of_piece (embedded at c end m) = commas_of_content c
+
+  pub commas_of_pieces : Pieces → ℕ
+  commas_of_pieces (piece p) = commas_of_piece p
+  commas_of_pieces (also ps p) = commas_of_pieces ps + commas_of_piece p
+
+  pub commas_of_strings : Strings → ℕ
+  commas_of_strings (strings b ps) = commas_of_strings_before b + commas_of_pieces ps
+
+  pub commas_of_strings_before : StringsBefore → ℕ
+  commas_of_strings_before no_string = 0
+  commas_of_strings_before (after_strings ss c) = commas_of_strings ss
+
+  pub commas_of_row : Row → ℕ
+  commas_of_row (row b i) = commas_of_row_before b + commas i
+
+  pub commas_of_row_before : RowBefore → ℕ
+  commas_of_row_before no_item = 0
+  commas_of_row_before (after_row r c) = commas_of_row r
+
+  pub commas_of_content : Content → ℕ
+  commas_of_content (loose b) = commas_of_row_before b + last_comma b
+  commas_of_content (tight r) = commas_of_row r
+
+  pub commas_of_pairs : Pairs → ℕ
+  commas_of_pairs (pairs b k c v) = commas_of_pairs_before b + commas k + commas v
+
+  pub commas_of_pairs_before : PairsBefore → ℕ
+  commas_of_pairs_before no_pair = 0
+  commas_of_pairs_before (after_pairs ps c) = commas_of_pairs ps
+
+  pub commas_of_fields : Fields → ℕ
+  commas_of_fields (loose_fields b) = commas_of_pairs_before b + last_pair_comma b
+  commas_of_fields (tight_fields ps) = commas_of_pairs ps
+
+abbrev pub commas_of_input : Input → ℕ
+commas_of_input nothing = 0
+commas_of_input (items r) = commas_of_row r

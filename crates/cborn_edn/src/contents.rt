@@ -1,0 +1,265 @@
+//! What stands complete inside an open bracket: the nodes, unless there is a slip among them, and their number.
+
+ghost use Rattle.std.specs.Prelude.{◌≡◌, suc, [], ◌∷◌, ◌++◌, Some, IfOk};
+ghost use Rattle.cborn_edn.specs.Draft as pure;
+ghost use Rattle.cborn_edn.specs.Meaning.{and_then, when, same_kind, snoc, size_slips};
+
+use crate::EdnReason;
+use crate::lists::{ChunkList, NodeList, PairList, SpelledList};
+use crate::numbers::size_for;
+use crate::slips::{Slip, earlier, slip_at, slip_unless};
+use crate::strings::{Kind, Pieces, chunked};
+use cborn_lex::Mark;
+use cborn_model::{ByteString, Chunk, Form, Node, Spelled, fits};
+use std::alloc::{AllocError, Global};
+
+/// The items of an array.
+#[derive(Drop)]
+pub(crate) struct Row {
+    pub(crate) nodes: Option<NodeList>,
+    pub(crate) count: u64,
+}
+
+impl Row {
+    pub(crate) fn new(alloc: Global) -> Row
+        ensures { result ≡ pure.no_row }
+    {
+        Row {
+            nodes: Some(NodeList::new(alloc)),
+            count: 0,
+        }
+    }
+
+    /// One more item.
+    pub(crate) fn with(self, item: Option<Node>) -> Result<Row, AllocError>
+        ensures { IfOk result (λ r. r ≡ pure.row_with self item) }
+    {
+        let nodes = match (self.nodes, item) {
+            (Some(nodes), Some(node)) => Some(nodes.with(node)?),
+            _ => None,
+        };
+        Ok(Row {
+            nodes,
+            count: one_more(self.count)?,
+        })
+    }
+
+    /// The array, and what is wrong with its indicator.
+    pub(crate) fn into_item(self, place: u64, mark: Mark) -> (Option<Node>, Option<Slip>)
+        ensures item { result.0 ≡ pure.array_node place mark self }
+        ensures slip { result.1 ≡ pure.first_slip (size_slips place mark self.count) }
+    {
+        let size = size_for(mark, self.count);
+        let slip = slip_at(place, &size);
+        let node = match (self.nodes, size) {
+            (Some(nodes), Ok(size)) => Some(Node {
+                place,
+                form: Form::Items(size, nodes.into_vec()),
+            }),
+            _ => None,
+        };
+        (node, slip)
+    }
+}
+
+/// The items of a sequence: of a whole text, or of what is embedded in a string.
+#[derive(Drop)]
+pub(crate) struct Sequence {
+    pub(crate) items: Option<SpelledList>,
+    pub(crate) count: u64,
+}
+
+impl Sequence {
+    pub(crate) fn new(alloc: Global) -> Sequence
+        ensures { result ≡ pure.no_sequence }
+    {
+        Sequence {
+            items: Some(SpelledList::new(alloc)),
+            count: 0,
+        }
+    }
+
+    /// One more item.
+    pub(crate) fn with(self, item: Option<Node>) -> Result<Sequence, AllocError>
+        ensures { IfOk result (λ r. r ≡ pure.sequence_with self item) }
+    {
+        let items = match (self.items, item) {
+            (Some(items), Some(node)) => Some(keep(items, node)?),
+            _ => None,
+        };
+        Ok(Sequence {
+            items,
+            count: one_more(self.count)?,
+        })
+    }
+
+    /// The bytes that the items spell.
+    pub(crate) fn spelled(&self, alloc: Global) -> Result<Option<ByteString>, AllocError>
+        ensures { IfOk result (λ b. b ≡ pure.sequence_bytes self.now) }
+    {
+        match &self.items {
+            Some(items) => {
+                let bytes = cborn_wire::spell_all(alloc, items.as_slice())?;
+                Ok(Some(ByteString::new(bytes)))
+            }
+            None => Ok(None),
+        }
+    }
+}
+
+// The items and one more.
+fn keep(items: SpelledList, node: Node) -> Result<SpelledList, AllocError>
+    ensures { IfOk result (λ l. l ≡ snoc items node) }
+{
+    if !fits(&node) {
+        return Err(AllocError);
+    }
+    items.with(Spelled::new(node))
+}
+
+// One more than so many.
+fn one_more(count: u64) -> Result<u64, AllocError>
+    ensures { IfOk result (λ n. n ≡ suc count) }
+{
+    count.checked_add(1).ok_or(AllocError)
+}
+
+/// The pairs of a map.
+#[derive(Drop)]
+pub(crate) struct Fields {
+    pub(crate) pairs: Option<PairList>,
+    pub(crate) count: u64,
+}
+
+impl Fields {
+    pub(crate) fn new(alloc: Global) -> Fields
+        ensures { result ≡ pure.no_fields }
+    {
+        Fields {
+            pairs: Some(PairList::new(alloc)),
+            count: 0,
+        }
+    }
+
+    /// One more pair.
+    pub(crate) fn with(self, key: Option<Node>, value: Option<Node>) -> Result<Fields, AllocError>
+        ensures { IfOk result (λ f. f ≡ pure.fields_with self key value) }
+    {
+        let pairs = match (self.pairs, key, value) {
+            (Some(pairs), Some(key), Some(value)) => Some(pairs.with(key, value)?),
+            _ => None,
+        };
+        Ok(Fields {
+            pairs,
+            count: one_more(self.count)?,
+        })
+    }
+
+    /// The map, and what is wrong with its indicator.
+    pub(crate) fn into_item(self, place: u64, mark: Mark) -> (Option<Node>, Option<Slip>)
+        ensures item { result.0 ≡ pure.map_node place mark self }
+        ensures slip { result.1 ≡ pure.first_slip (size_slips place mark self.count) }
+    {
+        let size = size_for(mark, self.count);
+        let slip = slip_at(place, &size);
+        let node = match (self.pairs, size) {
+            (Some(pairs), Ok(size)) => Some(Node {
+                place,
+                form: Form::Pairs(size, pairs.into_vec()),
+            }),
+            _ => None,
+        };
+        (node, slip)
+    }
+}
+
+/// The chunks of an indefinite string; the first gives the kind.
+#[derive(Drop)]
+pub(crate) struct Chunks {
+    pub(crate) kind: Option<Kind>,
+    pub(crate) chunks: Option<ChunkList>,
+}
+
+impl Chunks {
+    pub(crate) fn new(alloc: Global) -> Chunks
+        ensures { result ≡ pure.no_chunks }
+    {
+        Chunks {
+            kind: None,
+            chunks: Some(ChunkList::new(alloc)),
+        }
+    }
+
+    /// One more chunk, and what is wrong with it.
+    pub(crate) fn with(self, string: Pieces) -> Result<(Chunks, Option<Slip>), AllocError>
+        ensures { IfOk result (λ p. (p.0 ≡ pure.chunks_with self string) × (p.1 ≡ pure.chunk_slip self string)) }
+    {
+        let kind = kind_or(self.kind, string.kind);
+        let same = same_kind(kind, string.kind);
+        let mixed = slip_unless(same, string.place, EdnReason::MixedChunks);
+        let (chunk, slip) = string.into_chunk();
+        let chunks = appended(self.chunks, chunk, same)?;
+        let all = Chunks {
+            kind: Some(kind),
+            chunks,
+        };
+        Ok((all, earlier(mixed, slip)))
+    }
+
+    /// The string.
+    pub(crate) fn into_item(self, place: u64) -> Option<Node>
+        ensures { result ≡ pure.chunked_item place self }
+    {
+        match (self.kind, self.chunks) {
+            (Some(kind), Some(chunks)) => Some(chunked(kind, place, chunks.into_vec())),
+            _ => None,
+        }
+    }
+}
+
+// The chunks and one more, of the same kind.
+fn appended(
+    chunks: Option<ChunkList>,
+    chunk: Option<Chunk>,
+    same: bool,
+) -> Result<Option<ChunkList>, AllocError>
+    ensures { IfOk result (λ o. o ≡ and_then chunks (λ l. and_then chunk (λ c. when same (Some (l ++ c ∷ []))))) }
+{
+    match chunks {
+        Some(chunks) => match chunk {
+            Some(chunk) => {
+                if same {
+                    Ok(Some(chunks.with(chunk)?))
+                } else {
+                    Ok(None)
+                }
+            }
+            None => Ok(None),
+        },
+        None => Ok(None),
+    }
+}
+
+fn kind_or(first: Option<Kind>, kind: Kind) -> Kind
+    ensures { result ≡ pure.kind_or first kind }
+{
+    match first {
+        Some(first) => first,
+        None => kind,
+    }
+}
+
+fn same_kind(one: Kind, other: Kind) -> bool
+    ensures { result ≡ same_kind one other }
+{
+    match one {
+        Kind::Bytes => match other {
+            Kind::Bytes => true,
+            Kind::Text => false,
+        },
+        Kind::Text => match other {
+            Kind::Bytes => false,
+            Kind::Text => true,
+        },
+    }
+}

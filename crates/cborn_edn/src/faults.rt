@@ -1,0 +1,87 @@
+//! Why a text was not read, or nodes were not shown.
+
+use cborn_lex::LexFault;
+use thiserror::Error;
+
+/// What is wrong with the tokens of a text, or with what they mean. [`EdnReason::number`] has the numbers.
+#[derive(Clone, Copy, PartialEq, Eq, Debug, Error)]
+pub enum EdnReason {
+    /// The first token with which no text of the grammar goes on.
+    #[error("unexpected token")]
+    UnexpectedToken,
+    /// The text ends where something must still follow.
+    #[error("unexpected end")]
+    UnexpectedEnd,
+    /// A token that makes the nesting exceed the limit.
+    #[error("too deep")]
+    TooDeep,
+    /// A number, a length or a count does not fit the width that its indicator asks for.
+    #[error("indicator too narrow")]
+    IndicatorTooNarrow,
+    /// An indicator where none may stand.
+    #[error("indicator not allowed")]
+    IndicatorNotAllowed,
+    /// A text piece behind the start of a byte string.
+    #[error("mixed string")]
+    MixedString,
+    /// A chunk of another kind than the first.
+    #[error("mixed chunks")]
+    MixedChunks,
+    /// The joined bytes of a text string or of a text chunk are not UTF-8.
+    #[error("text not UTF-8")]
+    TextNotUtf8,
+    /// A simple value that is negative, from 24 to 31, or above 255.
+    #[error("bad simple")]
+    BadSimple,
+    /// A tag number above 2^64-1.
+    #[error("tag too large")]
+    TagTooLarge,
+}
+
+/// Why no items were read.
+#[derive(Clone, Copy, PartialEq, Eq, Debug, Error)]
+pub enum EdnFault {
+    /// The text has no tokens.
+    #[error("{0}")]
+    Lex(LexFault),
+    /// The tokens are no text of the grammar, or mean nothing. `place` is an offset in bytes from the start of the text.
+    #[error("offset {place}: {reason}")]
+    Refused { place: u64, reason: EdnReason },
+    /// Memory was refused.
+    #[error("out of memory")]
+    OutOfMemory,
+}
+
+/// Why nodes were not shown.
+#[derive(Clone, Copy, PartialEq, Eq, Debug, Error)]
+pub enum ShowFault {
+    /// A text string or a text chunk is not UTF-8. `place` is the lowest place of one.
+    #[error("offset {place}: not UTF-8")]
+    NotUtf8 { place: u64 },
+    /// Memory was refused.
+    #[error("out of memory")]
+    OutOfMemory,
+}
+
+impl EdnReason {
+    ghost use Rattle.std.specs.Prelude.{◌≡◌};
+    ghost use Rattle.cborn_edn.specs.Meaning.{number_of};
+
+    /// The number of the reason: 20 to 22 for the tokens, 30 to 36 for what they mean. At one place the lowest is told.
+    pub fn number(self) -> u8
+        ensures { result ≡ number_of self }
+    {
+        match self {
+            EdnReason::UnexpectedToken => 20,
+            EdnReason::UnexpectedEnd => 21,
+            EdnReason::TooDeep => 22,
+            EdnReason::IndicatorTooNarrow => 30,
+            EdnReason::IndicatorNotAllowed => 31,
+            EdnReason::MixedString => 32,
+            EdnReason::MixedChunks => 33,
+            EdnReason::TextNotUtf8 => 34,
+            EdnReason::BadSimple => 35,
+            EdnReason::TagTooLarge => 36,
+        }
+    }
+}

@@ -1,0 +1,175 @@
+//! What is open around a place in the text.
+
+use crate::contents::{Chunks, Fields, Row, Sequence};
+use crate::strings::Pieces;
+use cborn_lex::{Class, Mark};
+use cborn_model::{Node, Width};
+use std::alloc::{AllocError, Global};
+use std::marker::Model;
+
+/// An open bracket, with what stands complete inside it. A place is that of the bracket.
+#[derive(Drop)]
+pub(crate) enum Frame {
+    /// The text itself.
+    Top(Sequence),
+    Array {
+        place: u64,
+        mark: Mark,
+        row: Row,
+    },
+    /// `<<`, behind the pieces of the string that it is in.
+    Embedded {
+        before: Option<Pieces>,
+        place: u64,
+        items: Sequence,
+    },
+    /// `(_`
+    Chunked {
+        place: u64,
+        chunks: Chunks,
+    },
+    /// A map where a key is wanted or stands.
+    Key {
+        place: u64,
+        mark: Mark,
+        fields: Fields,
+    },
+    /// A map behind a key and its colon.
+    Value {
+        place: u64,
+        mark: Mark,
+        fields: Fields,
+        key: Option<Node>,
+    },
+    /// A tag; no head where it has a slip.
+    Tagged {
+        place: u64,
+        head: Option<(Width, u64)>,
+    },
+}
+
+impl Frame {
+    ghost use Rattle.std.specs.Prelude.{◌≡◌};
+    ghost use Rattle.cborn_edn.specs.Levels.{is_level, has_items, has_pairs};
+
+    // Whether it makes what stands inside one deeper.
+    fn is_level(&self) -> bool
+        ensures { result ≡ is_level self.now }
+    {
+        match self {
+            Frame::Top(_) | Frame::Chunked { .. } => false,
+            _ => true,
+        }
+    }
+
+    /// Whether items of a row stand in it.
+    fn has_items(&self) -> bool
+        ensures { result ≡ has_items self.now }
+    {
+        match self {
+            Frame::Top(items) => items.count > 0,
+            Frame::Array { row, .. } => row.count > 0,
+            Frame::Embedded { items, .. } => items.count > 0,
+            _ => false,
+        }
+    }
+
+    /// Whether it is a map that wants a key, and pairs stand in it.
+    fn has_pairs(&self) -> bool
+        ensures { result ≡ has_pairs self.now }
+    {
+        match self {
+            Frame::Key { fields, .. } => fields.count > 0,
+            _ => false,
+        }
+    }
+}
+
+/// The open brackets. Contracts see the innermost first.
+#[derive(Drop)]
+pub(crate) struct Frames {
+    frames: Vec<Frame>,
+    levels: u64,
+}
+
+impl Model for Frames {
+    ghost use Rattle.std.specs.Prelude.{List};
+    ghost use Rattle.cborn_edn.specs.declared.frames.Frame.{Frame as OneFrame};
+
+    ghost Value = { List OneFrame };
+
+    ghost use Rattle.cborn_edn.specs.contracts.frames.Frame as frame;
+    ghost use Rattle.std.specs.Coded.{coded_list};
+
+    ghost coded = { coded_list frame.the_row.coded };
+
+    ghost use Rattle.std.specs.Prelude.{◌≡◌};
+    ghost use mathlib.Core.List as lists;
+    ghost use Rattle.cborn_edn.specs.Levels.{levels_in};
+
+    ghost view = { λ f. lists.reverse f.frames.items };
+
+    ghost invariant = { λ f. f.levels ≡ levels_in (lists.reverse f.frames.items) };
+}
+
+impl Frames {
+    ghost use Rattle.std.specs.Prelude.{◌≡◌, ◌<◌, ◌^◌, [], ◌∷◌, OnOk, MatchOption};
+    ghost use Rattle.cborn_edn.specs.Levels.{levels_in, filled};
+
+    pub(crate) fn new(alloc: Global) -> Frames
+        ensures { result ≡ [] }
+    {
+        Frames {
+            frames: Vec::new(alloc),
+            levels: 0,
+        }
+    }
+
+    /// How many arrays, maps, tags and embedded sequences are open.
+    #[tactic(auto, using(crate::proofs::Innermost::innermost))]
+    pub(crate) fn levels(&self) -> u64
+        ensures count { result ≡ levels_in self.now }
+        ensures small { result < 2 ^ 63 }
+    {
+        self.levels
+    }
+
+    /// One more, inside the others.
+    #[tactic(auto, using(crate::proofs::Innermost::innermost))]
+    pub(crate) fn push(&mut self, frame: Frame) -> Result<(), AllocError>
+        ensures { OnOk result (self.new ≡ frame ∷ self.old) }
+    {
+        let deeper = frame.is_level();
+        self.frames.push(frame)?;
+        if deeper {
+            self.levels += 1;
+        }
+        Ok(())
+    }
+
+    /// The innermost, taken off.
+    #[tactic(auto, using(crate::proofs::Innermost::innermost))]
+    pub(crate) fn pop(&mut self) -> Option<Frame>
+        ensures { MatchOption result (self.old ≡ []) (λ frame. self.old ≡ frame ∷ self.new) }
+    {
+        let frame = self.frames.pop()?;
+        if frame.is_level() {
+            self.levels -= 1;
+        }
+        Some(frame)
+    }
+
+    /// Whether a closing bracket of this class stands behind items or pairs, where the innermost wants one more.
+    pub(crate) fn is_filled(&self, class: &Class) -> bool
+        ensures { result ≡ filled self.now class.now }
+    {
+        match self.frames.as_slice().last() {
+            Some(frame) => match class {
+                Class::ArrayClose | Class::EmbedClose(_) => frame.has_items(),
+                Class::MapClose => frame.has_pairs(),
+                _ => false,
+            },
+            None => false,
+        }
+    }
+}

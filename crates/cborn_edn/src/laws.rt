@@ -1,0 +1,77 @@
+//! Laws of the notation, over its definitions alone. Each function says one of them by its contract, and does nothing.
+
+ghost use Rattle.std.specs.Prelude.{◌≡◌, ℕ, ◌≤◌, Bool, true, List, [], map, ◌⊎◌};
+ghost use Rattle.std.specs.Str.{is_utf8};
+ghost use Rattle.cborn_model.specs.Tree.{Trees, depth_all};
+ghost use Rattle.cborn_model.specs.Value.{Values};
+ghost use Rattle.cborn_model.specs.Meaning.{AllMean};
+ghost use Rattle.cborn_model.specs.Spelled.{FitsAll, spelled_all};
+ghost use Rattle.cborn_lex.specs.declared.classes.Profile.{Profile};
+ghost use Rattle.cborn_lex.specs.declared.classes.Profile.TheVariants.{One as ProfileOne, Two as ProfileTwo};
+ghost use Rattle.cborn_lex.specs.declared.classes.Token.{Token};
+ghost use Rattle.cborn_lex.specs.Lex.{Lex};
+ghost use Rattle.cborn_edn.specs.declared.faults.EdnReason.{EdnReason};
+ghost use Rattle.cborn_edn.specs.Syntax.{Input, depth_of_input, tokens_of_input};
+ghost use Rattle.cborn_edn.specs.Parse.{Parse, HasTree, Jam};
+ghost use Rattle.cborn_edn.specs.Meaning.{Says, CountedInput, HasSlip, FirstSlip};
+ghost use Rattle.cborn_edn.specs.Shown.{bare, notated_input, AreShowable, ReadsBack, Shown, unplaced_all};
+ghost use Rattle.cborn_edn.specs.Notates.{Notates};
+
+/// Tokens have at most one tree, whatever the profiles.
+pub fn one_tree()
+    ensures { (profile other : Profile) (tokens : List Token) (t u : Input) → Parse profile tokens t → Parse other tokens u → t ≡ u }
+{}
+
+/// Tokens have a tree within the limit or one jam, never both or two. `end` is the length of their text.
+pub fn one_answer()
+    ensures some { (profile : Profile) (limit end : ℕ) (tokens : List Token) → HasTree profile limit tokens ⊎ ((p : ℕ) × (r : EdnReason) × Jam profile limit end tokens p r) }
+    ensures not_both { (profile : Profile) (limit end : ℕ) (tokens : List Token) (p : ℕ) (r : EdnReason) → HasTree profile limit tokens → Jam profile limit end tokens p r → ⊥ }
+    ensures not_two { (profile : Profile) (limit end : ℕ) (tokens : List Token) (p q : ℕ) (r s : EdnReason) → Jam profile limit end tokens p r → Jam profile limit end tokens q s → (p ≡ q) × (r ≡ s) }
+{}
+
+/// What has a tree within a limit has it within each larger one.
+pub fn larger_limit()
+    ensures { (profile : Profile) (limit most : ℕ) (tokens : List Token) → limit ≤ most → HasTree profile limit tokens → HasTree profile most tokens }
+{}
+
+/// What profile 1 takes, profile 2 takes as the same tree, and so with the same nodes and places.
+pub fn both_profiles()
+    ensures { (tokens : List Token) (t : Input) → Parse ProfileOne tokens t → Parse ProfileTwo tokens t }
+{}
+
+/// A tree of lengths and counts below 2^64 says nodes exactly if it has no slip. What it says fits its widths and is no deeper than the tree. Where there is a slip, there is one first.
+pub fn one_meaning()
+    ensures says { (t : Input) → CountedInput t → ((p : ℕ) (r : EdnReason) → HasSlip t p r → ⊥) → (nodes : Trees) × Says t nodes }
+    ensures no_slip { (t : Input) (nodes : Trees) (p : ℕ) (r : EdnReason) → CountedInput t → Says t nodes → HasSlip t p r → ⊥ }
+    ensures fits { (t : Input) (nodes : Trees) → CountedInput t → Says t nodes → FitsAll nodes × (depth_all nodes ≤ depth_of_input t) }
+    ensures first { (t : Input) (p : ℕ) (r : EdnReason) → HasSlip t p r → (q : ℕ) × (s : EdnReason) × FirstSlip t q s }
+    ensures one_first { (t : Input) (p q : ℕ) (r s : EdnReason) → FirstSlip t p r → FirstSlip t q s → (p ≡ q) × (r ≡ s) }
+{}
+
+/// Tokens that are those of the fixed notation of nodes, places aside, say nodes that spell the same bytes, under both profiles, where the nodes are within the limit.
+pub fn reading_back()
+    ensures { (profile : Profile) (limit : ℕ) (nodes : Trees) (tokens : List Token) → FitsAll nodes → AreShowable nodes → depth_all nodes ≤ limit → map bare tokens ≡ tokens_of_input (notated_input nodes) → ReadsBack profile limit nodes tokens }
+{}
+
+/// The text of the fixed notation of nodes is UTF-8 and has the tokens of the fixed notation, places aside. Under both profiles it notates the same nodes, places aside, which spell the same bytes, where the nodes are within the limit, and under no limit others.
+pub fn shown_text_reads_back()
+    ensures utf8 { (nodes : Trees) (text : List ℕ) → FitsAll nodes → Shown nodes text → is_utf8 text ≡ true }
+    ensures tokens { (profile : Profile) (nodes : Trees) (text : List ℕ) → FitsAll nodes → Shown nodes text → (tokens : List Token) × Lex profile text tokens × (map bare tokens ≡ tokens_of_input (notated_input nodes)) }
+    ensures back { (profile : Profile) (limit : ℕ) (nodes : Trees) (text : List ℕ) → FitsAll nodes → Shown nodes text → depth_all nodes ≤ limit → (says : Trees) × Notates profile limit text says × (unplaced_all says ≡ unplaced_all nodes) × (spelled_all says ≡ spelled_all nodes) }
+    ensures only { (profile : Profile) (limit : ℕ) (nodes : Trees) (text : List ℕ) (says : Trees) → FitsAll nodes → Shown nodes text → Notates profile limit text says → (unplaced_all says ≡ unplaced_all nodes) × (spelled_all says ≡ spelled_all nodes) }
+{}
+
+/// Nodes that are the same, places aside, fit their widths alike, are as deep, spell the same bytes and mean the same items.
+pub fn places_aside()
+    ensures fits { (nodes others : Trees) → unplaced_all nodes ≡ unplaced_all others → FitsAll nodes → FitsAll others }
+    ensures depth { (nodes others : Trees) → unplaced_all nodes ≡ unplaced_all others → depth_all nodes ≡ depth_all others }
+    ensures bytes { (nodes others : Trees) → unplaced_all nodes ≡ unplaced_all others → spelled_all nodes ≡ spelled_all others }
+    ensures meaning { (nodes others : Trees) (items : Values) → unplaced_all nodes ≡ unplaced_all others → AllMean nodes items → AllMean others items }
+{}
+
+/// A text notates at most one list of nodes. It notates the same under each larger limit, and what it notates under profile 1, places included, it notates under profile 2.
+pub fn one_notation()
+    ensures one { (profile : Profile) (limit most : ℕ) (text : List ℕ) (nodes others : Trees) → Notates profile limit text nodes → Notates profile most text others → nodes ≡ others }
+    ensures larger { (profile : Profile) (limit most : ℕ) (text : List ℕ) (nodes : Trees) → limit ≤ most → Notates profile limit text nodes → Notates profile most text nodes }
+    ensures both { (limit : ℕ) (text : List ℕ) (nodes : Trees) → Notates ProfileOne limit text nodes → Notates ProfileTwo limit text nodes }
+{}

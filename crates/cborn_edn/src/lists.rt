@@ -1,0 +1,190 @@
+//! Lists of what was read, as values.
+
+use cborn_model::{Chunk, Node, Spelled};
+use std::alloc::{AllocError, Global};
+use std::marker::Model;
+
+/// The items of an array so far.
+#[derive(Drop)]
+pub(crate) struct NodeList {
+    nodes: Vec<Node>,
+}
+
+impl Model for NodeList {
+    ghost use Rattle.cborn_model.specs.Tree.{Trees, trees};
+    ghost use Rattle.cborn_edn.specs.TreesCode.{trees_code};
+
+    ghost Value = { Trees };
+
+    ghost coded = { trees_code };
+
+    ghost view = { λ l. trees l.nodes.items };
+}
+
+impl NodeList {
+    ghost use Rattle.std.specs.Prelude.{◌≡◌, IfOk};
+    ghost use Rattle.cborn_model.specs.Tree.{no_item, trees};
+    ghost use Rattle.cborn_edn.specs.Meaning.{snoc};
+
+    pub(crate) fn new(alloc: Global) -> NodeList
+        ensures { result ≡ no_item }
+    {
+        NodeList {
+            nodes: Vec::new(alloc),
+        }
+    }
+
+    #[tactic(auto, using(crate::proofs::Snocs::snocs))]
+    pub(crate) fn with(self, node: Node) -> Result<NodeList, AllocError>
+        ensures { IfOk result (λ l. l ≡ snoc self node) }
+    {
+        let mut nodes = self.nodes;
+        nodes.push(node)?;
+        Ok(NodeList { nodes })
+    }
+
+    pub(crate) fn into_vec(self) -> Vec<Node>
+        ensures { trees result.items ≡ self }
+    {
+        self.nodes
+    }
+}
+
+/// The items of a sequence so far.
+#[derive(Drop)]
+pub(crate) struct SpelledList {
+    items: Vec<Spelled>,
+}
+
+impl Model for SpelledList {
+    ghost use Rattle.cborn_model.specs.Tree.{Trees, trees};
+    ghost use Rattle.cborn_edn.specs.TreesCode.{trees_code};
+
+    ghost Value = { Trees };
+
+    ghost coded = { trees_code };
+
+    ghost view = { λ l. trees l.items.items };
+}
+
+impl SpelledList {
+    ghost use Rattle.std.specs.Prelude.{◌≡◌, IfOk};
+    ghost use Rattle.cborn_model.specs.Tree.{no_item, trees};
+    ghost use Rattle.cborn_edn.specs.Meaning.{snoc};
+
+    pub(crate) fn new(alloc: Global) -> SpelledList
+        ensures { result ≡ no_item }
+    {
+        SpelledList {
+            items: Vec::new(alloc),
+        }
+    }
+
+    #[tactic(auto, using(crate::proofs::Snocs::snocs))]
+    pub(crate) fn with(self, item: Spelled) -> Result<SpelledList, AllocError>
+        ensures { IfOk result (λ l. l ≡ snoc self item) }
+    {
+        let mut items = self.items;
+        items.push(item)?;
+        Ok(SpelledList { items })
+    }
+
+    pub(crate) fn as_slice(&self) -> &[Spelled]
+        ensures { trees result.now ≡ self.now }
+    {
+        self.items.as_slice()
+    }
+
+    pub(crate) fn into_vec(self) -> Vec<Spelled>
+        ensures { trees result.items ≡ self }
+    {
+        self.items
+    }
+}
+
+/// The pairs of a map so far.
+#[derive(Drop)]
+pub(crate) struct PairList {
+    pairs: Vec<(Node, Node)>,
+}
+
+impl Model for PairList {
+    ghost use Rattle.cborn_model.specs.Tree.{Entries, entries};
+    ghost use Rattle.cborn_edn.specs.TreesCode.{entries_code};
+
+    ghost Value = { Entries };
+
+    ghost coded = { entries_code };
+
+    ghost view = { λ l. entries l.pairs.items };
+}
+
+impl PairList {
+    ghost use Rattle.std.specs.Prelude.{◌≡◌, IfOk};
+    ghost use Rattle.cborn_model.specs.Tree.{no_entry, entries};
+    ghost use Rattle.cborn_edn.specs.Meaning.{snoc_entry};
+
+    pub(crate) fn new(alloc: Global) -> PairList
+        ensures { result ≡ no_entry }
+    {
+        PairList {
+            pairs: Vec::new(alloc),
+        }
+    }
+
+    #[tactic(auto, using(crate::proofs::Snocs::snocs))]
+    pub(crate) fn with(self, key: Node, value: Node) -> Result<PairList, AllocError>
+        ensures { IfOk result (λ l. l ≡ snoc_entry self key value) }
+    {
+        let mut pairs = self.pairs;
+        pairs.push((key, value))?;
+        Ok(PairList { pairs })
+    }
+
+    pub(crate) fn into_vec(self) -> Vec<(Node, Node)>
+        ensures { entries result.items ≡ self }
+    {
+        self.pairs
+    }
+}
+
+/// The chunks of a string so far.
+#[derive(Drop)]
+pub(crate) struct ChunkList {
+    chunks: Vec<Chunk>,
+}
+
+impl Model for ChunkList {
+    ghost use Rattle.std.specs.Prelude.{List};
+    ghost use Rattle.cborn_model.specs.declared.nodes.Chunk.{Chunk as Value1};
+
+    ghost Value = { List Value1 };
+
+    ghost view = { λ l. l.chunks.items };
+}
+
+impl ChunkList {
+    ghost use Rattle.std.specs.Prelude.{◌≡◌, [], ◌∷◌, ◌++◌, IfOk};
+
+    pub(crate) fn new(alloc: Global) -> ChunkList
+        ensures { result ≡ [] }
+    {
+        ChunkList {
+            chunks: Vec::new(alloc),
+        }
+    }
+
+    pub(crate) fn with(self, chunk: Chunk) -> Result<ChunkList, AllocError>
+        ensures { IfOk result (λ l. l ≡ self ++ chunk ∷ []) }
+    {
+        let mut chunks = self.chunks;
+        chunks.push(chunk)?;
+        Ok(ChunkList { chunks })
+    }
+
+    pub(crate) fn into_vec(self) -> Vec<Chunk>
+        ensures { result.items ≡ self }
+    {
+        self.chunks
+    }
+}

@@ -1,0 +1,202 @@
+//! Numbers, and the widths of heads.
+
+ghost use Rattle.std.specs.Prelude.{◌≡◌, true, ◌<◌, ◌≤◌, ◌^◌, ◌&&◌, ◌++◌, ℕ, length, Some, IfOk, OnOk, if◌then◌else◌};
+ghost use Rattle.std.specs.Result.{result_ok};
+ghost use Rattle.std.specs.Int.Digits.{digits_of};
+ghost use Rattle.cborn_model.specs.Heads.{least};
+ghost use Rattle.cborn_model.specs.Tree as tree;
+ghost use Rattle.cborn_model.specs.declared.heads.Width.TheVariants.{Direct};
+ghost use Rattle.cborn_edn.specs.Syntax as syntax;
+ghost use Rattle.cborn_edn.specs.Meaning as pure;
+ghost use Rattle.cborn_edn.specs.Draft.{slip_at, simple_slip, first_slip, tag_head};
+
+use crate::EdnReason;
+use crate::slips::{Slip, earlier, slip_unless};
+use cborn_lex::Mark;
+use cborn_model::{ByteString, Form, Node, Size, Width, shortest};
+use std::alloc::{AllocError, Global};
+
+/// The width of a head with the argument `n` under an indicator, where the head can't be indefinite.
+pub(crate) fn width_for(mark: Mark, n: u64) -> Result<Width, EdnReason>
+    ensures width { result_ok result ≡ pure.width_for mark n }
+    ensures slip { (p : ℕ) → slip_at p result ≡ first_slip (pure.width_slips p mark n) }
+{
+    match mark {
+        Mark::Absent => Ok(shortest(n)),
+        Mark::Endless => Err(EdnReason::IndicatorNotAllowed),
+        Mark::Wide(width) if holds(width, n) => Ok(width),
+        Mark::Wide(_) => Err(EdnReason::IndicatorTooNarrow),
+    }
+}
+
+/// How an array or a map of `n` entries under an indicator says where it ends.
+pub(crate) fn size_for(mark: Mark, n: u64) -> Result<Size, EdnReason>
+    ensures size { result_ok result ≡ pure.size_for mark n }
+    ensures slip { (p : ℕ) → slip_at p result ≡ first_slip (pure.size_slips p mark n) }
+{
+    match mark {
+        Mark::Absent => Ok(Size::Fixed(shortest(n))),
+        Mark::Endless => Ok(Size::Endless),
+        Mark::Wide(width) if holds(width, n) => Ok(Size::Fixed(width)),
+        Mark::Wide(_) => Err(EdnReason::IndicatorTooNarrow),
+    }
+}
+
+fn holds(width: Width, n: u64) -> bool
+    ensures { result ≡ pure.holds width n }
+{
+    match width {
+        Width::Direct => n < 24,
+        Width::One => n < 256,
+        Width::Two => n < 65536,
+        Width::Four => n < 4294967296,
+        Width::Eight => true,
+    }
+}
+
+/// Whether an integer is from -2^64 to 2^64-1, so that it needs no tag.
+pub(crate) fn is_small(negative: bool, magnitude: u128) -> bool
+    ensures { result ≡ syntax.is_small negative magnitude }
+{
+    argument_of(negative, magnitude) < 18446744073709551616
+}
+
+// Whether it is below zero; -0 isn't.
+fn is_below(negative: bool, magnitude: u128) -> bool
+    ensures { result ≡ syntax.is_below negative magnitude }
+{
+    negative && magnitude > 0
+}
+
+// `n` for `n`, and for `-1-n`.
+fn argument_of(negative: bool, magnitude: u128) -> u128
+    ensures { result ≡ syntax.argument_of negative magnitude }
+{
+    if negative && magnitude > 0 {
+        magnitude - 1
+    } else {
+        magnitude
+    }
+}
+
+/// The node of an integer literal: `magnitude`, or `-magnitude`.
+pub(crate) fn integer(
+    alloc: Global,
+    place: u64,
+    negative: bool,
+    magnitude: u128,
+    mark: Mark,
+) -> Result<Result<Node, EdnReason>, AllocError>
+    ensures means { IfOk result (λ r. result_ok r ≡ pure.means_number place negative magnitude mark) }
+    ensures slip { IfOk result (λ r. slip_at place r ≡ first_slip (pure.number_slips place negative magnitude mark)) }
+{
+    let below = is_below(negative, magnitude);
+    let argument = argument_of(negative, magnitude);
+    if argument >= 18446744073709551616 {
+        if !is_absent(mark) {
+            return Ok(Err(EdnReason::IndicatorNotAllowed));
+        }
+        return Ok(Ok(bignum(alloc, place, below, argument)?));
+    }
+    let n = argument as u64;
+    match width_for(mark, n) {
+        Ok(width) => Ok(Ok(small_integer(place, below, width, n))),
+        Err(reason) => Ok(Err(reason)),
+    }
+}
+
+fn small_integer(place: u64, below: bool, width: Width, n: u64) -> Node
+    ensures { result ≡ (if below then tree.Nint place width n else tree.Uint place width n) }
+{
+    let form = if below {
+        Form::Nint(width, n)
+    } else {
+        Form::Uint(width, n)
+    };
+    Node { place, form }
+}
+
+// A tag over the shortest bytes of `n`, with shortest heads.
+fn bignum(alloc: Global, place: u64, below: bool, n: u128) -> Result<Node, AllocError>
+    requires { 2 ^ 64 ≤ n }
+    ensures { IfOk result (λ t. t ≡ tree.Tagged place Direct (if below then 3 else 2) (tree.Bytes place (least (length (digits_of 256 n))) (digits_of 256 n))) }
+{
+    let mut bytes = Vec::new(alloc);
+    push_shortest(&mut bytes, n)?;
+    let width = shortest(bytes.len() as u64);
+    let string = Node {
+        place,
+        form: Form::Bytes(width, ByteString::new(bytes)),
+    };
+    let number = if below { 3 } else { 2 };
+    let content = Box::new(alloc, string)?;
+    let form = Form::Tagged(Width::Direct, number, content);
+    Ok(Node { place, form })
+}
+
+// Appends the bytes of `n`, the highest first, without leading zeros.
+fn push_shortest(bytes: &mut Vec<u8>, n: u128) -> Result<(), AllocError>
+    ensures { OnOk result (bytes.new.items ≡ bytes.old.items ++ digits_of 256 n) }
+{
+    if n > 0 {
+        push_shortest(bytes, n / 256)?;
+        bytes.push((n % 256) as u8)?;
+    }
+    Ok(())
+}
+
+/// The width and the number of a tag's head.
+pub(crate) fn tag_head(number: u128, mark: Mark) -> Result<(Width, u64), EdnReason>
+    ensures head { result_ok result ≡ tag_head number mark }
+    ensures slip { (p : ℕ) → slip_at p result ≡ first_slip (pure.tag_slips p mark number) }
+{
+    if number >= 18446744073709551616 {
+        return Err(EdnReason::TagTooLarge);
+    }
+    let n = number as u64;
+    let width = width_for(mark, n)?;
+    Ok((width, n))
+}
+
+/// The simple value of a number at `start`, whose bracket is at `place`, and what is wrong with it.
+pub(crate) fn simple(
+    place: u64,
+    start: u64,
+    negative: bool,
+    magnitude: u128,
+    mark: Mark,
+) -> (Option<Node>, Option<Slip>)
+    ensures item { result.0 ≡ pure.when (pure.is_simple negative magnitude && pure.is_absent mark) (Some (tree.Simple place magnitude)) }
+    ensures slip { result.1 ≡ simple_slip place start negative magnitude mark }
+{
+    let good = is_simple(negative, magnitude);
+    let bare = is_absent(mark);
+    let slip = earlier(
+        slip_unless(good, place, EdnReason::BadSimple),
+        slip_unless(bare, start, EdnReason::IndicatorNotAllowed),
+    );
+    if good && bare {
+        let form = Form::Simple(magnitude as u8);
+        (Some(Node { place, form }), slip)
+    } else {
+        (None, slip)
+    }
+}
+
+fn is_simple(negative: bool, magnitude: u128) -> bool
+    ensures value { result ≡ pure.is_simple negative magnitude }
+    ensures small { result ≡ true → magnitude < 256 }
+{
+    let below = is_below(negative, magnitude);
+    !below && (magnitude < 24 || magnitude >= 32 && magnitude < 256)
+}
+
+fn is_absent(mark: Mark) -> bool
+    ensures { result ≡ pure.is_absent mark }
+{
+    match mark {
+        Mark::Absent => true,
+        Mark::Endless => false,
+        Mark::Wide(_) => false,
+    }
+}

@@ -1,0 +1,47 @@
+//! Nodes, shown in the fixed notation.
+
+ghost use Rattle.std.specs.Prelude.{◌≡◌, IfOk, IfErr};
+ghost use Rattle.std.specs.String.{string_bytes};
+ghost use Rattle.cborn_model.specs.Tree.{trees};
+ghost use Rattle.cborn_edn.specs.Shown.{Shown, IsShowFault, shown_lines};
+
+use crate::ShowFault;
+use crate::texts::lowest_bad_text;
+use crate::writing::{push_between, push_node};
+use cborn_model::Spelled;
+use std::alloc::{AllocError, Global};
+
+/// The items in the fixed notation, which is a text of both profiles: each item as it is spelled, with an indicator exactly where a head isn't the shortest or a length is indefinite (RFC 8949 section 8.1). A comma and LF stand between items, LF behind the last.
+///
+/// # Errors
+/// `NotUtf8` tells the lowest place of a text string or a text chunk that isn't UTF-8. `OutOfMemory` where memory was refused.
+pub fn show(alloc: Global, items: &[Spelled]) -> Result<String, ShowFault>
+    ensures shown { IfOk result (λ text. Shown (trees items.now) (string_bytes text)) }
+    ensures refused { IfErr result (IsShowFault (trees items.now)) }
+{
+    match lowest_bad_text(items) {
+        Some(place) => Err(ShowFault::NotUtf8 { place }),
+        None => match shown(alloc, items) {
+            Ok(text) => match String::from_utf8(text) {
+                Ok(text) => Ok(text),
+                Err(_) => Err(ShowFault::OutOfMemory),
+            },
+            Err(AllocError) => Err(ShowFault::OutOfMemory),
+        },
+    }
+}
+
+// The whole text.
+fn shown(alloc: Global, items: &[Spelled]) -> Result<Vec<u8>, AllocError>
+    ensures { IfOk result (λ text. text.items ≡ shown_lines (trees items.now)) }
+{
+    let mut out = Vec::new(alloc);
+    for (i, item) in items.iter().enumerate() {
+        push_between(&mut out, i, b",\n")?;
+        push_node(alloc, &mut out, item.node())?;
+    }
+    if !items.is_empty() {
+        out.push(b'\n')?;
+    }
+    Ok(out)
+}
