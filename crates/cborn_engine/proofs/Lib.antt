@@ -1,0 +1,13 @@
+pub mod Written
+pub mod Collecting
+pub mod Told
+pub mod TextBytes
+pub mod ReadsBack
+pub mod Meant
+pub mod Canonicity
+pub mod Fed
+pub mod Differing
+pub mod Unanswered
+pub mod Known
+pub mod Checked
+pub mod Untold

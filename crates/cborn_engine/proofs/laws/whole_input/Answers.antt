@@ -1,0 +1,5 @@
+use Rattle.cborn_engine.proofs.Known.{whole}
+use Rattle.cborn_engine.proofs.laws.whole_input.Goals as goal
+
+pub returns : goal.returns
+returns c = whole

@@ -1,0 +1,35 @@
+-- What the check for the deterministic encoding answers.
+use Rattle.std.specs.Prelude.{ℕ, ◌≤◌, List, length, Option, None, Some, Result, Ok, Err}
+use Rattle.std.specs.declared.cmp.Ordering.{Ordering}
+use Rattle.std.specs.Io.KnownBytes.{Consumes}
+use Rattle.cborn_model.specs.Tree.{trees}
+use Rattle.cborn_model.specs.Value.{Value}
+use Rattle.cborn_judge.specs.declared.defects.Defect.{Defect}
+use Rattle.cborn_judge.specs.Defects.{IsFirstOfSequence}
+use Rattle.cborn_engine.specs.declared.faults.EngineFault.{EngineFault}
+use Rattle.cborn_engine.specs.declared.kinds.Kind.TheVariants as kind
+use Rattle.cborn_engine.specs.Holding.{Holds, Canon}
+use Rattle.cborn_engine.specs.Refusing.{IsRefused, IsRead}
+
+-- the input holds these items
+module _ (order : List ℕ → List ℕ → Ordering) (limit : ℕ) (input : List ℕ) (items : List Value) (held : Holds kind.Wire limit input items) where
+  -- it is their canonical form, the very bytes that normalising it writes; or it isn't, and this is its first defect
+  abbrev pub Verdict : Option Defect → Type 0
+  Verdict None = Canon order kind.Wire items input
+  Verdict (Some d) = (Canon order kind.Wire items input → ⊥) × IsFirstOfSequence order (trees held.nodes) d.place d.reason
+
+pub record IsChecked (order : List ℕ → List ℕ → Ordering) (limit : ℕ) (input : List ℕ) (defect : Option Defect) : Type 0 where
+  pub items : List Value
+  pub held : Holds kind.Wire limit input items
+  pub verdict : Verdict order limit input items held defect
+
+abbrev pub CheckAnswers : (List ℕ → List ℕ → Ordering) → ℕ → ℕ → List ℕ → Result (Option Defect) EngineFault → Type 0
+CheckAnswers order limit most input (Ok defect) = (length input ≤ most) × IsChecked order limit input defect
+CheckAnswers order limit most input (Err why) = IsRefused kind.Wire limit most input why
+
+-- some input was taken from the reader, and this is answered for it
+pub record Checks (order : List ℕ → List ℕ → Ordering) (limit most : ℕ) (before after : Option (List ℕ)) (result : Result (Option Defect) EngineFault) : Type 0 where
+  pub input : List ℕ
+  pub taken : Consumes before after input
+  pub answer : CheckAnswers order limit most input result
+  pub to_end : IsRead result after

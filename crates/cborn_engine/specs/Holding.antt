@@ -1,0 +1,51 @@
+-- What an input holds, and the canonical form of what it holds.
+use Rattle.std.specs.Prelude.{◌≡◌, ℕ, List, IsUtf8}
+use Rattle.std.specs.declared.cmp.Ordering.{Ordering}
+use Rattle.std.specs.List.{AllZip}
+use Rattle.cborn_model.specs.Tree.{Tree, trees}
+use Rattle.cborn_model.specs.Spelled.{Wellformed, FitsAll, spelled_all}
+use Rattle.cborn_model.specs.Placed.{PlacedAll}
+use Rattle.cborn_model.specs.Value.{Value}
+use Rattle.cborn_model.specs.Meaning.{Means}
+use Rattle.cborn_det.specs.Det.{DetSeq}
+use Rattle.cborn_lex.specs.declared.classes.Profile.{Profile}
+use Rattle.cborn_lex.specs.declared.classes.Profile.TheVariants as profile
+use Rattle.cborn_edn.specs.Notates.{Notates}
+use Rattle.cborn_edn.specs.Shown.{Shown}
+use Rattle.cborn_engine.specs.declared.kinds.Kind.{Kind}
+use Rattle.cborn_engine.specs.declared.kinds.Kind.TheVariants as kind
+
+-- the input is a text that notates these nodes
+abbrev pub IsNotation : Profile → ℕ → List ℕ → List Tree → Type 0
+IsNotation p limit input nodes = IsUtf8 input × Notates p limit input (trees nodes)
+
+-- the input is the spelling of these nodes, none deeper than the limit, placed one after another from its start; or it notates them
+abbrev pub Spells : Kind → ℕ → List ℕ → List Tree → Type 0
+Spells kind.Wire limit input nodes = Wellformed limit (trees nodes) input × PlacedAll 0 (trees nodes)
+Spells kind.Notation limit input nodes = IsNotation profile.One limit input nodes
+Spells kind.Notation2 limit input nodes = IsNotation profile.Two limit input nodes
+
+-- the input holds these items: it spells nodes that mean them
+pub record Holds (k : Kind) (limit : ℕ) (input : List ℕ) (items : List Value) : Type 0 where
+  pub nodes : List Tree
+  pub spelled : Spells k limit input nodes
+  pub meant : AllZip Means nodes items
+
+-- the text is the fixed notation of nodes that spell these bytes
+pub record IsFixedText (bytes text : List ℕ) : Type 0 where
+  pub nodes : List Tree
+  pub fit : FitsAll (trees nodes)
+  pub spelled : spelled_all (trees nodes) ≡ bytes
+  pub shown : Shown (trees nodes) text
+
+-- bytes as an output of a kind: themselves, or in the fixed notation
+abbrev pub IsWrittenAs : Kind → List ℕ → List ℕ → Type 0
+IsWrittenAs kind.Wire bytes output = output ≡ bytes
+IsWrittenAs kind.Notation bytes output = IsFixedText bytes output
+IsWrittenAs kind.Notation2 bytes output = IsFixedText bytes output
+
+-- the canonical form of items under an order of keys: their deterministic encodings, one after another (RFC 8949 section 4.2), or the fixed notation of these
+abbrev pub Canon : (List ℕ → List ℕ → Ordering) → Kind → List Value → List ℕ → Type 0
+Canon order kind.Wire items w = DetSeq order items w
+Canon order kind.Notation items w = (x : List ℕ) × DetSeq order items x × IsFixedText x w
+Canon order kind.Notation2 items w = (x : List ℕ) × DetSeq order items x × IsFixedText x w

@@ -1,0 +1,12 @@
+pub mod Failures
+pub mod Faults
+pub mod Reading
+pub mod Writing
+pub mod Holding
+pub mod Refusing
+pub mod Loading
+pub mod Canonical
+pub mod Showing
+pub mod Comparing
+pub mod Checking
+pub mod Defects

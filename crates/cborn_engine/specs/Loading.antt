@@ -1,0 +1,47 @@
+-- What loading an input answers.
+use Rattle.std.specs.Prelude.{ℕ, ◌≤◌, List, length, Option, Result, Ok, Err, Vec, ⊤}
+use Rattle.std.specs.Global.{Global}
+use Rattle.std.specs.Io.KnownBytes.{Consumes}
+use Rattle.cborn_model.specs.Tree.{Tree}
+use Rattle.cborn_model.specs.Value.{Value}
+use Rattle.cborn_engine.specs.declared.faults.EngineFault.{EngineFault}
+use Rattle.cborn_engine.specs.declared.faults.EngineFault.TheVariants as fault
+use Rattle.cborn_engine.specs.declared.kinds.Kind.{Kind}
+use Rattle.cborn_lex.specs.declared.classes.Profile.{Profile}
+use Rattle.cborn_lex.specs.declared.classes.Profile.TheVariants as profile
+use Rattle.cborn_engine.specs.declared.kinds.Kind.TheVariants as kind
+use Rattle.cborn_engine.specs.Holding.{Spells, Holds}
+use Rattle.cborn_engine.specs.Refusing.{IsRefused, IsRead}
+
+-- the kind of input that is notation of this profile
+abbrev pub kind_of : Profile → Kind
+kind_of profile.One = kind.Notation
+kind_of profile.Two = kind.Notation2
+
+-- a load refuses no node for what it means
+abbrev pub IsNoFlaw : EngineFault → Type 0
+IsNoFlaw (fault.Invalid why) = ⊥
+IsNoFlaw _ = ⊤
+
+-- what a load of this input answers: the nodes that it spells, or why it spells none
+abbrev pub LoadAnswers : Kind → ℕ → ℕ → List ℕ → Result (Vec Tree Global) EngineFault → Type 0
+LoadAnswers k limit most input (Ok nodes) = (length input ≤ most) × Spells k limit input nodes.items
+LoadAnswers k limit most input (Err why) = IsRefused k limit most input why × IsNoFlaw why
+
+-- some input was taken from the reader, and this is answered for it
+pub record Loads (k : Kind) (limit most : ℕ) (before after : Option (List ℕ)) (result : Result (Vec Tree Global) EngineFault) : Type 0 where
+  pub input : List ℕ
+  pub taken : Consumes before after input
+  pub answer : LoadAnswers k limit most input result
+  pub to_end : IsRead result after
+
+-- what reading and judging this input answers: the items that it holds, or why it holds none
+abbrev pub ReadAnswers : Kind → ℕ → ℕ → List ℕ → Result (Vec Value Global) EngineFault → Type 0
+ReadAnswers k limit most input (Ok items) = (length input ≤ most) × Holds k limit input items.items
+ReadAnswers k limit most input (Err why) = IsRefused k limit most input why
+
+pub record Reads (k : Kind) (limit most : ℕ) (before after : Option (List ℕ)) (result : Result (Vec Value Global) EngineFault) : Type 0 where
+  pub input : List ℕ
+  pub taken : Consumes before after input
+  pub answer : ReadAnswers k limit most input result
+  pub to_end : IsRead result after

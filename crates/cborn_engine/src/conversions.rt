@@ -1,0 +1,101 @@
+//! From a reader to a writer.
+ghost use Rattle.std.specs.Prelude.{◌≡◌, ◌^◌, IfOk, IfErr};
+ghost use Rattle.cborn_model.specs.Tree.{trees};
+ghost use Rattle.cborn_edn.specs.Shown.{Shown};
+ghost use Rattle.cborn_engine.specs.declared.kinds.Kind.TheVariants as kinds;
+ghost use Rattle.cborn_engine.specs.Canonical.{Normalises};
+ghost use Rattle.cborn_engine.specs.Reading.{read_failures};
+ghost use Rattle.cborn_engine.specs.Holding.{IsFixedText, IsWrittenAs};
+ghost use Rattle.cborn_engine.specs.Showing.{Shows, IsSpelledAs, IsUnspelledAs};
+ghost use Rattle.cborn_engine.specs.Writing.{write_failures};
+
+use crate::faults::EngineFault;
+use crate::inputs::{load, read_items};
+use crate::kinds::Kind;
+use crate::outputs::write_answer;
+use crate::sinks::Sink;
+use crate::sources::Source;
+use cborn_det::encode_all;
+use cborn_edn::show;
+use cborn_model::{KeyOrder, Limit, Spelled};
+use cborn_wire::{read_all, spell_all};
+use std::alloc::{AllocError, Global};
+
+/// Writes the deterministic encodings of the items that the input holds, the keys of their maps in the order `O` (RFC 8949 section 4.2).
+pub fn normalise<O: KeyOrder, R: Source, W: Sink>(
+    alloc: Global,
+    limit: Limit,
+    in_kind: Kind,
+    out_kind: Kind,
+    reader: &mut R,
+    writer: &mut W,
+) -> Result<(), EngineFault>
+    ensures normalises { Normalises O.order in_kind out_kind limit (2 ^ 30) (R.remaining reader.old) (R.remaining reader.new) (W.contents writer.old) (W.contents writer.new) result }
+    ensures read_failures { R.failed reader.new ≡ read_failures result (R.failed reader.old) }
+    ensures write_failures { W.failed writer.new ≡ write_failures result (W.failed writer.old) }
+{
+    let items = read_items(alloc, limit, in_kind, reader)?;
+    let bytes = encode_all::<O>(alloc, &items)?;
+    let answer = written(alloc, limit, out_kind, bytes)?;
+    write_answer(writer, &answer)
+}
+
+/// Writes the items of the input as they are spelled.
+pub fn show_all<R: Source, W: Sink>(
+    alloc: Global,
+    limit: Limit,
+    in_kind: Kind,
+    out_kind: Kind,
+    reader: &mut R,
+    writer: &mut W,
+) -> Result<(), EngineFault>
+    ensures shows { Shows in_kind out_kind limit (2 ^ 30) (R.remaining reader.old) (R.remaining reader.new) (W.contents writer.old) (W.contents writer.new) result }
+    ensures read_failures { R.failed reader.new ≡ read_failures result (R.failed reader.old) }
+    ensures write_failures { W.failed writer.new ≡ write_failures result (W.failed writer.old) }
+{
+    let nodes = load(alloc, limit, in_kind, reader)?;
+    let answer = spelled(alloc, out_kind, &nodes)?;
+    write_answer(writer, &answer)
+}
+
+/// Nodes as they are spelled, or their fixed notation. `Show` where a text string of theirs isn't UTF-8.
+fn spelled(alloc: Global, kind: Kind, nodes: &[Spelled]) -> Result<Vec<u8>, EngineFault>
+    ensures spelled { IfOk result (λ answer. IsSpelledAs kind nodes.now answer.items) }
+    ensures unspelled { IfErr result (IsUnspelledAs kind nodes.now) }
+{
+    match kind {
+        Kind::Wire => Ok(spell_all(alloc, nodes)?),
+        Kind::Notation => notation(alloc, nodes),
+        Kind::Notation2 => notation(alloc, nodes),
+    }
+}
+
+fn notation(alloc: Global, nodes: &[Spelled]) -> Result<Vec<u8>, EngineFault>
+    ensures shown { IfOk result (λ answer. Shown (trees nodes.now) answer.items) }
+    ensures unshown { IfErr result (IsUnspelledAs kinds.Notation nodes.now) }
+{
+    Ok(show(alloc, nodes)?.into_bytes())
+}
+
+/// Bytes that are deterministic encodings, or their fixed notation.
+fn written(alloc: Global, limit: Limit, kind: Kind, bytes: Vec<u8>) -> Result<Vec<u8>, AllocError>
+    ensures { IfOk result (λ answer. IsWrittenAs kind bytes.items answer.items) }
+{
+    match kind {
+        Kind::Wire => Ok(bytes),
+        Kind::Notation => fixed_text(alloc, limit, &bytes),
+        Kind::Notation2 => fixed_text(alloc, limit, &bytes),
+    }
+}
+
+fn fixed_text(alloc: Global, limit: Limit, bytes: &[u8]) -> Result<Vec<u8>, AllocError>
+    ensures { IfOk result (λ text. IsFixedText bytes.now text.items) }
+{
+    let Ok(nodes) = read_all(alloc, limit, bytes) else {
+        return Err(AllocError);
+    };
+    let Ok(text) = show(alloc, &nodes) else {
+        return Err(AllocError);
+    };
+    Ok(text.into_bytes())
+}

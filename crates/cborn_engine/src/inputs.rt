@@ -1,0 +1,95 @@
+//! Reading a whole input.
+ghost use Rattle.std.specs.Prelude.{◌≡◌, ◌≤◌, ◌^◌};
+ghost use Rattle.cborn_engine.specs.declared.kinds.Kind.TheVariants as kinds;
+ghost use Rattle.cborn_engine.specs.Loading.{Loads, Reads};
+ghost use Rattle.cborn_engine.specs.Reading.{read_failures};
+
+use crate::faults::EngineFault;
+use crate::kinds::Kind;
+use crate::pieces::read_piece;
+use crate::sources::Source;
+use crate::texts::load_text;
+use cborn_judge::judge_all;
+use cborn_lex::Profile;
+use cborn_model::{Limit, Spelled, Valid};
+use cborn_wire::Feeder;
+use std::alloc::Global;
+
+/// The most bytes of an input.
+pub const MOST: u64 = 1 << 30;
+
+/// The items of the whole input, which has at most 2^30 bytes. The faults are those of `load_within`.
+pub fn load<R: Source>(
+    alloc: Global,
+    limit: Limit,
+    kind: Kind,
+    reader: &mut R,
+) -> Result<Vec<Spelled>, EngineFault>
+    ensures loads { Loads kind limit (2 ^ 30) (R.remaining reader.old) (R.remaining reader.new) result }
+    ensures failures { R.failed reader.new ≡ read_failures result (R.failed reader.old) }
+{
+    load_within(alloc, limit, MOST, kind, reader)
+}
+
+/// The items of the whole input, which has at most `most` bytes.
+///
+/// The input is read to its end before a fault of its content is told. `ReadFault` comes where the reader failed, and ends the reading. `TooLong` comes where it gave `most` + 1 bytes, and no more are read. Then comes the fault of the content, told at its offset in bytes from the start of the input. `OutOfMemory` may come at any time.
+pub fn load_within<R: Source>(
+    alloc: Global,
+    limit: Limit,
+    most: u64,
+    kind: Kind,
+    reader: &mut R,
+) -> Result<Vec<Spelled>, EngineFault>
+    requires { most ≤ 2 ^ 30 }
+    ensures loads { Loads kind limit most (R.remaining reader.old) (R.remaining reader.new) result }
+    ensures failures { R.failed reader.new ≡ read_failures result (R.failed reader.old) }
+{
+    match kind {
+        Kind::Wire => load_bytes(alloc, limit, most, reader),
+        Kind::Notation => load_text(alloc, limit, most, Profile::One, reader),
+        Kind::Notation2 => load_text(alloc, limit, most, Profile::Two, reader),
+    }
+}
+
+/// The items of bytes. After a fault of the content it reads on, so that a failed read and a byte too many are told in its place.
+fn load_bytes<R: Source>(
+    alloc: Global,
+    limit: Limit,
+    most: u64,
+    reader: &mut R,
+) -> Result<Vec<Spelled>, EngineFault>
+    requires { most ≤ 2 ^ 30 }
+    ensures loads { Loads kinds.Wire limit most (R.remaining reader.old) (R.remaining reader.new) result }
+    ensures failures { R.failed reader.new ≡ read_failures result (R.failed reader.old) }
+{
+    let mut feeder = Feeder::new(alloc, limit);
+    let mut buf = [0; 4096];
+    let mut left = most;
+    let mut is_refused = false;
+    'pieces: loop {
+        let count = read_piece(reader, &mut buf, left)?;
+        if count == 0 {
+            break;
+        }
+        left -= count as u64;
+        if !is_refused {
+            is_refused = feeder.feed(&buf[..count]).is_err();
+        }
+    }
+    Ok(feeder.finish()?)
+}
+
+/// What the whole input holds.
+pub fn read_items<R: Source>(
+    alloc: Global,
+    limit: Limit,
+    kind: Kind,
+    reader: &mut R,
+) -> Result<Vec<Valid>, EngineFault>
+    ensures reads { Reads kind limit (2 ^ 30) (R.remaining reader.old) (R.remaining reader.new) result }
+    ensures failures { R.failed reader.new ≡ read_failures result (R.failed reader.old) }
+{
+    let nodes = load(alloc, limit, kind, reader)?;
+    Ok(judge_all(alloc, &nodes)?)
+}

@@ -1,0 +1,40 @@
+//! What follows from the contracts. Each function does nothing; its contract is a theorem over the definitions in `specs/`.
+
+ghost use Rattle.std.specs.Prelude.{◌≡◌, ◌≤◌, ◌↔◌, ℕ, List, Option, Some, length};
+ghost use Rattle.std.specs.Io.KnownBytes.{Consumes, IsAtEnd};
+ghost use Rattle.std.specs.List.{AllZip};
+ghost use Rattle.cborn_model.specs.Value.{Value, Same};
+ghost use Rattle.cborn_engine.specs.declared.faults.EngineFault.{EngineFault};
+ghost use Rattle.cborn_engine.specs.declared.kinds.Kind.{Kind};
+ghost use Rattle.cborn_engine.specs.declared.kinds.Kind.TheVariants as kind;
+ghost use Rattle.cborn_engine.specs.Holding.{Holds};
+ghost use Rattle.cborn_engine.specs.Refusing.{IsRefused, IsNoRefusal};
+ghost use Rattle.cborn_engine.specs.Canonical.{IsCanonical};
+
+use cborn_model::KeyOrder;
+
+/// Two inputs, of any kinds, have the same canonical form exactly if they hold the same items.
+pub fn same_answer<O: KeyOrder>()
+    ensures { (k l out : Kind) (limit : ℕ) (x y v w : List ℕ) (a : IsCanonical O.order k out limit x v) (b : IsCanonical O.order l out limit y w) → (v ≡ w) ↔ AllZip Same a.items b.items }
+{}
+
+/// The canonical form of a canonical form is that form.
+pub fn same_again<O: KeyOrder>()
+    ensures { (k out : Kind) (limit : ℕ) (x v w : List ℕ) → IsCanonical O.order k out limit x v → IsCanonical O.order out out limit v w → w ≡ v }
+{}
+
+/// An input holds at most one list of items, and holds it under each larger limit too.
+pub fn one_list()
+    ensures one { (k : Kind) (limit : ℕ) (x : List ℕ) (vs ws : List Value) → Holds k limit x vs → Holds k limit x ws → vs ≡ ws }
+    ensures larger { (k : Kind) (limit most : ℕ) (x : List ℕ) (vs : List Value) → limit ≤ most → Holds k limit x vs → Holds k most x vs }
+{}
+
+/// What was read to its end of a reader that tells its bytes is all that it had.
+pub fn whole_input()
+    ensures { (x input : List ℕ) (after : Option (List ℕ)) → Consumes (Some x) after input → IsAtEnd after → input ≡ x }
+{}
+
+/// Bytes that hold items, and are no more than allowed, are refused only where the reader failed or memory was refused.
+pub fn held_input()
+    ensures { (limit most : ℕ) (x : List ℕ) (vs : List Value) (why : EngineFault) → length x ≤ most → Holds kind.Wire limit x vs → IsRefused kind.Wire limit most x why → IsNoRefusal why }
+{}

@@ -1,0 +1,28 @@
+//! Writing a whole answer.
+ghost use Rattle.std.specs.Prelude.{◌≡◌};
+ghost use Rattle.cborn_engine.specs.Writing.{Writes, write_failures};
+
+use crate::faults::EngineFault;
+use crate::sinks::Sink;
+
+/// Writes all the bytes, and flushes once. After `WriteFault`, its only fault, a front of the bytes went out.
+pub fn write_answer<W: Sink>(writer: &mut W, bytes: &[u8]) -> Result<(), EngineFault>
+    ensures writes { Writes (W.contents writer.old) (W.contents writer.new) bytes.now result }
+    ensures failures { W.failed writer.new ≡ write_failures result (W.failed writer.old) }
+{
+    let mut sent = 0;
+    while sent < bytes.len() {
+        let count = match writer.write_some(&bytes[sent..]) {
+            Ok(count) => count,
+            Err(_) => return Err(EngineFault::WriteFault),
+        };
+        if count == 0 {
+            return Err(EngineFault::WriteFault);
+        }
+        sent += count;
+    }
+    match writer.flush_all() {
+        Ok(()) => Ok(()),
+        Err(_) => Err(EngineFault::WriteFault),
+    }
+}

@@ -1,0 +1,122 @@
+//! Readers and writers that give or take little, or fail.
+use super::memory::{Bytes, Taken, Trouble};
+use crate::{
+    CompareFault, Counted, EngineFault, Kind, Sink, Source, compare, load, load_within, normalise,
+};
+use cborn_model::{Bytewise, Limit};
+use std::alloc::Global;
+use std::test::Fail;
+
+/// It normalises to 82014161.
+const INPUT: &[u8] = b"\x98\x02\x18\x01\x58\x01\x61";
+
+fn normalised(alloc: Global, bytes: &mut Bytes<'_>, out: &mut Taken) -> Result<(), EngineFault> {
+    let kind = Kind::Wire;
+    normalise::<Bytewise, Bytes<'_>, Taken>(alloc, Limit::USUAL, kind, kind, bytes, out)
+}
+
+#[test]
+fn writers_with_trouble(rt: HostRuntime) -> Result<(), Fail> {
+    let fault = Err(EngineFault::WriteFault);
+    let cases = [
+        (
+            9,
+            Trouble::Nothing,
+            Ok(()),
+            b"\x82\x01\x41\x61".as_slice(),
+            4,
+            1,
+            0,
+        ),
+        (1, Trouble::Fails, fault, b"\x82".as_slice(), 2, 0, 1),
+        (
+            2,
+            Trouble::TakesNothing,
+            fault,
+            b"\x82\x01".as_slice(),
+            3,
+            0,
+            1,
+        ),
+        (
+            9,
+            Trouble::FailsToFlush,
+            fault,
+            b"\x82\x01\x41\x61".as_slice(),
+            4,
+            1,
+            1,
+        ),
+    ];
+    for (calls, trouble, answer, taken, writes, flushes, failures) in cases {
+        let mut out = Taken::troubled(rt.alloc(), 1, calls, trouble);
+        let result = normalised(rt.alloc(), &mut Bytes::new(INPUT, 3), &mut out);
+        assert!(rt; result == answer, "{trouble:?}");
+        assert_eq!(rt; out.bytes.as_slice(), taken, "{trouble:?}");
+        assert_eq!(rt; out.writes, writes, "{trouble:?}");
+        assert_eq!(rt; out.flushes, flushes, "{trouble:?}");
+        assert_eq!(rt; Sink::failures(&out), failures, "{trouble:?}");
+    }
+    Ok(())
+}
+
+#[test]
+fn readers_that_fail(rt: HostRuntime) -> Result<(), Fail> {
+    for input in [b"\x00".as_slice(), b"\x00\x1c".as_slice()] {
+        let mut bytes = Bytes::failing(input, 2, 1);
+        let mut out = Taken::new(rt.alloc());
+        let result = normalised(rt.alloc(), &mut bytes, &mut out);
+        assert!(rt; result == Err(EngineFault::ReadFault));
+        assert_eq!(rt; bytes.failures(), 1);
+        assert!(rt; out.is_untouched());
+    }
+    Ok(())
+}
+
+#[test]
+fn inputs_within_a_bound(rt: HostRuntime) -> Result<(), Fail> {
+    let mut zeros = Counted::new(b"\x00\x00\x00\x00".as_slice());
+    let nodes = load_within(rt.alloc(), Limit::USUAL, 4, Kind::Wire, &mut zeros)?;
+    assert_eq!(rt; nodes.len(), 4);
+    let mut long = Bytes::new(b"\x1c\x00\x00\x00\x00\x00\x00", 4096);
+    let result = load_within(rt.alloc(), Limit::USUAL, 4, Kind::Wire, &mut long);
+    assert!(rt; matches!(result, Err(EngineFault::TooLong)));
+    assert_eq!(rt; long.rest.len(), 2);
+    let nodes = load(
+        rt.alloc(),
+        Limit::USUAL,
+        Kind::Wire,
+        &mut Bytes::new(INPUT, 1),
+    )?;
+    assert_eq!(rt; nodes.len(), 1);
+    Ok(())
+}
+
+#[test]
+fn second_readers(rt: HostRuntime) -> Result<(), Fail> {
+    let kind = Kind::Wire;
+    let mut ours = Bytes::new(b"\x00", 1);
+    let mut theirs = Bytes::failing(b"\x00", 1, 1);
+    let result = compare::<Bytewise, Bytes<'_>, Bytes<'_>>(
+        rt.alloc(),
+        Limit::USUAL,
+        kind,
+        &mut ours,
+        kind,
+        &mut theirs,
+    );
+    assert!(rt; result == Err(CompareFault::Second(EngineFault::ReadFault)));
+    let mut refused = Bytes::new(b"\x1c", 1);
+    let mut unread = Bytes::failing(b"\x00", 1, 0);
+    let result = compare::<Bytewise, Bytes<'_>, Bytes<'_>>(
+        rt.alloc(),
+        Limit::USUAL,
+        kind,
+        &mut refused,
+        kind,
+        &mut unread,
+    );
+    assert!(rt; matches!(result, Err(CompareFault::First(EngineFault::Wire(_)))));
+    assert_eq!(rt; unread.failures(), 0);
+    Ok(())
+}
