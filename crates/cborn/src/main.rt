@@ -1,0 +1,92 @@
+//! Reads CBOR data items and writes them in one deterministic form.
+#![tactic(auto)]
+
+mod help;
+mod inputs;
+mod lines;
+mod options;
+mod statuses;
+mod tasks;
+#[cfg(test)]
+mod tests;
+
+use cborn_engine::EngineFault;
+use clap::Error;
+use clap::error::ErrorKind;
+use lines::{Trouble, print, tell};
+use options::read_task;
+use statuses::{DONE, FAILED, USAGE};
+use std::alloc::Global;
+use std::io::{Read, Write};
+use std::process::ExitCode;
+use std::rt::Files;
+use std::{env, io};
+use tasks::perform;
+
+/// Runs the program, and gives its status. The first of `words` is the program's name.
+pub fn run<F: Files, I: Read + Drop, W: Write + Drop, E: Write + Drop>(
+    rt: &F,
+    alloc: Global,
+    words: &[&str],
+    input: I,
+    out: W,
+    err: E,
+) -> u8 {
+    let mut err = err;
+    let task = match read_task(alloc, words) {
+        Ok(task) => task,
+        Err(why) => {
+            return match answer_usage(alloc, &why, out, &mut err) {
+                Ok(status) => status,
+                Err(trouble) => tell(&mut err, trouble),
+            };
+        }
+    };
+    match perform(rt, alloc, &task, input, out) {
+        Ok(status) => status,
+        Err(trouble) => tell(&mut err, trouble),
+    }
+}
+
+/// Prints why there is no task: a text on the command line, or what the program says of itself.
+fn answer_usage<'a, W: Write + Drop, E: Write>(
+    alloc: Global,
+    why: &Error,
+    out: W,
+    err: &mut E,
+) -> Result<u8, Trouble<'a>> {
+    if why.kind() == ErrorKind::OutOfMemory {
+        return Err(Trouble::Engine(EngineFault::OutOfMemory));
+    }
+    if why.use_stderr() {
+        let _ = write!(err, "{why}");
+        return Ok(USAGE);
+    }
+    let text = match format!(in alloc; "{why}") {
+        Ok(text) => text,
+        Err(_) => return Err(Trouble::Engine(EngineFault::OutOfMemory)),
+    };
+    match print(out, &[text.as_str()]) {
+        Ok(()) => Ok(DONE),
+        Err(_) => Err(Trouble::Engine(EngineFault::WriteFault)),
+    }
+}
+
+fn run_host(rt: &HostRuntime, alloc: Global) -> io::Result<u8> {
+    let mut owned = Vec::new(alloc);
+    for word in env::args(rt)? {
+        owned.push(word)?;
+    }
+    let mut words = Vec::new(alloc);
+    for word in &owned {
+        words.push(word.as_str())?;
+    }
+    Ok(run(rt, alloc, &words, rt.stdin(), rt.stdout(), rt.stderr()))
+}
+
+fn main(rt: HostRuntime) -> ExitCode {
+    match run_host(&rt, rt.alloc()) {
+        Ok(status) => ExitCode::from(status),
+        Err(_) => ExitCode::from(tell(&mut rt.stderr(), Trouble::Engine(EngineFault::OutOfMemory))),
+    }
+}

@@ -1,0 +1,202 @@
+//! The command line.
+
+use crate::help;
+use cborn_engine::Kind;
+use cborn_model::Limit;
+use clap::builder::ValueParser;
+use clap::error::ErrorKind;
+use clap::{Arg, ArgMatches, Command, Error};
+use std::alloc::{AllocError, Global};
+
+/// The order of a map's keys.
+#[derive(Clone, Copy, PartialEq, Eq, Debug)]
+pub enum Order {
+    Bytewise,
+    LengthFirst,
+}
+
+/// What the program is asked to do. A `file` that isn't named is standard input.
+#[derive(Clone, Copy, Debug)]
+pub enum Task<'a> {
+    Show {
+        file: Option<&'a str>,
+        from: Kind,
+        to: Kind,
+        limit: Limit,
+    },
+    Normalise {
+        file: Option<&'a str>,
+        from: Kind,
+        to: Kind,
+        order: Order,
+        limit: Limit,
+    },
+    Compare {
+        first: &'a str,
+        second: &'a str,
+        from_a: Kind,
+        from_b: Kind,
+        order: Order,
+        limit: Limit,
+    },
+    Check {
+        file: Option<&'a str>,
+        order: Order,
+        limit: Limit,
+    },
+}
+
+/// Reads the command line, of which the first word is the program's name.
+pub fn read_task<'a>(alloc: Global, words: &'a [&'a str]) -> Result<Task<'a>, Error> {
+    let mut program = program(alloc)?;
+    let matches = program.try_get_matches_from_mut(words)?;
+    match task_of(&matches) {
+        Some(task) => Ok(task),
+        None => Err(program.error(ErrorKind::MissingSubcommand, "a command is required")?),
+    }
+}
+
+fn task_of<'a>(matches: &ArgMatches<'a>) -> Option<Task<'a>> {
+    let (name, found) = matches.subcommand()?;
+    let limit = Limit::new(found.get_one::<u64>("depth")?)?;
+    let order = order_of(found);
+    match name {
+        "show" => Some(Task::Show {
+            file: found.get_str("FILE"),
+            from: kind_of(found, "from"),
+            to: kind_of(found, "to"),
+            limit,
+        }),
+        "normalise" => Some(Task::Normalise {
+            file: found.get_str("FILE"),
+            from: kind_of(found, "from"),
+            to: kind_of(found, "to"),
+            order,
+            limit,
+        }),
+        "compare" => Some(Task::Compare {
+            first: found.get_str("FILE_A")?,
+            second: found.get_str("FILE_B")?,
+            from_a: kind_of(found, "from-a"),
+            from_b: kind_of(found, "from-b"),
+            order,
+            limit,
+        }),
+        "check" => Some(Task::Check {
+            file: found.get_str("FILE"),
+            order,
+            limit,
+        }),
+        _ => None,
+    }
+}
+
+fn order_of(found: &ArgMatches<'_>) -> Order {
+    match found.get_str("order") {
+        Some("length-first") => Order::LengthFirst,
+        _ => Order::Bytewise,
+    }
+}
+
+fn kind_of(found: &ArgMatches<'_>, name: &str) -> Kind {
+    match found.get_str(name) {
+        Some("notation") => Kind::Notation,
+        Some("notation-2") => Kind::Notation2,
+        _ => Kind::Wire,
+    }
+}
+
+fn program<'a>(alloc: Global) -> Result<Command<'a>, AllocError> {
+    Command::new(alloc, "cborn")
+        .version("0.1.0")
+        .about(help::PROGRAM)
+        .after_help(help::PROGRAM_NOTES)
+        .subcommand_required(true)
+        .disable_help_subcommand(true)
+        .subcommand(show(alloc)?)?
+        .subcommand(normalise(alloc)?)?
+        .subcommand(compare(alloc)?)?
+        .subcommand(check(alloc)?)
+}
+
+fn show<'a>(alloc: Global) -> Result<Command<'a>, AllocError> {
+    Command::new(alloc, "show")
+        .about(help::SHOW)
+        .after_help(help::SHOW_NOTES)
+        .arg(file_argument(alloc))?
+        .arg(from_option(alloc, "from", help::FROM))?
+        .arg(to_option(alloc, "notation"))?
+        .arg(depth_option(alloc))
+}
+
+fn normalise<'a>(alloc: Global) -> Result<Command<'a>, AllocError> {
+    Command::new(alloc, "normalise")
+        .about(help::NORMALISE)
+        .after_help(help::NORMALISE_NOTES)
+        .arg(file_argument(alloc))?
+        .arg(from_option(alloc, "from", help::FROM))?
+        .arg(to_option(alloc, "wire"))?
+        .arg(order_option(alloc))?
+        .arg(depth_option(alloc))
+}
+
+fn compare<'a>(alloc: Global) -> Result<Command<'a>, AllocError> {
+    Command::new(alloc, "compare")
+        .about(help::COMPARE)
+        .after_help(help::COMPARE_NOTES)
+        .arg(Arg::new(alloc, "FILE_A").required(true).help(help::FILE_A))?
+        .arg(Arg::new(alloc, "FILE_B").required(true).help(help::FILE_B))?
+        .arg(from_option(alloc, "from-a", help::FROM_A))?
+        .arg(from_option(alloc, "from-b", help::FROM_B))?
+        .arg(order_option(alloc))?
+        .arg(depth_option(alloc))
+}
+
+fn check<'a>(alloc: Global) -> Result<Command<'a>, AllocError> {
+    Command::new(alloc, "check")
+        .about(help::CHECK)
+        .after_help(help::CHECK_NOTES)
+        .arg(file_argument(alloc))?
+        .arg(order_option(alloc))?
+        .arg(depth_option(alloc))
+}
+
+fn file_argument<'a>(alloc: Global) -> Arg<'a> {
+    Arg::new(alloc, "FILE").help(help::FILE)
+}
+
+fn from_option<'a>(alloc: Global, name: &'a str, help: &'a str) -> Arg<'a> {
+    Arg::new(alloc, name)
+        .long(name)
+        .value_name("KIND")
+        .value_parser(ValueParser::Names(&["wire", "notation", "notation-2"]))
+        .default_value("wire")
+        .help(help)
+}
+
+fn to_option<'a>(alloc: Global, default: &'a str) -> Arg<'a> {
+    Arg::new(alloc, "to")
+        .long("to")
+        .value_name("KIND")
+        .value_parser(ValueParser::Names(&["wire", "notation"]))
+        .default_value(default)
+        .help(help::TO)
+}
+
+fn order_option<'a>(alloc: Global) -> Arg<'a> {
+    Arg::new(alloc, "order")
+        .long("order")
+        .value_name("ORDER")
+        .value_parser(ValueParser::Names(&["bytewise", "length-first"]))
+        .default_value("bytewise")
+        .help(help::ORDER)
+}
+
+fn depth_option<'a>(alloc: Global) -> Arg<'a> {
+    Arg::new(alloc, "depth")
+        .long("depth")
+        .value_name("N")
+        .value_parser(ValueParser::Unsigned(1, 1024))
+        .default_value("128")
+        .help(help::DEPTH)
+}
