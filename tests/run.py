@@ -18,14 +18,89 @@ A table is a list of cases, each a paragraph of lines 'WORD REST':
                          as /dev/full
     status N             the exit status, which is else 0
 
-A line that begins with '#' is a comment.
+'stdout holds' and 'stderr holds' may stand more than once. A line that begins with '#' is a comment.
 """
+import collections
 import os
 import pathlib
 import shlex
 import subprocess
 import sys
 import tempfile
+
+Outcome = collections.namedtuple("Outcome", "stdout stderr status")
+
+
+class Case:
+    """A case of a table, whose files lie in a folder."""
+
+    def __init__(self, lines, folder):
+        self.name, self.words, self.folder = str(lines), None, folder
+        self.stdin, self.output, self.status = b"", None, 0
+        self.wanted = {"stdout": [], "stderr": []}
+        for word, rest in lines:
+            self.read(word, rest)
+        if self.words is None:
+            raise ValueError(f"a case without run: {self.name}")
+
+    def read(self, word, rest):
+        if word == "case":
+            self.name = rest
+        elif word == "file":
+            name, _, what = rest.partition(" ")
+            path = pathlib.Path(self.folder, name)
+            if what == "folder":
+                path.mkdir()
+            else:
+                path.write_bytes(given_bytes(what))
+        elif word == "run":
+            self.words = shlex.split(rest)
+        elif word == "stdin":
+            self.stdin = given_bytes(rest)
+        elif word in self.wanted:
+            is_part = rest.startswith("holds ")
+            whole = given_bytes if word == "stdout" else lambda it: text_bytes(it) + b"\n"
+            self.wanted[word].append((is_part, text_bytes(rest[6:]) if is_part else whole(rest)))
+        elif word == "output":
+            self.output = rest
+        elif word == "status":
+            self.status = int(rest)
+        else:
+            raise ValueError(f"no such word: {word}")
+
+    def run(self, program, **how):
+        """What the program writes, and its status."""
+        if self.output == "closed":
+            reader, to = os.pipe()
+            os.close(reader)
+        else:
+            to = subprocess.PIPE if self.output is None else os.open(self.output, os.O_WRONLY)
+        try:
+            done = subprocess.run(
+                [program, *self.words],
+                cwd=self.folder,
+                input=self.stdin,
+                stdout=to,
+                stderr=subprocess.PIPE,
+                timeout=60,
+                check=False,
+                **how,
+            )
+        finally:
+            if self.output is not None:
+                os.close(to)
+        return Outcome(done.stdout or b"", done.stderr, done.returncode)
+
+    def differences(self, outcome):
+        """What is wrong with an outcome, line by line."""
+        for word, got in (("stdout", outcome.stdout), ("stderr", outcome.stderr)):
+            for is_part, want in self.wanted[word] or [(False, b"")]:
+                if is_part and want not in got:
+                    yield f"{word} lacks {want!r}: {got!r}"
+                elif not is_part and want != got:
+                    yield f"{word} is {got!r}, not {want!r}"
+        if outcome.status != self.status:
+            yield f"status is {outcome.status}, not {self.status}"
 
 
 def text_bytes(text):
@@ -46,83 +121,36 @@ def given_bytes(rest):
     return out
 
 
-def cases(path):
+def paragraphs(path):
     """The cases of a table: lists of (word, rest)."""
-    case = []
-    for line in path.read_text().splitlines():
+    lines = []
+    for line in [*path.read_text().splitlines(), ""]:
         if not line.strip():
-            if case:
-                yield case
-            case = []
+            if lines:
+                yield lines
+            lines = []
         elif not line.startswith("#"):
             word, _, rest = line.partition(" ")
-            case.append((word, rest))
-    if case:
-        yield case
+            lines.append((word, rest))
 
 
-def differences(name, want, got):
-    if isinstance(want, tuple):
-        if want[1] not in got:
-            yield f"{name} lacks {want[1]!r}: {got!r}"
-    elif want != got:
-        yield f"{name} is {got!r}, not {want!r}"
-
-
-def run(program, case):
-    """What is wrong with a case, line by line."""
-    words, stdin, stdout, stderr, output, status = None, b"", b"", b"", None, 0
-    with tempfile.TemporaryDirectory() as folder:
-        for word, rest in case:
-            if word == "file":
-                name, _, what = rest.partition(" ")
-                path = pathlib.Path(folder, name)
-                if what == "folder":
-                    path.mkdir()
-                else:
-                    path.write_bytes(given_bytes(what))
-            elif word == "run":
-                words = shlex.split(rest)
-            elif word == "stdin":
-                stdin = given_bytes(rest)
-            elif word == "stdout":
-                stdout = (True, text_bytes(rest[6:])) if rest.startswith("holds ") else given_bytes(rest)
-            elif word == "stderr":
-                stderr = (True, text_bytes(rest[6:])) if rest.startswith("holds ") else text_bytes(rest) + b"\n"
-            elif word == "output":
-                output = rest
-            elif word == "status":
-                status = int(rest)
-            elif word != "case":
-                raise ValueError(f"no such word: {word}")
-        if words is None:
-            raise ValueError(f"a case without run: {case}")
-        if output == "closed":
-            reader, to = os.pipe()
-            os.close(reader)
-        else:
-            to = subprocess.PIPE if output is None else os.open(output, os.O_WRONLY)
-        done = subprocess.run(
-            [program, *words], cwd=folder, input=stdin, stdout=to, stderr=subprocess.PIPE, timeout=60, check=False
-        )
-        if output is not None:
-            os.close(to)
-        yield from differences("standard output", stdout, done.stdout or b"")
-        yield from differences("standard error", stderr, done.stderr)
-        yield from differences("status", status, done.returncode)
+def cases(names):
+    """Each case of the tables of these names, or of all tables beside this script."""
+    here = pathlib.Path(__file__).resolve().parent
+    for table in [pathlib.Path(name) for name in names] or sorted(here.glob("*.table")):
+        for lines in paragraphs(table):
+            with tempfile.TemporaryDirectory() as folder:
+                yield table.name, Case(lines, folder)
 
 
 def main():
-    here = pathlib.Path(__file__).resolve().parent
     program = str(pathlib.Path(sys.argv[1]).resolve())
-    tables = [pathlib.Path(name) for name in sys.argv[2:]] or sorted(here.glob("*.table"))
     passed = failed = 0
-    for table in tables:
-        for case in cases(table):
-            wrong = list(run(program, case))
-            passed, failed = (passed, failed + 1) if wrong else (passed + 1, failed)
-            for line in wrong:
-                print(f"{table.name}: {dict(case).get('case', case)}: {line}")
+    for table, case in cases(sys.argv[2:]):
+        wrong = list(case.differences(case.run(program)))
+        passed, failed = (passed, failed + 1) if wrong else (passed + 1, failed)
+        for line in wrong:
+            print(f"{table}: {case.name}: {line}")
     print(f"{passed} command lines passed, {failed} failed")
     return 1 if failed or not passed else 0
 

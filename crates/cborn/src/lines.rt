@@ -2,10 +2,10 @@
 
 use crate::statuses::{DIFFERENT, DONE, FAILED, REFUSED};
 use cborn_engine::{CompareFault, EngineFault};
-use cborn_judge::{Defect, DefectReason};
-use itoa::Buffer;
-use std::io;
+use cborn_judge::Defect;
+use std::fmt::{Display, Formatter};
 use std::io::Write;
+use std::{fmt, io};
 
 /// Why a task was not done.
 #[derive(Clone, Copy, Debug)]
@@ -28,68 +28,54 @@ impl From<EngineFault> for Trouble<'_> {
     }
 }
 
-/// Prints what comparing two inputs told, and gives the status.
-pub fn answer_compare<'a, W: Write + Drop>(out: W, index: Option<u64>) -> Result<u8, Trouble<'a>> {
-    match index {
-        None => answer(out, &["same\n"], DONE),
-        Some(index) => {
-            let mut buffer = Buffer::new();
-            answer(
-                out,
-                &["different at item ", buffer.format(index), "\n"],
-                DIFFERENT,
-            )
+/// What a command tells in a line on standard output.
+#[derive(Clone, Copy, Debug)]
+pub enum Answer {
+    /// The inputs hold the same items.
+    Same,
+    /// They differ at the item of this index, from 0, or only one input has it.
+    DifferentAt(u64),
+    /// The input is its own deterministic encoding.
+    Deterministic,
+    /// It isn't, since it has this defect.
+    Defective(Defect),
+}
+
+impl Display for Answer {
+    fn fmt<W: fmt::Write>(&self, f: &mut Formatter<W>) -> fmt::Result {
+        match self {
+            Answer::Same => write!(f, "same"),
+            Answer::DifferentAt(index) => write!(f, "different at item {index}"),
+            Answer::Deterministic => write!(f, "deterministic"),
+            Answer::Defective(defect) => write!(f, "{defect}"),
         }
     }
 }
 
-/// Prints what the check of an input told, and gives the status.
-pub fn answer_check<'a, W: Write + Drop>(
-    out: W,
-    defect: Option<Defect>,
-) -> Result<u8, Trouble<'a>> {
-    match defect {
-        None => answer(out, &["deterministic\n"], DONE),
-        Some(Defect { place, reason }) => {
-            let mut buffer = Buffer::new();
-            let words = words_of(reason);
-            answer(
-                out,
-                &["offset ", buffer.format(place), ": ", words, "\n"],
-                DIFFERENT,
-            )
-        }
-    }
-}
-
-fn words_of(reason: DefectReason) -> &'static str {
-    match reason {
-        DefectReason::LongHead => "long head",
-        DefectReason::EndlessLength => "indefinite length",
-        DefectReason::LooseBignum => "loose bignum",
-        DefectReason::KeyOrder => "key order",
-    }
-}
-
-/// Prints the parts of a line, and gives the status that goes with it.
-fn answer<'a, W: Write + Drop>(out: W, parts: &[&str], status: u8) -> Result<u8, Trouble<'a>> {
-    match print(out, parts) {
-        Ok(()) => Ok(status),
+/// Prints an answer on a line, and gives the status that goes with it.
+pub fn tell_answer<'a, W: Write + Drop>(out: W, answer: Answer) -> Result<u8, Trouble<'a>> {
+    match print(out, &answer, "\n") {
+        Ok(()) => Ok(status_of_answer(answer)),
         Err(_) => Err(Trouble::Engine(EngineFault::WriteFault)),
     }
 }
 
-/// Prints texts one after another, and flushes.
-pub fn print<W: Write + Drop>(out: W, parts: &[&str]) -> io::Result<()> {
-    let mut out = out;
-    for part in parts {
-        out.write_all(part.as_bytes())?;
+fn status_of_answer(answer: Answer) -> u8 {
+    match answer {
+        Answer::Same | Answer::Deterministic => DONE,
+        Answer::DifferentAt(_) | Answer::Defective(_) => DIFFERENT,
     }
+}
+
+/// Prints something and an end after it, and flushes.
+pub fn print<W: Write + Drop, T: Display>(out: W, text: &T, end: &str) -> io::Result<()> {
+    let mut out = out;
+    write!(out, "{text}{end}")?;
     out.flush()
 }
 
 /// Prints a trouble on a line, and gives its status. That the line can't be printed is ignored.
-pub fn tell<E: Write>(err: &mut E, trouble: Trouble<'_>) -> u8 {
+pub fn tell_trouble<E: Write>(err: &mut E, trouble: Trouble<'_>) -> u8 {
     let _ = match trouble {
         Trouble::CannotRead(name) => writeln!(err, "cborn: cannot read {name}"),
         Trouble::CannotReadFirst(name) => writeln!(err, "cborn: first: cannot read {name}"),
@@ -97,10 +83,10 @@ pub fn tell<E: Write>(err: &mut E, trouble: Trouble<'_>) -> u8 {
         Trouble::Engine(fault) => writeln!(err, "cborn: {fault}"),
         Trouble::Compare(fault) => writeln!(err, "cborn: {fault}"),
     };
-    status_of(trouble)
+    status_of_trouble(trouble)
 }
 
-fn status_of(trouble: Trouble<'_>) -> u8 {
+fn status_of_trouble(trouble: Trouble<'_>) -> u8 {
     match trouble {
         Trouble::Engine(fault)
         | Trouble::Compare(CompareFault::First(fault))

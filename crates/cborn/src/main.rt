@@ -13,7 +13,7 @@ mod tests;
 use cborn_engine::EngineFault;
 use clap::Error;
 use clap::error::ErrorKind;
-use lines::{Trouble, print, tell};
+use lines::{Trouble, print, tell_trouble};
 use options::read_task;
 use statuses::{DONE, FAILED, USAGE};
 use std::alloc::Global;
@@ -38,13 +38,13 @@ pub fn run<F: Files, I: Read + Drop, W: Write + Drop, E: Write + Drop>(
         Err(why) => {
             return match answer_usage(alloc, &why, out, &mut err) {
                 Ok(status) => status,
-                Err(trouble) => tell(&mut err, trouble),
+                Err(trouble) => tell_trouble(&mut err, trouble),
             };
         }
     };
     match perform(rt, alloc, &task, input, out) {
         Ok(status) => status,
-        Err(trouble) => tell(&mut err, trouble),
+        Err(trouble) => tell_trouble(&mut err, trouble),
     }
 }
 
@@ -66,7 +66,7 @@ fn answer_usage<'a, W: Write + Drop, E: Write>(
         Ok(text) => text,
         Err(_) => return Err(Trouble::Engine(EngineFault::OutOfMemory)),
     };
-    match print(out, &[text.as_str()]) {
+    match print(out, &text, "") {
         Ok(()) => Ok(DONE),
         Err(_) => Err(Trouble::Engine(EngineFault::WriteFault)),
     }
@@ -84,9 +84,18 @@ fn run_host(rt: &HostRuntime, alloc: Global) -> io::Result<u8> {
     Ok(run(rt, alloc, &words, rt.stdin(), rt.stdout(), rt.stderr()))
 }
 
+/// Prints why the command line can't be taken: a word of it isn't UTF-8, or memory was refused.
+fn tell_words<E: Write>(err: &mut E, why: io::Error) -> u8 {
+    if why.kind() == io::ErrorKind::InvalidData {
+        let _ = writeln!(err, "error: an argument is not UTF-8");
+        return USAGE;
+    }
+    tell_trouble(err, Trouble::Engine(EngineFault::OutOfMemory))
+}
+
 fn main(rt: HostRuntime) -> ExitCode {
     match run_host(&rt, rt.alloc()) {
         Ok(status) => ExitCode::from(status),
-        Err(_) => ExitCode::from(tell(&mut rt.stderr(), Trouble::Engine(EngineFault::OutOfMemory))),
+        Err(why) => ExitCode::from(tell_words(&mut rt.stderr(), why)),
     }
 }

@@ -1,7 +1,7 @@
 //! The program's commands.
 
 use crate::inputs::LateFile;
-use crate::lines::{Trouble, answer_check, answer_compare};
+use crate::lines::{Answer, Trouble, tell_answer};
 use crate::options::{Order, Task};
 use crate::statuses::DONE;
 use cborn_engine::{
@@ -51,17 +51,14 @@ pub fn perform<'a, F: Files, I: Read + Drop, W: Write + Drop>(
             from_b,
             order,
             limit,
-        } => answer_compare(
-            out,
-            compare_files(
-                rt,
-                alloc,
-                *order,
-                *limit,
-                (*from_a, first),
-                (*from_b, second),
-            )?,
-        ),
+        } => {
+            let kinds = (*from_a, *from_b);
+            let difference = compare_files(rt, alloc, *order, *limit, kinds, first, second)?;
+            match difference {
+                None => tell_answer(out, Answer::Same),
+                Some(index) => tell_answer(out, Answer::DifferentAt(index)),
+            }
+        }
         Task::Check { file, order, limit } => match file {
             None => check_from(alloc, *order, *limit, input, out),
             Some(name) => check_from(alloc, *order, *limit, opened(rt, name)?, out),
@@ -130,8 +127,10 @@ fn check_from<'a, I: Read + Drop, W: Write + Drop>(
     out: W,
 ) -> Result<u8, Trouble<'a>> {
     let mut reader = Counted::new(input);
-    let defect = checked(alloc, order, limit, &mut reader)?;
-    answer_check(out, defect)
+    match checked(alloc, order, limit, &mut reader)? {
+        None => tell_answer(out, Answer::Deterministic),
+        Some(defect) => tell_answer(out, Answer::Defective(defect)),
+    }
 }
 
 fn checked<R: Source>(
@@ -152,25 +151,17 @@ fn compare_files<'a, F: Files>(
     alloc: Global,
     order: Order,
     limit: Limit,
-    ours: (Kind, &'a str),
-    theirs: (Kind, &'a str),
+    kinds: (Kind, Kind),
+    first: &'a str,
+    second: &'a str,
 ) -> Result<Option<u64>, Trouble<'a>> {
-    let (kind_a, first) = ours;
-    let (kind_b, second) = theirs;
     let file = match fs::open(rt, first) {
         Ok(file) => file,
         Err(_) => return Err(Trouble::CannotReadFirst(first)),
     };
     let mut reader = Counted::new(file);
     let mut late = LateFile::new(rt, second);
-    match compared(
-        alloc,
-        order,
-        limit,
-        (kind_a, kind_b),
-        &mut reader,
-        &mut late,
-    ) {
+    match compared(alloc, order, limit, kinds, &mut reader, &mut late) {
         Ok(index) => Ok(index),
         Err(CompareFault::Second(_)) if late.is_missing() => {
             Err(Trouble::CannotReadSecond(second))

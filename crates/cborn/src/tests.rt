@@ -1,5 +1,7 @@
 //! What the program prints, and its statuses.
+use crate::lines::{Trouble, tell_trouble};
 use crate::run;
+use cborn_engine::{CompareFault, EngineFault};
 use std::alloc::Global;
 use std::io::{ErrorKind, Read, Write};
 use std::rt::Files;
@@ -81,6 +83,120 @@ fn conversions_and_checks(rt: HostRuntime) -> Result<(), Fail> {
 }
 
 #[test]
+fn notation(rt: HostRuntime) -> Result<(), Fail> {
+    let show = ["cborn", "show"].as_slice();
+    let normalise = ["cborn", "normalise", "--from", "notation"].as_slice();
+    let both = [
+        "cborn",
+        "normalise",
+        "--from",
+        "notation-2",
+        "--to",
+        "notation",
+    ]
+    .as_slice();
+    let spell = ["cborn", "show", "--from", "notation", "--to", "wire"].as_slice();
+    let cases = [
+        (
+            show,
+            b"\xbf\x61z\x01\x0a\x5f\x41\x01\xff\xff".as_slice(),
+            b"{_ \"z\": 1, 10: (_ h'01')}\n".as_slice(),
+            "",
+            0,
+        ),
+        (
+            show,
+            b"\x7f\x61\xc3\x61\xbc\xff".as_slice(),
+            b"".as_slice(),
+            "cborn: offset 1: not UTF-8\n",
+            2,
+        ),
+        (
+            normalise,
+            b"<<1, 2_0>>".as_slice(),
+            b"\x43\x01\x18\x02".as_slice(),
+            "",
+            0,
+        ),
+        (
+            normalise,
+            b"h'20' \"a\"".as_slice(),
+            b"".as_slice(),
+            "cborn: offset 6: mixed string\n",
+            2,
+        ),
+        (
+            both,
+            b"[2,], # two\n 0x01".as_slice(),
+            b"[2],\n1\n".as_slice(),
+            "",
+            0,
+        ),
+        (
+            spell,
+            b"[_ 1_1]".as_slice(),
+            b"\x9f\x19\x00\x01\xff".as_slice(),
+            "",
+            0,
+        ),
+    ];
+    for (words, input, output, line, status) in cases {
+        let outcome = ran(&rt, rt.alloc(), words, input);
+        assert_eq!(rt; outcome.status, status, "{input:?}");
+        assert_eq!(rt; outcome.out.as_slice(), output, "{input:?}");
+        assert_eq!(rt; outcome.err.as_slice(), line.as_bytes(), "{input:?}");
+    }
+    Ok(())
+}
+
+#[test]
+fn lines_of_troubles(rt: HostRuntime) {
+    let cases = [
+        (Trouble::CannotRead("a"), "cborn: cannot read a\n", 4),
+        (
+            Trouble::CannotReadFirst("a"),
+            "cborn: first: cannot read a\n",
+            4,
+        ),
+        (
+            Trouble::CannotReadSecond("b"),
+            "cborn: second: cannot read b\n",
+            4,
+        ),
+        (
+            Trouble::Engine(EngineFault::TooLong),
+            "cborn: input too long\n",
+            2,
+        ),
+        (
+            Trouble::Engine(EngineFault::OutOfMemory),
+            "cborn: out of memory\n",
+            4,
+        ),
+        (
+            Trouble::Compare(CompareFault::First(EngineFault::TooLong)),
+            "cborn: first: input too long\n",
+            2,
+        ),
+        (
+            Trouble::Compare(CompareFault::Second(EngineFault::ReadFault)),
+            "cborn: second: read failed\n",
+            4,
+        ),
+        (
+            Trouble::Compare(CompareFault::OutOfMemory),
+            "cborn: out of memory\n",
+            4,
+        ),
+    ];
+    for (trouble, line, status) in cases {
+        let mut err = Vec::new(rt.alloc());
+        assert_eq!(rt; tell_trouble(&mut err, trouble), status, "{line}");
+        assert_eq!(rt; err.as_slice(), line.as_bytes());
+    }
+}
+
+#[test]
 fn orders_and_depths(rt: HostRuntime) -> Result<(), Fail> {
     let input = b"\xa2\x20\x00\x18\x64\x00".as_slice();
     let words = ["cborn", "check", "--order", "length-first"];
@@ -106,6 +222,10 @@ fn wrong_command_lines(rt: HostRuntime) -> Result<(), Fail> {
         ["cborn", "normalise", "--depth", "0"].as_slice(),
         ["cborn", "check", "--depth", "1025"].as_slice(),
         ["cborn", "check", "--order", "reverse"].as_slice(),
+        ["cborn", "show", "--from", "text"].as_slice(),
+        ["cborn", "show", "--order", "bytewise"].as_slice(),
+        ["cborn", "normalise", "--to", "notation-2"].as_slice(),
+        ["cborn", "check", "--from", "notation"].as_slice(),
         ["cborn", "check", "a", "b"].as_slice(),
         ["cborn", "compare", "a"].as_slice(),
         ["cborn", "print"].as_slice(),
@@ -126,6 +246,7 @@ fn wrong_command_lines(rt: HostRuntime) -> Result<(), Fail> {
 fn help_and_version(rt: HostRuntime) -> Result<(), Fail> {
     let cases = [
         ["cborn", "--help"].as_slice(),
+        ["cborn", "show", "--help"].as_slice(),
         ["cborn", "normalise", "--help"].as_slice(),
         ["cborn", "compare", "--help"].as_slice(),
         ["cborn", "check", "--help"].as_slice(),

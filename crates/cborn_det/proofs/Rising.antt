@@ -5,14 +5,7 @@ use Rattle.std.proofs.lemmas.List.Sorted.{IsPermutation-refl, IsPermutation-sym,
 use Rattle.std.specs.Ordering.{ordering_reverse}
 use Rattle.cborn_model.specs.Orders.{IsKeyOrder, Rising}
 use Rattle.cborn_det.specs.Det.{Entry, keys, HasDistinctKeys}
-use Rattle.cborn_model.proofs.Rearranging.{All_moved, weaker, both, at_member, IsIn, AreIn}
-
-are_in_itself : {X : Type 0} (xs : List X) → AreIn xs xs
-are_in_itself [] = tt
-are_in_itself {X} (x ∷ xs) = (inl refl, weaker (λ (z : X). IsIn z xs) (λ z. IsIn z (x ∷ xs)) (λ z h. inr h) xs (are_in_itself xs))
-
-are_in_moved : {X : Type 0} (xs ys : List X) → IsPermutation xs ys → AreIn xs ys
-are_in_moved {X} xs ys p = All_moved (λ (z : X). IsIn z ys) ys xs (IsPermutation-sym xs ys p) (are_in_itself ys)
+use Rattle.cborn_model.proofs.Rearranging.{All_moved, weaker, both, at_member, IsIn, AreIn, are_in_moved}
 
 abbrev bare : List ℕ → Entry
 bare k = (k, [])

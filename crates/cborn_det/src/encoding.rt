@@ -8,7 +8,7 @@ ghost use Rattle.cborn_det.specs.Appending.{Appends, AppendsPair, BeginsWith, Is
 ghost use Rattle.cborn_det.specs.Det.{Det, DetSeq, DetPairs, Entry};
 
 use crate::entries::arrange;
-use crate::parts::{push_head, push_integer, push_simple, push_string};
+use crate::parts::{push_integer, push_shortest, push_simple, push_string};
 use cborn_model::{Item, KeyOrder, Valid};
 use std::alloc::{AllocError, Global};
 
@@ -73,7 +73,7 @@ pub fn push_encoding<O: KeyOrder>(
         Item::Text(text) => push_string(3, text.as_bytes(), out),
         Item::Items(items) => {
             let items = items.as_slice();
-            push_head(4, items.len() as u64, out)?;
+            push_shortest(4, items.len() as u64, out)?;
             push_items::<O>(alloc, items, out)?;
             Ok(())
         }
@@ -82,7 +82,7 @@ pub fn push_encoding<O: KeyOrder>(
             Ok(())
         }
         Item::Tagged(tag, content) => {
-            push_head(6, *tag, out)?;
+            push_shortest(6, *tag, out)?;
             push_encoding::<O>(alloc, content.get(), out)?;
             Ok(())
         }
@@ -117,7 +117,7 @@ fn push_map<O: KeyOrder>(
     requires new { HasNewKeys (pairs_of (map pair_value pairs.now)) }
     ensures { Writes result (Det O.order (dict (pairs_of (map pair_value pairs.now)))) out.old.items out.new.items }
 {
-    push_head(5, pairs.len() as u64, out)?;
+    push_shortest(5, pairs.len() as u64, out)?;
     let start = out.len();
     let lengths = push_pairs::<O>(alloc, pairs, out)?;
     arrange::<O>(alloc, &lengths, start, out)?;

@@ -61,7 +61,7 @@ fn arranged<O: KeyOrder>(
     ensures { IfOk result (λ v. (es : List Entry) → IsWritten es lengths.now written.now → (fs : List Entry) × IsPermutation es fs × Rising O.order (keys fs) × (v.items ≡ joined fs)) }
 {
     let mut entries = entries_in(alloc, lengths, written)?;
-    sort::<O>(&mut entries)?;
+    sort::<O>(&mut entries);
     let mut out = Vec::with_capacity(alloc, written.len())?;
     push_entries(&entries, &mut out)?;
     Ok(out)
@@ -88,13 +88,12 @@ fn entries_in<'a>(
 }
 
 /// Arranges entries so that their keys rise.
-fn sort<O: KeyOrder>(entries: &mut Vec<(&[u8], &[u8])>) -> Result<(), AllocError>
+fn sort<O: KeyOrder>(entries: &mut Vec<(&[u8], &[u8])>)
     requires { HasDistinctKeys (entries_of entries.old.items) }
     ensures same { IsPermutation (entries_of entries.old.items) (entries_of entries.new.items) }
-    ensures rising { OnOk result (Rising O.order (keys (entries_of entries.new.items))) }
+    ensures rising { Rising O.order (keys (entries_of entries.new.items)) }
 {
-    entries.sort_by(|a, b| O::compare(a.0, b.0))?;
-    Ok(())
+    entries.sort_unstable_by(|a, b| O::compare(a.0, b.0));
 }
 
 /// Appends entries one after another.

@@ -1,5 +1,4 @@
-//! The deterministic encoding of data items (RFC 8949 section 4.2): each head as short as it can
-//! be,
+//! The deterministic encoding of data items (RFC 8949 section 4.2): each head as short as it can be,
 //! definite lengths alone, an integer within 64 bits as a head, and the pairs of each map in the
 //! order of their keys' encodings, under any order of keys that has the laws.
 //!

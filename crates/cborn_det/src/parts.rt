@@ -5,31 +5,17 @@ ghost use Rattle.cborn_model.specs.Heads.{IsLeastHead};
 ghost use Rattle.cborn_det.specs.Appending.{Writes};
 ghost use Rattle.cborn_det.specs.Det.{IsInteger, IsSimple, IsString};
 
-use cborn_model::{Magnitude, Number};
+use cborn_model::{Magnitude, Number, shortest};
+use cborn_wire::push_head;
 use std::alloc::AllocError;
 
 /// Appends the shortest head of the major type with the argument `n`.
-pub(crate) fn push_head(major: u8, n: u64, out: &mut Vec<u8>) -> Result<(), AllocError>
+pub(crate) fn push_shortest(major: u8, n: u64, out: &mut Vec<u8>) -> Result<(), AllocError>
     requires { major < 8 }
     ensures { Writes result (IsLeastHead major n) out.old.items out.new.items }
 {
-    let first = 32 * major;
-    if n < 24 {
-        out.push(first + n as u8)?;
-    } else if n < 256 {
-        out.push(first + 24)?;
-        out.push(n as u8)?;
-    } else if n < 65536 {
-        out.push(first + 25)?;
-        out.extend_from_slice(&(n as u16).to_be_bytes())?;
-    } else if n < 4294967296 {
-        out.push(first + 26)?;
-        out.extend_from_slice(&(n as u32).to_be_bytes())?;
-    } else {
-        out.push(first + 27)?;
-        out.extend_from_slice(&n.to_be_bytes())?;
-    }
-    Ok(())
+    let width = shortest(n);
+    push_head(out, major, width, n)
 }
 
 /// Appends a string of the major type.
@@ -37,7 +23,7 @@ pub(crate) fn push_string(major: u8, bytes: &[u8], out: &mut Vec<u8>) -> Result<
     requires { major < 8 }
     ensures { Writes result (IsString major bytes.now) out.old.items out.new.items }
 {
-    push_head(major, bytes.len() as u64, out)?;
+    push_shortest(major, bytes.len() as u64, out)?;
     out.extend_from_slice(bytes)?;
     Ok(())
 }
@@ -53,12 +39,12 @@ pub(crate) fn push_integer(
     match magnitude.number() {
         Number::Word(n) => {
             let major = if negative { 1 } else { 0 };
-            push_head(major, n, out)?;
+            push_shortest(major, n, out)?;
             Ok(())
         }
         Number::Long(bytes) => {
             let tag = if negative { 3 } else { 2 };
-            push_head(6, tag, out)?;
+            push_shortest(6, tag, out)?;
             push_string(2, bytes, out)?;
             Ok(())
         }

@@ -149,6 +149,16 @@ fn encodes_what_is_inside(rt: HostRuntime) -> Result<(), Fail> {
 }
 
 #[test]
+fn appends_to_what_is_there(rt: HostRuntime) -> Result<(), Fail> {
+    let alloc = rt.alloc();
+    let item = valid(&rt, array(alloc, int(false, 24))?);
+    let mut out = Vec::from_slice(alloc, b"\x07")?;
+    push_encoding::<LengthFirst>(alloc, item.item(), &mut out)?;
+    assert_eq!(rt; out.as_slice(), b"\x07\x81\x18\x18".as_slice());
+    Ok(())
+}
+
+#[test]
 fn encodes_many_keys(rt: HostRuntime) -> Result<(), Fail> {
     let alloc = rt.alloc();
     let mut list = Vec::new(alloc);

@@ -205,10 +205,6 @@ counts_fields (tight_fields ps) es e = counts_pairs ps es e
 size_agrees : {B : Type 0} (p : ℕ) (m : Mark) (n k : ℕ) (f : Size → B) → k ≡ n → n < 2 ^ 64 → is_there (and_then (size_for m k) (λ s. Some (f s))) ≡ is_nil (size_slips p m n)
 size_agrees p m n k f e h = there-made (size_for m k) f ∙ ap (λ j. is_there (size_for m j)) e ∙ small_size p m n h
 
-nil-nil : (a : List Slip) → is_nil (a ++ []) ≡ is_nil a
-nil-nil [] = refl
-nil-nil (s ∷ a) = refl
-
 -- A tree of small counts means something exactly if it has no fault.
 mutual
   agrees : (i : Item) → Counted i → is_there (means i) ≡ is_nil (slips i)

@@ -33,6 +33,10 @@ below Two n h = omega arith
 below Four n h = omega arith
 below Eight n h = h
 
+pub simple_below : (n : ℕ) → (n < 24) ⊎ ((32 ≤ n) × (n < 256)) → n < 256
+simple_below n (inl h) = omega arith
+simple_below n (inr h) = h.1
+
 same_width-is : (w v : Width) → same_width w v ≡ true → v ≡ w
 same_width-is Direct Direct e = refl
 same_width-is One One e = refl

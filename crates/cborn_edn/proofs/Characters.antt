@@ -1,6 +1,7 @@
 -- The text of the fixed notation is UTF-8.
-use Rattle.std.proofs.Common.{◌≡◌, refl, sym, ap, ◌∙◌, subst, ℕ, suc, ◌^◌, ◌<◌, ◌≤◌, List, [], ◌∷◌, ◌++◌, length, get_or, Bool, true, false, ltb, eqb, cond, ◌⊎◌, inl, inr, decimal, append-nil, arith}
+use Rattle.std.proofs.Common.{◌≡◌, refl, sym, ap, ◌∙◌, subst, ℕ, suc, ◌+◌, ◌^◌, ◌<◌, ◌≤◌, List, [], ◌∷◌, ◌++◌, length, get_or, take, Bool, true, false, ltb, eqb, cond, inl, inr, decimal, append-nil, arith}
 use Rattle.std.proofs.lemmas.Bool.{and_parts, cond-false, le-ltb, ltb-true, ne_eqb, cases_lt}
+use Rattle.std.proofs.lemmas.List.{take_more, take_all}
 use Rattle.std.proofs.lemmas.Str.{IsUtf8-append, IsUtf8-nil, IsUtf8-encode, IsUtf8-from_ascii, IsUtf8-from_is_utf8, is_utf8-from_IsUtf8, inside_one, encode_ascii}
 use Rattle.std.proofs.lemmas.Str.Ascii.{IsAscii-nil, IsAscii-cons}
 use Rattle.std.proofs.lemmas.Fmt.{IsAscii-decimal_wide}
@@ -14,14 +15,14 @@ use Rattle.hex.proofs.HexLemmas.{IsAscii-encode_with}
 use Rattle.cborn_model.specs.declared.heads.Width.{Width}
 use Rattle.cborn_model.specs.declared.heads.Width.TheVariants.{Direct, One, Two, Four, Eight}
 use Rattle.cborn_model.specs.declared.nodes.Chunk.{Chunk}
-use Rattle.cborn_model.specs.Tree.{Tree, Uint, Nint, Bytes as ByteNode, Text as TextNode, ByteChunks, TextChunks, Items, Pairs as PairNode, Tagged, Simple, Trees, no_item as no_node, more, Entries, no_entry, entry, count, count_entries}
+use Rattle.cborn_model.specs.Tree.{Tree, Uint, Nint, Bytes as ByteNode, Text as TextNode, ByteChunks, TextChunks, Items, Pairs as PairNode, Tagged, Simple, Trees, no_item as no_node, more, trees, Entries, no_entry, entry, count, count_entries}
 use Rattle.cborn_model.specs.Spelled.{Fits, FitsAll, FitsEntries}
 use Rattle.cborn_lex.specs.declared.classes.Mark.{Mark}
 use Rattle.cborn_lex.specs.declared.classes.Mark.TheVariants.{Absent, Endless, Wide}
 use Rattle.cborn_edn.specs.declared.strings.Kind.{Kind}
 use Rattle.cborn_edn.specs.declared.strings.Kind.TheVariants.{Bytes as OfBytes, Text as OfText}
 use Rattle.cborn_edn.specs.Shown.{mark_for, mark_for_size, AreTexts, IsShowable, AreShowable, ArePairsShowable, escaped, indicator, opened, shown_string, shown_chunks, shown_more_chunks, shown_simple, shown, shown_all, shown_more, shown_entries, shown_more_entries, shown_lines, shown_more_lines, Shown}
-use Rattle.cborn_edn.proofs.Back.{below}
+use Rattle.cborn_edn.proofs.Back.{below, simple_below}
 use Rattle.cborn_edn.proofs.Tables.{passes, passes-at}
 
 -- Text with its escapes.
@@ -147,10 +148,6 @@ simple_text n h = go (eqb n 20) (eqb n 21) (eqb n 22) (eqb n 23)
     go false false false true = ascii _ refl
     go false false false false = IsUtf8-append _ _ (ascii (codes "simple(") refl) (IsUtf8-append _ _ (number_text n (omega arith)) (ascii (codes ")") refl))
 
-simple_below : (n : ℕ) → (n < 24) ⊎ ((32 ≤ n) × (n < 256)) → n < 256
-simple_below n (inl h) = omega arith
-simple_below n (inr h) = h.1
-
 mutual
   node_text : (t : Tree) → Fits t → IsShowable t → IsUtf8 (shown t)
   node_text (Uint p w n) h s = let l = below w n h in IsUtf8-append _ _ (number_text n (omega arith)) (indicator_text (mark_for w n))
@@ -193,3 +190,16 @@ lines_text (more t ts) h s = IsUtf8-append _ _ (node_text t h.0 s.0) (more_lines
 
 pub is_text : (nodes : Trees) (text : List ℕ) → FitsAll nodes → Shown nodes text → is_utf8 text ≡ true
 is_text nodes text fits shown = is_utf8-from_IsUtf8 text (subst IsUtf8 (sym shown.1) (lines_text nodes fits shown.0))
+
+-- Nodes that fit, one after another.
+
+fits_last : (xs : List Tree) (x : Tree) → FitsAll (trees xs) → Fits x → FitsAll (trees (xs ++ x ∷ []))
+fits_last [] x h k = (k, tt)
+fits_last (y ∷ xs) x h k = (h.0, fits_last xs x h.1 k)
+
+pub fits_more : (xs : List Tree) (i : ℕ) (x : Tree) → i < length xs → x ≡ get_or xs i x → FitsAll (trees (take i xs)) → Fits x → FitsAll (trees (take (i + 1) xs))
+fits_more xs i x h is all fits =
+    subst (λ ys. FitsAll (trees ys)) (sym (take_more xs i x h ∙ ap (λ y. take i xs ++ y ∷ []) (sym is))) (fits_last (take i xs) x all fits)
+
+pub fits_whole : (xs : List Tree) (i : ℕ) → length xs ≤ i → FitsAll (trees (take i xs)) → FitsAll (trees xs)
+fits_whole xs i h all = subst (λ ys. FitsAll (trees ys)) (take_all i xs h) all

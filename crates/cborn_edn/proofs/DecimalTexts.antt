@@ -21,7 +21,8 @@ use Rattle.cborn_edn.specs.Syntax.{token}
 use Rattle.cborn_edn.specs.Shown.{nowhere, indicator}
 use Rattle.cborn_edn.proofs.Tables.{passes, passes-at}
 use Rattle.cborn_edn.proofs.Chained.{Chained, one_token}
-use Rattle.cborn_edn.proofs.MarkTexts.{Closes, IsMark, mark_is, indicates}
+use Rattle.cborn_lex.proofs.Spelling.{IsMark}
+use Rattle.cborn_edn.proofs.MarkTexts.{Closes, mark_is, indicates}
 
 -- What holds of each digit.
 

@@ -7,7 +7,7 @@ use Rattle.cborn_edn.specs.declared.faults.EdnReason.TheVariants.{UnexpectedToke
 use Rattle.cborn_edn.specs.declared.slips.Slip.{Slip}
 use Rattle.cborn_edn.specs.Meaning.{number_of, unless, IsAmong}
 use Rattle.cborn_edn.specs.Draft.{no_later, earlier, first_slip, slip_unless}
-use Rattle.cborn_edn.proofs.First.{one_number}
+use Rattle.cborn_edn.proofs.First.{one_number, passes, IsFirstOf}
 
 low_number : (r : EdnReason) → number_of r < 64
 low_number UnexpectedToken = omega arith
@@ -131,25 +131,16 @@ no_later_than : (a b : Slip) → rank a ≤ rank b → NoLater (a.place, number_
 unfolding rank
 no_later_than a b h = no_later_of a.place b.place (number_of a.reason) (number_of b.reason) (low_number a.reason) (low_number b.reason) h
 
-later : (a b c : ℕ × ℕ) → NoLater a b → NoLater b c → NoLater a c
-later a b c (inl g) (inl h) = inl (omega arith)
-later a b c (inl g) (inr h) = inl (omega (arith, h.0))
-later a b c (inr g) (inl h) = inl (omega (arith, g.0))
-later a b c (inr g) (inr h) = inr (g.0 ∙ h.0, omega (arith, g.1, h.1))
-
-abbrev IsTold : List Slip → Slip → Type 0
-IsTold l s = IsFirst number_of (IsAmong l) s.place s.reason
-
-told_first : (s t : Slip) (l : List Slip) → IsTold l t → rank s ≤ rank t → IsTold (s ∷ l) s
+told_first : (s t : Slip) (l : List Slip) → IsFirstOf l t → rank s ≤ rank t → IsFirstOf (s ∷ l) s
 told_first s t l f h = record {
   is = inl (refl, refl);
   first = λ q r g. elim g [
     | inl e ↦ rw (e.0, e.1) (inr (refl, omega arith))
-    | inr i ↦ later (s.place, number_of s.reason) (t.place, number_of t.reason) (q, number_of r) (no_later_than s t h) (f.first q r i)
+    | inr i ↦ passes (s.place, number_of s.reason) (t.place, number_of t.reason) (q, number_of r) (no_later_than s t h) (f.first q r i)
   ];
 }
 
-told_second : (s t : Slip) (l : List Slip) → IsTold l t → rank t < rank s → IsTold (s ∷ l) t
+told_second : (s t : Slip) (l : List Slip) → IsFirstOf l t → rank t < rank s → IsFirstOf (s ∷ l) t
 told_second s t l f h = record {
   is = inr f.is;
   first = λ q r g. elim g [
@@ -158,7 +149,7 @@ told_second s t l f h = record {
   ];
 }
 
-told_alone : (s : Slip) (l : List Slip) → l ≡ [] → IsTold (s ∷ l) s
+told_alone : (s : Slip) (l : List Slip) → l ≡ [] → IsFirstOf (s ∷ l) s
 told_alone s l e = record {
   is = inl (refl, refl);
   first = λ q r g. elim g [

@@ -1,9 +1,8 @@
 -- Text with its escapes, run by run.
-use Rattle.std.proofs.Common.{◌≡◌, refl, sym, ap, ◌∙◌, ℕ, ◌+◌, ◌-◌, ◌<◌, ◌≤◌, List, [], ◌∷◌, ◌++◌, length, take, drop, get_or, codes, ◌||◌, Bool, true, false, cond, eqb, ltb, append_assoc, append-nil, arith}
+use Rattle.std.proofs.Common.{◌≡◌, sym, ap, ◌∙◌, ℕ, ◌+◌, ◌-◌, ◌<◌, ◌≤◌, List, [], ◌∷◌, ◌++◌, length, take, drop, get_or, false, append_assoc, append-nil, arith}
 use Rattle.std.specs.List.{flat_map}
 use Rattle.std.proofs.lemmas.List.{take_more, get_or-drop, length-drop}
 use Rattle.std.proofs.lemmas.Grind.{flat_map-append}
-use Rattle.hex.specs.Hex.{encode_lower}
 use Rattle.cborn_edn.specs.Shown.{escaped, is_escaped}
 
 pub plain : (b : ℕ) → is_escaped b ≡ false → escaped b ≡ b ∷ []

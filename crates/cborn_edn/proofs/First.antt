@@ -12,7 +12,7 @@ rank_of s = (s.place, number_of s.reason)
 compare : (s x : Slip) → NoLater (rank_of s) (rank_of x) ⊎ NoLater (rank_of x) (rank_of s)
 compare s x = grind arith
 
-passes : (a b c : ℕ × ℕ) → NoLater a b → NoLater b c → NoLater a c
+pub passes : (a b c : ℕ × ℕ) → NoLater a b → NoLater b c → NoLater a c
 passes a b c (inl g) (inl h) = inl (omega arith)
 passes a b c (inl g) (inr h) = inl (omega (arith, h.0))
 passes a b c (inr g) (inl h) = inl (omega (arith, g.0))

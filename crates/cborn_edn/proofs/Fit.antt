@@ -23,11 +23,11 @@ use Rattle.cborn_wire.proofs.AllBytes.{bytes-append, spelled_all_bytes}
 
 -- What a tree says fits its widths, and is no deeper than the tree.
 
-record Chosen {A : Type 0} (b : Bool) (o : Option A) (y : A) : Type 0 where
-  test : b ≡ true
-  then : o ≡ Some y
+pub record Chosen {A : Type 0} (b : Bool) (o : Option A) (y : A) : Type 0 where
+  pub test : b ≡ true
+  pub then : o ≡ Some y
 
-chosen : {A : Type 0} (b : Bool) (o : Option A) (y : A) → when b o ≡ Some y → Chosen b o y
+pub chosen : {A : Type 0} (b : Bool) (o : Option A) (y : A) → when b o ≡ Some y → Chosen b o y
 chosen true o y e = record { test = refl; then = e }
 chosen false o y e = absurd (clash e)
   where
@@ -148,6 +148,11 @@ simple_fits n v b e = go (is_below n v) (ltb v 24) refl (leb 32 v) refl (ltb v 2
     go false false p true q false r z = absurd (let y : false ≡ true = z in cc)
     go false false p false q f r z = absurd (let y : false ≡ true = z in cc)
 
+said_string : (ps : Pieces) (d : ℕ) (t : Tree) → ((x : List ℕ) → joined ps ≡ Some x → AreBytes x) → means (string ps) ≡ Some t → Sound d t
+said_string ps d t are e =
+    let a = made (joined ps) (means_string ps) t e in
+    marked_sound (mark_of (last_piece ps)) ps a.first d t (are a.first a.was) (chosen (is_string ps a.first) (marked_string (mark_of (last_piece ps)) ps a.first) t a.then).then
+
 mutual
   pub sound : (i : Item) (t : Tree) → Counted i → means i ≡ Some t → Sound (depth i) t
   sound (number at n v m) t h e = number_sound at.start n v m t e
@@ -160,9 +165,7 @@ mutual
   sound (simple at b n v m end) t h e =
       let c = chosen (is_simple n v && is_absent m) (Some (Simple at.start v)) t e in
       subst (Sound (depth_of_number n v)) (some_is c.then) (record { fits = simple_fits n v (is_absent m) c.test; low = omega arith })
-  sound (string ps) t h e =
-      let a = made (joined ps) (means_string ps) t e in
-      marked_sound (mark_of (last_piece ps)) ps a.first _ t (joined_bytes ps a.first h.1 a.was) (chosen (is_string ps a.first) (marked_string (mark_of (last_piece ps)) ps a.first) t a.then).then
+  sound (string ps) t h e = said_string ps _ t (λ x f. joined_bytes ps x h.1 f) e
   sound (chunked at ss end) t h e =
       let a = made (means_strings ss) (λ cs. Some (chunked_node (kind_of_strings ss) at.start cs)) t e in
       subst (Sound (depth (chunked at ss end))) (some_is a.then) (chunked_sound (kind_of_strings ss) at.start a.first _ (chunks_sound ss a.first h a.was))
@@ -232,6 +235,10 @@ mutual
   sound_fields : (f : Fields) (es : Entries) → CountedFields f → means_fields f ≡ Some es → SoundEntries (depth_of_fields f) es
   sound_fields (loose_fields b) es h e = sound_pairs_before b es h e
   sound_fields (tight_fields ps) es h e = sound_pairs ps es h e
+
+-- a string fits, however long
+pub pieces_sound : (ps : Pieces) (t : Tree) → CountedPieces ps → means (string ps) ≡ Some t → Sound 0 t
+pieces_sound ps t h e = said_string ps 0 t (λ x f. joined_bytes ps x h f) e
 
 -- LAW: what is said fits, and is no deeper than the tree
 pub said_fits : (t : Input) (ts : Trees) → CountedInput t → Says t ts → FitsAll ts × (depth_all ts ≤ depth_of_input t)

@@ -209,7 +209,3 @@ mutual
   levels_nest-deep at_top = omega arith
   levels_nest-deep (in_array st s m) = omega arith
   levels_nest-deep (in_embed h b s) = omega arith
-
-  pub levels_home-deep : (h : Home) → levels_home h ≤ deep_home h
-  levels_home-deep (as_item st) = levels-deep st
-  levels_home-deep (as_chunk st s b) = omega (arith, levels-deep st)

@@ -1,10 +1,6 @@
 -- What the reader keeps of the machine's state, and that each token makes the same of both.
-use Rattle.std.proofs.Common.{◌≡◌, refl, ap, ◌∙◌, ℕ, suc, List, [], ◌∷◌, Bool, true, false, ◌&&◌, Option, Some, None}
-use Rattle.cborn_model.specs.Tree.{Tree, Simple as SimpleNode, Trees}
-use Rattle.cborn_lex.specs.declared.classes.Mark.{Mark}
-use Rattle.cborn_lex.specs.declared.classes.Class.{Class}
-use Rattle.cborn_lex.specs.declared.classes.Class.TheVariants.{ArrayOpen, MapOpen, ArrayClose, MapClose, ParenClose, Comma, Colon, EmbedOpen, EmbedClose, ChunkOpen, Number, TagOpen, Word, SimpleOpen, Text, Bytes}
-use Rattle.cborn_lex.specs.declared.classes.Token.{Token}
+use Rattle.std.proofs.Common.{List, [], ◌∷◌, ◌&&◌, Option, Some, None}
+use Rattle.cborn_model.specs.Tree.{Tree, Simple as SimpleNode}
 use Rattle.cborn_edn.specs.declared.slips.Slip.{Slip}
 use Rattle.cborn_edn.specs.declared.strings.Pieces.{Pieces as Kept}
 use Rattle.cborn_edn.specs.declared.contents.Row.{Row as KeptRow}
@@ -13,13 +9,12 @@ use Rattle.cborn_edn.specs.declared.contents.Fields.{Fields as KeptFields}
 use Rattle.cborn_edn.specs.declared.contents.Chunks.{Chunks}
 use Rattle.cborn_edn.specs.declared.frames.Frame.{Frame}
 use Rattle.cborn_edn.specs.declared.frames.Frame.TheVariants.{Top, Array, Embedded, Chunked, Key, Value, Tagged}
-use Rattle.cborn_edn.specs.declared.states.Phase.{Phase}
 use Rattle.cborn_edn.specs.declared.states.Phase.TheVariants.{Wants, Has, Builds, WantsChunk, WantsNumber, HasNumber}
 use Rattle.cborn_edn.specs.declared.states.State.{State as KeptState}
-use Rattle.cborn_edn.specs.Syntax.{Span, span, Item, number, word, tag, simple, string, chunked, array, map, Piece, text, bytes, embedded, Pieces, piece, also, Strings, strings, StringsBefore, no_string, after_strings, Row, row, RowBefore, no_item, after_row, Content, loose, tight, Pairs, pairs, PairsBefore, no_pair, after_pairs, Fields, loose_fields, tight_fields}
+use Rattle.cborn_edn.specs.Syntax.{Item, number, word, tag, simple, string, chunked, array, map, Piece, text, bytes, embedded, Pieces, piece, also, Strings, strings, StringsBefore, no_string, after_strings, Row, row, RowBefore, no_item, after_row, Content, loose, tight, Pairs, pairs, PairsBefore, no_pair, after_pairs, Fields, loose_fields, tight_fields}
 use Rattle.cborn_edn.specs.Meaning.{when, means_number, is_simple, is_absent, number_slips, tag_slips, size_slips}
-use Rattle.cborn_edn.specs.Draft.{earlier, first_slip, text_piece, byte_piece, embedded_piece, slip_before, with_next, string_slip, string_item, no_row, row_with, array_node, no_sequence, sequence_with, sequence_bytes, no_fields, fields_with, map_node, no_chunks, chunks_with, chunk_slip, chunked_item, tag_head, tag_node, simple_slip, keep, built, draft_step, step_in}
-use Rattle.cborn_edn.proofs.Machine.{Stack, in_row, in_key, in_value, in_tag, Nest, at_top, in_array, in_embed, Home, as_item, as_chunk, State, wants, has, builds, wants_chunk, wants_number, has_number, start, step, step_by}
+use Rattle.cborn_edn.specs.Draft.{earlier, first_slip, text_piece, byte_piece, embedded_piece, slip_before, with_next, string_slip, string_item, array_node, no_sequence, sequence_with, sequence_bytes, no_fields, fields_with, map_node, no_chunks, chunks_with, chunk_slip, chunked_item, tag_head, tag_node, simple_slip, keep}
+use Rattle.cborn_edn.proofs.Machine.{Stack, in_row, in_key, in_value, in_tag, Nest, at_top, in_array, in_embed, Home, as_item, as_chunk, State, wants, has, builds, wants_chunk, wants_number, has_number}
 
 abbrev pub row_of : Sequence → KeptRow
 row_of r = record { nodes = r.items; count = r.count }

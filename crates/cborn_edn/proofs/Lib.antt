@@ -22,7 +22,12 @@ pub mod Agree
 pub mod Parser
 pub mod Back
 pub mod Erase
+pub mod ErasedMeaning
+pub mod Retelling
 pub mod Fit
+pub mod Counting
+pub mod ShortTexts
+pub mod Reached
 pub mod Chained
 pub mod Tables
 pub mod MarkTexts
@@ -35,3 +40,4 @@ pub mod NodeTexts
 pub mod ReadBack
 pub mod Characters
 pub mod Unplaced
+pub mod SameText

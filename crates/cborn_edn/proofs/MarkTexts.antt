@@ -14,6 +14,7 @@ use Rattle.cborn_lex.specs.declared.classes.Class.{Class}
 use Rattle.cborn_lex.specs.declared.classes.Class.TheVariants.{ArrayOpen, MapOpen, ArrayClose, MapClose, ParenClose, Comma, Colon, ChunkOpen}
 use Rattle.cborn_lex.specs.Tokens.{Read, begins, is_word, is_numeral, mark_of, marked}
 use Rattle.cborn_lex.specs.Forms.{IsIndicator, Reads}
+use Rattle.cborn_lex.proofs.Spelling.{IsMark}
 use Rattle.cborn_edn.specs.Syntax.{token}
 use Rattle.cborn_edn.specs.Shown.{nowhere, same_width, mark_for, mark_for_size, indicator, opened}
 use Rattle.cborn_edn.proofs.Chained.{Chained, one_token, one_gap, both}
@@ -45,15 +46,6 @@ pub line_closes : (z : List ℕ) → Closes (10 ∷ z)
 line_closes z = record { no_word = refl; no_numeral = refl; no_mark = refl; no_paren = refl; no_quote = refl }
 
 -- an indicator that the notation has: never a direct width
-abbrev pub IsMark : Mark → Type 0
-IsMark Absent = Unit {0}
-IsMark Endless = Unit {0}
-IsMark (Wide Direct) = ⊥
-IsMark (Wide One) = Unit {0}
-IsMark (Wide Two) = Unit {0}
-IsMark (Wide Four) = Unit {0}
-IsMark (Wide Eight) = Unit {0}
-
 wide_or_none : (b : Bool) (w : Width) → IsMark (Wide w) → IsMark (cond b Absent (Wide w))
 wide_or_none true w h = tt
 wide_or_none false w h = h

@@ -1,5 +1,5 @@
 -- Nodes of the fixed notation, as pieces.
-use Rattle.std.proofs.Common.{◌≡◌, refl, sym, ap, ◌∙◌, subst, ℕ, ◌<◌, ◌≤◌, List, [], ◌∷◌, ◌++◌, length, false, eqb, ◌⊎◌, inl, inr, decimal, append_assoc, arith}
+use Rattle.std.proofs.Common.{◌≡◌, refl, sym, ap, ◌∙◌, subst, ℕ, List, [], ◌∷◌, ◌++◌, length, false, eqb, decimal, append_assoc, arith}
 use Rattle.std.specs.Prelude.{codes}
 use Rattle.cborn_model.specs.Bytes.{AreBytes}
 use Rattle.cborn_model.specs.declared.heads.Width.{Width}
@@ -15,7 +15,7 @@ use Rattle.cborn_edn.specs.Syntax.{no_string, no_item, no_pair, token, tokens_of
 use Rattle.cborn_edn.specs.declared.strings.Kind.{Kind}
 use Rattle.cborn_edn.specs.declared.strings.Kind.TheVariants.{Bytes as OfBytes, Text as OfText}
 use Rattle.cborn_edn.specs.Shown.{nowhere, mark_for, mark_for_size, chunk_pieces, chunk_row, chunk_item, notated, notated_content, notated_fields, notated_input, indicator, opened, shown_string, shown_chunks, shown_more_chunks, shown, shown_all, shown_more, shown_entries, shown_more_entries, shown_lines, shown_more_lines}
-use Rattle.cborn_edn.proofs.Back.{below}
+use Rattle.cborn_edn.proofs.Back.{below, simple_below}
 use Rattle.cborn_edn.proofs.Chained.{Chained, no_text, both, retell}
 use Rattle.cborn_edn.proofs.Joined.{more_tokens, more_pair_tokens, more_chunk_tokens, row_tokens, chunk_tokens, pair_tokens}
 use Rattle.cborn_edn.proofs.MarkTexts.{Closes, comma_closes, colon_closes, paren_closes, bracket_closes, brace_closes, line_closes, is_mark, is_size_mark, comma_space, comma_line, colon_space, bracket_close, brace_close, paren_close, line, chunks_open, array_open, map_open}
@@ -107,10 +107,6 @@ lines_close no_node z = line_closes _
 lines_close (more t ts) z = comma_closes _
 
 -- Nodes.
-
-simple_below : (n : ℕ) → (n < 24) ⊎ ((32 ≤ n) × (n < 256)) → n < 256
-simple_below n (inl h) = omega arith
-simple_below n (inr h) = h.1
 
 -- the text of a tag over an item's text
 tag_whole : (n : ℕ) (m : Mark) (x z : List ℕ) (ts : List Token) → Chained ((decimal n ++ (indicator m ++ codes "(")) ++ (x ++ codes ")")) z ts → Chained (decimal n ++ (indicator m ++ (codes "(" ++ (x ++ codes ")")))) z ts

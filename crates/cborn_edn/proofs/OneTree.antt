@@ -12,6 +12,7 @@ use Rattle.cborn_edn.proofs.Takes.{landed, then, whole, takes_input, finish, fin
 use Rattle.cborn_edn.proofs.Held.{held, open_levels, deep_stack, deep, commas_stack, commas_held, levels, reach, comma_at, After, Grows}
 use Rattle.cborn_edn.proofs.Grows.{grows}
 use Rattle.cborn_edn.proofs.Closes.{closes}
+use Rattle.std.proofs.lemmas.Option.{same_Some}
 
 -- what the tokens lead to
 abbrev pub Leads : List Token → State → Type 0
@@ -20,14 +21,11 @@ Leads ts s = run ts (Some start) ≡ Some s
 pub takes_all : (t : Input) → Leads (tokens_of_input t) (whole t)
 takes_all t = ap (λ l. run l (Some start)) (sym (append-nil (tokens_of_input t))) ∙ takes_input t []
 
-some_same : {A : Type 0} {x y : A} → Some x ≡ Some y → x ≡ y
-some_same e = cc
-
 -- LAW: tokens have at most one tree
 pub one_tree : (p q : Profile) (ts : List Token) (t u : Input) → Parse p ts t → Parse q ts u → t ≡ u
 one_tree p q ts t u g h =
     let same : Some (whole t) ≡ Some (whole u) = sym (takes_all t) ∙ ap (λ l. run l (Some start)) (g.is ∙ sym h.is) ∙ takes_all u in
-    some_same (sym (finish-whole t) ∙ ap finish (some_same same) ∙ finish-whole u)
+    same_Some _ _ (sym (finish-whole t) ∙ ap finish (same_Some _ _ same) ∙ finish-whole u)
 
 deep-landed : (st : Stack) (i : Item) → deep (landed st i) ≡ max (deep_stack st) (levels st + depth i)
 deep-landed st (string ps) = refl
@@ -67,7 +65,7 @@ pub record Ran (y : List Token) (s u : State) : Type 0 where
   pub commas : commas_held s ≤ commas_held u
 
 pub ran : (y : List Token) (s u : State) → then y s ≡ Some u → Ran y s u
-ran [] s u e = let same : s ≡ u = some_same e in record { held = ap held (sym same) ∙ sym (append-nil (held s)); deeper = omega (arith, ap deep same); commas = omega (arith, ap commas_held same) }
+ran [] s u e = let same : s ≡ u = same_Some _ _ e in record { held = ap held (sym same) ∙ sym (append-nil (held s)); deeper = omega (arith, ap deep same); commas = omega (arith, ap commas_held same) }
 ran (t ∷ y) s u e = go (step s t) (grows s t.class (span t)) e (λ v. ran y v u)
   where
     go : (o : Option State) → After o (Grows (held s) (max (deep s) (reach (open_levels s) t.class)) (commas_held s + comma_at s t.class) (token (span t) t.class)) → run y o ≡ Some u
@@ -126,7 +124,7 @@ has_goes p limit ts (tree, parse, low) = ([], (tree, record { is = parse.is ∙ 
 pub no_tree : (p : Profile) (limit : ℕ) (ts : List Token) (s : State) → Leads ts s → finish s ≡ None → HasTree p limit ts → ⊥
 no_tree p limit ts s e f (tree, parse, low) =
     let same : Some (whole tree) ≡ Some s = sym (takes_all tree) ∙ ap (λ l. run l (Some start)) parse.is ∙ e in
-    no_some (sym f ∙ ap finish (sym (some_same same)) ∙ finish-whole tree)
+    no_some (sym f ∙ ap finish (sym (same_Some _ _ same)) ∙ finish-whole tree)
 
 pub nothing_goes : (p : Profile) (limit : ℕ) (f : List Token) (t : Token) (s : State) → Leads f s → step s t ≡ None → GoesOn p limit (f ++ (t ∷ [])) → ⊥
 nothing_goes p limit f t s e none g =
@@ -138,7 +136,7 @@ leads_on f t s u e next = run-append f (t ∷ []) (Some start) ∙ ap (run (t �
 
 -- two ends of one run
 pub same_end : (ts : List Token) (s u : State) → Leads ts s → Leads ts u → s ≡ u
-same_end ts s u e f = some_same (sym e ∙ f)
+same_end ts s u e f = same_Some _ _ (sym e ∙ f)
 
 -- whether the profile allows so many
 allows : (p : Profile) (n : ℕ) → Allows p n ⊎ (Allows p n → ⊥)

@@ -1,6 +1,6 @@
 -- Text strings of the fixed notation, as pieces.
-use Rattle.std.proofs.Common.{◌≡◌, refl, sym, ap, ◌∙◌, ℕ, ◌/◌, ◌%◌, ◌<◌, List, [], ◌∷◌, ◌++◌, slice_index, map as list_map, Bool, true, ◌&&◌, not, eqb, ltb, cond, inl, inr, arith}
-use Rattle.std.proofs.lemmas.Bool.{and_parts, and_from, not-true, cases_Bool}
+use Rattle.std.proofs.Common.{◌≡◌, refl, sym, ap, ◌∙◌, ℕ, ◌/◌, ◌%◌, ◌<◌, List, [], ◌∷◌, ◌++◌, slice_index, map as list_map, Bool, true, ◌&&◌, eqb, ltb, cond, inl, arith}
+use Rattle.std.proofs.lemmas.Bool.{and_parts, and_from}
 use Rattle.std.proofs.lemmas.Slice.Eq.{bytes_eq-Decides}
 use Rattle.std.specs.Prelude.{codes, bytes_eq}
 use Rattle.std.specs.List.{list_all, flat_map}
@@ -9,14 +9,15 @@ use Rattle.cborn_model.specs.Bytes.{AreBytes}
 use Rattle.cborn_lex.specs.declared.classes.Mark.{Mark}
 use Rattle.cborn_lex.specs.declared.classes.Mark.TheVariants.{Endless}
 use Rattle.cborn_lex.specs.declared.classes.Class.TheVariants.{Bytes, Text}
-use Rattle.cborn_lex.specs.Tokens.{is_not, marked}
+use Rattle.cborn_lex.specs.Tokens.{marked}
 use Rattle.cborn_lex.specs.Strings.{is_content, Letter, raw, escaped as behind_slash, unit, written, is_letter, meant, IsText}
-use Rattle.cborn_lex.proofs.Quotes.{content_taken, content_plain, content_cons}
+use Rattle.cborn_lex.proofs.Ends.{content_then}
 use Rattle.cborn_edn.specs.Syntax.{token}
 use Rattle.cborn_edn.specs.Shown.{nowhere, indicator, escaped}
 use Rattle.cborn_edn.proofs.Tables.{passes, passes-at}
 use Rattle.cborn_edn.proofs.Chained.{Chained, one_token}
-use Rattle.cborn_edn.proofs.MarkTexts.{Closes, IsMark, mark_is, indicates}
+use Rattle.cborn_lex.proofs.Spelling.{IsMark}
+use Rattle.cborn_edn.proofs.MarkTexts.{Closes, mark_is, indicates}
 
 -- the letter that a byte is written as
 abbrev letter_of : ℕ → Letter
@@ -68,14 +69,6 @@ letters (b ∷ x) h =
 
 is_text : (x : List ℕ) → AreBytes x → IsText 34 (flat_map escaped x) x
 is_text x h = let r = letters x h in record { letters = list_map letter_of x; allowed = r.1; whole = r.0; value = r.2 }
-
-content_then : (q : ℕ) (x y : List ℕ) → is_content q x ≡ true → is_content q y ≡ true → is_content q (x ++ y) ≡ true
-content_then q [] y h k = k
-content_then q (a ∷ []) y h k = let hs = and_parts (not (eqb a 92)) (is_not q a) h in content_cons q a y (not-true _ hs.0) (not-true _ hs.1) k
-content_then q (a ∷ b ∷ x) y h k = elim (cases_Bool (eqb a 92)) [
-  | inl e ↦ content_taken q a b (x ++ y) e ∙ content_then q x y (sym (content_taken q a b x e) ∙ h) k
-  | inr e ↦ let hs = and_parts (is_not q a) (is_content q (b ∷ x)) (sym (content_plain q a b x e) ∙ h) in content_plain q a b (x ++ y) e ∙ and_from _ _ hs.0 (content_then q (b ∷ x) y hs.1 k)
-]
 
 inside : (x : List ℕ) → AreBytes x → is_content 34 (flat_map escaped x) ≡ true
 inside [] h = refl

@@ -14,7 +14,7 @@ use Rattle.cborn_edn.specs.Shown.{bare, notated_input, Shown, shown_lines, unpla
 use Rattle.cborn_edn.specs.Notates.{Notates}
 use Rattle.cborn_edn.proofs.Chained.{HasBare, whole_text}
 use Rattle.cborn_edn.proofs.NodeTexts.{lines_text}
-use Rattle.cborn_edn.proofs.Erase.{reads_same}
+use Rattle.cborn_edn.proofs.Retelling.{reads_same}
 use Rattle.cborn_edn.proofs.OneTree.{one_tree, both_profiles}
 
 one_said : (t u : Input) (us vs : Trees) → t ≡ u → Says t us → Says u vs → us ≡ vs

@@ -1,10 +1,7 @@
 -- The reader of tokens is the parser.
-use Rattle.std.proofs.Common.{◌≡◌, refl, sym, ap, ◌∙◌, subst, ℕ, ◌<◌, ◌≤◌, List, [], ◌∷◌, ◌++◌, length, Bool, true, false, ◌&&◌, cond, leb, ltb, Option, Some, None, arith, ◌⊎◌, inl, inr}
-use Rattle.std.proofs.lemmas.Bool.{le-leb, lt-leb}
+use Rattle.std.proofs.Common.{◌≡◌, refl, sym, ap, ◌∙◌, subst, ℕ, ◌≤◌, List, [], ◌∷◌, length, Bool, true, false, ◌&&◌, cond, leb, Option, Some, None, inl, inr}
 use Rattle.cborn_model.specs.Tree.{Trees}
 use Rattle.cborn_lex.specs.Lex.{Lex}
-use Rattle.cborn_lex.specs.declared.faults.LexFault.{LexFault}
-use Rattle.cborn_lex.specs.declared.faults.LexFault.TheVariants.{Refused as LexRefused, OutOfMemory as LexOutOfMemory}
 use Rattle.cborn_lex.specs.declared.classes.Profile.{Profile}
 use Rattle.cborn_lex.specs.declared.classes.Token.{Token}
 use Rattle.cborn_edn.specs.declared.slips.Slip.{Slip}
@@ -13,11 +10,11 @@ use Rattle.cborn_edn.specs.declared.faults.EdnReason.{EdnReason}
 use Rattle.cborn_edn.specs.declared.faults.EdnReason.TheVariants.{UnexpectedToken, UnexpectedEnd, TooDeep}
 use Rattle.cborn_edn.specs.declared.faults.EdnFault.{EdnFault}
 use Rattle.cborn_edn.specs.declared.faults.EdnFault.TheVariants.{Lex as LexPart, Refused, OutOfMemory}
-use Rattle.cborn_edn.specs.Syntax.{Input, depth_of_input, span}
+use Rattle.cborn_edn.specs.Syntax.{Input, depth_of_input}
 use Rattle.cborn_edn.specs.Parse.{Parse}
 use Rattle.cborn_edn.specs.Meaning.{means_input, input_slips}
-use Rattle.cborn_edn.specs.Notates.{Notates, Slips, Jams, IsRefused}
-use Rattle.cborn_edn.specs.Draft.{IsFirstSlip, Run, Done, Stuck, draft_run, first_state, IsStuck, is_one, draft_step, is_behind_comma, reach as kept_reach, finished, first_slip}
+use Rattle.cborn_edn.specs.Notates.{Notates, IsRefused}
+use Rattle.cborn_edn.specs.Draft.{IsFirstSlip, Run, Done, Stuck, draft_run, first_state, IsStuck, is_one, is_behind_comma, reach as kept_reach, finished, first_slip}
 use Rattle.cborn_edn.proofs.Machine.{State, start, step}
 use Rattle.cborn_edn.proofs.Takes.{finish}
 use Rattle.cborn_edn.proofs.Held.{open_levels, reach, comma_at}
@@ -154,4 +151,4 @@ module _ (profile : Profile) (limit : ℕ) (text : List ℕ) (tokens : List Toke
   pub whole_told : (st : KeptState) (w : Option Trees × Option Slip) (e : EdnFault) → IsParsed st → finished st ≡ Some w → IsFirstSlip w e → IsRefused profile limit text e
   whole_told st w (LexPart f) h g i = absurd i
   whole_told st w (Refused p r) h g i = slip_told st w.0 (record { place = p; reason = r }) h (g ∙ ap (λ s. Some (w.0, s)) i)
-  whole_told st w OutOfMemory h g i = tt
+  whole_told st w OutOfMemory h g i = absurd i

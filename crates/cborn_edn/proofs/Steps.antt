@@ -1,15 +1,14 @@
 -- A token makes the same of what is kept as of the machine's state.
-use Rattle.std.proofs.Common.{◌≡◌, refl, ◌∙◌, ℕ, suc, max, ◌+◌, ◌<◌, ◌≤◌, List, [], ◌∷◌, Bool, true, false, Option, Some, None, cond, ltb, arith}
-use Rattle.cborn_model.specs.Tree.{Trees}
+use Rattle.std.proofs.Common.{◌≡◌, refl, ◌∙◌, ℕ, Option, Some, None}
 use Rattle.cborn_lex.specs.declared.classes.Class.{Class}
 use Rattle.cborn_lex.specs.declared.classes.Class.TheVariants.{ArrayOpen, MapOpen, ArrayClose, MapClose, ParenClose, Comma, Colon, EmbedOpen, EmbedClose, ChunkOpen, Number, TagOpen, Word, SimpleOpen, Text, Bytes}
 use Rattle.cborn_lex.specs.declared.classes.Token.{Token}
 use Rattle.cborn_edn.specs.declared.slips.Slip.{Slip}
 use Rattle.cborn_edn.specs.declared.strings.Pieces.{Pieces as Kept}
-use Rattle.cborn_edn.specs.Syntax.{Span, span, Item, string, Pieces, Input}
+use Rattle.cborn_edn.specs.Syntax.{Span, span, Item, string, Pieces}
 use Rattle.cborn_edn.specs.Draft as draft
 use Rattle.cborn_edn.specs.Draft.{earlier, string_slip, string_item, draft_step, step_in}
-use Rattle.cborn_edn.proofs.Machine.{Stack, in_row, in_key, in_value, in_tag, Nest, at_top, in_array, in_embed, Home, as_item, as_chunk, State, wants, has, builds, wants_chunk, wants_number, has_number, ends_loose, begin, after, after_string, more_string, begin_chunk, begin_number, after_number, step, step_by}
+use Rattle.cborn_edn.proofs.Machine.{Stack, in_row, in_key, in_value, in_tag, at_top, in_array, in_embed, Home, as_item, as_chunk, State, wants, has, builds, wants_chunk, wants_number, has_number, ends_loose, begin, after, after_string, more_string, step, step_by}
 use Rattle.cborn_edn.proofs.Kept.{kept, kept_pieces, frames_of, frames_home, slip_in, slip_in_pieces, slip_stack, slip_home, kept_state, kept_option}
 
 loose_kept : (st : Stack) (c : Class) (a : Span) → draft.ended (frames_of st) (slip_stack st) a.start c ≡ kept_option (ends_loose st c a)

@@ -1,18 +1,16 @@
 -- What the reader tests and tells, in the machine's words.
-use Rattle.std.proofs.Common.{◌≡◌, refl, sym, ap, ◌∙◌, ℕ, zero, suc, ◌+◌, ◌<◌, ◌≤◌, List, [], ◌∷◌, Bool, true, false, ◌&&◌, cond, ltb, leb, eqb, Option, Some, None, arith}
+use Rattle.std.proofs.Common.{◌≡◌, refl, ap, ◌∙◌, ℕ, suc, ◌+◌, List, Bool, true, false, ◌&&◌, cond, ltb, Option, Some, None, arith}
 use Rattle.std.proofs.lemmas.Bool.{lt-ltb, ne_eqb}
-use Rattle.cborn_model.specs.Tree.{Trees}
 use Rattle.cborn_lex.specs.declared.classes.Profile.{Profile}
 use Rattle.cborn_lex.specs.declared.classes.Profile.TheVariants.{One as ProfileOne, Two as ProfileTwo}
 use Rattle.cborn_lex.specs.declared.classes.Class.{Class}
 use Rattle.cborn_lex.specs.declared.classes.Class.TheVariants.{ArrayOpen, MapOpen, ArrayClose, MapClose, ParenClose, Comma, Colon, EmbedOpen, EmbedClose, ChunkOpen, Number, TagOpen, Word, SimpleOpen, Text, Bytes}
-use Rattle.cborn_edn.specs.declared.slips.Slip.{Slip}
 use Rattle.cborn_edn.specs.declared.frames.Frame.{Frame}
-use Rattle.cborn_edn.specs.Syntax.{is_small, string, row, RowBefore, no_item, after_row, PairsBefore, pairs, no_pair, after_pairs, Input, nothing, items}
+use Rattle.cborn_edn.specs.Syntax.{is_small, string, row, no_item, after_row, pairs, no_pair, after_pairs, Input}
 use Rattle.cborn_edn.specs.Meaning.{means_input, input_slips}
 use Rattle.cborn_edn.specs.Levels.{levels_in}
-use Rattle.cborn_edn.specs.Draft.{is_one, is_behind_comma, reach as kept_reach, finished, first_slip, earlier}
-use Rattle.cborn_edn.proofs.Machine.{Stack, in_row, in_key, in_value, in_tag, Nest, at_top, in_array, in_embed, Home, as_item, as_chunk, State, wants, has, builds, wants_chunk, wants_number, has_number}
+use Rattle.cborn_edn.specs.Draft.{is_one, is_behind_comma, reach as kept_reach, finished, first_slip}
+use Rattle.cborn_edn.proofs.Machine.{Stack, in_row, in_key, in_value, in_tag, at_top, in_array, in_embed, Home, as_item, as_chunk, State, wants, has, builds, wants_chunk, wants_number, has_number}
 use Rattle.cborn_edn.proofs.Takes.{finish}
 use Rattle.cborn_edn.proofs.Held.{levels, levels_home, open_levels, reach, comma_at}
 use Rattle.cborn_edn.proofs.Parser.{forbids}

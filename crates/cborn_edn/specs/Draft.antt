@@ -1,8 +1,8 @@
 -- A device of the proofs: what the reader keeps of what it has read, and what each token makes of it. No definition cites it.
-use Rattle.std.specs.Prelude.{◌≡◌, ℕ, suc, ◌+◌, ◌^◌, List, [], ◌∷◌, ◌++◌, length, ◌==◌, ◌&&◌, ◌||◌, not, Bool, true, false, nat_lt, nat_le, if◌then◌else◌, Option, Some, None, Result, Ok, Err}
+use Rattle.std.specs.Prelude.{◌≡◌, ℕ, suc, List, [], ◌∷◌, ◌++◌, length, ◌==◌, ◌&&◌, ◌||◌, Bool, true, false, nat_lt, nat_le, if◌then◌else◌, Option, Some, None, Result, Ok, Err}
 use Rattle.cborn_model.specs.declared.heads.Width.{Width}
 use Rattle.cborn_model.specs.declared.nodes.Chunk.{Chunk}
-use Rattle.cborn_model.specs.Tree.{Tree, Items as ItemsNode, Pairs as PairsNode, Tagged as TaggedNode, Simple as SimpleNode, Trees, no_item as no_node, Entries, no_entry}
+use Rattle.cborn_model.specs.Tree.{Tree, Items as ItemsNode, Pairs as PairsNode, Tagged as TaggedNode, Simple as SimpleNode, Trees, no_item as no_node, no_entry}
 use Rattle.cborn_model.specs.Spelled.{spelled_all}
 use Rattle.cborn_lex.specs.declared.classes.Mark.{Mark}
 use Rattle.cborn_lex.specs.declared.classes.Mark.TheVariants.{Absent, Endless, Wide}
@@ -32,7 +32,7 @@ use Rattle.cborn_edn.specs.declared.states.Phase.TheVariants.{Wants, Has, Builds
 use Rattle.cborn_edn.specs.declared.states.State.{State}
 use Rattle.cborn_edn.specs.Syntax.{is_small}
 use Rattle.cborn_edn.specs.Levels.{levels_in, filled}
-use Rattle.cborn_edn.specs.Meaning.{number_of, and_then, when, width_for, size_for, is_absent, snoc, snoc_entry, means_number, is_simple, same_kind, is_good, string_node, chunked_node, unless, width_slips, size_slips, number_slips, tag_slips}
+use Rattle.cborn_edn.specs.Meaning.{number_of, and_then, when, width_for, size_for, is_absent, snoc, snoc_entry, means_number, is_simple, same_kind, is_good, string_node, chunked_node, width_slips, size_slips, number_slips, tag_slips}
 
 abbrev pub no_later : Slip → Slip → Bool
 no_later a b = nat_lt a.place b.place || (a.place == b.place && nat_le (number_of a.reason) (number_of b.reason))
@@ -349,4 +349,4 @@ lexical LexOutOfMemory = OutOfMemory
 abbrev pub IsFirstSlip : Option Trees × Option Slip → EdnFault → Type 0
 IsFirstSlip w (LexPart f) = ⊥
 IsFirstSlip w (Refused p r) = w.1 ≡ Some (record { place = p; reason = r })
-IsFirstSlip w OutOfMemory = Unit {0}
+IsFirstSlip w OutOfMemory = ⊥

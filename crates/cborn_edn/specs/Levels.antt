@@ -3,7 +3,7 @@ use Rattle.std.specs.Prelude.{ℕ, suc, List, [], ◌∷◌, Bool, true, false, 
 use Rattle.cborn_lex.specs.declared.classes.Class.{Class}
 use Rattle.cborn_lex.specs.declared.classes.Class.TheVariants.{ArrayClose, MapClose, EmbedClose}
 use Rattle.cborn_edn.specs.declared.frames.Frame.{Frame}
-use Rattle.cborn_edn.specs.declared.frames.Frame.TheVariants.{Top, Array, Embedded, Chunked, Key, Value, Tagged}
+use Rattle.cborn_edn.specs.declared.frames.Frame.TheVariants.{Top, Array, Embedded, Chunked, Key}
 
 -- how many arrays, maps, tags and embedded sequences are open
 abbrev pub is_level : Frame → Bool

@@ -8,3 +8,4 @@ pub mod Draft
 pub mod Lowest
 pub mod Between
 pub mod Levels
+pub mod Ready

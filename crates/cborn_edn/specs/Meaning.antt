@@ -372,7 +372,7 @@ abbrev pub input_slips : Input → List Slip
 input_slips nothing = []
 input_slips (items r) = row_slips r
 
--- Lengths and counts are below 2^64, strings are bytes and words are from 20 to 23. That is so of the tokens of each text that fits memory.
+-- Lengths and counts are below 2^64, strings are bytes and words are below 24. That is so of each text of fewer than 2^56 bytes, as a law says.
 abbrev pub IsShort : Option (List ℕ) → Type 0
 IsShort None = Unit {0}
 IsShort (Some x) = length x < 2 ^ 64

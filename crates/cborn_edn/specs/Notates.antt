@@ -1,5 +1,5 @@
 -- What a text of the notation says, and why a text says nothing.
-use Rattle.std.specs.Prelude.{◌≡◌, ◌⊎◌, ℕ, ◌≤◌, List, length}
+use Rattle.std.specs.Prelude.{◌⊎◌, ℕ, ◌≤◌, List, length}
 use Rattle.cborn_model.specs.Tree.{Trees}
 use Rattle.cborn_lex.specs.Lex.{Lex, IsStopAt}
 use Rattle.cborn_lex.specs.declared.classes.Profile.{Profile}

@@ -1,8 +1,9 @@
 //! What stands complete inside an open bracket: the nodes, unless there is a slip among them, and their number.
 
-ghost use Rattle.std.specs.Prelude.{◌≡◌, suc, [], ◌∷◌, ◌++◌, Some, IfOk};
+ghost use Rattle.std.specs.Prelude.{◌≡◌, suc, ◌^◌, ◌<◌, [], ◌∷◌, ◌++◌, Some, IfOk};
 ghost use Rattle.cborn_edn.specs.Draft as pure;
-ghost use Rattle.cborn_edn.specs.Meaning.{and_then, when, same_kind, snoc, size_slips};
+ghost use Rattle.cborn_edn.specs.Meaning.{and_then, when, same_kind, size_slips};
+ghost use Rattle.cborn_edn.specs.Ready.{MaySpell};
 
 use crate::EdnReason;
 use crate::lists::{ChunkList, NodeList, PairList, SpelledList};
@@ -10,7 +11,7 @@ use crate::numbers::size_for;
 use crate::slips::{Slip, earlier, slip_at, slip_unless};
 use crate::strings::{Kind, Pieces, chunked};
 use cborn_lex::Mark;
-use cborn_model::{ByteString, Chunk, Form, Node, Spelled, fits};
+use cborn_model::{ByteString, Chunk, Form, Node, Spelled};
 use std::alloc::{AllocError, Global};
 
 /// The items of an array.
@@ -30,18 +31,17 @@ impl Row {
         }
     }
 
-    /// One more item.
+    /// One more item, for which the count has room.
     pub(crate) fn with(self, item: Option<Node>) -> Result<Row, AllocError>
+        requires { suc self.count < 2 ^ 64 }
         ensures { IfOk result (λ r. r ≡ pure.row_with self item) }
     {
+        let count = self.count + 1;
         let nodes = match (self.nodes, item) {
             (Some(nodes), Some(node)) => Some(nodes.with(node)?),
             _ => None,
         };
-        Ok(Row {
-            nodes,
-            count: one_more(self.count)?,
-        })
+        Ok(Row { nodes, count })
     }
 
     /// The array, and what is wrong with its indicator.
@@ -79,18 +79,18 @@ impl Sequence {
         }
     }
 
-    /// One more item.
+    /// One more item, which spells bytes, and for which the count has room.
     pub(crate) fn with(self, item: Option<Node>) -> Result<Sequence, AllocError>
+        requires room { suc self.count < 2 ^ 64 }
+        requires spelled { MaySpell item }
         ensures { IfOk result (λ r. r ≡ pure.sequence_with self item) }
     {
+        let count = self.count + 1;
         let items = match (self.items, item) {
-            (Some(items), Some(node)) => Some(keep(items, node)?),
+            (Some(items), Some(node)) => Some(items.with(Spelled::new(node))?),
             _ => None,
         };
-        Ok(Sequence {
-            items,
-            count: one_more(self.count)?,
-        })
+        Ok(Sequence { items, count })
     }
 
     /// The bytes that the items spell.
@@ -105,23 +105,6 @@ impl Sequence {
             None => Ok(None),
         }
     }
-}
-
-// The items and one more.
-fn keep(items: SpelledList, node: Node) -> Result<SpelledList, AllocError>
-    ensures { IfOk result (λ l. l ≡ snoc items node) }
-{
-    if !fits(&node) {
-        return Err(AllocError);
-    }
-    items.with(Spelled::new(node))
-}
-
-// One more than so many.
-fn one_more(count: u64) -> Result<u64, AllocError>
-    ensures { IfOk result (λ n. n ≡ suc count) }
-{
-    count.checked_add(1).ok_or(AllocError)
 }
 
 /// The pairs of a map.
@@ -141,18 +124,17 @@ impl Fields {
         }
     }
 
-    /// One more pair.
+    /// One more pair, for which the count has room.
     pub(crate) fn with(self, key: Option<Node>, value: Option<Node>) -> Result<Fields, AllocError>
+        requires { suc self.count < 2 ^ 64 }
         ensures { IfOk result (λ f. f ≡ pure.fields_with self key value) }
     {
+        let count = self.count + 1;
         let pairs = match (self.pairs, key, value) {
             (Some(pairs), Some(key), Some(value)) => Some(pairs.with(key, value)?),
             _ => None,
         };
-        Ok(Fields {
-            pairs,
-            count: one_more(self.count)?,
-        })
+        Ok(Fields { pairs, count })
     }
 
     /// The map, and what is wrong with its indicator.

@@ -1,7 +1,8 @@
 //! Laws of the notation, over its definitions alone. Each function says one of them by its contract, and does nothing.
 
-ghost use Rattle.std.specs.Prelude.{◌≡◌, ℕ, ◌≤◌, Bool, true, List, [], map, ◌⊎◌};
+ghost use Rattle.std.specs.Prelude.{◌≡◌, ℕ, ◌^◌, ◌<◌, ◌≤◌, Bool, true, List, [], map, length, ◌⊎◌};
 ghost use Rattle.std.specs.Str.{is_utf8};
+ghost use Rattle.cborn_model.specs.Bytes.{AreBytes};
 ghost use Rattle.cborn_model.specs.Tree.{Trees, depth_all};
 ghost use Rattle.cborn_model.specs.Value.{Values};
 ghost use Rattle.cborn_model.specs.Meaning.{AllMean};
@@ -9,13 +10,14 @@ ghost use Rattle.cborn_model.specs.Spelled.{FitsAll, spelled_all};
 ghost use Rattle.cborn_lex.specs.declared.classes.Profile.{Profile};
 ghost use Rattle.cborn_lex.specs.declared.classes.Profile.TheVariants.{One as ProfileOne, Two as ProfileTwo};
 ghost use Rattle.cborn_lex.specs.declared.classes.Token.{Token};
-ghost use Rattle.cborn_lex.specs.Lex.{Lex};
+ghost use Rattle.cborn_lex.specs.declared.faults.LexReason.{LexReason};
+ghost use Rattle.cborn_lex.specs.Lex.{Lex, Stop};
 ghost use Rattle.cborn_edn.specs.declared.faults.EdnReason.{EdnReason};
 ghost use Rattle.cborn_edn.specs.Syntax.{Input, depth_of_input, tokens_of_input};
 ghost use Rattle.cborn_edn.specs.Parse.{Parse, HasTree, Jam};
 ghost use Rattle.cborn_edn.specs.Meaning.{Says, CountedInput, HasSlip, FirstSlip};
 ghost use Rattle.cborn_edn.specs.Shown.{bare, notated_input, AreShowable, ReadsBack, Shown, unplaced_all};
-ghost use Rattle.cborn_edn.specs.Notates.{Notates};
+ghost use Rattle.cborn_edn.specs.Notates.{Notates, Slips, Jams};
 
 /// Tokens have at most one tree, whatever the profiles.
 pub fn one_tree()
@@ -74,4 +76,12 @@ pub fn one_notation()
     ensures one { (profile : Profile) (limit most : ℕ) (text : List ℕ) (nodes others : Trees) → Notates profile limit text nodes → Notates profile most text others → nodes ≡ others }
     ensures larger { (profile : Profile) (limit most : ℕ) (text : List ℕ) (nodes : Trees) → limit ≤ most → Notates profile limit text nodes → Notates profile most text nodes }
     ensures both { (limit : ℕ) (text : List ℕ) (nodes : Trees) → Notates ProfileOne limit text nodes → Notates ProfileTwo limit text nodes }
+{}
+
+/// A text of fewer than 2^56 bytes has an answer: it notates nodes, or it has a lexical stop, a jam or a slip. It never notates nodes and has a slip, whatever the limits. The nodes that it notates fit their widths and are within the limit. The lengths and counts of its tree are below 2^64.
+pub fn short_text()
+    ensures answered { (profile : Profile) (limit : ℕ) (text : List ℕ) → AreBytes text → length text < 2 ^ 56 → ((nodes : Trees) × Notates profile limit text nodes) ⊎ (((p : ℕ) × (r : LexReason) × Stop profile text p r) ⊎ ((p : ℕ) × (r : EdnReason) × (Jams profile limit text p r ⊎ Slips profile limit text p r))) }
+    ensures no_slip { (profile : Profile) (limit most : ℕ) (text : List ℕ) (nodes : Trees) (p : ℕ) (r : EdnReason) → AreBytes text → length text < 2 ^ 56 → Notates profile limit text nodes → Slips profile most text p r → ⊥ }
+    ensures fits { (profile : Profile) (limit : ℕ) (text : List ℕ) (nodes : Trees) → AreBytes text → length text < 2 ^ 56 → Notates profile limit text nodes → FitsAll nodes × (depth_all nodes ≤ limit) }
+    ensures counted { (profile : Profile) (text : List ℕ) (tokens : List Token) (t : Input) → AreBytes text → length text < 2 ^ 56 → Lex profile text tokens → Parse profile tokens t → CountedInput t }
 {}

@@ -1,12 +1,14 @@
 //! Diagnostic notation of data items: read and written (RFC 8949 section 8, RFC 8610 appendix G).
 #![tactic(auto)]
 
+mod closings;
 mod contents;
 mod faults;
 mod frames;
 pub mod laws;
 mod lists;
 mod numbers;
+mod openings;
 mod readers;
 mod showing;
 mod slips;

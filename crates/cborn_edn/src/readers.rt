@@ -1,10 +1,14 @@
 //! Notation, read.
 
-ghost use Rattle.std.specs.Prelude.{◌≡◌, Some, None, IfOk, IfErr};
-ghost use Rattle.cborn_model.specs.Tree.{trees};
+ghost use Rattle.std.specs.Prelude.{◌≡◌, ℕ, List, Option, Some, None, IfOk, IfErr};
+ghost use Rattle.cborn_model.specs.Bytes.{AreBytes};
+ghost use Rattle.cborn_model.specs.Tree.{Trees, trees};
+ghost use Rattle.cborn_lex.specs.Lex.{Lex};
 ghost use Rattle.cborn_edn.specs.Notates.{Notates, IsRefused};
 ghost use Rattle.cborn_edn.specs.declared.faults.EdnFault.TheVariants.{Refused};
-ghost use Rattle.cborn_edn.specs.Draft.{IsFirstSlip, Done, draft_run, first_state, is_one, IsStuck, lexical};
+ghost use Rattle.cborn_edn.specs.declared.slips.Slip.{Slip as FoundSlip};
+ghost use Rattle.cborn_edn.specs.Draft.{IsFirstSlip, Done, draft_run, first_state, finished, is_one, IsStuck, lexical};
+ghost use Rattle.cborn_edn.specs.Ready.{IsReady, IsTold};
 
 use crate::lists::SpelledList;
 use crate::slips::Slip;
@@ -48,6 +52,7 @@ pub fn read_notation(
 
 // The items, or the first slip.
 fn told(whole: (Option<SpelledList>, Option<Slip>)) -> Result<Vec<Spelled>, EdnFault>
+    requires { IsTold whole }
     ensures items { IfOk result (λ items. whole ≡ (Some (trees items.items), None)) }
     ensures slip { IfErr result (IsFirstSlip whole) }
 {
@@ -56,7 +61,7 @@ fn told(whole: (Option<SpelledList>, Option<Slip>)) -> Result<Vec<Spelled>, EdnF
         Some(slip) => Err(refused(slip.place, slip.reason)),
         None => match items {
             Some(items) => Ok(items.into_vec()),
-            None => Err(EdnFault::OutOfMemory),
+            None => unreachable!(),
         },
     }
 }
@@ -76,13 +81,16 @@ fn refused(place: u64, reason: EdnReason) -> EdnFault
     EdnFault::Refused { place, reason }
 }
 
-// The state behind all tokens.
+// The state behind all tokens of some text.
 fn parsed(
     alloc: Global,
     limit: Limit,
     profile: Profile,
     tokens: Vec<Token>,
 ) -> Result<State, EdnFault>
+    requires { (text : List ℕ) × AreBytes text × Lex profile text tokens.items }
+    ensures ready { IfOk result IsReady }
+    ensures told { IfOk result (λ state. (items : Option Trees) (slip : Option FoundSlip) → finished state ≡ Some (items, slip) → IsTold (items, slip)) }
     ensures parsed { IfOk result (λ state. draft_run profile limit tokens.items first_state ≡ Done state) }
     ensures refused { IfErr result (IsStuck (draft_run profile limit tokens.items first_state)) }
 {
@@ -90,7 +98,9 @@ fn parsed(
         Ok(state) => state,
         Err(_) => return Err(EdnFault::OutOfMemory),
     };
+    let most = limit.get();
     for token in tokens {
+        state.in_memory();
         let place = token.start;
         let spare = is_one(profile) && state.is_behind_comma(&token.class);
         let reach = state.reach(&token.class);
@@ -102,10 +112,11 @@ fn parsed(
         if spare {
             return Err(refused(place, EdnReason::UnexpectedToken));
         }
-        if reach > limit.get() {
+        if reach > most {
             return Err(refused(place, EdnReason::TooDeep));
         }
     }
+    state.in_memory();
     Ok(state)
 }
 

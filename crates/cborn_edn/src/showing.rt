@@ -3,6 +3,7 @@
 ghost use Rattle.std.specs.Prelude.{◌≡◌, IfOk, IfErr};
 ghost use Rattle.std.specs.String.{string_bytes};
 ghost use Rattle.cborn_model.specs.Tree.{trees};
+ghost use Rattle.cborn_model.specs.Spelled.{FitsAll};
 ghost use Rattle.cborn_edn.specs.Shown.{Shown, IsShowFault, shown_lines};
 
 use crate::ShowFault;
@@ -22,18 +23,17 @@ pub fn show(alloc: Global, items: &[Spelled]) -> Result<String, ShowFault>
     match lowest_bad_text(items) {
         Some(place) => Err(ShowFault::NotUtf8 { place }),
         None => match shown(alloc, items) {
-            Ok(text) => match String::from_utf8(text) {
-                Ok(text) => Ok(text),
-                Err(_) => Err(ShowFault::OutOfMemory),
-            },
+            // Texts that are UTF-8 in a text that is otherwise ASCII.
+            Ok(text) => Ok(String::from_utf8(text).unwrap()),
             Err(AllocError) => Err(ShowFault::OutOfMemory),
         },
     }
 }
 
-// The whole text.
+// The whole text. Each item was spelled, so it fits its widths.
 fn shown(alloc: Global, items: &[Spelled]) -> Result<Vec<u8>, AllocError>
-    ensures { IfOk result (λ text. text.items ≡ shown_lines (trees items.now)) }
+    ensures text { IfOk result (λ text. text.items ≡ shown_lines (trees items.now)) }
+    ensures fits { IfOk result (λ text. FitsAll (trees items.now)) }
 {
     let mut out = Vec::new(alloc);
     for (i, item) in items.iter().enumerate() {

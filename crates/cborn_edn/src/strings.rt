@@ -2,7 +2,7 @@
 
 ghost use Rattle.std.specs.Prelude.{◌≡◌, false, [], length, Some, IfOk};
 ghost use Rattle.cborn_edn.specs.Draft as pure;
-ghost use Rattle.cborn_edn.specs.Meaning.{is_good, and_then, width_for, chunked_node};
+ghost use Rattle.cborn_edn.specs.Meaning.{is_good, and_then, width_for, chunked_node, IsShort};
 
 use crate::EdnReason;
 use crate::numbers::width_for;
@@ -115,6 +115,15 @@ impl Pieces {
             sound,
             quote: false,
         })
+    }
+
+    /// Memory holds the bytes, so their length fits 64 bits. Does nothing.
+    pub(crate) fn in_memory(&self)
+        ensures { IsShort self.now.bytes }
+    {
+        if let Some(bytes) = &self.bytes {
+            let _length = bytes.as_slice().len();
+        }
     }
 
     /// What is wrong with the whole string. `may_end` is whether it may have the indicator `_`.

@@ -1,6 +1,6 @@
 //! Texts with the bytes that their items spell, or with their faults; and bytes, shown.
 
-use crate::{read_notation, show};
+use crate::{EdnFault, EdnReason, read_notation, show};
 use cborn_lex::Profile;
 use cborn_model::Limit;
 use cborn_wire::{read_all, spell_all};
@@ -35,6 +35,29 @@ fn shown(alloc: Global, digits: &str) -> Result<String, AllocError> {
         },
         Err(fault) => format!(in alloc; "{fault}"),
     }
+}
+
+/// Whether a text has items, or a fault of its own, which stands at its end where the text ends too early.
+fn is_told(alloc: Global, profile: Profile, text: &str) -> bool {
+    match read_notation(alloc, LIMIT, profile, text) {
+        Ok(_) | Err(EdnFault::Lex(_)) => true,
+        Err(EdnFault::Refused { place, reason }) => {
+            reason != EdnReason::UnexpectedEnd || place == text.len() as u64
+        }
+        Err(EdnFault::OutOfMemory) => false,
+    }
+}
+
+/// Whether each proper front of a text is told under both profiles.
+fn are_fronts_told(alloc: Global, text: &str) -> Result<bool, AllocError> {
+    let mut front = String::new(alloc);
+    for c in text.chars() {
+        if !is_told(alloc, Profile::One, &front) || !is_told(alloc, Profile::Two, &front) {
+            return Ok(false);
+        }
+        front.push(c)?;
+    }
+    Ok(true)
 }
 
 /// Numbers, and texts without items, that say the same in both profiles.
@@ -237,6 +260,42 @@ fn reads_each_profile(rt: HostRuntime) -> Result<(), Fail> {
         assert_eq!(rt; got.as_str(), one, "of {text}");
         let got = spelled(alloc, LIMIT, Profile::Two, text)?;
         assert_eq!(rt; got.as_str(), two, "of {text}");
+    }
+    Ok(())
+}
+
+#[test]
+fn tells_fronts_of_numbers(rt: HostRuntime) -> Result<(), Fail> {
+    let alloc = rt.alloc();
+    for (text, _) in NUMBERS {
+        assert!(rt; are_fronts_told(alloc, text)?, "a front of {text}");
+    }
+    Ok(())
+}
+
+#[test]
+fn tells_fronts_of_strings(rt: HostRuntime) -> Result<(), Fail> {
+    let alloc = rt.alloc();
+    for (text, _) in STRINGS {
+        assert!(rt; are_fronts_told(alloc, text)?, "a front of {text}");
+    }
+    Ok(())
+}
+
+#[test]
+fn tells_fronts_of_others(rt: HostRuntime) -> Result<(), Fail> {
+    let alloc = rt.alloc();
+    for (text, _) in OTHERS {
+        assert!(rt; are_fronts_told(alloc, text)?, "a front of {text}");
+    }
+    Ok(())
+}
+
+#[test]
+fn tells_fronts_of_each_profile(rt: HostRuntime) -> Result<(), Fail> {
+    let alloc = rt.alloc();
+    for (text, _, _) in EACH {
+        assert!(rt; are_fronts_told(alloc, text)?, "a front of {text}");
     }
     Ok(())
 }

@@ -1,6 +1,6 @@
 -- What a walk over the nodes of an input finds is the verdict on the input.
-use Rattle.std.proofs.Common.{◌≡◌, ◌≤◌, ◌<◌, ◌+◌, ◌^◌, ℕ, ◌⊎◌, inl, inr, List, [], ◌∷◌, ◌++◌, length, get_or, take, Option, None, Some, true, false, Ok, Vec, Global, Ordering, refl, sym, ◌∙◌, ap, subst, arith}
-use Rattle.std.specs.Option.{is_some}
+use Rattle.std.proofs.Common.{◌≡◌, ◌≤◌, ◌<◌, ◌+◌, ◌^◌, ℕ, ◌⊎◌, inl, inr, List, [], ◌∷◌, ◌++◌, length, get_or, take, Option, None, Some, Ok, Vec, Global, Ordering, refl, sym, ◌∙◌, ap, subst, arith}
+use Rattle.std.specs.Option.{option_or}
 use Rattle.std.specs.List.{AllZip, AllByRecursion}
 use Rattle.std.proofs.lemmas.List.{take_more}
 use Rattle.cborn_model.specs.Tree.{Tree, trees, Trees, no_item, more}
@@ -24,13 +24,7 @@ use Rattle.cborn_engine.specs.Holding.{Holds}
 use Rattle.cborn_engine.specs.Loading.{Loads}
 use Rattle.cborn_engine.specs.Defects.{AreChecked, Finds}
 use Rattle.cborn_engine.specs.Checking.{Verdict, Checks}
-use Rattle.cborn_engine.proofs.Meant.{held_is_sound, AreSound}
-
-all_mean : (ns : List Tree) (vs : List Value) → AllZip Means ns vs → AllMean (trees ns) (values_of vs)
-all_mean [] [] h = tt
-all_mean [] (v ∷ vs) h = absurd h
-all_mean (n ∷ ns) [] h = absurd h
-all_mean (n ∷ ns) (v ∷ vs) h = (h.0, all_mean ns vs h.1)
+use Rattle.cborn_engine.proofs.Meant.{all_mean, held_is_sound, AreSound}
 
 are_proper : (vs : List Value) → AllByRecursion IsProper vs → AreProper (values_of vs)
 are_proper [] h = tt
@@ -65,13 +59,9 @@ module _ (order : List ℕ → List ℕ → Ordering) where
   one_more : (ns : List Tree) (i : ℕ) (n : Tree) → i < length ns → n ≡ get_or ns i n → take i ns ++ n ∷ [] ≡ take (i + 1) ns
   one_more ns i n l e = ap (λ (z : Tree). take i ns ++ z ∷ []) e ∙ sym (take_more ns i n l)
 
-  pub finds_now : (ns : List Tree) (i : ℕ) (n : Tree) (o d : Option Found) → is_some o ≡ false → Finds order (take i ns) o → i < length ns → n ≡ get_or ns i n → IsCheck order n d → Finds order (take (i + 1) ns) d
-  finds_now ns i n None d none h l e k = subst (λ (xs : List Tree). Finds order xs d) (one_more ns i n l e) (found_now (take i ns) n d h k)
-  finds_now ns i n (Some f) d none h l e k = absurd cc
-
-  pub finds_before : (ns : List Tree) (i : ℕ) (n : Tree) (o d : Option Found) → is_some o ≡ true → Finds order (take i ns) o → i < length ns → n ≡ get_or ns i n → IsCheck order n d → Finds order (take (i + 1) ns) o
-  finds_before ns i n None d some h l e k = absurd cc
-  finds_before ns i n (Some f) d some h l e k = subst (λ (xs : List Tree). Finds order xs (Some f)) (one_more ns i n l e) (found_before (take i ns) n f d h k)
+  pub finds_more : (ns : List Tree) (i : ℕ) (n : Tree) (o d : Option Found) → Finds order (take i ns) o → i < length ns → n ≡ get_or ns i n → IsCheck order n d → Finds order (take (i + 1) ns) (option_or o d)
+  finds_more ns i n None d h l e k = subst (λ (xs : List Tree). Finds order xs d) (one_more ns i n l e) (found_now (take i ns) n d h k)
+  finds_more ns i n (Some f) d h l e k = subst (λ (xs : List Tree). Finds order xs (Some f)) (one_more ns i n l e) (found_before (take i ns) n f d h k)
 
   -- ---- what the nodes mean
 

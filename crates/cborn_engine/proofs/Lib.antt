@@ -1,7 +1,6 @@
 pub mod Written
 pub mod Collecting
 pub mod Told
-pub mod TextBytes
 pub mod ReadsBack
 pub mod Meant
 pub mod Canonicity
@@ -11,3 +10,9 @@ pub mod Unanswered
 pub mod Known
 pub mod Checked
 pub mod Untold
+pub mod SameNodes
+pub mod FixedText
+pub mod Proper
+pub mod Notated
+pub mod Unfailing
+pub mod Headline

@@ -3,9 +3,9 @@ use Rattle.std.proofs.Common.{◌≡◌, ◌≤◌, ◌<◌, ◌^◌, ℕ, List,
 use Rattle.std.specs.List.{AllZip, AllByRecursion}
 use Rattle.cborn_model.specs.Tree.{Tree, trees, depth_all}
 use Rattle.cborn_model.specs.Spelled.{spelled_all, spelled, FitsAll}
-use Rattle.cborn_model.specs.Value.{Value, Same}
+use Rattle.cborn_model.specs.Value.{Value, values_of, Same}
 use Rattle.cborn_model.specs.Valid.{IsProper}
-use Rattle.cborn_model.specs.Meaning.{Means}
+use Rattle.cborn_model.specs.Meaning.{Means, AllMean}
 use Rattle.cborn_model.proofs.Trees.{trees-injective}
 use Rattle.cborn_model.proofs.Sameness.{same_itself, same_turned}
 use Rattle.cborn_wire.proofs.OneReading.{one_placed_reading}
@@ -41,17 +41,30 @@ pub holds_once : (k : Kind) (limit : ℕ) (input : List ℕ) (vs ws : List Value
 holds_once k limit input vs ws h g =
     all_mean_once h.nodes vs ws h.meant (subst (λ (ns : List Tree). AllZip Means ns ws) (sym (spells_once k limit input h.nodes g.nodes h.spelled g.spelled)) g.meant)
 
+-- what nodes of a sequence mean is what they mean one by one
+pub all_mean : (ns : List Tree) (vs : List Value) → AllZip Means ns vs → AllMean (trees ns) (values_of vs)
+all_mean [] [] h = tt
+all_mean [] (v ∷ vs) h = absurd h
+all_mean (n ∷ ns) [] h = absurd h
+all_mean (n ∷ ns) (v ∷ vs) h = (h.0, all_mean ns vs h.1)
+
+pub zip_mean : (ns : List Tree) (vs : List Value) → AllMean (trees ns) (values_of vs) → AllZip Means ns vs
+zip_mean [] [] h = tt
+zip_mean [] (v ∷ vs) h = absurd h
+zip_mean (n ∷ ns) [] h = absurd h
+zip_mean (n ∷ ns) (v ∷ vs) h = (h.0, zip_mean ns vs h.1)
+
 -- what fits, is short and shallow means valid items that are shallow
 pub record AreSound (limit : ℕ) (vs : List Value) : Type 0 where
   pub proper : AllByRecursion IsProper vs
   pub shallow : AreShallow limit vs
 
-sound : (limit : ℕ) (ns : List Tree) (vs : List Value) → FitsAll (trees ns) → depth_all (trees ns) ≤ limit → length (spelled_all (trees ns)) < 2 ^ 64 → AllZip Means ns vs → AreSound limit vs
-sound limit [] [] f d l h = record { proper = tt; shallow = tt }
-sound limit [] (v ∷ vs) f d l h = absurd h
-sound limit (n ∷ ns) [] f d l h = absurd h
-sound limit (n ∷ ns) (v ∷ vs) f d l h =
-    let rest = sound limit ns vs f.1 (omega (arith, d)) (right (spelled n) (spelled_all (trees ns)) l) h.1 in
+pub nodes_sound : (limit : ℕ) (ns : List Tree) (vs : List Value) → FitsAll (trees ns) → depth_all (trees ns) ≤ limit → length (spelled_all (trees ns)) < 2 ^ 64 → AllZip Means ns vs → AreSound limit vs
+nodes_sound limit [] [] f d l h = record { proper = tt; shallow = tt }
+nodes_sound limit [] (v ∷ vs) f d l h = absurd h
+nodes_sound limit (n ∷ ns) [] f d l h = absurd h
+nodes_sound limit (n ∷ ns) (v ∷ vs) f d l h =
+    let rest = nodes_sound limit ns vs f.1 (omega (arith, d)) (right (spelled n) (spelled_all (trees ns)) l) h.1 in
     record {
       proper = (meaning_valid n v f.0 (left (spelled n) (spelled_all (trees ns)) l) h.0, rest.proper);
       shallow = (omega (arith, meaning_shallow n v f.0 h.0, d), rest.shallow);
@@ -59,7 +72,7 @@ sound limit (n ∷ ns) (v ∷ vs) f d l h =
 
 pub held_is_sound : (limit : ℕ) (input : List ℕ) (vs : List Value) → length input < 2 ^ 64 → Holds kind.Wire limit input vs → AreSound limit vs
 held_is_sound limit input vs l h =
-    sound limit h.nodes vs h.spelled.0.fit h.spelled.0.shallow (subst (λ (x : List ℕ). length x < 2 ^ 64) (sym h.spelled.0.spells) l) h.meant
+    nodes_sound limit h.nodes vs h.spelled.0.fit h.spelled.0.shallow (subst (λ (x : List ℕ). length x < 2 ^ 64) (sym h.spelled.0.spells) l) h.meant
 
 -- ---- sequences that are the same
 

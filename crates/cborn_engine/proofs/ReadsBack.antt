@@ -18,7 +18,7 @@ use Rattle.cborn_model.proofs.Rearranging.{carried, weaker}
 use Rattle.cborn_model.proofs.Sameness.{same_turned, same_chained}
 use Rattle.cborn_det.specs.Det.{Entry, IsInteger, IsSimple, Det, DetValues, DetPairs, DetSeq, joined, keys}
 use Rattle.cborn_det.proofs.Canon.{one_of_seq}
-use Rattle.cborn_engine.proofs.TextBytes.{text_bytes}
+use Rattle.cborn_lex.proofs.Weights.{utf8_bytes}
 
 -- the bytes spell a node at p that means the same as the item, and is no deeper
 pub record ReadsBack (p : ℕ) (v : Value) (x : List ℕ) : Type 0 where
@@ -206,7 +206,7 @@ module _ (order : List ℕ → List ℕ → Ordering) (laws : IsKeyOrder order) 
     pub reads_back : (p : ℕ) (v : Value) (x : List ℕ) → IsProper v → Det order v x → ReadsBack p v x
     reads_back p (integer s m) x h d = integer_back p s m x h d
     reads_back p (bytes b) x h d = record { node = Bytes p (least (length b)) b; item = bytes b; spells = ap (λ l. l ++ b) (sym d.1.1) ∙ sym d.2; fits = (d.1.0, h.0); placed = refl; means = refl; same = refl; shallow = omega arith }
-    reads_back p (text b) x h d = record { node = Text p (least (length b)) b; item = text b; spells = ap (λ l. l ++ b) (sym d.1.1) ∙ sym d.2; fits = (d.1.0, text_bytes b h.0); placed = refl; means = (h.0, refl); same = refl; shallow = omega arith }
+    reads_back p (text b) x h d = record { node = Text p (least (length b)) b; item = text b; spells = ap (λ l. l ++ b) (sym d.1.1) ∙ sym d.2; fits = (d.1.0, utf8_bytes b h.0); placed = refl; means = (h.0, refl); same = refl; shallow = omega arith }
     reads_back p (array vs) x h d =
         let n : ℕ = value_count vs in
         let all = all_read_back (p + length (head Array (Given (least n) n))) vs d.1 h.0 d.3 in

@@ -8,7 +8,6 @@ use Rattle.cborn_model.specs.Valid.{IsProper}
 use Rattle.cborn_engine.specs.declared.faults.EngineFault.{EngineFault}
 use Rattle.cborn_engine.specs.declared.faults.EngineFault.TheVariants as fault
 use Rattle.cborn_engine.specs.declared.kinds.Kind.{Kind}
-use Rattle.cborn_engine.specs.declared.kinds.Kind.TheVariants as kind
 use Rattle.cborn_engine.specs.Holding.{Holds, Canon}
 use Rattle.cborn_engine.specs.Refusing.{IsRefused, IsRead}
 use Rattle.cborn_engine.specs.Writing.{IsFront}
@@ -30,18 +29,11 @@ pub record IsCanonical (order : List ℕ → List ℕ → Ordering) (k out : Kin
   pub one_for_same : (others : List Value) → AllByRecursion IsProper others → Canon order out others output ↔ AllZip Same items others
   pub settled : (others : List Value) → Holds out limit output others → Canon order out others output
 
--- The output is the canonical form of what the input holds; from bytes to bytes, the one of its items.
-pub record IsNormalised (order : List ℕ → List ℕ → Ordering) (k out : Kind) (limit : ℕ) (input output : List ℕ) : Type 0 where
-  pub items : List Value
-  pub held : Holds k limit input items
-  pub written : Canon order out items output
-  pub canonical : k ≡ kind.Wire → out ≡ kind.Wire → IsCanonical order k out limit input output
-
 -- the whole answer went out; or the writer failed, and a front of it went out; or the input is refused, and nothing went out
 abbrev pub NormaliseAnswers : (List ℕ → List ℕ → Ordering) → Kind → Kind → ℕ → ℕ → List ℕ → List ℕ → Result Unit EngineFault → Type 0
-NormaliseAnswers order k out limit most input output (Ok u) = (length input ≤ most) × IsNormalised order k out limit input output
+NormaliseAnswers order k out limit most input output (Ok u) = (length input ≤ most) × IsCanonical order k out limit input output
 NormaliseAnswers order k out limit most input output (Err fault.WriteFault) =
-    (length input ≤ most) × ((whole : List ℕ) × IsNormalised order k out limit input whole × IsFront output whole)
+    (length input ≤ most) × ((whole : List ℕ) × IsCanonical order k out limit input whole × IsFront output whole)
 NormaliseAnswers order k out limit most input output (Err why) = IsRefused k limit most input why × (output ≡ [])
 
 -- some input was taken from the reader and some output given to the writer, and this is answered for them

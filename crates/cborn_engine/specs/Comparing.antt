@@ -36,6 +36,10 @@ pub record AreCompared (k l : Kind) (limit : ℕ) (x y : List ℕ) (answer : Opt
   pub held2 : Holds l limit y theirs
   pub difference : Difference ours theirs answer
 
+-- both hold items, and these are the same
+abbrev pub HoldSameItems : Kind → Kind → ℕ → List ℕ → List ℕ → Type 0
+HoldSameItems k l limit x y = AreCompared k l limit x y None
+
 -- what comparing these two inputs answers: the first is refused before a byte of the second is read
 abbrev pub CompareAnswers : Kind → Kind → ℕ → ℕ → List ℕ → List ℕ → Result (Option ℕ) CompareFault → Type 0
 CompareAnswers k l limit most x y (Ok answer) = (length x ≤ most) × (length y ≤ most) × AreCompared k l limit x y answer

@@ -21,9 +21,7 @@ fn defect_of<O: KeyOrder>(alloc: Global, nodes: &[Spelled]) -> Result<Option<Def
     let mut first = None;
     for node in nodes {
         let defect = first_defect::<O>(alloc, node)?;
-        if first.is_none() {
-            first = defect;
-        }
+        first = first.or(defect);
     }
     Ok(first)
 }
@@ -38,5 +36,6 @@ pub fn check<O: KeyOrder, R: Source>(
     ensures failures { R.failed reader.new ≡ read_failures result (R.failed reader.old) }
 {
     let nodes = load(alloc, limit, Kind::Wire, reader)?;
-    Ok(defect_of::<O>(alloc, &nodes)?)
+    let defect = defect_of::<O>(alloc, &nodes)?;
+    Ok(defect)
 }

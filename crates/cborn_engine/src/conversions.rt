@@ -1,11 +1,12 @@
 //! From a reader to a writer.
-ghost use Rattle.std.specs.Prelude.{◌≡◌, ◌^◌, IfOk, IfErr};
+ghost use Rattle.std.specs.Prelude.{◌≡◌, ◌^◌, List, IfOk, IfErr};
 ghost use Rattle.cborn_model.specs.Tree.{trees};
+ghost use Rattle.cborn_model.specs.Value.{Value};
 ghost use Rattle.cborn_edn.specs.Shown.{Shown};
 ghost use Rattle.cborn_engine.specs.declared.kinds.Kind.TheVariants as kinds;
 ghost use Rattle.cborn_engine.specs.Canonical.{Normalises};
 ghost use Rattle.cborn_engine.specs.Reading.{read_failures};
-ghost use Rattle.cborn_engine.specs.Holding.{IsFixedText, IsWrittenAs};
+ghost use Rattle.cborn_engine.specs.Holding.{Holds, IsFixedText, IsWrittenAs};
 ghost use Rattle.cborn_engine.specs.Showing.{Shows, IsSpelledAs, IsUnspelledAs};
 ghost use Rattle.cborn_engine.specs.Writing.{write_failures};
 
@@ -16,12 +17,15 @@ use crate::outputs::write_answer;
 use crate::sinks::Sink;
 use crate::sources::Source;
 use cborn_det::encode_all;
-use cborn_edn::show;
+use cborn_edn::{ShowFault, show};
 use cborn_model::{KeyOrder, Limit, Spelled};
-use cborn_wire::{read_all, spell_all};
+use cborn_wire::{WireFault, read_all, spell_all};
 use std::alloc::{AllocError, Global};
 
-/// Writes the deterministic encodings of the items that the input holds, the keys of their maps in the order `O` (RFC 8949 section 4.2).
+/// Writes the canonical form of the items that the input holds: their deterministic encodings one after another, the keys of maps in the order `O` (RFC 8949 section 4.2), or the fixed notation of these. The input has at most 2^30 bytes.
+///
+/// # Errors
+/// Those of `load_within`, and `Invalid`: the first flaw of the first item that isn't valid, at its offset in bytes from the start of the input. At these nothing was written. `WriteFault` where the writer failed; then a front of the answer went out.
 pub fn normalise<O: KeyOrder, R: Source, W: Sink>(
     alloc: Global,
     limit: Limit,
@@ -41,6 +45,9 @@ pub fn normalise<O: KeyOrder, R: Source, W: Sink>(
 }
 
 /// Writes the items of the input as they are spelled.
+///
+/// # Errors
+/// Those of `load_within`, and `Show` where the output is notation and a text string in it isn't UTF-8, at the lowest place of one. At these nothing was written. `WriteFault` where the writer failed; then a front of the answer went out.
 pub fn show_all<R: Source, W: Sink>(
     alloc: Global,
     limit: Limit,
@@ -77,8 +84,9 @@ fn notation(alloc: Global, nodes: &[Spelled]) -> Result<Vec<u8>, EngineFault>
     Ok(show(alloc, nodes)?.into_bytes())
 }
 
-/// Bytes that are deterministic encodings, or their fixed notation.
+/// Bytes that hold items, none deeper than `limit`; or their fixed notation.
 fn written(alloc: Global, limit: Limit, kind: Kind, bytes: Vec<u8>) -> Result<Vec<u8>, AllocError>
+    requires { (items : List Value) × Holds kinds.Wire limit bytes.items items }
     ensures { IfOk result (λ answer. IsWrittenAs kind bytes.items answer.items) }
 {
     match kind {
@@ -88,14 +96,19 @@ fn written(alloc: Global, limit: Limit, kind: Kind, bytes: Vec<u8>) -> Result<Ve
     }
 }
 
+/// Bytes that hold items are well-formed, and their text strings are UTF-8.
 fn fixed_text(alloc: Global, limit: Limit, bytes: &[u8]) -> Result<Vec<u8>, AllocError>
+    requires { (items : List Value) × Holds kinds.Wire limit bytes.now items }
     ensures { IfOk result (λ text. IsFixedText bytes.now text.items) }
 {
-    let Ok(nodes) = read_all(alloc, limit, bytes) else {
-        return Err(AllocError);
+    let nodes = match read_all(alloc, limit, bytes) {
+        Ok(nodes) => nodes,
+        Err(WireFault::OutOfMemory) => return Err(AllocError),
+        Err(WireFault::Refused { .. }) => unreachable!(),
     };
-    let Ok(text) = show(alloc, &nodes) else {
-        return Err(AllocError);
-    };
-    Ok(text.into_bytes())
+    match show(alloc, &nodes) {
+        Ok(text) => Ok(text.into_bytes()),
+        Err(ShowFault::OutOfMemory) => Err(AllocError),
+        Err(ShowFault::NotUtf8 { .. }) => unreachable!(),
+    }
 }

@@ -9,7 +9,7 @@ use crate::kinds::Kind;
 use crate::pieces::read_piece;
 use crate::sources::Source;
 use crate::texts::load_text;
-use cborn_judge::judge_all;
+use cborn_judge::judge_all_owned;
 use cborn_lex::Profile;
 use cborn_model::{Limit, Spelled, Valid};
 use cborn_wire::Feeder;
@@ -91,5 +91,5 @@ pub fn read_items<R: Source>(
     ensures failures { R.failed reader.new ≡ read_failures result (R.failed reader.old) }
 {
     let nodes = load(alloc, limit, kind, reader)?;
-    Ok(judge_all(alloc, &nodes)?)
+    Ok(judge_all_owned(alloc, nodes)?)
 }

@@ -1,6 +1,6 @@
 //! What follows from the contracts. Each function does nothing; its contract is a theorem over the definitions in `specs/`.
 
-ghost use Rattle.std.specs.Prelude.{◌≡◌, ◌≤◌, ◌↔◌, ℕ, List, Option, Some, length};
+ghost use Rattle.std.specs.Prelude.{◌≡◌, ◌≤◌, ◌^◌, ◌↔◌, ℕ, List, Option, Some, Ok, length};
 ghost use Rattle.std.specs.Io.KnownBytes.{Consumes, IsAtEnd};
 ghost use Rattle.std.specs.List.{AllZip};
 ghost use Rattle.cborn_model.specs.Value.{Value, Same};
@@ -9,9 +9,17 @@ ghost use Rattle.cborn_engine.specs.declared.kinds.Kind.{Kind};
 ghost use Rattle.cborn_engine.specs.declared.kinds.Kind.TheVariants as kind;
 ghost use Rattle.cborn_engine.specs.Holding.{Holds};
 ghost use Rattle.cborn_engine.specs.Refusing.{IsRefused, IsNoRefusal};
-ghost use Rattle.cborn_engine.specs.Canonical.{IsCanonical};
+ghost use Rattle.cborn_engine.specs.Canonical.{IsCanonical, NormaliseAnswers};
+ghost use Rattle.cborn_engine.specs.Comparing.{HoldSameItems};
 
 use cborn_model::KeyOrder;
+
+/// The headline. Where `normalise` answers for two inputs, each of any kind, under one order of keys, one limit and to one kind of output, it writes the same bytes for both exactly if they hold the same items. What it writes holds the items that it read, and normalising that again writes the same bytes.
+pub fn headline<O: KeyOrder>()
+    ensures alike { (k l out : Kind) (limit most : ℕ) (x y v w : List ℕ) → NormaliseAnswers O.order k out limit most x v (Ok tt) → NormaliseAnswers O.order l out limit most y w (Ok tt) → (v ≡ w) ↔ HoldSameItems k l limit x y }
+    ensures held { (k out : Kind) (limit most : ℕ) (x v : List ℕ) → NormaliseAnswers O.order k out limit most x v (Ok tt) → HoldSameItems k out limit x v }
+    ensures again { (k out : Kind) (limit most : ℕ) (x v w : List ℕ) → NormaliseAnswers O.order k out limit most x v (Ok tt) → NormaliseAnswers O.order out out limit most v w (Ok tt) → w ≡ v }
+{}
 
 /// Two inputs, of any kinds, have the same canonical form exactly if they hold the same items.
 pub fn same_answer<O: KeyOrder>()
@@ -34,7 +42,8 @@ pub fn whole_input()
     ensures { (x input : List ℕ) (after : Option (List ℕ)) → Consumes (Some x) after input → IsAtEnd after → input ≡ x }
 {}
 
-/// Bytes that hold items, and are no more than allowed, are refused only where the reader failed or memory was refused.
+/// An input that holds items, and is no longer than allowed, is refused only where the reader failed or memory was refused; notation where it has at most 2^30 bytes.
 pub fn held_input()
-    ensures { (limit most : ℕ) (x : List ℕ) (vs : List Value) (why : EngineFault) → length x ≤ most → Holds kind.Wire limit x vs → IsRefused kind.Wire limit most x why → IsNoRefusal why }
+    ensures bytes { (limit most : ℕ) (x : List ℕ) (vs : List Value) (why : EngineFault) → length x ≤ most → Holds kind.Wire limit x vs → IsRefused kind.Wire limit most x why → IsNoRefusal why }
+    ensures all { (k : Kind) (limit most : ℕ) (x : List ℕ) (vs : List Value) (why : EngineFault) → length x ≤ most → length x ≤ 2 ^ 30 → Holds k limit x vs → IsRefused k limit most x why → IsNoRefusal why }
 {}

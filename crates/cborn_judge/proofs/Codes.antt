@@ -1,8 +1,7 @@
 -- The codes of keys: one more of them, and that codes that rise are of distinct keys.
-use Rattle.std.proofs.Common.{◌≡◌, ℕ, suc, ◌+◌, ◌<◌, ◌≤◌, inl, inr, List, [], ◌∷◌, ◌++◌, length, drop, take, get_or, map, Option, None, Some, Result, Ok, Err, refl, sym, ap, ◌∙◌, subst, arith, append_assoc, append-nil, length-append, Ordering, Less, Equal, Greater, is_lt, Bool, true, IsTrue}
+use Rattle.std.proofs.Common.{◌≡◌, ℕ, suc, ◌+◌, ◌<◌, ◌≤◌, inl, inr, List, [], ◌∷◌, ◌++◌, length, drop, take, get_or, map, Option, None, Some, refl, sym, ap, ◌∙◌, subst, arith, append_assoc, append-nil, length-append, Ordering, Less, Equal, Greater, is_lt, Bool, true, IsTrue}
 use Rattle.std.specs.List.{flat_map, AllByRecursion}
-use Rattle.std.specs.Prelude.{◌↔◌, All, IfOk}
-use Rattle.std.specs.declared.alloc.AllocError.{AllocError}
+use Rattle.std.specs.Prelude.{◌↔◌, All}
 use Rattle.std.proofs.Math.Seq.{drop-append_seam, take-append_seam}
 use Rattle.std.proofs.lemmas.List.Elements.{All-from_recursion}
 use Rattle.std.proofs.lemmas.List.{map-append, drop_more, drop_all}
@@ -55,7 +54,7 @@ last_code (c ∷ d ∷ codes) [] y e = absurd (let l = ap length e in omega arit
 last_code (c ∷ d ∷ codes) (z ∷ ys) y e =
     let others : map code_bytes (d ∷ codes) ≡ ys ++ y ∷ [] = cc in
     let t = last_code (d ∷ codes) ys y others in
-    (c ∷ t.0, t.1, ap (λ l. c ∷ l) t.2, t.3)
+    (c ∷ t.0, t.1, ap (λ (l : List Code). c ∷ l) {y = t.0 ++ t.1 ∷ []} t.2, t.3)
 
 last_bytes : (before : List Code) (c : Code) → drop (length (flat_map code_bytes before)) (flat_map code_bytes (before ++ c ∷ [])) ≡ c.0
 last_bytes before c =
@@ -122,7 +121,7 @@ one_marked [] (d ∷ ds) marks bytes h k = absurd (let l = ap length (sym h.0 �
 one_marked (c ∷ cs) [] marks bytes h k = absurd (let l = ap length (sym h.0 ∙ k.0) in omega arith)
 one_marked (c ∷ cs) (d ∷ ds) marks bytes h k =
     let whole : (length c.0, c.1) ∷ map mark cs ≡ (length d.0, d.1) ∷ map mark ds = sym h.0 ∙ k.0 in
-    let first : (length c.0, c.1) ≡ (length d.0, d.1) = cc in
+    let first : mark c ≡ mark d = cc in
     let others : map mark cs ≡ map mark ds = cc in
     let t = append_same c.0 d.0 (flat_map code_bytes cs) (flat_map code_bytes ds) (ap (λ (m : ℕ × ℕ). m.0) first) (sym h.1 ∙ k.1) in
     let u : cs ≡ ds = one_marked cs ds (map mark ds) (flat_map code_bytes ds) (sym others, sym t.1) (refl, refl) in
@@ -178,10 +177,9 @@ least_alike P Q None e h = λ p q. h p ((e p).1 q)
 least_alike P Q (Some p) e h = ((e p).0 h.0, λ q r. h.1 q ((e q).1 r))
 
 -- what the search among slices answers, as places of repeated keys
-pub least_repeated : (nodes : List (Tree × Tree)) (ks : List Key) (r : Result (Option ℕ) AllocError) → AreKeys key_bytes key_position (λ k. get_or (key_places nodes) k.1 0) (entries nodes) 0 ks
-    → IfOk r (IsLeast (IsRepeatAt ks (key_places nodes))) → IfOk r (IsLeast (HasRepeat (entries nodes)))
-least_repeated nodes ks (Ok o) h k = least_alike (IsRepeatAt ks (key_places nodes)) (HasRepeat (entries nodes)) o (λ p. let e = repeats_alike (entries nodes) ks (key_places nodes) p h in (e.1, e.0)) k
-least_repeated nodes ks (Err x) h k = k
+pub least_repeated : (nodes : List (Tree × Tree)) (ks : List Key) (o : Option ℕ) → AreKeys key_bytes key_position (λ k. get_or (key_places nodes) k.1 0) (entries nodes) 0 ks
+    → IsLeast (IsRepeatAt ks (key_places nodes)) o → IsLeast (HasRepeat (entries nodes)) o
+least_repeated nodes ks o h k = least_alike (IsRepeatAt ks (key_places nodes)) (HasRepeat (entries nodes)) o (λ p. let e = repeats_alike (entries nodes) ks (key_places nodes) p h in (e.1, e.0)) k
 
 -- keys whose encodings rise are no repeats
 pub none_repeated : (nodes : List (Tree × Tree)) (places : List ℕ) (codes : List Code) (p : ℕ) → AreKeys code_bytes code_position (λ c. get_or places c.1 0) (entries nodes) 0 codes → Rising bytewise (map code_bytes codes) → HasRepeat (entries nodes) p → ⊥

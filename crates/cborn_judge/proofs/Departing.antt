@@ -1,7 +1,7 @@
 -- The first defect of a node by those of its parts.
-use Rattle.std.proofs.Common.{◌≡◌, ℕ, ◌+◌, ◌<◌, ◌≤◌, ◌⊎◌, inl, inr, List, [], ◌∷◌, ◌++◌, length, get_or, take, refl, sym, ap, ◌∙◌, subst, Option, None, Ordering}
+use Rattle.std.proofs.Common.{◌≡◌, ℕ, ◌+◌, ◌<◌, ◌≤◌, ◌⊎◌, inl, inr, List, [], ◌∷◌, ◌++◌, length, get_or, take, refl, sym, subst, Option, None, Ordering}
 use Rattle.std.specs.Prelude.{◌↔◌}
-use Rattle.std.proofs.lemmas.List.{take_more, take_all}
+use Rattle.std.proofs.lemmas.List.{take_all}
 use Rattle.cborn_model.proofs.Trees.{count-trees, count_entries-entries}
 use Rattle.cborn_model.specs.Meaning.{IsByteString, joined_chunks}
 use Rattle.cborn_model.specs.Tree.{Tree, Uint, Nint, Bytes, Text, ByteChunks, TextChunks, Items, Pairs, Tagged, Simple, trees, entries, count, count_entries}
@@ -16,6 +16,7 @@ use Rattle.cborn_judge.specs.declared.defects.DefectReason.{DefectReason}
 use Rattle.cborn_judge.proofs.Meanings.{string_once}
 use Rattle.cborn_judge.proofs.Firsts as firsts
 use Rattle.cborn_judge.proofs.Firsts.{Either}
+use Rattle.cborn_judge.proofs.Passing.{passed_one}
 
 pub both_found : (F G : ℕ → DefectReason → Type 0) (a b o : Option defect.Defect) → FindsDefect F a → FindsDefect G b → IsEarliestDefect a b o → FindsDefect (Either F G) o
 both_found F G a b o h k e = firsts.found_both defect_rank (λ d. d.place) (λ d. d.reason) F G a b o h k e
@@ -53,12 +54,9 @@ chunk_more q cs c p r = (to, from)
     from (inl h) = inl (inl h)
     from (inr h) = elim ((long_more cs c p).0 h.1) [ inl k ↦ inl (inr (h.0, k)) | inr k ↦ inr (k.0, h.0, k.1) ]
 
-front : {A : Type 0} (xs : List A) (i : ℕ) (x : A) → i < length xs → x ≡ get_or xs i x → take (i + 1) xs ≡ take i xs ++ x ∷ []
-front {A} xs i x l e = take_more xs i x l ∙ ap (λ (z : A). take i xs ++ z ∷ []) (sym e)
-
 pub chunk-take_more : (q : ℕ) (cs : List Chunk) (i : ℕ) (c : Chunk) (a b o : Option defect.Defect) → i < length cs → c ≡ get_or cs i c → FindsDefect (ChunksDefect q (take i cs)) a → FindsDefect (LongAt c.place c.width (length c.bytes)) b → IsEarliestDefect a b o → FindsDefect (ChunksDefect q (take (i + 1) cs)) o
 chunk-take_more q cs i c a b o l e h k m =
-    subst (λ t. FindsDefect (ChunksDefect q t) o) (sym (front cs i c l e))
+    subst (λ t. FindsDefect (ChunksDefect q t) o) (sym (passed_one cs i c l e))
     (alike (Either (ChunksDefect q (take i cs)) (LongAt c.place c.width (length c.bytes))) (ChunksDefect q (take i cs ++ c ∷ [])) o (chunk_more q (take i cs) c)
     (both_found (ChunksDefect q (take i cs)) (LongAt c.place c.width (length c.bytes)) a b o h k m))
 

@@ -3,7 +3,7 @@ use Rattle.std.proofs.Common.{◌≡◌, ◌≢◌, ℕ, zero, suc, ◌+◌, ◌
 use Rattle.std.specs.Prelude.{◌↔◌}
 use Rattle.std.specs.List.{AllZip}
 use Rattle.std.proofs.Math.Seq.{drop-append_seam}
-use Rattle.std.proofs.lemmas.List.{take_more, take_all}
+use Rattle.std.proofs.lemmas.List.{take_all}
 use Rattle.cborn_model.proofs.Sameness.{same_itself}
 use Rattle.cborn_model.specs.ItemView.{item_value, pair_value}
 use Rattle.cborn_model.specs.Meaning.{Means, AllMean, EntriesMean}
@@ -24,9 +24,7 @@ use Rattle.cborn_judge.proofs.Firsts.{Either}
 use Rattle.cborn_judge.proofs.Meanings.{means_once}
 use Rattle.cborn_judge.proofs.Pairing as pairs
 use Rattle.cborn_judge.proofs.Walking as items
-
-front : {A : Type 0} (xs : List A) (i : ℕ) (x : A) → i < length xs → x ≡ get_or xs i x → take (i + 1) xs ≡ take i xs ++ x ∷ []
-front {A} xs i x l e = take_more xs i x l ∙ ap (λ (z : A). take i xs ++ z ∷ []) (sym e)
+use Rattle.cborn_judge.proofs.Passing.{passed_one}
 
 -- ---- what nodes and pairs mean, one by one
 
@@ -69,7 +67,7 @@ module _ (order : List ℕ → List ℕ → Ordering) where
 
   pub item-take_more : (xs : List Tree) (i : ℕ) (x : Tree) (a b o : Option defect.Defect) → i < length xs → x ≡ get_or xs i x → FindsDefect (DefectInAll order (trees (take i xs))) a → FindsDefect (DefectIn order x) b → IsEarliestDefect a b o → FindsDefect (DefectInAll order (trees (take (i + 1) xs))) o
   item-take_more xs i x a b o l e h k m =
-      subst (λ t. FindsDefect (DefectInAll order (trees t)) o) (sym (front xs i x l e))
+      subst (λ t. FindsDefect (DefectInAll order (trees t)) o) (sym (passed_one xs i x l e))
       (alike (Either (DefectInAll order (trees (take i xs))) (DefectIn order x)) (DefectInAll order (trees (take i xs ++ x ∷ []))) o (item_more (take i xs) x)
       (both_found (DefectInAll order (trees (take i xs))) (DefectIn order x) a b o h k m))
 
@@ -102,7 +100,7 @@ module _ (order : List ℕ → List ℕ → Ordering) where
 
   pub pair-take_more : (xs : List (Tree × Tree)) (i : ℕ) (x : Tree × Tree) (a b c d o : Option defect.Defect) → i < length xs → x ≡ get_or xs i x → FindsDefect (SoFar xs (take i xs)) a → FindsDefect (DefectIn order x.0) b → FindsDefect (DefectIn order x.1) c → IsEarliestDefect b c d → IsEarliestDefect a d o → FindsDefect (SoFar xs (take (i + 1) xs)) o
   pair-take_more xs i x a b c d o l e h j k m n =
-      subst (λ t. FindsDefect (SoFar xs t) o) (sym (front xs i x l e))
+      subst (λ t. FindsDefect (SoFar xs t) o) (sym (passed_one xs i x l e))
       (alike (Either (SoFar xs (take i xs)) (PairDefect x)) (SoFar xs (take i xs ++ x ∷ [])) o (pair_more xs (take i xs) x)
       (both_found (SoFar xs (take i xs)) (PairDefect x) a d o h (both_found (DefectIn order x.0) (DefectIn order x.1) b c d j k m) n))
 
@@ -239,7 +237,7 @@ module _ (order : List ℕ → List ℕ → Ordering) where
     pub seen-take_more : (xs : List (Tree × Tree)) (i start : ℕ) (n : Tree × Tree) (bytes bytes' x : List ℕ) (previous : Option ℕ) (first next o : Option defect.Defect) → i < length xs → n ≡ get_or xs i n → Seen (take i xs) bytes previous first → IsCodeOf n x → bytes' ≡ bytes ++ x → start ≡ length bytes → FindsDefect (After bytes previous x (place n.0)) next → IsEarliestDefect first next o
         → Seen (take (i + 1) xs) bytes' (Some start) o
     seen-take_more xs i start n bytes bytes' x previous first next o l e h k b s f m =
-        subst (λ t. Seen t bytes' (Some start) o) (sym (front xs i n l e)) (subst (λ z. Seen (take i xs ++ n ∷ []) bytes' (Some z) o) (sym s) (seen_more (take i xs) n bytes bytes' x previous first next o h k b f m))
+        subst (λ t. Seen t bytes' (Some start) o) (sym (passed_one xs i n l e)) (subst (λ z. Seen (take i xs ++ n ∷ []) bytes' (Some z) o) (sym s) (seen_more (take i xs) n bytes bytes' x previous first next o h k b f m))
 
   pub all_seen : (xs : List (Tree × Tree)) (i : ℕ) (bytes : List ℕ) (previous : Option ℕ) (first : Option defect.Defect) → length xs ≤ i → Seen (take i xs) bytes previous first → FindsDefect (DescentAt order (entries xs)) first
   all_seen xs i bytes previous first l h = let w : Seen xs bytes previous first = subst (λ t. Seen t bytes previous first) (take_all i xs l) h in w.found

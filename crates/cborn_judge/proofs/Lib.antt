@@ -9,12 +9,15 @@ pub mod Tidying
 pub mod Checking
 pub mod Numbering
 pub mod Firsts
+pub mod Passing
 pub mod Texts
 pub mod Codes
 pub mod Walking
 pub mod Pairing
 pub mod Tagging
 pub mod Sequences
+pub mod Recalling
+pub mod Yielding
 pub mod Departing
 pub mod Descending
 pub mod Contents

@@ -2,7 +2,7 @@
 use Rattle.std.proofs.Common.{◌≡◌, ℕ, ◌+◌, ◌<◌, ◌≤◌, ◌⊎◌, ◌^◌, inl, inr, List, [], ◌∷◌, ◌++◌, length, map, get_or, take, refl, sym, ap, ◌∙◌, subst, arith, Option, None, Some}
 use Rattle.std.specs.Prelude.{◌↔◌, slice_index, ⊤}
 use Rattle.std.proofs.lemmas.Bool.{cases_lt}
-use Rattle.std.proofs.lemmas.List.{length-take-le, take_more, take_all, map-append, length-map, get_or-map}
+use Rattle.std.proofs.lemmas.List.{length-take-le, take_all, map-append, length-map, get_or-map}
 use Rattle.cborn_model.specs.First.{NoLater, IsFirst}
 use Rattle.cborn_model.specs.ItemView.{item_value, pair_value}
 use Rattle.cborn_model.specs.Meaning.{Means, EntriesMean}
@@ -26,6 +26,7 @@ use Rattle.cborn_judge.proofs.Firsts.{Either, earlier_of, found_both, found_alik
 use Rattle.cborn_judge.proofs.Judging.{sound_entries, no_flaw, new_keys}
 use Rattle.cborn_judge.proofs.Pushing.{keys_push, keys_skip}
 use Rattle.cborn_judge.proofs.Steps.{flaw_pairs}
+use Rattle.cborn_judge.proofs.Passing.{passed_one}
 
 abbrev EarliestOf : Option flaw.Flaw → flaw.Flaw → Option flaw.Flaw → Type 0
 EarliestOf o f g = IsEarliestFlaw o (Some f) g
@@ -118,15 +119,12 @@ flawed_more ns n o g ys f h k e =
     (found_alike flaw_rank (λ f. f.place) (λ f. f.reason) (Either (FlawAmong (entries ns)) (PairFlaw n)) (FlawAmong (entries (ns ++ n ∷ []))) g (one_more ns n)
     (found_both flaw_rank (λ f. f.place) (λ f. f.reason) (FlawAmong (entries ns)) (PairFlaw n) o (Some f) g (found ns o ys h) k e))
 
-front : {A : Type 0} (xs : List A) (i : ℕ) (x : A) → i < length xs → x ≡ get_or xs i x → take (i + 1) xs ≡ take i xs ++ x ∷ []
-front {A} xs i x l e = take_more xs i x l ∙ ap (λ (z : A). take i xs ++ z ∷ []) (sym e)
-
 pub valid-take_more : (ns : List (Tree × Tree)) (i : ℕ) (n : Tree × Tree) (o : Option flaw.Flaw) (ys zs : List (Item × Item)) (k v : Item) → i < length ns → n ≡ get_or ns i n → ArePairsJudged (take i ns) o ys → MeansItem n.0 k → MeansItem n.1 v → zs ≡ ys ++ (k, v) ∷ [] → ArePairsJudged (take (i + 1) ns) o zs
 valid-take_more ns i n o ys zs k v l e h j m z =
-    subst (λ t. ArePairsJudged t o zs) (sym (front ns i n l e)) (subst (ArePairsJudged (take i ns ++ n ∷ []) o) (sym z) (valid_more (take i ns) n o ys (k, v) h j m))
+    subst (λ t. ArePairsJudged t o zs) (sym (passed_one ns i n l e)) (subst (ArePairsJudged (take i ns ++ n ∷ []) o) (sym z) (valid_more (take i ns) n o ys (k, v) h j m))
 
 pub flawed-take_more : (ns : List (Tree × Tree)) (i : ℕ) (n : Tree × Tree) (o g : Option flaw.Flaw) (ys : List (Item × Item)) (f : flaw.Flaw) → i < length ns → n ≡ get_or ns i n → ArePairsJudged (take i ns) o ys → IsFirst flaw_rank (PairFlaw n) f.place f.reason → EarliestOf o f g → ArePairsJudged (take (i + 1) ns) g ys
-flawed-take_more ns i n o g ys f l e h k m = subst (λ t. ArePairsJudged t g ys) (sym (front ns i n l e)) (flawed_more (take i ns) n o g ys f h k m)
+flawed-take_more ns i n o g ys f l e h k m = subst (λ t. ArePairsJudged t g ys) (sym (passed_one ns i n l e)) (flawed_more (take i ns) n o g ys f h k m)
 
 -- ---- keys that are kept
 
@@ -143,7 +141,7 @@ kept_flawed position n v f keys k places ns l e h =
 
 pub kept-take_more : (ns : List (Tree × Tree)) (i : ℕ) (n : Tree × Tree) (old new : Keys) → i < length ns → n ≡ get_or ns i n → KeepsKey i n old new → AreKept (key_places ns) (take i ns) old → AreKept (key_places ns) (take (i + 1) ns) new
 kept-take_more ns i n old new l e k h =
-    subst (λ t. AreKept (key_places ns) t new) (sym (front ns i n l e)) (k (key_places ns) (take i ns) (length-take-le i ns (omega arith)) (get_or-map (λ (m : Tree × Tree). place m.0) ns i n 0 l ∙ ap (λ (m : Tree × Tree). place m.0) (sym e)) h)
+    subst (λ t. AreKept (key_places ns) t new) (sym (passed_one ns i n l e)) (k (key_places ns) (take i ns) (length-take-le i ns (omega arith)) (get_or-map (λ (m : Tree × Tree). place m.0) ns i n 0 l ∙ ap (λ (m : Tree × Tree). place m.0) (sym e)) h)
 
 -- ---- the whole map
 

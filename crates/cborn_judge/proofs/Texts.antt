@@ -1,7 +1,7 @@
 -- The chunks of a text string, as a loop over them judges them.
 use Rattle.std.proofs.Common.{◌≡◌, ℕ, ◌+◌, ◌<◌, ◌≤◌, ◌⊎◌, inl, inr, List, [], ◌∷◌, ◌++◌, length, get_or, take, refl, sym, ap, ◌∙◌, subst, arith, append-nil, Option, None, Some}
 use Rattle.std.specs.Prelude.{◌↔◌, IsUtf8}
-use Rattle.std.proofs.lemmas.List.{take_more, take_all}
+use Rattle.std.proofs.lemmas.List.{take_all}
 use Rattle.std.proofs.lemmas.List.Concat.{flat_map-append}
 use Rattle.cborn_model.specs.declared.nodes.Chunk.{Chunk}
 use Rattle.cborn_model.specs.Meaning.{joined_chunks, ChunksAreText}
@@ -14,6 +14,7 @@ use Rattle.cborn_judge.specs.declared.faults.InvalidReason.TheVariants.{NotUtf8}
 use Rattle.cborn_model.specs.First.{IsFirst}
 use Rattle.cborn_judge.proofs.Firsts.{Either, found_both, found_alike, none_of_both}
 use Rattle.cborn_judge.proofs.Judging.{no_bad_chunk}
+use Rattle.cborn_judge.proofs.Passing.{passed_one}
 
 abbrev OneBad : Chunk → ℕ → InvalidReason → Type 0
 OneBad c p r = (r ≡ NotUtf8) × (p ≡ c.place) × (IsUtf8 c.bytes → ⊥)
@@ -74,11 +75,11 @@ bad cs c o g f b h u e i k =
 -- as a loop over the chunks meets them
 pub fine-take_more : (cs : List Chunk) (i : ℕ) (c : Chunk) (o : Option flaw.Flaw) (b d : List ℕ) → i < length cs → c ≡ get_or cs i c → AreChunksJudged (take i cs) o b → IsUtf8 c.bytes → d ≡ b ++ c.bytes → AreChunksJudged (take (i + 1) cs) o d
 fine-take_more cs i c o b d l e h u j =
-    subst (λ z. AreChunksJudged z o d) (sym (take_more cs i c l ∙ ap (λ (z : Chunk). take i cs ++ z ∷ []) (sym e))) (subst (AreChunksJudged (take i cs ++ c ∷ []) o) (sym j) (fine (take i cs) c o b h u))
+    subst (λ z. AreChunksJudged z o d) (sym (passed_one cs i c l e)) (subst (AreChunksJudged (take i cs ++ c ∷ []) o) (sym j) (fine (take i cs) c o b h u))
 
 pub bad-take_more : (cs : List Chunk) (i : ℕ) (c : Chunk) (o g : Option flaw.Flaw) (f : flaw.Flaw) (b : List ℕ) → i < length cs → c ≡ get_or cs i c → AreChunksJudged (take i cs) o b → (IsUtf8 c.bytes → ⊥) → f.place ≡ c.place → f.reason ≡ NotUtf8 → EarliestOf o f g → AreChunksJudged (take (i + 1) cs) g b
 bad-take_more cs i c o g f b l e h u j k m =
-    subst (λ z. AreChunksJudged z g b) (sym (take_more cs i c l ∙ ap (λ (z : Chunk). take i cs ++ z ∷ []) (sym e))) (bad (take i cs) c o g f b h u j k m)
+    subst (λ z. AreChunksJudged z g b) (sym (passed_one cs i c l e)) (bad (take i cs) c o g f b h u j k m)
 
 pub all_text : (cs : List Chunk) (i : ℕ) (o : Option flaw.Flaw) (b : List ℕ) → length cs ≤ i → AreChunksJudged (take i cs) o b → o ≡ None → ChunksAreText cs × (b ≡ joined_chunks cs)
 all_text cs i o b l h e = subst (λ z. AreChunksJudged cs z b) e (subst (λ z. AreChunksJudged z o b) (take_all i cs l) h)

@@ -1,7 +1,7 @@
 -- What nodes and pairs mean, or their first flaw, as a loop over them meets them.
-use Rattle.std.proofs.Common.{◌≡◌, ℕ, ◌+◌, ◌<◌, ◌≤◌, ◌⊎◌, ◌^◌, inl, inr, List, [], ◌∷◌, ◌++◌, length, map, get_or, take, refl, sym, ap, ◌∙◌, subst, arith, Option, None, Some}
+use Rattle.std.proofs.Common.{◌≡◌, ℕ, ◌+◌, ◌<◌, ◌≤◌, ◌⊎◌, ◌^◌, inl, inr, List, [], ◌∷◌, ◌++◌, length, map, get_or, take, refl, sym, subst, arith, Option, None, Some}
 use Rattle.std.specs.Prelude.{◌↔◌}
-use Rattle.std.proofs.lemmas.List.{take_more, take_all, map-append, length-map}
+use Rattle.std.proofs.lemmas.List.{take_all, map-append, length-map}
 use Rattle.cborn_model.specs.First.{IsFirst}
 use Rattle.cborn_model.specs.ItemView.{item_value}
 use Rattle.cborn_model.specs.Meaning.{Means, AllMean}
@@ -18,6 +18,7 @@ use Rattle.cborn_judge.specs.declared.faults.InvalidReason.{InvalidReason}
 use Rattle.cborn_judge.proofs.Firsts.{Either, found_both, found_alike, none_of_both}
 use Rattle.cborn_judge.proofs.Judging.{sound_all, no_flaw}
 use Rattle.cborn_judge.proofs.Steps.{flaw_items}
+use Rattle.cborn_judge.proofs.Passing.{passed_one}
 
 abbrev EarliestOf : Option flaw.Flaw → flaw.Flaw → Option flaw.Flaw → Type 0
 EarliestOf o f g = IsEarliestFlaw o (Some f) g
@@ -81,15 +82,12 @@ flawed_more xs x o g ys f h k e =
     (found_alike flaw_rank (λ f. f.place) (λ f. f.reason) (Either (FlawIn (trees xs)) (Flaw x)) (FlawIn (trees (xs ++ x ∷ []))) g (one_more xs x)
     (found_both flaw_rank (λ f. f.place) (λ f. f.reason) (FlawIn (trees xs)) (Flaw x) o (Some f) g (found xs o ys h) k e))
 
-front : {A : Type 0} (xs : List A) (i : ℕ) (x : A) → i < length xs → x ≡ get_or xs i x → take (i + 1) xs ≡ take i xs ++ x ∷ []
-front {A} xs i x l e = take_more xs i x l ∙ ap (λ (z : A). take i xs ++ z ∷ []) (sym e)
-
 pub valid-take_more : (xs : List Tree) (i : ℕ) (x : Tree) (o : Option flaw.Flaw) (ys zs : List Item) (y : Item) → i < length xs → x ≡ get_or xs i x → AreJudged (take i xs) o ys → MeansItem x y → zs ≡ ys ++ y ∷ [] → AreJudged (take (i + 1) xs) o zs
 valid-take_more xs i x o ys zs y l e h m z =
-    subst (λ t. AreJudged t o zs) (sym (front xs i x l e)) (subst (AreJudged (take i xs ++ x ∷ []) o) (sym z) (valid_more (take i xs) x o ys y h m))
+    subst (λ t. AreJudged t o zs) (sym (passed_one xs i x l e)) (subst (AreJudged (take i xs ++ x ∷ []) o) (sym z) (valid_more (take i xs) x o ys y h m))
 
 pub flawed-take_more : (xs : List Tree) (i : ℕ) (x : Tree) (o g : Option flaw.Flaw) (ys : List Item) (f : flaw.Flaw) → i < length xs → x ≡ get_or xs i x → AreJudged (take i xs) o ys → IsFirstFlaw x f.place f.reason → EarliestOf o f g → AreJudged (take (i + 1) xs) g ys
-flawed-take_more xs i x o g ys f l e h k m = subst (λ t. AreJudged t g ys) (sym (front xs i x l e)) (flawed_more (take i xs) x o g ys f h k m)
+flawed-take_more xs i x o g ys f l e h k m = subst (λ t. AreJudged t g ys) (sym (passed_one xs i x l e)) (flawed_more (take i xs) x o g ys f h k m)
 
 pub all_valid : (p : ℕ) (s : Size) (xs : List Tree) (i : ℕ) (o : Option flaw.Flaw) (ys : List Item) → length xs ≤ i → length ys < 2 ^ 64 → AreJudged (take i xs) o ys → o ≡ None
     → Means (Items p s (trees xs)) (array (values_of (map item_value ys))) × IsProper (array (values_of (map item_value ys)))

@@ -5,4 +5,5 @@ pub mod Places
 pub mod Tidy
 pub mod Judged
 pub mod Keeping
+pub mod Recalled
 pub mod Checked

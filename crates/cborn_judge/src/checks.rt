@@ -38,6 +38,7 @@ pub fn first_defect<O: KeyOrder>(
 
 /// The first defect of a node that means `item`.
 #[cycle(checked)]
+#[inline(always)]
 fn defect_of<O: KeyOrder>(
     alloc: Global,
     node: &Node,
@@ -76,6 +77,7 @@ fn defect_of<O: KeyOrder>(
 
 /// The first defect of the nodes of an array of `items`.
 #[cycle(checked)]
+#[inline(never)]
 fn defect_in_items<O: KeyOrder>(
     alloc: Global,
     nodes: &[Node],
@@ -95,6 +97,7 @@ fn defect_in_items<O: KeyOrder>(
 
 /// The first defect of the nodes of a map of `pairs`, and of their order.
 #[cycle(checked)]
+#[inline(never)]
 fn defect_in_pairs<O: KeyOrder>(
     alloc: Global,
     nodes: &[(Node, Node)],
@@ -115,6 +118,7 @@ fn defect_in_pairs<O: KeyOrder>(
 
 /// The first defect of the content of a tag at `place` that means `item`, and of the tag as a bignum's.
 #[cycle(checked)]
+#[inline(never)]
 fn defect_in_tag<O: KeyOrder>(
     alloc: Global,
     place: u64,

@@ -14,11 +14,10 @@ ghost use Rattle.cborn_judge.specs.Keeping.{KeepsKey};
 
 use crate::bignums::{judge_bignum, small_integer};
 use crate::faults::{Flaw, Invalid, InvalidReason, earlier, earliest};
-use crate::keys::Keys;
+use crate::keys::{Keys, cleared};
 use crate::strings::{judge_byte_chunks, judge_bytes, judge_text, judge_text_chunks};
 use cborn_model::{Form, Item, ItemBox, ItemList, Node, PairList, Spelled, Valid};
 use std::alloc::{AllocError, Global};
-use std::mem;
 
 /// What a node means, or the first of its flaws.
 #[derive(Drop)]
@@ -29,7 +28,7 @@ pub(crate) enum Judged {
 
 /// What a pair of nodes means, or the first of their flaws.
 #[derive(Drop)]
-enum JudgedPair {
+pub(crate) enum JudgedPair {
     Valid(Item, Item),
     Flawed(Flaw),
 }
@@ -39,11 +38,12 @@ pub fn judge(alloc: Global, spelled: &Spelled) -> Result<Valid, Invalid>
     ensures meant { IfOk result (λ valid. Means spelled.now valid) }
     ensures refused { IfErr result (IsRefusal spelled.now) }
 {
-    judge_with(alloc, spelled, &mut Keys::new(alloc))
+    judge_with(alloc, spelled, &mut Vec::new(alloc))
 }
 
-/// What `judge` answers, with room for keys in `spare`.
-fn judge_with(alloc: Global, spelled: &Spelled, spare: &mut Keys) -> Result<Valid, Invalid>
+/// What `judge` answers. `spare` has the room of maps that are done, for the keys of those to come.
+#[inline(always)]
+fn judge_with(alloc: Global, spelled: &Spelled, spare: &mut Vec<Keys>) -> Result<Valid, Invalid>
     ensures meant { IfOk result (λ valid. Means spelled.now valid) }
     ensures refused { IfErr result (IsRefusal spelled.now) }
 {
@@ -62,8 +62,10 @@ pub fn judge_all(alloc: Global, spelled: &[Spelled]) -> Result<Vec<Valid>, Inval
     ensures meant { IfOk result (λ items. AllZip Means spelled.now items.items) }
     ensures refused { IfErr result (IsRefusalOfAll spelled.now) }
 {
-    let mut items = Vec::new(alloc);
-    let mut spare = Keys::new(alloc);
+    let Ok(mut items) = Vec::with_capacity(alloc, spelled.len()) else {
+        return Err(Invalid::OutOfMemory);
+    };
+    let mut spare = Vec::new(alloc);
     for node in spelled {
         let item = judge_with(alloc, node, &mut spare)?;
         items.push(item).map_err(|_| Invalid::OutOfMemory)?;
@@ -71,9 +73,10 @@ pub fn judge_all(alloc: Global, spelled: &[Spelled]) -> Result<Vec<Valid>, Inval
     Ok(items)
 }
 
-/// What the node means. What stands in `spare` is of no meaning: its room is used again for the keys of maps.
+/// What the node means. What stands in `spare` is of no meaning: its room is used again for the keys of maps, one for each that is open at a time.
 #[cycle(judged)]
-fn judge_node(alloc: Global, node: &Node, spare: &mut Keys) -> Result<Judged, AllocError>
+#[inline(always)]
+fn judge_node(alloc: Global, node: &Node, spare: &mut Vec<Keys>) -> Result<Judged, AllocError>
     requires { Fits node.now }
     ensures { IfOk result (IsJudged node.now) }
 {
@@ -94,16 +97,21 @@ fn judge_node(alloc: Global, node: &Node, spare: &mut Keys) -> Result<Judged, Al
 
 /// What an array of these nodes means.
 #[cycle(judged)]
-fn judge_items(alloc: Global, nodes: &[Node], spare: &mut Keys) -> Result<Judged, AllocError>
+#[inline(never)]
+fn judge_items(alloc: Global, nodes: &[Node], spare: &mut Vec<Keys>) -> Result<Judged, AllocError>
     requires { FitsAll (trees nodes.now) }
     ensures { IfOk result (λ judged. (p : ℕ) (s : Size) → IsJudged (tree.Items p s (trees nodes.now)) judged) }
 {
     let mut first: Option<Flaw> = None;
     let mut items = Vec::with_capacity(alloc, nodes.len())?;
     for node in nodes {
-        match judge_node(alloc, node, spare)? {
-            Judged::Valid(item) => items.push(item)?,
-            Judged::Flawed(flaw) => first = earliest(first, Some(flaw)),
+        match &node.form {
+            Form::Uint(_, n) => items.push(small_integer(false, *n))?,
+            Form::Nint(_, n) => items.push(small_integer(true, *n))?,
+            _ => match judge_node(alloc, node, spare)? {
+                Judged::Valid(item) => items.push(item)?,
+                Judged::Flawed(flaw) => first = earliest(first, Some(flaw)),
+            },
         }
     }
     match first {
@@ -114,18 +122,18 @@ fn judge_items(alloc: Global, nodes: &[Node], spare: &mut Keys) -> Result<Judged
 
 /// What a map of these pairs means.
 #[cycle(judged)]
+#[inline(never)]
 fn judge_pairs(
     alloc: Global,
     nodes: &[(Node, Node)],
-    spare: &mut Keys,
+    spare: &mut Vec<Keys>,
 ) -> Result<Judged, AllocError>
     requires { FitsEntries (entries nodes.now) }
     ensures { IfOk result (λ judged. (p : ℕ) (s : Size) → IsJudged (tree.Pairs p s (entries nodes.now)) judged) }
 {
     let mut first: Option<Flaw> = None;
     let mut pairs = Vec::with_capacity(alloc, nodes.len())?;
-    let mut keys = mem::replace(spare, Keys::new(alloc));
-    keys.clear();
+    let mut keys = cleared(alloc, spare);
     for (position, pair) in nodes.iter().enumerate() {
         match judge_pair(alloc, position, pair, &mut keys, spare)? {
             JudgedPair::Valid(key, value) => pairs.push((key, value))?,
@@ -133,7 +141,7 @@ fn judge_pairs(
         }
     }
     let repeat = keys.first_repeat(alloc, nodes)?;
-    *spare = keys;
+    spare.push(keys)?;
     match earliest(first, repeat) {
         Some(flaw) => Ok(Judged::Flawed(flaw)),
         None => Ok(Judged::Valid(Item::Pairs(PairList::new(pairs)))),
@@ -147,7 +155,7 @@ fn judge_pair(
     position: usize,
     pair: &(Node, Node),
     keys: &mut Keys,
-    spare: &mut Keys,
+    spare: &mut Vec<Keys>,
 ) -> Result<JudgedPair, AllocError>
     requires begun { keys.old.last ≤ vec_len keys.old.bytes }
     requires fits { PairFits pair.now }
@@ -166,7 +174,7 @@ fn judge_key(
     position: usize,
     node: &Node,
     keys: &mut Keys,
-    spare: &mut Keys,
+    spare: &mut Vec<Keys>,
 ) -> Result<Judged, AllocError>
     requires begun { keys.old.last ≤ vec_len keys.old.bytes }
     requires fits { Fits node.now }
@@ -181,7 +189,8 @@ fn judge_key(
 }
 
 /// What a key and its value mean together.
-fn paired(key: Judged, value: Judged) -> JudgedPair
+#[inline(always)]
+pub(crate) fn paired(key: Judged, value: Judged) -> JudgedPair
     ensures { (n : Tree × Tree) → IsJudged n.0 key → IsJudged n.1 value → IsJudgedPair n result }
 {
     match key {
@@ -195,12 +204,13 @@ fn paired(key: Judged, value: Judged) -> JudgedPair
 
 /// What a tag at `place` means.
 #[cycle(judged)]
+#[inline(never)]
 fn judge_tagged(
     alloc: Global,
     place: u64,
     number: u64,
     content: &Node,
-    spare: &mut Keys,
+    spare: &mut Vec<Keys>,
 ) -> Result<Judged, AllocError>
     requires { Fits content.now }
     ensures { IfOk result (λ judged. (w : Width) → IsJudged (tree.Tagged place w number content.now) judged) }
@@ -224,7 +234,7 @@ fn judge_tagged(
 }
 
 /// The first of a flaw and of that of what was judged next, if it has one.
-fn first_flaw(flaw: Flaw, next: &Judged) -> Flaw
+pub(crate) fn first_flaw(flaw: Flaw, next: &Judged) -> Flaw
     ensures { IsFirstWith flaw next.now result }
 {
     match next {

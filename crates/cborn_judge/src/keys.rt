@@ -1,18 +1,12 @@
-//! The keys of a map, and which of them are repeated.
+//! The keys of a map.
 
-ghost use Rattle.std.specs.Prelude.{◌≡◌, ◌<◌, ◌≤◌, ℕ, List, [], IfOk, OnOk, All, length, vec_len};
+ghost use Rattle.std.specs.Prelude.{◌≤◌, ℕ, List, [], IfOk, OnOk, vec_len};
 ghost use Rattle.cborn_model.specs.ItemView.{item_value};
-ghost use Rattle.cborn_model.specs.Tree.{Tree, entries};
 ghost use Rattle.cborn_model.specs.Valid.{IsProper};
-ghost use Rattle.cborn_judge.specs.Flaws.{HasRepeat};
-ghost use Rattle.cborn_judge.specs.Judged.{FindsFlaw, RepeatFlaw};
 ghost use Rattle.cborn_judge.specs.Keeping.{AreKept, IsNextKey, IsMarked, CodesOf};
-ghost use Rattle.cborn_judge.specs.Places.{key_bytes, key_position, key_places, IsRepeatAt, IsLeast, lower_of};
-ghost use Rattle.cborn_judge.specs.Repeats.{PositionsRise};
 
-use crate::faults::{Flaw, InvalidReason};
 use cborn_det::push_encoding;
-use cborn_model::{Bytewise, Item, KeyOrder, Node};
+use cborn_model::{Bytewise, Item, KeyOrder};
 use std::alloc::{AllocError, Global};
 
 /// The deterministic encodings of the keys of a map that mean something, one after another.
@@ -24,12 +18,14 @@ pub(crate) struct Keys {
     /// Where the last encoding begins.
     last: usize,
     /// Whether each encoding is above the one before it.
-    rising: bool,
+    pub(crate) rising: bool,
 }
 
 impl Keys {
     /// No keys.
-    pub(crate) fn new(alloc: Global) -> Keys {
+    pub(crate) fn new(alloc: Global) -> Keys
+        ensures { (places : List ℕ) → AreKept places [] result }
+    {
         Keys {
             bytes: Vec::new(alloc),
             marks: Vec::new(alloc),
@@ -70,40 +66,12 @@ impl Keys {
         Ok(())
     }
 
-    /// The first of the keys that are the same as an earlier one.
-    pub(crate) fn first_repeat(
-        &self,
-        alloc: Global,
-        nodes: &[(Node, Node)],
-    ) -> Result<Option<Flaw>, AllocError>
-        requires { AreKept (key_places nodes.now) nodes.now self.now }
-        ensures { IfOk result (FindsFlaw (RepeatFlaw (entries nodes.now))) }
-    {
-        let reason = InvalidReason::DuplicateKey;
-        match self.least_repeat(alloc, nodes)? {
-            Some(place) => Ok(Some(Flaw { place, reason })),
-            None => Ok(None),
-        }
-    }
-
-    /// The least place of a key that is the same as an earlier one.
-    fn least_repeat(&self, alloc: Global, nodes: &[(Node, Node)]) -> Result<Option<u64>, AllocError>
-        requires { AreKept (key_places nodes.now) nodes.now self.now }
-        ensures { IfOk result (IsLeast (HasRepeat (entries nodes.now))) }
-    {
-        if self.rising {
-            return Ok(None);
-        }
-        let mut slices = self.slices(alloc)?;
-        least_tie(&mut slices, nodes)
-    }
-
     /// Each encoding with its position.
-    fn slices(&self, alloc: Global) -> Result<Vec<(&[u8], usize)>, AllocError>
+    pub(crate) fn slices(&self, alloc: Global) -> Result<Vec<(&[u8], usize)>, AllocError>
         requires { (codes : List (List ℕ × ℕ)) × IsMarked codes self.now.marks.items self.now.bytes.items }
         ensures { IfOk result (λ slices. IsMarked (CodesOf slices.items) self.now.marks.items self.now.bytes.items) }
     {
-        let mut slices = Vec::new(alloc);
+        let mut slices = Vec::with_capacity(alloc, self.marks.len())?;
         let mut rest = self.bytes.as_slice();
         for (length, position) in &self.marks {
             let (encoding, after) = rest.split_at(*length);
@@ -114,31 +82,14 @@ impl Keys {
     }
 }
 
-/// The least place of a key whose encoding an earlier key has.
-fn least_tie(
-    keys: &mut Vec<(&[u8], usize)>,
-    nodes: &[(Node, Node)],
-) -> Result<Option<u64>, AllocError>
-    requires rising { PositionsRise key_bytes key_position 0 keys.old.items }
-    requires within { All (λ k. k.1 < length nodes.now) keys.old.items }
-    ensures { IfOk result (IsLeast (IsRepeatAt keys.old.items (key_places nodes.now))) }
+/// No keys, in the room of keys that are spare, if there are any.
+pub(crate) fn cleared(alloc: Global, spare: &mut Vec<Keys>) -> Keys
+    ensures { (places : List ℕ) → AreKept places [] result }
 {
-    keys.sort()?;
-    let mut least: Option<u64> = None;
-    for i in 1..keys.len() {
-        if keys[i].0 == keys[i - 1].0 {
-            let key = &nodes[keys[i].1].0;
-            least = Some(lower(least, key.place));
-        }
-    }
-    Ok(least)
-}
-
-fn lower(least: Option<u64>, place: u64) -> u64
-    ensures { result ≡ lower_of least place }
-{
-    match least {
-        None => place,
-        Some(so_far) => so_far.min(place),
-    }
+    let mut keys = match spare.pop() {
+        Some(keys) => keys,
+        None => Keys::new(alloc),
+    };
+    keys.clear();
+    keys
 }

@@ -8,6 +8,8 @@ mod faults;
 mod judgments;
 mod keys;
 pub mod laws;
+mod owned;
+mod repeats;
 mod spellings;
 mod strings;
 
@@ -15,6 +17,7 @@ pub use checks::first_defect;
 pub use defects::{Defect, DefectReason};
 pub use faults::{Invalid, InvalidReason};
 pub use judgments::{judge, judge_all};
+pub use owned::{judge_all_owned, judge_owned};
 
 #[cfg(test)]
 mod tests;

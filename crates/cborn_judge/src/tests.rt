@@ -1,5 +1,7 @@
 //! Examples of what bytes mean, of their flaws and of their defects.
 
+mod owned;
+
 use crate::{Defect, DefectReason, Invalid, InvalidReason, first_defect, judge, judge_all};
 use cborn_det::encode_all;
 use cborn_model::{Bytewise, LengthFirst, Limit};

@@ -16,4 +16,5 @@ pub mod Letters
 pub mod Written
 pub mod Decimals
 pub mod Spelling
+pub mod Weights
 pub mod Quoting

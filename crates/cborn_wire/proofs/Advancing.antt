@@ -3,17 +3,15 @@ use Rattle.std.proofs.Common.{◌≡◌, refl, sym, ap, ◌∙◌, subst, ℕ, �
 use Rattle.std.proofs.lemmas.List.{take-append-drop, length-take-le}
 use Rattle.cborn_model.specs.Bytes.{AreBytes}
 use Rattle.cborn_model.specs.declared.heads.Width.{Width}
-use Rattle.cborn_model.specs.Heads.{Major, Holds}
 use Rattle.cborn_model.specs.Tree.{Tree, Trees, no_item, trees}
 use Rattle.cborn_wire.specs.declared.faults.WireFault.{WireFault}
 use Rattle.cborn_wire.specs.declared.faults.WireFault.TheVariants.{Refused, OutOfMemory}
 use Rattle.cborn_wire.specs.Slots.{Kind, Begun}
-use Rattle.cborn_wire.specs.Machine.{State, Live, Failed, IsLive, Partial, ready_in, Stops, width_bytes, number, argument_of, content_of, gathering, front, held, string_done, run, IsReached}
+use Rattle.cborn_wire.specs.Machine.{State, Live, Failed, IsLive, Partial, ready_in, Stops, content_of, gathering, held, string_done, run, IsReached}
 use Rattle.cborn_wire.specs.StackView.{Fails, IsMade}
 use Rattle.cborn_wire.proofs.Running.{run-append, failed_run}
-use Rattle.cborn_wire.proofs.AllBytes.{bytes-left, bytes-right}
-use Rattle.cborn_wire.proofs.SoundRuns.{wide, again}
-use Rattle.cborn_wire.proofs.Reached.{reached_more, reached_held, reached_offset}
+use Rattle.cborn_wire.proofs.AllBytes.{bytes-left}
+use Rattle.cborn_wire.proofs.Reached.{reached_more, reached_offset}
 use Rattle.cborn_wire.proofs.FeederLaws.{feeds_more}
 use Rattle.cborn_wire.proofs.Pieces.{content_more, content_done}
 
@@ -46,14 +44,6 @@ module _ (limit at : ℕ) (ready : Trees) (os : List Begun) (p : ℕ) (k : Kind)
       ap (run limit (Live at ready os (gathering p (content_of k w) n got))) (sym (append-nil (take m piece)))
       ∙ content_more limit at ready os p k w n got (take m piece) [] (omega (arith, many))
       ∙ ap (λ j. Live (at + j) ready os (gathering p (content_of k w) n (got ++ take m piece))) many
-
--- What came of an argument are bytes, and with one more they make a number that fits.
-pub got_bytes : (limit base at p n : ℕ) (ready : Trees) (os : List Begun) (m : Major) (w : Width) (got : List ℕ) → IsReached limit base (Live at ready os (gathering p (argument_of m w) n got)) → AreBytes got
-got_bytes limit base at p n ready os m w got h =
-    (bytes-right (front ready os) _ (reached_held limit base (Live at ready os (gathering p (argument_of m w) n got)) h tt).1).1
-
-pub number_holds : (w : Width) (got : List ℕ) → 0 < width_bytes w → length got ≡ width_bytes w → AreBytes got → Holds w (number w got)
-number_holds w got some all are = (again w got (wide w some) all are).1
 
 -- A front y of the piece was taken, and the rest is to come.
 module _ (limit base : ℕ) (s now : State) (piece y rest : List ℕ) (cut : piece ≡ y ++ rest) (goes : run limit s y ≡ now) where

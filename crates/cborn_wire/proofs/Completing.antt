@@ -1,5 +1,5 @@
 -- What a reader that is fed by pieces has ready is what it has to give.
-use Rattle.std.proofs.Common.{◌≡◌, refl, sym, ap, ◌∙◌, subst, ℕ, ◌+◌, ◌≤◌, List, [], ◌++◌, length, ◌⊎◌, inl, inr, arith, append_assoc, append-nil, length-append}
+use Rattle.std.proofs.Common.{◌≡◌, refl, sym, ap, ◌∙◌, subst, ℕ, ◌≤◌, List, [], ◌++◌, length, ◌⊎◌, inl, inr, arith, append_assoc, append-nil, length-append}
 use Rattle.cborn_model.specs.Bytes.{AreBytes}
 use Rattle.cborn_model.specs.Tree.{Tree, Trees, no_item, more, trees, depth, depth_all}
 use Rattle.cborn_model.specs.Spelled.{spelled, spelled_all, Fits, FitsAll, Wellformed}
@@ -16,7 +16,7 @@ use Rattle.cborn_wire.proofs.AsPlaced.{spelled_all-from}
 use Rattle.cborn_wire.proofs.WholeFront.{front_run}
 use Rattle.cborn_wire.proofs.TakesItems.{append_trees-nil}
 use Rattle.cborn_wire.proofs.OneReading.{reads, longest, ready_front}
-use Rattle.cborn_wire.proofs.SoundItems.{SoundLive, SoundFailed, Sound}
+use Rattle.cborn_wire.proofs.SoundItems.{SoundLive, Sound}
 use Rattle.cborn_wire.proofs.SoundRuns.{sound}
 use Rattle.cborn_wire.proofs.FaultLaws.{refused_fails, ends_read, well_or_fault}
 use Rattle.cborn_wire.proofs.TreeLists.{spelled_all-append}
@@ -80,13 +80,6 @@ module _ (limit base : ℕ) where
         placed = subst (PlacedAll base) e b.placed;
         longest = λ f y others is w. subst (λ l. length f ≤ length l) same (no_longer x f y (trees others) is w);
       }
-
-  -- They stand before the fault.
-  pub complete_before : (x : List ℕ) (ready : Trees) (q : ℕ) (r : WireReason) → AreBytes x → run limit (start base) x ≡ Failed ready q r → base + length (spelled_all ready) ≤ q
-  complete_before x ready q r bytes e =
-      let h : SoundFailed limit base x ready q r = subst (Sound limit base x) e (sound limit base x bytes) in
-      let b = begins_live h.before q ready h.os nothing h.live in
-      omega (arith, h.live.fed_is, ap length b.whole, length-append (spelled_all ready) b.others)
 
   -- No item is whole: none stands at the front.
   pub no_first : (x : List ℕ) (t : Tree) (y : List ℕ) → ready_in (run limit (start base) x) ≡ no_item → x ≡ spelled t ++ y → Fits t → depth t ≤ limit → ⊥

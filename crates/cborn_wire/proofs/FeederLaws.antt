@@ -171,12 +171,3 @@ module _ (limit base at fed : ℕ) (items : List Tree) (os : List Begun) (part :
   whole e f =
       let g : Live at (trees items) os part ≡ Live at (trees items) [] nothing = ap (λ l. Live at (trees items) l part) e ∙ ap (Live at (trees items) []) f in
       subst (λ s. Wellformed limit (trees items) (held s)) (sym g) (feeds_whole limit base at (trees items) (subst (IsReached limit base) g h)).0
-
-  -- the offset of what follows a piece that is taken
-  pub goes_past : (piece : List ℕ) (at' : ℕ) (items' : List Tree) (os' : List Begun) (part' : Partial) → AreBytes piece → run limit (Live at (trees items) os part) piece ≡ Live at' (trees items') os' part' → at' ≡ at + length piece
-  goes_past piece at' items' os' part' are e =
-      let s = Live at (trees items) os part in
-      let s' = Live at' (trees items') os' part' in
-      let bytes : held s' ≡ held s ++ piece = ap held (sym e) ∙ feeds_more limit base s piece h tt are (subst IsLive (sym e) tt) in
-      let h' : IsReached limit base s' = subst (IsReached limit base) e (reached_more limit base s piece h are) in
-      omega (arith, reached_offset limit base at (trees items) os part h, reached_offset limit base at' (trees items') os' part' h', ap length bytes, length-append (held s) piece)

@@ -1,6 +1,7 @@
 -- What `read_head` answers, at each kind of initial byte.
 use Rattle.std.proofs.Common.{◌≡◌, refl, sym, ap, ◌∙◌, subst, ℕ, zero, suc, ◌+◌, ◌-◌, ◌*◌, ◌/◌, ◌%◌, ◌<◌, ◌≤◌, List, [], ◌∷◌, ◌++◌, length, take, drop, get_or, true, false, None, arith, length-append}
-use Rattle.std.proofs.lemmas.List.{take-append-drop, length-take-le}
+use Rattle.std.proofs.lemmas.List.{take-append-drop, length-take-le, length-replicate}
+use Rattle.std.proofs.Math.ListN.{replicate}
 use Rattle.cborn_model.specs.Bytes.{AreBytes}
 use Rattle.cborn_model.specs.declared.heads.Width.{Width}
 use Rattle.cborn_model.specs.declared.heads.Width.TheVariants.{Direct}
@@ -86,25 +87,15 @@ module _ (y : List ℕ) where
         free = free;
       }
 
-  zeros : ℕ → List ℕ
-  zeros zero = []
-  zeros (suc n) = 0 ∷ zeros n
-
-  length_zeros : (n : ℕ) → length (zeros n) ≡ n
-  unfolding zeros
-  length_zeros zero = refl
-  length_zeros (suc n) = ap suc (length_zeros n)
-
-  bytes_zeros : (n : ℕ) → AreBytes (zeros n)
-  unfolding zeros
+  bytes_zeros : (n : ℕ) → AreBytes (replicate n 0)
   bytes_zeros zero = tt
   bytes_zeros (suc n) = (omega arith, bytes_zeros n)
 
   pub wide_front : (b m : ℕ) (w : Width) → m < 8 → b / 32 ≡ m → info_at (b % 32) ≡ Next w → AreBytes y → length y < width_bytes w → reason_alone (b ∷ y) ≡ None → IsFrontOfHead (b ∷ y)
   wide_front b m w small e i are short free =
-      let missing = zeros (width_bytes w - length y) in
+      let missing = replicate (width_bytes w - length y) 0 in
       let got = y ++ missing in
-      let many : length got ≡ width_bytes w = omega (arith, length-append y missing, length_zeros (width_bytes w - length y)) in
+      let many : length got ≡ width_bytes w = omega (arith, length-append y missing, length-replicate {A = ℕ} (width_bytes w - length y) 0) in
       let first = wide_first b m (number w got) w small e i in
       let same = again w got first.1 many (bytes-append y missing are (bytes_zeros (width_bytes w - length y))) in
       record {
@@ -113,7 +104,7 @@ module _ (y : List ℕ) where
         missing = missing;
         fits = same.1;
         whole = ap (λ c. c ∷ got) first.0 ∙ ap (λ l. (32 * code (major_at m) + information w (number w got)) ∷ l) (sym same.0);
-        some = omega (arith, length_zeros (width_bytes w - length y));
+        some = omega (arith, length-replicate {A = ℕ} (width_bytes w - length y) 0);
         free = free;
       }
 

@@ -1,5 +1,6 @@
 -- The machine takes what `read_head` reads.
 use Rattle.std.proofs.Common.{◌≡◌, refl, sym, ap, ◌∙◌, ℕ, ◌+◌, ◌/◌, ◌%◌, ◌<◌, ◌≤◌, List, [], ◌∷◌, ◌++◌, length, take, get_or, Bool, true, false, ◌&&◌, cond, leb, Option, Some, None, arith, append-nil, length-append, add-one}
+use Rattle.std.proofs.Math.Bool.{and-false}
 use Rattle.std.proofs.lemmas.List.{take_all, take-append-le, length-take}
 use Rattle.cborn_model.specs.declared.heads.Width.{Width}
 use Rattle.cborn_model.specs.declared.heads.Width.TheVariants.{Direct, One, Two, Four, Eight}
@@ -12,7 +13,7 @@ use Rattle.cborn_wire.specs.HeadReading.{seen_argument, reason_alone, IsHeadOf}
 use Rattle.cborn_wire.specs.Slots.{Slot, element_or_end, Begun, slot, open_depth}
 use Rattle.cborn_wire.specs.Faults.{Info, major_at, info_at, is_break, is_other, is_one, is_container, begins_low, reason_of}
 use Rattle.cborn_wire.specs.Machine.{width_bytes, number, argument_of, nothing, gathering, Live, Failed, after_head, run}
-use Rattle.cborn_wire.proofs.Pieces.{takes_whole_head, refuses_first, argument_more, argument_done}
+use Rattle.cborn_wire.proofs.Pieces.{takes_whole_head, refuses_first, argument_done}
 use Rattle.cborn_wire.proofs.SoundSteps.{is_clear}
 use Rattle.cborn_wire.proofs.SomeEnd.{refused_run}
 
@@ -46,16 +47,6 @@ module _ (limit at : ℕ) (ready : Trees) (os : List Begun) where
       ∙ argument_done limit at ready os p m w (width_bytes w) got (get_or piece 0 0) (omega (arith, many, full))
       ∙ ap (λ k. after_head k p ready os m (Given w (number w (got ++ get_or piece 0 0 ∷ [])))) (sym (add-one at))
       ∙ ap (λ k. after_head (at + 1) p ready os m (Given w k)) (sym (value ∙ ap (number w) (whole ∙ is)))
-
-  -- A byte of an argument that needs more.
-  pub argument_stays : (p : ℕ) (m : Major) (w : Width) (got all piece : List ℕ) → 0 < length piece → all ≡ got ++ get_or piece 0 0 ∷ [] → length all < width_bytes w
-      → run limit (Live at ready os (gathering p (argument_of m w) (width_bytes w) got)) (take 1 piece) ≡ Live (at + 1) ready os (gathering p (argument_of m w) (width_bytes w) all)
-  argument_stays p m w got all piece some is short =
-      let many : length all ≡ length got + 1 = ap length is ∙ length-append got (get_or piece 0 0 ∷ []) in
-      ap (run limit (Live at ready os (gathering p (argument_of m w) (width_bytes w) got))) (take_one piece some)
-      ∙ argument_more limit at ready os p m w (width_bytes w) got (get_or piece 0 0) (omega (arith, many, short))
-      ∙ ap (λ k. Live k ready os (gathering p (argument_of m w) (width_bytes w) (got ++ get_or piece 0 0 ∷ []))) (sym (add-one at))
-      ∙ ap (λ l. Live (at + 1) ready os (gathering p (argument_of m w) (width_bytes w) l)) (sym is)
 
   -- An initial byte that may not stand there.
   pub first_refused : (piece : List ℕ) (r : WireReason) → 0 < length piece → Some r ≡ reason_of (slot os) (leb limit (open_depth os)) (major_at (get_or piece 0 0 / 32)) (info_at (get_or piece 0 0 % 32)) []
@@ -95,11 +86,7 @@ bad_simple s full m i y r none e =
     again : reason_of element_or_end false m i y ≡ Some r → cond (is_other m && is_one i && begins_low y) (Some BadSimple) None ≡ Some r
     again e =
         let c = is_clear s full m i [] none in
-        last (is_other m && is_one i && begins_low y) (is_container m) (Some BadSimple) (rw (c.reserved, c.bounded, free (is_break m i), c.float) at e)
-      where
-        free : (a : Bool) → (a && false) ≡ false
-        free true = refl
-        free false = refl
+        last (is_other m && is_one i && begins_low y) (is_container m) (Some BadSimple) (rw (c.reserved, c.bounded, and-false (is_break m i), c.float) at e)
 
 pub second_refused : (limit at : ℕ) (ready : Trees) (os : List Begun) (piece : List ℕ) (r : WireReason) → 0 < length piece
     → None ≡ reason_of (slot os) (leb limit (open_depth os)) (major_at (get_or piece 0 0 / 32)) (info_at (get_or piece 0 0 % 32)) [] → reason_alone piece ≡ Some r

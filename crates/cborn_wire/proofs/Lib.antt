@@ -18,11 +18,9 @@ pub mod Settling
 pub mod TreeLists
 pub mod Completing
 pub mod OneItem
-pub mod WholeParts
 pub mod ByteLists
 pub mod WholeInput
 pub mod Outcomes
-pub mod SpelledParts
 pub mod Putting
 pub mod Opening
 pub mod Settled

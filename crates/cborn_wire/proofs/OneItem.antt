@@ -1,6 +1,6 @@
 -- A reader that stops at the first whole item has read it, and one that comes to none knows the fault.
-use Rattle.std.proofs.Common.{◌≡◌, refl, sym, ap, ◌∙◌, subst, ℕ, ◌+◌, ◌≤◌, List, [], ◌∷◌, ◌++◌, length, take, drop, ◌⊎◌, inl, inr, arith, append_assoc, length-append, length-drop}
-use Rattle.std.proofs.lemmas.List.{take-append-drop, drop-drop}
+use Rattle.std.proofs.Common.{◌≡◌, refl, sym, ap, ◌∙◌, subst, ℕ, ◌+◌, ◌≤◌, List, [], ◌++◌, length, take, drop, ◌⊎◌, inl, inr, arith, append_assoc, length-drop}
+use Rattle.std.proofs.lemmas.List.{take-append-drop, drop-drop, nil_from_length}
 use Rattle.cborn_model.specs.Bytes.{AreBytes}
 use Rattle.cborn_model.specs.Tree.{Tree, Trees, no_item, more}
 use Rattle.cborn_wire.specs.declared.faults.WireFault.{WireFault}
@@ -14,8 +14,6 @@ use Rattle.cborn_wire.specs.Machine.{snoc, Partial, nothing, State, Live, Failed
 use Rattle.cborn_wire.proofs.Running.{run-append}
 use Rattle.cborn_wire.proofs.Outcomes.{refused_is}
 use Rattle.cborn_wire.proofs.AllBytes.{bytes-left, bytes-right}
-use Rattle.cborn_wire.proofs.SoundItems.{SoundLive, Sound}
-use Rattle.cborn_wire.proofs.SoundRuns.{sound}
 use Rattle.cborn_wire.proofs.FaultLaws.{fails_refused}
 use Rattle.cborn_wire.proofs.Completing.{no_first, first_read, no_item_cut}
 
@@ -51,9 +49,6 @@ module _ (limit from : ℕ) (bytes : List ℕ) (are : AreBytes bytes) where
 
   pub are_read : (end : ℕ) (s : State) (h : ReadSoFar limit from end bytes s) → AreBytes h.read
   are_read end s h = bytes-left h.read (drop end bytes) (subst AreBytes h.cut are_later)
-
-  pub nothing_read : from ≤ length bytes → ReadSoFar limit from from bytes (start from)
-  nothing_read h = record { read = []; above = omega arith; below = h; cut = refl; makes = refl }
 
   pub read_reached : (end : ℕ) (s : State) → ReadSoFar limit from end bytes s → (base : ℕ) × IsReached limit base s
   read_reached end s h = (from, (h.read, are_read end s h, h.makes))
@@ -100,16 +95,6 @@ module _ (limit from : ℕ) (bytes : List ℕ) (are : AreBytes bytes) where
       → (q : ℕ) × (length bytes ≡ from + q) × ItemFault limit (drop from bytes) q Truncated
   read_cut end fed os part h over =
       let x = drop from bytes in
-      let rest : drop end bytes ≡ [] = none_left (drop end bytes) (omega (arith, length-drop end bytes)) in
+      let rest : drop end bytes ≡ [] = nil_from_length (drop end bytes) (omega (arith, length-drop end bytes)) in
       let here : run limit (start from) x ≡ Live fed no_item os part = whole_run end (Live fed no_item os part) h ∙ ap (run limit (Live fed no_item os part)) rest in
       (length x, omega (arith, length-drop from bytes, h.above, h.below), item_cut limit from x fed os part are_later here)
-    where
-      none_left : (l : List ℕ) → length l ≡ 0 → l ≡ []
-      none_left [] e = refl
-      none_left (b ∷ l) e = absurd (omega arith)
-
-  -- The state's next byte is the next of the bytes.
-  pub read_at : (end at : ℕ) (ready : Trees) (os : List Begun) (part : Partial) → ReadSoFar limit from end bytes (Live at ready os part) → at ≡ end
-  read_at end at ready os part h =
-      let s : SoundLive limit from h.read at ready os part = subst (Sound limit from h.read) h.makes (sound limit from h.read (are_read end (Live at ready os part) h)) in
-      omega (arith, s.fed_is, ap length h.cut, length-append h.read (drop end bytes), length-drop from bytes, length-drop end bytes, h.above, h.below)

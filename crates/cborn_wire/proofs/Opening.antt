@@ -1,5 +1,6 @@
 -- The stack's frames, as the machine's list of what is open.
 use Rattle.std.proofs.Common.{◌≡◌, refl, ap, ◌∙◌, ℕ, ◌+◌, List, [], ◌∷◌, ◌++◌, length, Option, Some, None, MatchOption, vec_len, arith}
+use Rattle.std.proofs.lemmas.List.{nil_from_length}
 use Rattle.std.specs.Option.{option_to_list}
 use Rattle.std.specs.declared.vec.Vec.{Vec}
 use Rattle.std.specs.declared.alloc.Global.{Global}
@@ -11,13 +12,9 @@ seen_outer-push : (os : List Begun) (fs : List Frame) (f : Frame) → seen_outer
 seen_outer-push os [] f = refl
 seen_outer-push os (g ∷ fs) f = seen_outer-push (seen_frame g ∷ os) fs f
 
-pub empty_list : {A : Type 0} (xs : List A) → length xs ≡ 0 → xs ≡ []
-empty_list [] e = refl
-empty_list (x ∷ xs) e = absurd (omega arith)
-
 -- The innermost of what is around is taken off.
 pub open_pop : (v w : Vec Frame Global) (o : Option Frame) → v.items ≡ w.items ++ option_to_list o → MatchOption o ((vec_len v ≡ 0) × (vec_len w ≡ 0)) (λ _. vec_len w + 1 ≡ vec_len v) → seen_outer [] v.items ≡ seen_open o w.items
-open_pop v w None e h = ap (seen_outer []) (empty_list v.items (omega (arith, h.0, v.ok.0)))
+open_pop v w None e h = ap (seen_outer []) (nil_from_length v.items (omega (arith, h.0, v.ok.0)))
 open_pop v w (Some f) e h = ap (seen_outer []) e ∙ seen_outer-push [] w.items f
 
 -- One more is opened.

@@ -1,18 +1,15 @@
 -- A piece may be taken by heads and by slices, and not byte by byte.
 use Rattle.std.proofs.Common.{◌≡◌, refl, sym, ap, ◌∙◌, ℕ, suc, ◌+◌, ◌*◌, ◌/◌, ◌%◌, ◌<◌, ◌≤◌, List, [], ◌∷◌, ◌++◌, length, cond, leb, Some, None, arith, length-append}
-use Rattle.std.proofs.lemmas.Bool.{lt-leb, le-leb, lt-ltb}
+use Rattle.std.proofs.lemmas.Bool.{lt-leb, le-leb}
 use Rattle.cborn_model.specs.declared.heads.Width.{Width}
 use Rattle.cborn_model.specs.declared.heads.Width.TheVariants.{Direct, One, Two, Four, Eight}
-use Rattle.cborn_model.specs.Heads.{Major, Other, Argument, Given, Unbounded, code, following, head}
+use Rattle.cborn_model.specs.Heads.{Major, Argument, Given, Unbounded, code, following, head}
 use Rattle.cborn_model.specs.Tree.{Trees}
 use Rattle.cborn_wire.specs.declared.faults.WireReason.{WireReason}
-use Rattle.cborn_wire.specs.declared.faults.WireReason.TheVariants.{BadSimple}
 use Rattle.cborn_wire.specs.Slots.{Kind, Begun, slot, open_depth}
-use Rattle.cborn_wire.specs.Faults.{Next, major_at, info_at, reason_of}
-use Rattle.cborn_wire.specs.Machine.{width_bytes, number, Goal, argument_of, content_of, nothing, gathering, Live, Failed, string_done, after_head, gathered, gather, begin_head, unless, step, run}
+use Rattle.cborn_wire.specs.Faults.{major_at, info_at, reason_of}
+use Rattle.cborn_wire.specs.Machine.{number, Goal, argument_of, content_of, nothing, gathering, Live, Failed, string_done, after_head, gathered, gather, begin_head, unless, step, run}
 use Rattle.cborn_wire.proofs.Running.{failed_run}
-use Rattle.cborn_wire.proofs.SoundSteps.{is_clear}
-use Rattle.cborn_wire.proofs.SomeEnd.{refused_run}
 use Rattle.cborn_wire.specs.HeadReading.{ArgumentFits}
 use Rattle.cborn_wire.proofs.TakesHeads.{gathers, takes_head, info_for, quotient, remainder, major_at-code, info_at-now}
 
@@ -65,35 +62,7 @@ module _ (limit fed : ℕ) (ready : Trees) (os : List Begun) where
   refuses_first b y r e =
       ap (λ o. run limit (unless o ready fed (begin_head fed ready os (major_at (b / 32)) (info_at (b % 32)))) y) e ∙ failed_run limit y ready fed r
 
-  -- A simple value of two bytes that has room in one.
-  pub refuses_low_simple : (b n : ℕ) (y : List ℕ) → major_at (b / 32) ≡ Other → info_at (b % 32) ≡ Next One → n < 32
-      → reason_of (slot os) (leb limit (open_depth os)) (major_at (b / 32)) (info_at (b % 32)) [] ≡ None
-      → run limit (Live fed ready os nothing) (b ∷ n ∷ y) ≡ Failed ready fed BadSimple
-  refuses_low_simple b n y e f h none =
-      let s = slot os in
-      let full = leb limit (open_depth os) in
-      let suits : reason_of s full Other (Next One) [] ≡ None = sym (ap (λ m. reason_of s full m (info_at (b % 32)) []) e ∙ ap (λ i. reason_of s full Other i []) f) ∙ none in
-      let c = is_clear s full Other (Next One) [] suits in
-      let low : reason_of s full Other (Next One) (n ∷ y) ≡ Some BadSimple = rw (c.chunked, lt-ltb n 32 h) refl in
-      refused_run limit (b ∷ n ∷ y) fed ready os BadSimple (ap (λ m. reason_of s full m (info_at (b % 32)) (n ∷ y)) e ∙ ap (λ i. reason_of s full Other i (n ∷ y)) f ∙ low)
-
-  -- An initial byte whose argument has still to come.
-  pub begins_argument : (b : ℕ) (w : Width) → info_at (b % 32) ≡ Next w → 0 < width_bytes w
-      → reason_of (slot os) (leb limit (open_depth os)) (major_at (b / 32)) (info_at (b % 32)) [] ≡ None
-      → step limit (Live fed ready os nothing) b ≡ Live (suc fed) ready os (gathering fed (argument_of (major_at (b / 32)) w) (width_bytes w) [])
-  begins_argument b w is wide none =
-      let m = major_at (b / 32) in
-      ap (λ o. unless o ready fed (begin_head fed ready os m (info_at (b % 32)))) none
-      ∙ ap (begin_head fed ready os m) is
-      ∙ ap (λ c. cond c (gathered (suc fed) fed ready os (argument_of m w) []) (Live (suc fed) ready os (gathering fed (argument_of m w) (width_bytes w) []))) (lt-leb (width_bytes w) 0 wide)
-
-  -- One byte of several that an argument still needs, and the last one.
-  pub argument_more : (p : ℕ) (m : Major) (w : Width) (n : ℕ) (got : List ℕ) (b : ℕ) → suc (length got) < n
-      → step limit (Live fed ready os (gathering p (argument_of m w) n got)) b ≡ Live (suc fed) ready os (gathering p (argument_of m w) n (got ++ b ∷ []))
-  argument_more p m w n got b h =
-      ap (λ c. cond c (gathered (suc fed) p ready os (argument_of m w) (got ++ b ∷ [])) (Live (suc fed) ready os (gathering p (argument_of m w) n (got ++ b ∷ []))))
-      (lt-leb n (length (got ++ b ∷ [])) (omega (arith, length-append got (b ∷ []))))
-
+  -- The last byte of an argument.
   pub argument_done : (p : ℕ) (m : Major) (w : Width) (n : ℕ) (got : List ℕ) (b : ℕ) → n ≤ suc (length got)
       → step limit (Live fed ready os (gathering p (argument_of m w) n got)) b ≡ after_head (suc fed) p ready os m (Given w (number w (got ++ b ∷ [])))
   argument_done p m w n got b h =

@@ -12,7 +12,7 @@ use Rattle.cborn_wire.specs.declared.frames.Frame.{Frame}
 use Rattle.cborn_wire.specs.declared.stacks.Stack.{Stack}
 use Rattle.cborn_wire.specs.StackView.{seen_frame, ready_of, PutGives, Puts, PutLeaves}
 use Rattle.cborn_wire.specs.Slots.{Begun, begun_items, begun_pairs, begun_value}
-use Rattle.cborn_wire.specs.Machine.{snoc, snoc_entry, is_full, items_tree, pairs_tree, nothing, Live, Failed, State, finished, items_at, pairs_at}
+use Rattle.cborn_wire.specs.Machine.{snoc, snoc_entry, is_full, items_tree, pairs_tree, nothing, Live, Failed, State, finished}
 use Rattle.cborn_wire.proofs.TreeLists.{trees-push, entries-push}
 
 items_size : (p : ℕ) (a : Argument) (ts : Trees) → items_tree p (seen_argument a) ts ≡ Items p (seen_size a) ts
@@ -58,19 +58,6 @@ module _ (at : ℕ) (ready : Trees) (os : List Begun) (p : ℕ) (a : Argument) w
   pairs_room xs ys k t e h =
       chosen _ false _ _ (there xs ys k t false e h)
       ∙ ap (λ ts. Live at ready (begun_pairs p (seen_argument a) ts ∷ os) nothing) (sym (ap entries e ∙ entries-push xs k t))
-
-  -- An array or a map of which no part came.
-  pub no_items_full : is_full (seen_argument a) 0 ≡ true → items_at at ready os p (seen_argument a) (trees []) ≡ finished at ready os (Items p (seen_size a) (trees []))
-  no_items_full h = chosen _ true _ _ h ∙ ap (finished at ready os) (items_size p a (trees []))
-
-  pub no_items_room : is_full (seen_argument a) 0 ≡ false → items_at at ready os p (seen_argument a) (trees []) ≡ Live at ready (begun_items p (seen_argument a) (trees []) ∷ os) nothing
-  no_items_room h = chosen _ false _ _ h
-
-  pub no_pairs_full : is_full (seen_argument a) 0 ≡ true → pairs_at at ready os p (seen_argument a) (entries []) ≡ finished at ready os (Pairs p (seen_size a) (entries []))
-  no_pairs_full h = chosen _ true _ _ h ∙ ap (finished at ready os) (pairs_size p a (entries []))
-
-  pub no_pairs_room : is_full (seen_argument a) 0 ≡ false → pairs_at at ready os p (seen_argument a) (entries []) ≡ Live at ready (begun_pairs p (seen_argument a) (entries []) ∷ os) nothing
-  no_pairs_room h = chosen _ false _ _ h
 
 -- What a call of `put` answered, at its cases.
 module _ (at : ℕ) (f g : Frame) (t : Tree) (r : Result (Option Tree) WireFault) (h : Puts at f g t r) (ready : Trees) (os : List Begun) where

@@ -20,7 +20,3 @@ pub stops_later : (limit : ℕ) (s u : State) (y z : List ℕ) (e : WireFault) (
 stops_later limit s u y z (faults.Refused p r) ready e h = run-append limit s y z ∙ ap (λ v. run limit v z) e ∙ h
 stops_later limit s u y z faults.OutOfMemory ready e (a, b, cut, h) =
     (y ++ a, b, ap (λ l. y ++ l) cut ∙ sym (append_assoc y a b), ap ready_in (run-append limit s y a ∙ ap (λ v. run limit v a) e) ∙ h)
-
--- Memory may be refused before any byte.
-pub stops_at_once : (limit : ℕ) (s : State) (x : List ℕ) → Stops limit s x faults.OutOfMemory (ready_in s)
-stops_at_once limit s x = ([], x, refl, refl)

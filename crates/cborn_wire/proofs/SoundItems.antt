@@ -16,6 +16,7 @@ use Rattle.cborn_wire.specs.Machine.{front, part_bytes, snoc, snoc_entry, width_
 use Rattle.cborn_wire.specs.HeadReading.{ArgumentFits}
 use Rattle.cborn_wire.proofs.TakesHeads.{info_for}
 use Rattle.cborn_wire.proofs.TakesItems.{UpTo, count-snoc, count_entries-snoc}
+use Rattle.cborn_wire.proofs.TakesOpen.{room_fits}
 
 -- One more at the end.
 
@@ -215,10 +216,6 @@ module _ (limit base : ℕ) where
   }
 
   -- the arguments of what is open
-  room_fits : (a : Argument) (k : ℕ) → HasRoom a k → ArgumentFits a
-  room_fits (Given w n) k h = h.0
-  room_fits Unbounded k h = tt
-
   room_up : (a : Argument) (k : ℕ) → HasRoom a k → UpTo a (suc k)
   room_up (Given w n) k h = h.1
   room_up Unbounded k h = tt

@@ -1,5 +1,6 @@
 -- A whole run keeps what the machine has to what was read.
-use Rattle.std.proofs.Common.{◌≡◌, refl, sym, ap, ◌∙◌, subst, ℕ, zero, suc, ◌+◌, ◌*◌, ◌/◌, ◌%◌, ◌<◌, ◌≤◌, List, [], ◌∷◌, ◌++◌, length, get_or, Bool, true, false, cond, ◌&&◌, ltb, leb, eqb, Option, Some, None, arith, append_assoc, append-nil, length-append}
+use Rattle.std.proofs.Common.{◌≡◌, refl, sym, ap, ◌∙◌, subst, ℕ, zero, suc, ◌+◌, ◌*◌, ◌/◌, ◌%◌, ◌<◌, ◌≤◌, List, [], ◌∷◌, ◌++◌, length, get_or, Bool, true, false, cond, ◌&&◌, ltb, leb, eqb, Option, Some, None, arith, append_assoc, append-nil}
+use Rattle.std.proofs.lemmas.List.{length_push}
 use Rattle.std.proofs.lemmas.Bool.{leb-true, leb-false, ltb-true, eqb-true}
 use Rattle.std.proofs.lemmas.Nat.{be_bytes_2, be_bytes_4, be_bytes_8}
 use Rattle.cborn_model.specs.Bytes.{AreBytes}
@@ -101,9 +102,6 @@ wide_information One n h = refl
 wide_information Two n h = refl
 wide_information Four n h = refl
 wide_information Eight n h = refl
-
-length_push : (x : List ℕ) (b : ℕ) → length (x ++ b ∷ []) ≡ suc (length x)
-length_push x b = omega (arith, length-append x (b ∷ []))
 
 pass : (c : Bool) (q : WireReason) (o o' : Option WireReason) (r : WireReason) → cond c (Some q) o ≡ Some r → (o ≡ Some r → o' ≡ Some r) → cond c (Some q) o' ≡ Some r
 pass true q o o' r e f = e

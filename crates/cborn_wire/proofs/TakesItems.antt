@@ -1,5 +1,6 @@
 -- The machine takes what an item spells, and has that item.
 use Rattle.std.proofs.Common.{◌≡◌, refl, sym, ap, ◌∙◌, ℕ, suc, ◌+◌, ◌<◌, ◌≤◌, List, [], ◌∷◌, ◌++◌, length, Bool, true, false, ◌&&◌, cond, ltb, leb, None, ◌⊎◌, inl, inr, arith, append_assoc, append-nil, length-append, add-one, add-zero}
+use Rattle.std.proofs.Math.Bool.{and-false}
 use Rattle.std.proofs.lemmas.Bool.{lt-leb, le-leb, lt-ltb, le-ltb}
 use Rattle.std.specs.List.{flat_map}
 use Rattle.cborn_model.specs.declared.heads.Width.{Width}
@@ -186,17 +187,9 @@ up_to : (s : Size) (n : ℕ) → UpTo (argument s n) n
 up_to (Fixed w) n = omega arith
 up_to Endless n = tt
 
-pub clear_size : (s : Slot) (full : Bool) (m : Major) (size : Size) (n : ℕ) → IsNoChunk s → is_always_bounded m ≡ false → is_other m ≡ false → full ≡ false → reason_of s full m (info_for (argument size n)) [] ≡ None
-clear_size s full m (Fixed w) n h bounded other room = clear_given s full m w n h other (ap (λ b. is_container m && b) room ∙ and_false (is_container m))
-  where
-    and_false : (b : Bool) → (b && false) ≡ false
-    and_false true = refl
-    and_false false = refl
-clear_size s full m Endless n h bounded other room = clear s full m Unended h refl bounded other (ap (λ b. is_container m && b) room ∙ and_false (is_container m))
-  where
-    and_false : (b : Bool) → (b && false) ≡ false
-    and_false true = refl
-    and_false false = refl
+pub clear_argument : (s : Slot) (full : Bool) (m : Major) (a : Argument) → IsNoChunk s → is_always_bounded m ≡ false → is_other m ≡ false → full ≡ false → reason_of s full m (info_for a) [] ≡ None
+clear_argument s full m (Given w n) free bounded other room = clear_given s full m w n free other (ap (λ b. is_container m && b) room ∙ and-false (is_container m))
+clear_argument s full m Unbounded free bounded other room = clear s full m Unended free refl bounded other (ap (λ b. is_container m && b) room ∙ and-false (is_container m))
 
 pub clear_unbounded : (s : Slot) (full : Bool) (k : Kind) → IsNoChunk s → reason_of s full (major_of k) Unended [] ≡ None
 clear_unbounded s full OfBytes h = rw (no_bad_chunk s ByteString Unended h) refl
@@ -265,7 +258,7 @@ mutual
       let room : leb limit (open_depth os) ≡ false = lt-leb limit (open_depth os) (omega arith) in
       let cut : (start ++ spelled_all ts ++ ending s) ++ x ≡ start ++ (spelled_all ts ++ (ending s ++ x)) = simp append_assoc in
       ap (run limit (Live fed ready os nothing)) cut
-      ∙ takes_head limit fed ready os Array a (spelled_all ts ++ (ending s ++ x)) (size_fits s (count ts) fits.0) (clear_size (slot os) (leb limit (open_depth os)) Array s (count ts) free refl refl room)
+      ∙ takes_head limit fed ready os Array a (spelled_all ts ++ (ending s ++ x)) (size_fits s (count ts) fits.0) (clear_argument (slot os) (leb limit (open_depth os)) Array a free refl refl room)
       ∙ takes_all ts limit (fed + length start) ready os fed a no_item (ending s ++ x) fits.1 (omega arith) placed.1 (UpTo-is a (count ts) (0 + count ts) (omega arith) (up_to s (count ts)))
       ∙ closes_items limit s ts middle ready os fed x
       ∙ ap (λ k. run limit (finished k ready os (Items fed s ts)) x) total
@@ -278,7 +271,7 @@ mutual
       let room : leb limit (open_depth os) ≡ false = lt-leb limit (open_depth os) (omega arith) in
       let cut : (start ++ spelled_entries es ++ ending s) ++ x ≡ start ++ (spelled_entries es ++ (ending s ++ x)) = simp append_assoc in
       ap (run limit (Live fed ready os nothing)) cut
-      ∙ takes_head limit fed ready os Map a (spelled_entries es ++ (ending s ++ x)) (size_fits s (count_entries es) fits.0) (clear_size (slot os) (leb limit (open_depth os)) Map s (count_entries es) free refl refl room)
+      ∙ takes_head limit fed ready os Map a (spelled_entries es ++ (ending s ++ x)) (size_fits s (count_entries es) fits.0) (clear_argument (slot os) (leb limit (open_depth os)) Map a free refl refl room)
       ∙ takes_entries es limit (fed + length start) ready os fed a no_entry (ending s ++ x) fits.1 (omega arith) placed.1 (UpTo-is a (count_entries es) (0 + count_entries es) (omega arith) (up_to s (count_entries es)))
       ∙ closes_pairs limit s es middle ready os fed x
       ∙ ap (λ k. run limit (finished k ready os (Pairs fed s es)) x) total

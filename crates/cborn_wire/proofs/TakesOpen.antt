@@ -1,18 +1,17 @@
 -- The machine takes what is open, too.
-use Rattle.std.proofs.Common.{◌≡◌, refl, sym, ap, ◌∙◌, subst, ℕ, suc, ◌+◌, ◌≤◌, List, [], ◌∷◌, ◌++◌, length, Bool, true, false, ◌&&◌, cond, leb, None, arith, append_assoc, length-append, add-one, add-zero}
+use Rattle.std.proofs.Common.{◌≡◌, refl, sym, ap, ◌∙◌, subst, ℕ, suc, ◌+◌, ◌≤◌, List, [], ◌∷◌, ◌++◌, length, false, cond, leb, arith, append_assoc, length-append, add-one, add-zero}
 use Rattle.std.proofs.lemmas.Bool.{lt-leb}
 use Rattle.std.specs.List.{flat_map}
-use Rattle.cborn_model.specs.Heads.{Major, Array, Map, Tag, Argument, Given, Unbounded, head}
+use Rattle.cborn_model.specs.Heads.{Array, Map, Tag, Argument, Given, Unbounded, head}
 use Rattle.cborn_model.specs.Tree.{Trees, no_item, Entries, no_entry, count, count_entries, depth_all, depth_entries}
 use Rattle.cborn_model.specs.Spelled.{chunk_bytes, chunks, spelled, spelled_all, spelled_entries, FitsAll, FitsEntries}
 use Rattle.cborn_model.specs.Placed.{Placed}
-use Rattle.cborn_wire.specs.Slots.{major_of, Slot, Begun, begun_items, begun_pairs, begun_value, begun_tag, begun_chunks, beginning, beginnings, slot, slot_in, levels, open_depth, HasRoom, IsNoChunk, MayBegin, AreBegun}
-use Rattle.cborn_wire.specs.Faults.{Unended, is_other, is_container, is_always_bounded, reason_of}
+use Rattle.cborn_wire.specs.Slots.{major_of, Begun, begun_items, begun_pairs, begun_value, begun_tag, begun_chunks, beginning, beginnings, slot, slot_in, levels, open_depth, HasRoom, IsNoChunk, MayBegin, AreBegun}
 use Rattle.cborn_wire.specs.Places.{chunks_from, placed_from, all_from, entries_from}
 use Rattle.cborn_wire.specs.Machine.{nothing, Live, is_full, items_tree, pairs_tree, finished, run}
 use Rattle.cborn_wire.specs.HeadReading.{ArgumentFits}
-use Rattle.cborn_wire.proofs.TakesHeads.{info_for, takes_head}
-use Rattle.cborn_wire.proofs.TakesItems.{UpTo, UpTo-is, takes, takes_all, takes_entries, takes_chunks, clear, clear_given, clear_unbounded, starts_chunks, pairs_open}
+use Rattle.cborn_wire.proofs.TakesHeads.{takes_head}
+use Rattle.cborn_wire.proofs.TakesItems.{UpTo, UpTo-is, takes, takes_all, takes_entries, takes_chunks, clear_given, clear_unbounded, clear_argument, starts_chunks, pairs_open}
 use Rattle.cborn_wire.proofs.AsPlaced.{count-from, count_entries-from, spelled-from, spelled_all-from, spelled_entries-from, spelled_chunks-from, depth-from, depth_all-from, depth_entries-from, fits-from, fits_all-from, fits_entries-from, fits_chunks-from, placed-from, placed_all-from, placed_entries-from, chunks_placed-from}
 
 -- What is open, as it would stand at a place.
@@ -52,7 +51,7 @@ pub open_depth-from : (os : List Begun) (p : ℕ) → open_depth (open_from p os
 open_depth-from [] p = refl
 open_depth-from (o ∷ os) p = omega (arith, levels-from o (p + length (beginnings os)), open_depth-from os p)
 
-room_fits : (a : Argument) (k : ℕ) → HasRoom a k → ArgumentFits a
+pub room_fits : (a : Argument) (k : ℕ) → HasRoom a k → ArgumentFits a
 room_fits (Given w n) k h = h.0
 room_fits Unbounded k h = tt
 
@@ -63,14 +62,6 @@ room_up Unbounded k h = tt
 pub room_open : (a : Argument) (k : ℕ) → HasRoom a k → is_full a k ≡ false
 room_open (Given w n) k h = lt-leb n k h.1
 room_open Unbounded k h = refl
-
-and_false : (b : Bool) → (b && false) ≡ false
-and_false true = refl
-and_false false = refl
-
-clear_argument : (s : Slot) (full : Bool) (m : Major) (a : Argument) → IsNoChunk s → is_always_bounded m ≡ false → is_other m ≡ false → full ≡ false → reason_of s full m (info_for a) [] ≡ None
-clear_argument s full m (Given w n) free bounded other room = clear_given s full m w n free other (ap (λ b. is_container m && b) room ∙ and_false (is_container m))
-clear_argument s full m Unbounded free bounded other room = clear s full m Unended free refl bounded other (ap (λ b. is_container m && b) room ∙ and_false (is_container m))
 
 module _ (limit : ℕ) where
   takes_items : (ts : Trees) (fed : ℕ) (ready : Trees) (os : List Begun) (a : Argument) (x : List ℕ) → IsNoChunk (slot os) → HasRoom a (count ts) → FitsAll ts → open_depth os + suc (depth_all ts) ≤ limit

@@ -1,8 +1,5 @@
 -- A reader that hands its whole input to a feeder reads it, or knows its fault.
 use Rattle.std.proofs.Common.{◌≡◌, sym, ap, ◌∙◌, subst, ℕ, List, length, inl, arith, zero-add, None, Result, Err, OnErr}
-use Rattle.cborn_model.specs.Tree.{trees}
-use Rattle.cborn_model.specs.Spelled.{Wellformed}
-use Rattle.cborn_model.specs.Placed.{PlacedAll}
 use Rattle.cborn_wire.specs.declared.faults.WireFault.{WireFault}
 use Rattle.cborn_wire.specs.declared.faults.WireFault.TheVariants as faults
 use Rattle.cborn_wire.specs.declared.faults.WireReason.{WireReason}
@@ -10,14 +7,6 @@ use Rattle.cborn_wire.specs.declared.faults.WireReason.TheVariants.{Truncated}
 use Rattle.cborn_wire.specs.Faults.{Fault}
 use Rattle.cborn_wire.specs.Feeding.{Feeding, fresh, Accepts, Refuses, Feeds}
 use Rattle.cborn_wire.proofs.Outcomes.{refused_is, err_is, on_err}
-
-pub all_read : (limit : ℕ) (x : List ℕ) (f : Feeding) → Accepts x (fresh limit) f → Wellformed f.limit (trees f.items) f.held → Wellformed limit (trees f.items) x × PlacedAll 0 (trees f.items)
-all_read limit x f (is, (base, at, complete), free) w =
-    let bytes : f.held ≡ x = ap (λ g. g.held) is in
-    let fed : f.fed ≡ length x = ap (λ g. g.fed) is ∙ zero-add (length x) in
-    let same : f.limit ≡ limit = ap (λ g. g.limit) is in
-    let none : base ≡ 0 = omega (arith, fed, at, ap length bytes) in
-    (subst (λ l. Wellformed limit (trees f.items) l) bytes (subst (λ k. Wellformed k (trees f.items) f.held) same w), subst (λ q. PlacedAll q (trees f.items)) none complete.placed)
 
 pub all_refused : (limit : ℕ) (x : List ℕ) (g : Feeding) (p : ℕ) (r : WireReason) → Refuses x (fresh limit) g p r → Fault limit x p r
 all_refused limit x g p r (base, q, at, stands, refused, complete) = subst (λ k. Fault limit x k r) (omega (arith, at, stands)) (inl refused)

@@ -1,13 +1,13 @@
 //! What a reader has begun and not ended.
 
-ghost use Rattle.std.specs.Prelude.{◌≡◌};
+ghost use Rattle.std.specs.Prelude.{◌≡◌, ◌<◌, ◌≤◌, ◌+◌, ◌*◌, max, [], ◌∷◌, ◌++◌, OnOk, OnErr, vec_len, vec_capacity};
 ghost use Rattle.cborn_wire.specs.Slots.{slot_in};
 ghost use Rattle.cborn_wire.specs.Faults.{needs_item};
 ghost use Rattle.cborn_wire.specs.StackView.{seen_frame, Puts, Closes};
 
 use crate::{Argument, WireFault, WireReason};
 use cborn_model::{Chunk, Form, Node, Size, Width};
-use std::alloc::Global;
+use std::alloc::{AllocError, Global};
 
 /// The two kinds of string.
 #[derive(Clone, Copy, PartialEq, Eq, Debug)]
@@ -81,7 +81,7 @@ impl Frame {
                 argument,
                 items,
             } => {
-                items.push(node)?;
+                push_part(items, node)?;
                 if !argument.is_met(items.len()) {
                     return Ok(None);
                 }
@@ -100,7 +100,7 @@ impl Frame {
                     *key = Some(node);
                     return Ok(None);
                 };
-                pairs.push((first, node))?;
+                push_part(pairs, (first, node))?;
                 if !argument.is_met(pairs.len()) {
                     return Ok(None);
                 }
@@ -180,4 +180,30 @@ impl Frame {
             Frame::Chunks { .. } => false,
         }
     }
+}
+
+/// Appends a part to what is open. The list takes room for one part at its first, and then for twice as many as it has: in a deep nest most lists have one part, and that is all that they hold. No room is taken for what a head announces.
+pub(crate) fn push_part<T: Drop>(parts: &mut Vec<T>, part: T) -> Result<(), AllocError>
+    ensures added { OnOk result (parts.new.items ≡ parts.old.items ++ part ∷ []) }
+    ensures kept { OnErr result (parts.new.items ≡ parts.old.items) }
+    ensures room { vec_capacity parts.new ≤ max (vec_capacity parts.old) (2 * vec_len parts.old + 1) }
+{
+    if parts.len() == parts.capacity() {
+        double(parts)?;
+    }
+    parts.push_reserved(part);
+    Ok(())
+}
+
+// Makes room in a full list for as many parts again, and at least one.
+#[cold]
+#[inline(never)]
+fn double<T>(parts: &mut Vec<T>) -> Result<(), AllocError>
+    ensures items { parts.new.items ≡ parts.old.items }
+    ensures room { OnOk result (vec_len parts.new < vec_capacity parts.new) }
+    ensures most { OnOk result (vec_capacity parts.new ≤ max (vec_capacity parts.old) (vec_len parts.old + max 1 (vec_len parts.old))) }
+    ensures kept { OnErr result (vec_capacity parts.new ≡ vec_capacity parts.old) }
+{
+    let more = parts.len().max(1);
+    parts.reserve_exact(more)
 }

@@ -70,6 +70,7 @@ pub enum HeadRead {
 }
 
 /// The head at the front of `bytes`; what follows it isn't looked at. It is `Bad` for the reasons that hold wherever an item or a break may stand: `ReservedInfo`, `EndlessNotAllowed`, `FloatLeftOut` and `BadSimple` (RFC 8949 sections 3, 3.2.1 and 3.3).
+#[inline]
 pub fn read_head(bytes: &[u8]) -> HeadRead
     ensures { ReadsHead bytes.now result }
 {

@@ -3,10 +3,12 @@
 
 mod faults;
 mod feeders;
+mod finishing;
 mod frames;
 mod heads;
 pub mod laws;
 mod readers;
+mod refusals;
 mod spelling;
 mod stacks;
 
@@ -15,3 +17,6 @@ pub use feeders::Feeder;
 pub use heads::{Argument, Head, HeadRead, head_bytes, push_head, read_head};
 pub use readers::{read_all, read_one};
 pub use spelling::{spell, spell_all};
+
+#[cfg(test)]
+mod tests;

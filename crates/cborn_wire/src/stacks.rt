@@ -1,20 +1,16 @@
 //! The stack that a reader keeps.
 
-ghost use Rattle.std.specs.Prelude.{◌≡◌, ◌∷◌, ◌+◌, ◌<◌, ◌≤◌, ◌%◌, ◌/◌, ◌^◌, ℕ, [], length, take, true, false, nat_le, vec_len, IsSome, IfOk, IfErr, OnOk, OnErr};
-ghost use Rattle.cborn_model.specs.Bytes.{AreBytes};
-ghost use Rattle.cborn_model.specs.Tree.{no_item, trees, no_entry};
+ghost use Rattle.std.specs.Prelude.{◌≡◌, ◌∷◌, ◌+◌, ◌<◌, ◌≤◌, ◌^◌, ℕ, [], length, true, false};
+ghost use Rattle.cborn_model.specs.Tree.{no_item, no_entry};
 ghost use Rattle.cborn_model.specs.Heads as heads;
-ghost use Rattle.cborn_wire.specs.Slots.{slot, open_depth, major_of, AreBegun};
-ghost use Rattle.cborn_wire.specs.Faults.{major_at, info_at, is_bad_chunk, needs_item, reason_of};
-ghost use Rattle.cborn_wire.specs.Machine.{nothing, Live, start, finished, items_at, pairs_at, string_done, ended, after_head, run, IsReached};
+ghost use Rattle.cborn_wire.specs.Slots.{major_of};
+ghost use Rattle.cborn_wire.specs.Faults.{major_at};
+ghost use Rattle.cborn_wire.specs.Machine.{nothing, Live, start, items_at, pairs_at, string_done, ended, after_head, IsReached};
 ghost use Rattle.cborn_wire.specs.HeadReading.{seen_argument, ArgumentFits};
-ghost use Rattle.cborn_wire.specs.StackView.{seen_kind, seen_frame, opened, ready_of, seen, open_len, around, seen_partial, seen_with, Advances, Runs, Becomes, PutLeaves, IsMade};
+ghost use Rattle.cborn_wire.specs.StackView.{seen_kind, seen_frame, opened, ready_of, seen, seen_partial, seen_with, Advances, Runs, Becomes, IsMade};
 
-use crate::frames::{Frame, Kind, Partial};
-use crate::heads::{
-    is_always_bounded, is_break, is_container, is_endless, is_float, is_reserved, read_number,
-    wide_width,
-};
+use crate::frames::{Frame, Kind, Partial, push_part};
+use crate::heads::{read_number, wide_width};
 use crate::{Argument, Head, HeadRead, WireFault, WireReason, read_head};
 use cborn_model::{ByteString, Chunk, Form, Node, Spelled, Width};
 use std::alloc::Global;
@@ -23,7 +19,7 @@ use std::collections::VecDeque;
 /// What was read of some bytes: the whole items, what is open, and the part of a head or of a string at the end.
 #[derive(Drop)]
 pub(crate) struct Stack {
-    alloc: Global,
+    pub(crate) alloc: Global,
     /// The offset of the next byte.
     pub(crate) at: u64,
     /// The whole items that were not taken.
@@ -79,6 +75,7 @@ impl Stack {
     }
 
     /// Takes what stands at the front of `piece`, a head or a part of a head or of a string, and answers how many bytes that was.
+    #[inline(always)]
     pub(crate) fn advance(&mut self, limit: u64, piece: &[u8]) -> Result<usize, WireFault>
         requires some { 0 < length piece.now }
         requires room { self.old.at + length piece.now < 2 ^ 64 }
@@ -109,6 +106,7 @@ impl Stack {
     }
 
     // A head, or the initial byte of one that ends behind the piece.
+    #[inline(always)]
     fn take_head(&mut self, limit: u64, piece: &[u8]) -> Result<usize, WireFault>
         requires nothing { self.old.partial ≡ Partial.Nothing }
         requires some { 0 < length piece.now }
@@ -144,6 +142,7 @@ impl Stack {
     }
 
     // The next byte of an argument whose head began in an earlier piece: the first `len` of `bytes` came before.
+    #[inline(never)]
     fn take_argument(
         &mut self,
         limit: u64,
@@ -183,6 +182,7 @@ impl Stack {
     }
 
     // The next bytes of a string of `len` bytes, of which these came before.
+    #[inline(never)]
     fn take_content(
         &mut self,
         limit: u64,
@@ -219,21 +219,37 @@ impl Stack {
     }
 
     // A whole head that stands at `place`.
+    #[inline(always)]
     fn take(&mut self, place: u64, head: Head) -> Result<(), WireFault>
         requires nothing { self.old.partial ≡ Partial.Nothing }
         requires fits { ArgumentFits (seen_argument head.argument) }
         requires made { IsMade (after_head self.old.at place (ready_of self.old) (opened self.old) (major_at head.major) (seen_argument head.argument)) }
         ensures { Becomes (after_head self.old.at place (ready_of self.old) (opened self.old) (major_at head.major) (seen_argument head.argument)) self.old self.new result }
     {
+        let form = match (head.major, head.argument) {
+            (0, Argument::Given(width, n)) => Form::Uint(width, n),
+            (1, Argument::Given(width, n)) => Form::Nint(width, n),
+            (0 | 1, Argument::Endless) => {
+                return Err(WireFault::Refused {
+                    place,
+                    reason: WireReason::EndlessNotAllowed,
+                });
+            }
+            _ => return self.take_further(place, head),
+        };
+        self.finish(Node { place, form })
+    }
+
+    // A head of no integer. It stands apart, so that the integers, which are the most, pay nothing for it.
+    #[inline(never)]
+    fn take_further(&mut self, place: u64, head: Head) -> Result<(), WireFault>
+        requires further { 1 < head.major }
+        requires nothing { self.old.partial ≡ Partial.Nothing }
+        requires fits { ArgumentFits (seen_argument head.argument) }
+        requires made { IsMade (after_head self.old.at place (ready_of self.old) (opened self.old) (major_at head.major) (seen_argument head.argument)) }
+        ensures { Becomes (after_head self.old.at place (ready_of self.old) (opened self.old) (major_at head.major) (seen_argument head.argument)) self.old self.new result }
+    {
         match (head.major, head.argument) {
-            (0, Argument::Given(width, n)) => {
-                let form = Form::Uint(width, n);
-                self.finish(Node { place, form })
-            }
-            (1, Argument::Given(width, n)) => {
-                let form = Form::Nint(width, n);
-                self.finish(Node { place, form })
-            }
             (2, argument) => self.begin_string(place, Kind::Bytes, argument),
             (3, argument) => self.begin_string(place, Kind::Text, argument),
             (4, argument) => self.begin_items(place, argument),
@@ -243,7 +259,7 @@ impl Stack {
                 width,
                 number,
             }),
-            (0 | 1 | 6, Argument::Endless) => Err(WireFault::Refused {
+            (6, Argument::Endless) => Err(WireFault::Refused {
                 place,
                 reason: WireReason::EndlessNotAllowed,
             }),
@@ -394,7 +410,7 @@ impl Stack {
                 width,
                 bytes,
             };
-            chunks.push(chunk)?;
+            push_part(chunks, chunk)?;
             return Ok(());
         }
         let form = match kind {
@@ -402,115 +418,5 @@ impl Stack {
             Kind::Text => Form::Text(width, bytes),
         };
         self.finish(Node { place, form })
-    }
-
-    // A whole item. Where what it stands in is whole with it, that is an item too.
-    fn finish(&mut self, node: Node) -> Result<(), WireFault>
-        requires nothing { self.old.partial ≡ Partial.Nothing }
-        requires made { IsMade (finished self.old.at (ready_of self.old) (opened self.old) node) }
-        ensures { Becomes (finished self.old.at (ready_of self.old) (opened self.old) node) self.old self.new result }
-    {
-        let mut node = node;
-        while self.top.is_some() {
-            match self.put(node)? {
-                None => return Ok(()),
-                Some(whole) => node = whole,
-            }
-        }
-        self.ready.push_back(Spelled::new(node))?;
-        Ok(())
-    }
-
-    // Puts a whole item into the innermost of what is open: none where that stays open, else the node that it is, which is taken off.
-    fn put(&mut self, node: Node) -> Result<Option<Node>, WireFault>
-        requires { IsSome self.old.top }
-        ensures gives { PutLeaves (finished self.old.at (ready_of self.old) (opened self.old) node) self.old self.new result }
-        ensures ready { self.new.ready.items ≡ self.old.ready.items }
-    {
-        let Some(frame) = &mut self.top else {
-            return Ok(Some(node));
-        };
-        match frame.put(self.alloc, self.at, node)? {
-            None => Ok(None),
-            Some(whole) => {
-                self.leave();
-                Ok(Some(whole))
-            }
-        }
-    }
-
-    // Takes the innermost of what is open off.
-    fn leave(&mut self)
-        ensures open { opened self.new ≡ around self.old }
-        ensures fewer { open_len self.new ≡ vec_len self.old.outer }
-        ensures kept { (self.new.at ≡ self.old.at) × (self.new.ready ≡ self.old.ready) × (self.new.partial ≡ self.old.partial) }
-    {
-        self.top = self.outer.pop();
-    }
-
-    // Why a head with this initial byte may not stand here, as far as that byte tells. The tests stand in the order of the reasons.
-    fn refusal(&self, limit: u64, first: u8) -> Option<WireReason>
-        requires { AreBegun limit (opened self.now) }
-        ensures { result ≡ reason_of (slot (opened self.now)) (nat_le limit (open_depth (opened self.now))) (major_at (first / 32)) (info_at (first % 32)) [] }
-    {
-        let major = first / 32;
-        let information = first % 32;
-        if is_reserved(information) {
-            return Some(WireReason::ReservedInfo);
-        }
-        if is_endless(information) && is_always_bounded(major) {
-            return Some(WireReason::EndlessNotAllowed);
-        }
-        if self.is_bad_chunk(major, information) {
-            return Some(WireReason::BadChunk);
-        }
-        if is_break(major, information) && self.needs_item() {
-            return Some(WireReason::UnexpectedBreak);
-        }
-        if is_float(major, information) {
-            return Some(WireReason::FloatLeftOut);
-        }
-        if is_container(major) && self.len() >= limit {
-            return Some(WireReason::TooDeep);
-        }
-        None
-    }
-
-    // In an indefinite string, neither a break nor a definite string of its kind.
-    fn is_bad_chunk(&self, major: u8, information: u8) -> bool
-        requires major { major < 8 }
-        requires information { information < 32 }
-        ensures { result ≡ is_bad_chunk (slot (opened self.now)) (major_at major) (info_at information) }
-    {
-        match &self.top {
-            Some(Frame::Chunks { kind, .. }) => {
-                let wanted = match kind {
-                    Kind::Bytes => 2,
-                    Kind::Text => 3,
-                };
-                !is_break(major, information) && (major != wanted || is_endless(information))
-            }
-            _ => false,
-        }
-    }
-
-    // An item has to stand here, and no break.
-    fn needs_item(&self) -> bool
-        ensures { result ≡ needs_item (slot (opened self.now)) }
-    {
-        match &self.top {
-            None => true,
-            Some(frame) => frame.needs_item(),
-        }
-    }
-
-    // How much is open.
-    fn len(&self) -> u64
-        ensures { result ≡ length (opened self.now) }
-    {
-        match &self.top {
-            None => 0,
-            Some(_) => self.outer.len() as u64 + 1,
-        }
     }
 }

@@ -13,4 +13,4 @@ sort-requires g c = subst HasDistinctKeys (one_written c.requires.0 (entries_of 
 pub returns : goal.returns
 returns g c es w =
     let one : entries_of c.in_ok-entries.entries.items ≡ es = one_written (entries_of c.in_ok-entries.entries.items) es c.args.lengths.now c.args.written.now c.in_ok-entries.ensures w in
-    (entries_of c.sort.new.entries.items, subst (λ (z : List Entry). IsPermutation z (entries_of c.sort.new.entries.items)) one c.in_ok-sort.ensures.same, c.in_ok-sort.ensures.rising, search rules)
+    (entries_of c.sort.new.entries.items, subst (λ (z : List Entry). IsPermutation z (entries_of c.sort.new.entries.items)) one c.sort.ensures.same, c.sort.ensures.rising, search rules)

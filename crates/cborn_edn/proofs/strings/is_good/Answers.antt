@@ -1,4 +1,3 @@
-use Rattle.std.proofs.Common.{rules}
 use Rattle.cborn_edn.proofs.Lowests.{utf8_is}
 use Rattle.cborn_edn.proofs.strings.is_good.Goals as goal
 

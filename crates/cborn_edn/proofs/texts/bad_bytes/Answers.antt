@@ -1,4 +1,4 @@
-use Rattle.std.proofs.Common.{sym, ◌∙◌, true, false, ◌≡◌}
+use Rattle.std.proofs.Common.{true, false, ◌≡◌}
 use Rattle.cborn_edn.proofs.Lowests.{good_bytes, wrong_bytes}
 use Rattle.cborn_edn.proofs.texts.bad_bytes.Goals as goal
 

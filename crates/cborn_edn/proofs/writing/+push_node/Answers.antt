@@ -1,5 +1,4 @@
-use Rattle.std.proofs.Common.{codes, ◌∙◌, sym, ap, ◌++◌, arith, rules, ◌≡◌, length, List, ℕ}
-use Rattle.cborn_model.specs.Tree.{trees, entries}
+use Rattle.std.proofs.Common.{codes, ◌∙◌, sym, ap, ◌++◌, arith, rules}
 use Rattle.cborn_model.proofs.Trees.{depth_of_item, depth_of_pair}
 use Rattle.cborn_edn.specs.Shown as pure
 use Rattle.cborn_edn.proofs.Separated.{shown_pair, one_more, all_of, all-separated, entries-separated, after_three, shown_items, shown_pairs}

@@ -1,6 +1,3 @@
-use Rattle.std.proofs.Common.{◌≡◌, ◌≤◌, ◌-◌, ◌++◌, take, drop}
-use Rattle.std.specs.List.{flat_map}
-use Rattle.cborn_edn.specs.Shown.{escaped}
 use Rattle.cborn_edn.proofs.Escapes.{Written}
 use Rattle.cborn_edn.proofs.writing.push_escaped.Given as goal
 

@@ -1,9 +1,8 @@
 use Rattle.std.proofs.Common.{arith, subst, sym}
 use Rattle.cborn_judge.proofs.Sequences.{passed_on}
 use Rattle.cborn_judge.specs.Flaws.{IsRefusalOfAll}
-use Rattle.cborn_engine.proofs.Checked.{finds_now, finds_before, refused}
+use Rattle.cborn_engine.proofs.Checked.{finds_more, refused}
 use Rattle.cborn_engine.proofs.checks.defect_of.Goals as goal
-use Rattle.cborn_engine.proofs.checks.defect_of.Goals.{then-is_none, else-is_none}
 
 pub returns-in_err-defect-clause-refused : goal.returns-in_err-defect-clause-refused
 returns-in_err-defect-clause-refused g c =
@@ -11,7 +10,5 @@ returns-in_err-defect-clause-refused g c =
     passed_on c.from_residual.result _ (IsRefusalOfAll c.args.nodes.now) (λ e p. subst (IsRefusalOfAll c.args.nodes.now) (sym p) r) c.from_residual.ensures
 
 pub loop-node-preserved : goal.loop-node-preserved
-loop-node-preserved g c = elim c.if-is_none.branch [
-  | then-is_none w ↦ rw w.first-is (finds_now g.O.KeyOrder.order c.args.nodes.now c.loop-node.node-index c.node-item.result c.loop-node.first c.in_ok-defect.defect w.if-is_none.ensures c.loop-node.invariant (omega arith) c.node-item.is c.in_ok-defect.ensures.first)
-  | else-is_none w ↦ rw w.first-is (finds_before g.O.KeyOrder.order c.args.nodes.now c.loop-node.node-index c.node-item.result c.loop-node.first c.in_ok-defect.defect w.if-is_none.ensures c.loop-node.invariant (omega arith) c.node-item.is c.in_ok-defect.ensures.first)
-]
+loop-node-preserved g c =
+    rw c.or-first.ensures (finds_more g.O.KeyOrder.order c.args.nodes.now c.loop-node.node-index c.node-item.result c.loop-node.first c.in_ok-defect.defect c.loop-node.invariant (omega arith) c.node-item.is c.in_ok-defect.ensures.first)

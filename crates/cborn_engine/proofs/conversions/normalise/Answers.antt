@@ -1,6 +1,6 @@
 use Rattle.std.proofs.Common.{arith}
 use Rattle.cborn_engine.specs.Canonical.{Normalises}
-use Rattle.cborn_engine.proofs.Canonicity.{normalised, no_answer}
+use Rattle.cborn_engine.proofs.Canonicity.{encoded_held, normalised, no_answer}
 use Rattle.cborn_engine.proofs.Unanswered.{not_normalised}
 use Rattle.cborn_engine.proofs.Told.{told}
 use Rattle.cborn_engine.proofs.conversions.normalise.Goals as goal
@@ -9,6 +9,11 @@ pub returns-in_err-items-clause-normalises : goal.returns-in_err-items-clause-no
 returns-in_err-items-clause-normalises g c =
     told (Normalises g.O.KeyOrder.order c.args.in_kind c.args.out_kind c.args.limit _ _ _ _ _) _ _ c.from_residual.ensures.1
     (not_normalised g.O.KeyOrder.order c.args.in_kind c.args.out_kind c.args.limit _ _ _ _ c.in_err-items.field-0.0 c.in_err-items.ensures.reads)
+
+pub written-requires : goal.written-requires
+written-requires g c =
+    encoded_held g.O.KeyOrder.order g.met.O.KeyOrder.laws c.args.in_kind c.args.limit _ _ _ c.in_ok-items.items c.deref.result.now c.in_ok-bytes.bytes.items
+    (omega arith) c.in_ok-items.ensures.reads c.deref.ensures.value c.in_ok-bytes.ensures
 
 pub returns-in_err-answer-clause-normalises : goal.returns-in_err-answer-clause-normalises
 returns-in_err-answer-clause-normalises g c =

@@ -1,7 +1,7 @@
 use Rattle.std.proofs.Common.{rules, arith, subst, refl, inl, inr}
 use Rattle.cborn_model.proofs.Fitting.{fits_at, pair_fits_at}
 use Rattle.cborn_model.proofs.Trees.{depth_of_item, depth_of_pair}
-use Rattle.cborn_judge.specs.Judged.{IsJudged, IsJudgedPair, IsBignumItem}
+use Rattle.cborn_judge.specs.Judged.{IsJudged, IsJudgedPair, IsBignumItem, MeansItem}
 use Rattle.cborn_judge.specs.Places.{key_places}
 use Rattle.cborn_judge.proofs.Pairing as pairs
 use Rattle.cborn_judge.proofs.Pairing.{kept_valid, kept_flawed, kept-take_more}
@@ -9,15 +9,21 @@ use Rattle.cborn_judge.proofs.Tagging.{plain_flawed, bad_judged}
 use Rattle.cborn_judge.proofs.Walking.{valid-take_more, flawed-take_more, all_valid, some_flawed}
 use Rattle.cborn_judge.proofs.Meanings.{number_valid}
 use Rattle.cborn_judge.proofs.judgments.+judged.Goals as goal
-use Rattle.cborn_judge.proofs.judgments.+judged.Goals.{judge_items-in-Valid+in_ok-push-in-Valid, judge_items-in-Flawed, judge_key-in-Valid+in_ok-push, judge_key-in_default, judge_pairs-in-Valid+in_ok-push-in-Valid, judge_pairs-in-Flawed, judge_tagged-then-number-eq2-via-then-number-eq2, judge_tagged-then-number-eq2-via-else-number-eq2+then-number-eq3}
+use Rattle.cborn_judge.proofs.judgments.+judged.Goals.{judge_items-in-Uint+in_ok-push-in-Uint, judge_items-in-Nint+in_ok-push-in-Nint, judge_items-in_default+in_ok-item-in_default+in-Valid+in_ok-push-in-Valid, judge_items-in_default+in_ok-item-in_default+in-Flawed, judge_key-in-Valid+in_ok-push, judge_key-in_default, judge_pairs-in-Valid+in_ok-push-in-Valid, judge_pairs-in-Flawed, judge_tagged-then-number-eq2-via-then-number-eq2, judge_tagged-then-number-eq2-via-else-number-eq2+then-number-eq3}
 
 pub judge_items-loop-node-preserved : goal.judge_items-loop-node-preserved
 judge_items-loop-node-preserved t c =
-    elim c.match-branch-3.branch [
-      | judge_items-in-Valid+in_ok-push-in-Valid w ↦
-          rw w.first-is (valid-take_more c.args.nodes.now c.loop-node.node-index c.node-item.result c.loop-node.first c.loop-node.items.items c.match-branch-3.items.items w.in-Valid.item (omega arith) c.node-item.is c.loop-node.invariant (subst (IsJudged c.node-item.result) w.in-Valid.is c.in_ok-item.ensures) (search rules))
-      | judge_items-in-Flawed w ↦
-          rw (w.first-is, w.items-is) (flawed-take_more c.args.nodes.now c.loop-node.node-index c.node-item.result c.loop-node.first w.earliest-first.result c.loop-node.items.items w.in-Flawed.flaw (omega arith) c.node-item.is c.loop-node.invariant (subst (IsJudged c.node-item.result) w.in-Flawed.is c.in_ok-item.ensures) w.earliest-first.ensures)
+    elim c.match-node.branch [
+      | judge_items-in-Uint+in_ok-push-in-Uint w ↦
+          let means : MeansItem c.node-item.result w.small_integer.result = rw (← c.node.view_is, w.in-Uint.is) (w.small_integer.ensures, number_valid _ w.in-Uint.n _ w.small_integer.ensures (search rules)) in
+          rw w.first-is (valid-take_more c.args.nodes.now c.loop-node.node-index c.node-item.result c.loop-node.first c.loop-node.items.items c.match-node.items.items w.small_integer.result (omega arith) c.node-item.is c.loop-node.invariant means (search rules))
+      | judge_items-in-Nint+in_ok-push-in-Nint w ↦
+          let means : MeansItem c.node-item.result w.small_integer-in-Nint.result = rw (← c.node.view_is, w.in-Nint.is) (w.small_integer-in-Nint.ensures, number_valid _ w.in-Nint.n _ w.small_integer-in-Nint.ensures (search rules)) in
+          rw w.first-is (valid-take_more c.args.nodes.now c.loop-node.node-index c.node-item.result c.loop-node.first c.loop-node.items.items c.match-node.items.items w.small_integer-in-Nint.result (omega arith) c.node-item.is c.loop-node.invariant means (search rules))
+      | judge_items-in_default+in_ok-item-in_default+in-Valid+in_ok-push-in-Valid w ↦
+          rw w.first-is (valid-take_more c.args.nodes.now c.loop-node.node-index c.node-item.result c.loop-node.first c.loop-node.items.items c.match-node.items.items w.in-Valid.item (omega arith) c.node-item.is c.loop-node.invariant (subst (IsJudged c.node-item.result) w.in-Valid.is w.in_ok-item-in_default.ensures) (search rules))
+      | judge_items-in_default+in_ok-item-in_default+in-Flawed w ↦
+          rw (w.first-is, w.items-is) (flawed-take_more c.args.nodes.now c.loop-node.node-index c.node-item.result c.loop-node.first w.earliest-first.result c.loop-node.items.items w.in-Flawed.flaw (omega arith) c.node-item.is c.loop-node.invariant (subst (IsJudged c.node-item.result) w.in-Flawed.is w.in_ok-item-in_default.ensures) w.earliest-first.ensures)
     ]
 
 pub judge_items-returns-in-Some : goal.judge_items-returns-in-Some
@@ -52,7 +58,7 @@ pub judge_pair-returns-clause-kept : goal.judge_pair-returns-clause-kept
 judge_pair-returns-clause-kept t c = c.in_ok-key.ensures.kept c.args.pair.now.1
 
 pub judge_pairs-loop-position-init : goal.judge_pairs-loop-position-init
-judge_pairs-loop-position-init t c = (rw c.in_ok-pairs.ensures.items (tt, tt), c.clear.ensures (key_places c.args.nodes.now))
+judge_pairs-loop-position-init t c = (rw c.in_ok-pairs.ensures.items (tt, tt), c.cleared-keys.ensures (key_places c.args.nodes.now))
 
 pub judge_pairs-judge_pair-requires : goal.judge_pairs-judge_pair-requires
 judge_pairs-judge_pair-requires t c = (
@@ -79,7 +85,7 @@ judge_pairs-returns-in-Some t c p s =
 
 pub judge_pairs-returns-in-None : goal.judge_pairs-returns-in-None
 judge_pairs-returns-in-None t c p s =
-    rw c.new-in-None.ensures (pairs.map_valid p s c.args.nodes.now c.loop-position.position c.loop-position.first c.in_ok-repeat.repeat c.earliest.result c.loop-position.pairs.items (omega arith) (search rules) c.loop-position.invariant.0 c.in_ok-repeat.ensures c.earliest.ensures c.in-None.is)
+    rw c.new.ensures (pairs.map_valid p s c.args.nodes.now c.loop-position.position c.loop-position.first c.in_ok-repeat.repeat c.earliest.result c.loop-position.pairs.items (omega arith) (search rules) c.loop-position.invariant.0 c.in_ok-repeat.ensures c.earliest.ensures c.in-None.is)
 
 pub judge_tagged-returns-in-Flawed : goal.judge_tagged-returns-in-Flawed
 judge_tagged-returns-in-Flawed t c w = plain_flawed c.args.place w c.args.number c.args.content.now c.in-Flawed.flaw (omega arith) (omega arith) (subst (IsJudged c.args.content.now) c.in-Flawed.is c.in_ok-item-2.ensures)

@@ -1,5 +1,5 @@
 use Rattle.std.proofs.Common.{rules, arith, subst, sym}
-use Rattle.cborn_judge.proofs.Sequences.{mean-take_more, refused_at, passed_on}
+use Rattle.cborn_judge.proofs.Sequences.{mean-take_more, refused_at, refused_memory, passed_on}
 use Rattle.cborn_judge.specs.Flaws.{IsRefusalOfAll}
 use Rattle.cborn_judge.proofs.judgments.judge_all.Goals as goal
 
@@ -10,3 +10,6 @@ returns-in_err-item-clause-refused c =
 
 pub loop-node-preserved : goal.loop-node-preserved
 loop-node-preserved c = mean-take_more c.args.spelled.now c.loop-node.node-index c.node-item.result c.loop-node.items.items c.push.new.self.items c.in_ok-item.item (omega arith) c.node-item.is c.loop-node.invariant c.in_ok-item.ensures.meant (search rules)
+
+pub returns-in_default-clause-refused : goal.returns-in_default-clause-refused
+returns-in_default-clause-refused c = refused_memory c.args.spelled.now

@@ -1,6 +1,6 @@
 use Rattle.std.proofs.Common.{rules, ℕ, ◌≡◌, ◌+◌, ◌≤◌, ◌++◌, [], refl, ap, ◌∙◌, subst, length, take, drop, arith, length-append, length-drop}
 use Rattle.std.specs.Option.{option_to_list}
-use Rattle.std.proofs.lemmas.List.{take_rest}
+use Rattle.std.proofs.lemmas.List.{nil_from_length, take_rest}
 use Rattle.cborn_model.specs.Tree.{no_item, more, trees}
 use Rattle.cborn_wire.specs.declared.faults.WireFault.TheVariants.{Refused}
 use Rattle.cborn_wire.specs.declared.faults.WireReason.TheVariants.{Truncated}
@@ -12,7 +12,6 @@ use Rattle.cborn_wire.proofs.Reached.{reached_start}
 use Rattle.cborn_wire.proofs.Outcomes.{refused_is, err_is, passed_on}
 use Rattle.cborn_wire.proofs.OneItem.{ReadSoFar, are_read, read_reached, read_more, read_item, read_refused, read_cut}
 use Rattle.cborn_wire.proofs.Advancing.{offset_moves, stops_bare}
-use Rattle.cborn_wire.proofs.Opening.{empty_list}
 use Rattle.cborn_wire.proofs.readers.read_one.Goals as goal
 
 pub advance-requires-clause-room : goal.advance-requires-clause-room
@@ -83,7 +82,7 @@ loop-end-preserved c =
     let popped = c.pop_front.new.self in
     record {
       read = subst (λ l. ReadSoFar limit c.args.start (end + n) bytes (Live u.at (trees l) (opened u) (seen_partial u.partial))) c.in_default.ensures.items next;
-      none = empty_list popped.items (omega (arith, c.in_default.ensures.cases.1, popped.ok.0));
+      none = nil_from_length popped.items (omega (arith, c.in_default.ensures.cases.1, popped.ok.0));
       small = c.loop-end.invariant.small;
     }
 

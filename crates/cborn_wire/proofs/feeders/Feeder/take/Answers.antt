@@ -1,9 +1,9 @@
 use Rattle.std.proofs.Common.{sym, ap, ◌∙◌, subst, None, arith}
+use Rattle.std.proofs.lemmas.List.{nil_from_length}
 use Rattle.cborn_wire.specs.Feeding.{Feeding}
 use Rattle.cborn_wire.specs.StackView.{seen, seen_partial, opened}
 use Rattle.cborn_wire.specs.FeederView.{KeepsState}
 use Rattle.cborn_wire.proofs.FeederLaws.{is_fed}
-use Rattle.cborn_wire.proofs.Opening.{empty_list}
 use Rattle.cborn_wire.proofs.FeederKeeps.{keeps_taken}
 use Rattle.cborn_wire.proofs.feeders.Feeder.take.Goals as goal
 
@@ -25,4 +25,4 @@ pub returns-clause-none : goal.returns-clause-none
 returns-clause-none c = λ none.
     let f = c.self.inside in
     let empty = rw none at c.pop_front.ensures.cases in
-    ap (λ (g : Feeding). g.items) (sym c.self.view_is) ∙ empty_list f.stack.ready.items (omega (arith, empty.0, f.stack.ready.ok.0))
+    ap (λ (g : Feeding). g.items) (sym c.self.view_is) ∙ nil_from_length f.stack.ready.items (omega (arith, empty.0, f.stack.ready.ok.0))

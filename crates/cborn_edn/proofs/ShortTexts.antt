@@ -1,0 +1,65 @@
+-- A text of fewer than 2^56 bytes has one answer.
+use Rattle.std.proofs.Common.{◌≡◌, refl, subst, ℕ, ◌^◌, ◌<◌, ◌≤◌, List, [], ◌∷◌, length, ◌⊎◌, inl, inr, arith}
+use Rattle.cborn_model.specs.Bytes.{AreBytes}
+use Rattle.cborn_model.specs.Tree.{Trees, depth_all}
+use Rattle.cborn_model.specs.Spelled.{FitsAll}
+use Rattle.cborn_lex.specs.declared.classes.Profile.{Profile}
+use Rattle.cborn_lex.specs.declared.classes.Token.{Token}
+use Rattle.cborn_lex.specs.declared.faults.LexReason.{LexReason}
+use Rattle.cborn_lex.specs.Lex.{Lex, Stop}
+use Rattle.cborn_lex.proofs.Chains.{one_list, some_answer}
+use Rattle.cborn_lex.proofs.Weights.{as_test}
+use Rattle.cborn_edn.specs.declared.faults.EdnReason.{EdnReason}
+use Rattle.cborn_edn.specs.declared.slips.Slip.{Slip}
+use Rattle.cborn_edn.specs.Syntax.{Input, depth_of_input}
+use Rattle.cborn_edn.specs.Parse.{Parse, HasTree, Jam}
+use Rattle.cborn_edn.specs.Meaning.{FirstSlip, input_slips}
+use Rattle.cborn_edn.specs.Notates.{Notates, Slips, Jams}
+use Rattle.cborn_edn.proofs.Agree.{says, no_slip}
+use Rattle.cborn_edn.proofs.Counting.{counted_text}
+use Rattle.cborn_edn.proofs.First.{first, nothing_among}
+use Rattle.cborn_edn.proofs.Fit.{said_fits}
+use Rattle.cborn_edn.proofs.OneTree.{one_tree, answered}
+
+-- LAW: the nodes fit their widths and are within the limit
+pub notated_fits : (profile : Profile) (limit : ℕ) (text : List ℕ) (nodes : Trees) → AreBytes text → length text < 2 ^ 56 → Notates profile limit text nodes → FitsAll nodes × (depth_all nodes ≤ limit)
+notated_fits profile limit text nodes are short h =
+    let shallow = h.shallow in
+    let f = said_fits h.tree nodes (counted_text profile text h.tokens h.tree are short h.lex h.parse) h.says in
+    (f.0, omega (arith, f.1))
+
+-- LAW: nodes, or a slip
+pub notated_or_slips : (profile : Profile) (limit most : ℕ) (text : List ℕ) (nodes : Trees) (p : ℕ) (r : EdnReason) → AreBytes text → length text < 2 ^ 56 → Notates profile limit text nodes → Slips profile most text p r → ⊥
+notated_or_slips profile limit most text nodes p r are short h k =
+    let e : k.tokens ≡ h.tokens = one_list profile text k.tokens h.tokens k.lex h.lex in
+    let parse : Parse profile h.tokens k.tree = subst (λ (ts : List Token). Parse profile ts k.tree) e k.parse in
+    let same : k.tree ≡ h.tree = one_tree profile profile h.tokens k.tree h.tree parse h.parse in
+    let slip : FirstSlip h.tree p r = subst (λ (t : Input). FirstSlip t p r) same k.slip in
+    nothing_among (input_slips h.tree) p r (no_slip h.tree nodes (counted_text profile text h.tokens h.tree are short h.lex h.parse) h.says) slip.is
+
+abbrev pub Answered : Profile → ℕ → List ℕ → Type 0
+Answered profile limit text =
+    ((nodes : Trees) × Notates profile limit text nodes)
+    ⊎ (((p : ℕ) × (r : LexReason) × Stop profile text p r)
+    ⊎ ((p : ℕ) × (r : EdnReason) × (Jams profile limit text p r ⊎ Slips profile limit text p r)))
+
+module _ (profile : Profile) (limit : ℕ) (text : List ℕ) (are : AreBytes text) (short : length text < 2 ^ 56) where
+  of_tree : (ts : List Token) (tree : Input) → Lex profile text ts → Parse profile ts tree → depth_of_input tree ≤ limit → (l : List Slip) → input_slips tree ≡ l → Answered profile limit text
+  of_tree ts tree lex parse shallow [] e =
+      let s = says tree (counted_text profile text ts tree are short lex parse) e in
+      inl (s.0, record { tokens = ts; lex = lex; tree = tree; parse = parse; shallow = shallow; says = s.1 })
+  of_tree ts tree lex parse shallow (x ∷ l) e =
+      let f = first x l in
+      inr (inr (f.0.place, f.0.reason, inr (record { tokens = ts; lex = lex; tree = tree; parse = parse; shallow = shallow; slip = rw e f.1 })))
+
+  of_tokens : (ts : List Token) → Lex profile text ts → HasTree profile limit ts ⊎ ((p : ℕ) × (r : EdnReason) × Jam profile limit (length text) ts p r) → Answered profile limit text
+  of_tokens ts lex (inl (tree, parse, shallow)) = of_tree ts tree lex parse shallow (input_slips tree) refl
+  of_tokens ts lex (inr (p, r, jam)) = inr (inr (p, r, inl (record { tokens = ts; lex = lex; jam = jam })))
+
+  of_text : ((ts : List Token) × Lex profile text ts) ⊎ ((p : ℕ) × (r : LexReason) × Stop profile text p r) → Answered profile limit text
+  of_text (inl (ts, lex)) = of_tokens ts lex (answered profile limit (length text) ts)
+  of_text (inr stop) = inr (inl stop)
+
+  -- LAW: there is an answer
+  pub short_answer : Answered profile limit text
+  short_answer = of_text (some_answer profile text (as_test text are))

@@ -1,0 +1,49 @@
+-- A device of the proofs: what a token asks of the state that it meets. No definition cites it.
+use Rattle.std.specs.Prelude.{suc, ◌^◌, ◌<◌, List, [], ◌∷◌, Option, Some, None}
+use Rattle.cborn_model.specs.Tree.{Tree, Trees}
+use Rattle.cborn_model.specs.Spelled.{IsSpelled}
+use Rattle.cborn_edn.specs.declared.slips.Slip.{Slip}
+use Rattle.cborn_edn.specs.declared.frames.Frame.{Frame}
+use Rattle.cborn_edn.specs.declared.frames.Frame.TheVariants.{Top, Array, Embedded, Value}
+use Rattle.cborn_edn.specs.declared.states.Phase.{Phase}
+use Rattle.cborn_edn.specs.declared.states.Phase.TheVariants.{Has, Builds}
+use Rattle.cborn_edn.specs.declared.states.State.{State}
+use Rattle.cborn_edn.specs.Meaning.{IsShort}
+use Rattle.cborn_edn.specs.Draft.{string_item}
+
+-- an item that a sequence can keep, if there is one
+abbrev pub MaySpell : Option Tree → Type 0
+MaySpell None = Unit {0}
+MaySpell (Some t) = IsSpelled t
+
+-- its count can rise
+abbrev pub HasRoom : Frame → Type 0
+HasRoom (Top r) = suc r.count < 2 ^ 64
+HasRoom (Array q m r) = suc r.count < 2 ^ 64
+HasRoom (Embedded b q r) = suc r.count < 2 ^ 64
+HasRoom (Value q m f k) = suc f.count < 2 ^ 64
+HasRoom _ = Unit {0}
+
+abbrev pub HaveRoom : List Frame → Type 0
+HaveRoom [] = Unit {0}
+HaveRoom (f ∷ fs) = HasRoom f
+
+-- the item that stands complete, if it is one, can be kept
+abbrev pub MayEnd : Phase → Type 0
+MayEnd (Has i) = MaySpell i
+MayEnd (Builds d) = MaySpell (string_item d)
+MayEnd _ = Unit {0}
+
+abbrev pub IsReady : State → Type 0
+IsReady s = MayEnd s.phase × HaveRoom s.frames
+
+-- pieces that memory holds have a length
+abbrev pub IsHeld : Phase → Type 0
+IsHeld (Builds d) = IsShort d.bytes
+IsHeld _ = Unit {0}
+
+-- items, or a slip
+abbrev pub IsTold : Option Trees × Option Slip → Type 0
+IsTold (None, None) = ⊥
+IsTold (None, Some s) = Unit {0}
+IsTold (Some ts, s) = Unit {0}

@@ -1,6 +1,0 @@
-use Rattle.std.proofs.Common.{take}
-use Rattle.cborn_judge.specs.Places.{IsLeast, IsTieAt, key_places}
-use Rattle.cborn_judge.proofs.keys.least_tie.Given as goal
-
-abbrev pub invariant-loop-i : goal.invariant-loop-i
-invariant-loop-i l = IsLeast (IsTieAt (take l.i l.keys.items) (key_places l.nodes)) l.least

@@ -1,0 +1,24 @@
+//! What more than one test compares.
+use crate::{WireFault, spell, spell_all};
+use cborn_model::Spelled;
+use std::alloc::Global;
+use std::process::Abort;
+
+/// What was read spells these bytes.
+pub fn spells(rt: &impl Abort, alloc: Global, read: Result<Vec<Spelled>, WireFault>, input: &[u8]) {
+    let items = read.expect(rt, "well-formed");
+    let bytes = spell_all(alloc, &items).expect(rt, "memory");
+    assert_eq!(rt; bytes.as_slice(), input);
+}
+
+/// The offset of the item's head.
+fn place_of(item: &Spelled) -> u64 {
+    item.node().place
+}
+
+/// The item stands at this place and spells these bytes.
+pub fn is_item(rt: &impl Abort, alloc: Global, item: &Spelled, place: u64, input: &[u8]) {
+    assert_eq!(rt; place_of(item), place);
+    let bytes = spell(alloc, item).expect(rt, "memory");
+    assert_eq!(rt; bytes.as_slice(), input);
+}

@@ -1,0 +1,101 @@
+//! Input in pieces: what is read doesn't depend on where it is cut.
+use super::checks::spells;
+use super::vectors::{refused, wellformed};
+use crate::{Feeder, WireFault};
+use cborn_model::{Limit, Spelled};
+use std::alloc::Global;
+use std::process::Abort;
+use std::test::Fail;
+
+/// Feeds a piece, whatever it answers: `finish` answers a fault again.
+fn feed(rt: &impl Abort, feeder: &mut Feeder, piece: &[u8]) {
+    assert!(rt; feeder.fed() < 10000 && piece.len() < 10000);
+    let _answer = feeder.feed(piece);
+}
+
+/// What is read of two pieces.
+fn in_two(
+    rt: &impl Abort,
+    alloc: Global,
+    limit: Limit,
+    front: &[u8],
+    rest: &[u8],
+) -> Result<Vec<Spelled>, WireFault> {
+    let mut feeder = Feeder::new(alloc, limit);
+    feed(rt, &mut feeder, front);
+    feed(rt, &mut feeder, rest);
+    feeder.finish()
+}
+
+/// What is read of pieces of one byte, with an empty piece before each.
+pub fn by_bytes(
+    rt: &impl Abort,
+    alloc: Global,
+    limit: Limit,
+    input: &[u8],
+) -> Result<Vec<Spelled>, WireFault> {
+    let mut feeder = Feeder::new(alloc, limit);
+    for byte in input {
+        feed(rt, &mut feeder, &[]);
+        feed(rt, &mut feeder, &[*byte]);
+    }
+    feeder.finish()
+}
+
+/// The input is read, wherever it is cut.
+fn reads_cut(rt: &impl Abort, alloc: Global, input: &[u8]) {
+    for cut in 0..input.len() {
+        let (front, rest) = input.split_at(cut);
+        let read = in_two(rt, alloc, Limit::USUAL, front, rest);
+        spells(rt, alloc, read, input);
+    }
+}
+
+/// Catches a head, a string or a chunk that is lost or read twice where a piece ends.
+#[test]
+fn reads_at_each_cut(rt: HostRuntime) -> Result<(), Fail> {
+    for input in wellformed(rt.alloc())? {
+        reads_cut(&rt, rt.alloc(), input);
+    }
+    Ok(())
+}
+
+/// The input has this fault, wherever it is cut.
+pub fn refuses_cut(rt: &impl Abort, alloc: Global, limit: Limit, input: &[u8], fault: WireFault) {
+    for cut in 0..input.len() {
+        let (front, rest) = input.split_at(cut);
+        let read = in_two(rt, alloc, limit, front, rest);
+        assert_eq!(rt; read.err(), Some(fault), "{cut} of {input:?}");
+    }
+}
+
+/// Catches a place that counts from the piece in place of the input.
+#[test]
+fn refuses_at_each_cut(rt: HostRuntime) -> Result<(), Fail> {
+    for (input, place, reason) in refused(rt.alloc())? {
+        let fault = WireFault::Refused { place, reason };
+        refuses_cut(&rt, rt.alloc(), Limit::USUAL, input, fault);
+    }
+    Ok(())
+}
+
+/// Catches what is kept of a head for one more piece alone.
+#[test]
+fn reads_by_bytes(rt: HostRuntime) -> Result<(), Fail> {
+    for input in wellformed(rt.alloc())? {
+        let read = by_bytes(&rt, rt.alloc(), Limit::USUAL, input);
+        spells(&rt, rt.alloc(), read, input);
+    }
+    Ok(())
+}
+
+/// Catches a fault that is told later than at its head, or at another place.
+#[test]
+fn refuses_by_bytes(rt: HostRuntime) -> Result<(), Fail> {
+    for (input, place, reason) in refused(rt.alloc())? {
+        let fault = WireFault::Refused { place, reason };
+        let read = by_bytes(&rt, rt.alloc(), Limit::USUAL, input);
+        assert_eq!(rt; read.err(), Some(fault), "{input:?}");
+    }
+    Ok(())
+}

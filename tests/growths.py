@@ -1,0 +1,99 @@
+#!/usr/bin/env python3
+"""Refuse each growth in turn: run something once for each of its requests for memory, with that one refused.
+
+    growths.py PROGRAM [TABLE..]    each command line of the tables of this folder
+    growths.py --tests TESTS [WORD..]
+                                    each test of a crate's built tests, crates/NAME/out/NAME_tests, or each
+                                    whose name has one of the words
+
+A command line has to answer as it does with ample memory, or to answer want of memory: status 4, nothing on
+standard output, and one line on standard error. A test has to pass, or to fail by want of memory: by the error
+that a call answered, and not by an answer that differs. refuse.c, which is compiled by $CC or cc, refuses.
+"""
+import os
+import pathlib
+import re
+import subprocess
+import sys
+import tempfile
+
+from run import Outcome, cases
+
+WANT = re.compile(rb"AllocError|AllocFailed|OutOfMemory|[Oo]ut of memory")
+# a test that stops: by an error that it hands on, or by a failed assertion, which names the answer
+STOPPED = (101, -6)
+
+
+def refused_in_turn(library, run):
+    """The outcome of a run with its first request for memory refused, then with its second, to its last."""
+    nth = 1
+    while True:
+        reader, writer = os.pipe()
+        settings = {"LD_PRELOAD": library, "REFUSE_NTH": str(nth), "REFUSE_TELL": str(writer)}
+        outcome = run(env=settings, pass_fds=[writer])
+        os.close(writer)
+        was_refused = os.read(reader, 1) != b""
+        os.close(reader)
+        if not was_refused:
+            return
+        yield outcome
+        nth += 1
+
+
+def wants_of_memory(words):
+    """What may answer want of memory. Where the opening of a file was refused, it is told as such."""
+    yield Outcome(b"", b"cborn: out of memory\n", 4)
+    for which in ("first: ", "second: ") if words[:1] == ["compare"] else ("",):
+        for told in ("out of memory", *(f"cannot read {word}" for word in words[1:])):
+            yield Outcome(b"", f"cborn: {which}{told}\n".encode(), 4)
+
+
+def command_lines(library, program, tables):
+    """Each command line: its name, the outcomes of its runs, and which outcomes it may have."""
+    for table, case in cases(tables):
+        allowed = [case.run(program), *wants_of_memory(case.words)]
+        outcomes = refused_in_turn(library, lambda **how: case.run(program, **how))
+        yield f"{table}: {case.name}", list(outcomes), allowed.__contains__
+
+
+def run_test(tests, name, **how):
+    done = subprocess.run([tests, name], capture_output=True, timeout=60, check=False, **how)
+    return Outcome(done.stdout, done.stderr, done.returncode)
+
+
+def passes_or_wants(outcome):
+    return outcome.status == 0 or (outcome.status in STOPPED and WANT.search(outcome.stderr))
+
+
+def built_tests(library, tests, words):
+    """Each test: its name, the outcomes of its runs, and which outcomes it may have."""
+    listed = subprocess.run([tests, "--list"], capture_output=True, text=True, check=True).stdout
+    for name in re.findall(r"^(.*): test$", listed, re.MULTILINE):
+        if not words or any(word in name for word in words):
+            outcomes = refused_in_turn(library, lambda **how: run_test(tests, name, **how))
+            yield name, list(outcomes), passes_or_wants
+
+
+def main():
+    source = pathlib.Path(__file__).resolve().parent / "refuse.c"
+    growths = runs = failed = 0
+    with tempfile.TemporaryDirectory() as folder:
+        library = f"{folder}/refuse.so"
+        compiler = os.environ.get("CC", "cc")
+        subprocess.run([compiler, "-O2", "-shared", "-fPIC", "-o", library, str(source)], check=True)
+        are_tests = sys.argv[1] == "--tests"
+        program, *rest = sys.argv[2:] if are_tests else sys.argv[1:]
+        run_all = built_tests if are_tests else command_lines
+        found = run_all(library, str(pathlib.Path(program).resolve()), rest)
+        for name, outcomes, is_allowed in found:
+            growths, runs = growths + len(outcomes), runs + 1
+            for nth, outcome in enumerate(outcomes, 1):
+                if not is_allowed(outcome):
+                    failed += 1
+                    print(f"{name}: growth {nth} of {len(outcomes)}: {outcome}")
+    print(f"{growths} growths of {runs} runs refused in turn, {failed} failed")
+    return 1 if failed or not growths else 0
+
+
+if __name__ == "__main__":
+    sys.exit(main())
