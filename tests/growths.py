@@ -41,11 +41,11 @@ def refused_in_turn(library, run):
 
 
 def wants_of_memory(words):
-    """What may answer want of memory. Where the opening of a file was refused, it is told as such."""
+    """What may answer want of memory: the run's, and no input's. Where an opening was refused, it is told as such."""
     yield Outcome(b"", b"cborn: out of memory\n", 4)
     for which in ("first: ", "second: ") if words[:1] == ["compare"] else ("",):
-        for told in ("out of memory", *(f"cannot read {word}" for word in words[1:])):
-            yield Outcome(b"", f"cborn: {which}{told}\n".encode(), 4)
+        for word in words[1:]:
+            yield Outcome(b"", f"cborn: {which}cannot read {word}\n".encode(), 4)
 
 
 def command_lines(library, program, tables):

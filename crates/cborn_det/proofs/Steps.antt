@@ -6,7 +6,7 @@ use Rattle.std.proofs.lemmas.List.{take_more, map-append, take-append-drop}
 use Rattle.std.proofs.lemmas.List.Elements.{All-from_recursion}
 use Rattle.cborn_model.specs.declared.items.Item.{Item}
 use Rattle.cborn_model.specs.ItemView.{item_value, pair_value}
-use Rattle.cborn_model.specs.Value.{Value, array, dict, tagged, values_of, pairs_of}
+use Rattle.cborn_model.specs.Value.{Value, array, dict, values_of, pairs_of}
 use Rattle.cborn_model.specs.Valid.{IsProper, AreProper, HasProperPairs}
 use Rattle.cborn_model.specs.Heads.{IsLeastHead}
 use Rattle.cborn_model.specs.Orders.{Rising}
@@ -90,10 +90,6 @@ module _ (order : List ℕ → List ℕ → Ordering) where
     (h.0, d.0, subst (λ k. IsLeastHead 4 k h.0) (l ∙ sym (value_count-values_of vs)) h.1, det_values vs d.0 d.1, refl),
     d.2 ∙ ap (λ z. z ++ d.0) h.2 ∙ append_assoc old h.0 d.0,
   )
-
-  pub tagged_done : (v : Value) (t : ℕ) (old mid new : List ℕ) → Appends (IsLeastHead 6 t) old mid → Appends (Det order v) mid new → Appends (Det order (tagged t v)) old new
-  tagged_done v t old mid new h d =
-      (h.0 ++ d.0, (h.0, d.0, h.1, d.1, refl), d.2 ∙ ap (λ z. z ++ d.0) h.2 ∙ append_assoc old h.0 d.0)
 
   pub map_done : (ps : List (Value × Value)) (es fs : List Entry) (n : ℕ) (old mid new : List ℕ) → n ≡ length ps → DetPairs order (pairs_of ps) es → IsPermutation es fs → Rising order (keys fs) → Appends (IsLeastHead 5 n) old mid → new ≡ mid ++ joined fs → Appends (Det order (dict (pairs_of ps))) old new
   map_done ps es fs n old mid new l z p r h e =

@@ -53,8 +53,9 @@ fn encode_item<O: KeyOrder>(alloc: Global, item: &Item) -> Result<Vec<u8>, Alloc
     Ok(out)
 }
 
-/// Appends the deterministic encoding of `item` to `out`. An error says that memory was refused;
-/// `out` then still begins with what it had.
+/// Appends the deterministic encoding of `item` to `out`, the keys of its maps in the order `O` (RFC
+/// 8949 section 4.2). The item has to be valid but for its depth, as each item is that stands inside
+/// a `Valid`. An error says that memory was refused; `out` then still begins with what it had.
 #[cycle(encoder)]
 pub fn push_encoding<O: KeyOrder>(
     alloc: Global,

@@ -86,7 +86,7 @@ no_width (Wide Two) n h = rw (le-ltb n (2 ^ 16) (omega arith)) refl
 no_width (Wide Four) n h = rw (le-ltb n (2 ^ 32) (omega arith)) refl
 no_width (Wide Eight) n h = rw (le-ltb n (2 ^ 64) h) refl
 
-tag_agrees : (p : ℕ) (m : Mark) (n : ℕ) → is_there (width_for m n) ≡ is_nil (tag_slips p m n)
+pub tag_agrees : (p : ℕ) (m : Mark) (n : ℕ) → is_there (width_for m n) ≡ is_nil (tag_slips p m n)
 tag_agrees p m n = go (ltb n (2 ^ 64)) refl
   where
     go : (b : Bool) → ltb n (2 ^ 64) ≡ b → is_there (width_for m n) ≡ is_nil (cond b (width_slips p m n) (unless false p TagTooLarge))
@@ -117,7 +117,7 @@ regroup true true false false = refl
 regroup true false g true = refl
 regroup true false g false = refl
 
-string_parts : {A : Type 0} (ps : Pieces) (x : List ℕ) (may_end : Bool) (o : Option A) → is_there o ≡ is_nil (mark_slips may_end (mark_place (last_piece ps)) (mark_of (last_piece ps)) (Some x))
+pub string_parts : {A : Type 0} (ps : Pieces) (x : List ℕ) (may_end : Bool) (o : Option A) → is_there o ≡ is_nil (mark_slips may_end (mark_place (last_piece ps)) (mark_of (last_piece ps)) (Some x))
     → is_there (when (is_string ps x) o) ≡ is_nil (string_slips may_end ps (Some x))
 string_parts ps x may_end o e =
     let m = mark_slips may_end (mark_place (last_piece ps)) (mark_of (last_piece ps)) (Some x) in
@@ -280,17 +280,10 @@ input_agrees : (t : Input) → CountedInput t → is_there (means_input t) ≡ i
 input_agrees nothing h = refl
 input_agrees (items r) h = row_agrees r h
 
--- LAW: it says nodes exactly if it has no slip
+-- LAW: it says nodes where it has no slip
 pub says : (t : Input) → CountedInput t → (input_slips t ≡ []) → (ts : Trees) × Says t ts
 says t h e = go (means_input t) refl (input_agrees t h ∙ ap is_nil e)
   where
     go : (o : Option Trees) → means_input t ≡ o → is_there o ≡ true → (ts : Trees) × (means_input t ≡ Some ts)
     go None f g = absurd (let e : false ≡ true = g in cc)
     go (Some ts) f g = (ts, f)
-
-pub no_slip : (t : Input) (ts : Trees) → CountedInput t → Says t ts → input_slips t ≡ []
-no_slip t ts h e = go (input_slips t) (sym (input_agrees t h) ∙ ap is_there e)
-  where
-    go : (l : List Slip) → is_nil l ≡ true → l ≡ []
-    go [] e = refl
-    go (s ∷ l) e = absurd (let f : false ≡ true = e in cc)

@@ -164,10 +164,6 @@ pub record SameFields (f : KeptFields) (o : Option Entries) (n : ℕ) : Type 0 w
   pub pairs_is : f.pairs ≡ o
   pub fields_count_is : f.count ≡ n
 
-pub record SameChunks (cs : Chunks) (o : Option (List Chunk)) (k : Kind → Kind) : Type 0 where
-  pub chunks_is : cs.chunks ≡ o
-  pub first_is : (j : Kind) → kind_or cs.kind j ≡ k j
-
 tag_same : (p n : ℕ) (m : Mark) (i : Option Tree) → tag_node p (tag_head n m) i ≡ and_then (width_for m n) (λ w. and_then i (λ t. Some (TaggedNode p w n t)))
 tag_same p n m i = go (width_for m n)
   where

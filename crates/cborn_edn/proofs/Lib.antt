@@ -25,6 +25,7 @@ pub mod Erase
 pub mod ErasedMeaning
 pub mod Retelling
 pub mod Fit
+pub mod NoSlip
 pub mod Counting
 pub mod ShortTexts
 pub mod Reached

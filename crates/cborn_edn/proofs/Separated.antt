@@ -6,9 +6,8 @@ use Rattle.cborn_model.specs.Tree.{Tree, Items, Pairs, trees, entries}
 use Rattle.cborn_model.specs.declared.heads.Size.{Size}
 use Rattle.cborn_model.proofs.Trees.{count-trees, count_entries-entries}
 use Rattle.cborn_edn.specs.declared.strings.Kind.{Kind}
-use Rattle.cborn_edn.specs.declared.strings.Kind.TheVariants.{Bytes as OfBytes, Text as OfText}
 use Rattle.cborn_edn.specs.Between.{between, others, separated}
-use Rattle.cborn_edn.specs.Shown.{mark_for_size, opened, shown, shown_all, shown_more, shown_entries, shown_more_entries, shown_lines, shown_more_lines, shown_string, shown_chunks, shown_more_chunks}
+use Rattle.cborn_edn.specs.Shown.{mark_for_size, opened, shown, shown_all, shown_more, shown_entries, shown_more_entries, shown_lines, shown_more_lines, shown_string}
 
 module _ {A : Type 0} (sep : List ℕ) (f : A → List ℕ) where
   others-push : (xs : List A) (x : A) → others sep f (xs ++ x ∷ []) ≡ others sep f xs ++ (sep ++ f x)
@@ -59,15 +58,6 @@ lines-separated x xs = ap (λ l. shown x ++ l) (more_lines-others xs) ∙ simp a
 
 abbrev pub shown_chunk : Kind → Chunk → List ℕ
 shown_chunk k c = shown_string k c.width c.bytes
-
-more_chunks-others : (k : Kind) (cs : List Chunk) → shown_more_chunks k cs ≡ others (codes ", ") (shown_chunk k) cs
-more_chunks-others k [] = refl
-more_chunks-others k (c ∷ cs) = ap (λ l. codes ", " ++ (shown_chunk k c ++ l)) (more_chunks-others k cs)
-
-pub chunks-separated : (k : Kind) (cs : List Chunk) → 0 < length cs → shown_chunks k cs ≡ codes "(_ " ++ (separated (codes ", ") (shown_chunk k) cs ++ codes ")")
-chunks-separated k [] h = absurd (omega arith)
-chunks-separated OfBytes (c ∷ cs) h = ap (λ l. codes "(_ " ++ (shown_chunk OfBytes c ++ (l ++ codes ")"))) (more_chunks-others OfBytes cs) ∙ simp append_assoc
-chunks-separated OfText (c ∷ cs) h = ap (λ l. codes "(_ " ++ (shown_chunk OfText c ++ (l ++ codes ")"))) (more_chunks-others OfText cs) ∙ simp append_assoc
 
 -- a turn of a loop
 module _ {A : Type 0} (sep : List ℕ) (f : A → List ℕ) where

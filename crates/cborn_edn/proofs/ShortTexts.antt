@@ -15,10 +15,11 @@ use Rattle.cborn_edn.specs.Syntax.{Input, depth_of_input}
 use Rattle.cborn_edn.specs.Parse.{Parse, HasTree, Jam}
 use Rattle.cborn_edn.specs.Meaning.{FirstSlip, input_slips}
 use Rattle.cborn_edn.specs.Notates.{Notates, Slips, Jams}
-use Rattle.cborn_edn.proofs.Agree.{says, no_slip}
+use Rattle.cborn_edn.proofs.Agree.{says}
 use Rattle.cborn_edn.proofs.Counting.{counted_text}
 use Rattle.cborn_edn.proofs.First.{first, nothing_among}
 use Rattle.cborn_edn.proofs.Fit.{said_fits}
+use Rattle.cborn_edn.proofs.NoSlip.{no_slip}
 use Rattle.cborn_edn.proofs.OneTree.{one_tree, answered}
 
 -- LAW: the nodes fit their widths and are within the limit
@@ -28,14 +29,14 @@ notated_fits profile limit text nodes are short h =
     let f = said_fits h.tree nodes (counted_text profile text h.tokens h.tree are short h.lex h.parse) h.says in
     (f.0, omega (arith, f.1))
 
--- LAW: nodes, or a slip
-pub notated_or_slips : (profile : Profile) (limit most : ℕ) (text : List ℕ) (nodes : Trees) (p : ℕ) (r : EdnReason) → AreBytes text → length text < 2 ^ 56 → Notates profile limit text nodes → Slips profile most text p r → ⊥
-notated_or_slips profile limit most text nodes p r are short h k =
+-- LAW: never nodes and a slip, of whatever length the text is
+pub notated_or_slips : (profile : Profile) (limit most : ℕ) (text : List ℕ) (nodes : Trees) (p : ℕ) (r : EdnReason) → Notates profile limit text nodes → Slips profile most text p r → ⊥
+notated_or_slips profile limit most text nodes p r h k =
     let e : k.tokens ≡ h.tokens = one_list profile text k.tokens h.tokens k.lex h.lex in
     let parse : Parse profile h.tokens k.tree = subst (λ (ts : List Token). Parse profile ts k.tree) e k.parse in
     let same : k.tree ≡ h.tree = one_tree profile profile h.tokens k.tree h.tree parse h.parse in
     let slip : FirstSlip h.tree p r = subst (λ (t : Input). FirstSlip t p r) same k.slip in
-    nothing_among (input_slips h.tree) p r (no_slip h.tree nodes (counted_text profile text h.tokens h.tree are short h.lex h.parse) h.says) slip.is
+    nothing_among (input_slips h.tree) p r (no_slip h.tree nodes h.says) slip.is
 
 abbrev pub Answered : Profile → ℕ → List ℕ → Type 0
 Answered profile limit text =

@@ -372,7 +372,7 @@ abbrev pub input_slips : Input → List Slip
 input_slips nothing = []
 input_slips (items r) = row_slips r
 
--- Lengths and counts are below 2^64, strings are bytes and words are below 24. That is so of each text of fewer than 2^56 bytes, as a law says.
+-- What a tree of the grammar may still hold without bound is bounded: the lengths of strings, of bignums and of what is joined, and the counts of arrays and maps, are below 2^64; each string is bytes; each word is a simple value below 24. The tree of each text of fewer than 2^56 bytes is so, as a law says.
 abbrev pub IsShort : Option (List ℕ) → Type 0
 IsShort None = Unit {0}
 IsShort (Some x) = length x < 2 ^ 64

@@ -31,13 +31,13 @@ pub(crate) fn after(
         return Ok(None);
     };
     match class {
-        Class::Comma => match settled(frame, item)? {
+        Class::Comma => match settled(alloc, frame, item)? {
             Some(frame) => opened(frames, slip, frame, Phase::Wants),
             None => Ok(None),
         },
         Class::Colon => after_key(frames, slip, item, frame),
         Class::ParenClose => after_content(alloc, frames, slip, item, frame),
-        class => match settled(frame, item)? {
+        class => match settled(alloc, frame, item)? {
             Some(frame) => close(alloc, frames, slip, frame, start, class),
             None => Ok(None),
         },
@@ -91,43 +91,15 @@ fn after_content(
 }
 
 // The frame with the item in it, where it may end or a comma may follow.
-fn settled(frame: Frame, item: Option<Node>) -> Result<Option<Frame>, AllocError>
+fn settled(alloc: Global, mut frame: Frame, item: Option<Node>) -> Result<Option<Frame>, AllocError>
     requires spelled { MaySpell item }
     requires room { HasRoom frame }
     ensures { IfOk result (λ o. o ≡ pure.settled frame item) }
 {
-    match frame {
-        Frame::Top(items) => Ok(Some(Frame::Top(items.with(item)?))),
-        Frame::Array { place, mark, row } => {
-            let row = row.with(item)?;
-            Ok(Some(Frame::Array { place, mark, row }))
-        }
-        Frame::Embedded {
-            before,
-            place,
-            items,
-        } => {
-            let items = items.with(item)?;
-            Ok(Some(Frame::Embedded {
-                before,
-                place,
-                items,
-            }))
-        }
-        Frame::Value {
-            place,
-            mark,
-            fields,
-            key,
-        } => {
-            let fields = fields.with(key, item)?;
-            Ok(Some(Frame::Key {
-                place,
-                mark,
-                fields,
-            }))
-        }
-        _ => Ok(None),
+    if frame.settle(alloc, item)? {
+        Ok(Some(frame))
+    } else {
+        Ok(None)
     }
 }
 

@@ -1,6 +1,6 @@
 //! What stands complete inside an open bracket: the nodes, unless there is a slip among them, and their number.
 
-ghost use Rattle.std.specs.Prelude.{◌≡◌, suc, ◌^◌, ◌<◌, [], ◌∷◌, ◌++◌, Some, IfOk};
+ghost use Rattle.std.specs.Prelude.{◌≡◌, suc, ◌^◌, ◌<◌, [], ◌∷◌, ◌++◌, Some, IfOk, OnOk};
 ghost use Rattle.cborn_edn.specs.Draft as pure;
 ghost use Rattle.cborn_edn.specs.Meaning.{and_then, when, same_kind, size_slips};
 ghost use Rattle.cborn_edn.specs.Ready.{MaySpell};
@@ -32,16 +32,19 @@ impl Row {
     }
 
     /// One more item, for which the count has room.
-    pub(crate) fn with(self, item: Option<Node>) -> Result<Row, AllocError>
-        requires { suc self.count < 2 ^ 64 }
-        ensures { IfOk result (λ r. r ≡ pure.row_with self item) }
+    pub(crate) fn add(&mut self, item: Option<Node>) -> Result<(), AllocError>
+        requires { suc self.old.count < 2 ^ 64 }
+        ensures { OnOk result (self.new ≡ pure.row_with self.old item) }
     {
-        let count = self.count + 1;
-        let nodes = match (self.nodes, item) {
-            (Some(nodes), Some(node)) => Some(nodes.with(node)?),
-            _ => None,
+        self.count += 1;
+        let Some(node) = item else {
+            self.nodes = None;
+            return Ok(());
         };
-        Ok(Row { nodes, count })
+        match &mut self.nodes {
+            Some(nodes) => nodes.add(node),
+            None => Ok(()),
+        }
     }
 
     /// The array, and what is wrong with its indicator.
@@ -80,17 +83,20 @@ impl Sequence {
     }
 
     /// One more item, which spells bytes, and for which the count has room.
-    pub(crate) fn with(self, item: Option<Node>) -> Result<Sequence, AllocError>
-        requires room { suc self.count < 2 ^ 64 }
+    pub(crate) fn add(&mut self, item: Option<Node>) -> Result<(), AllocError>
+        requires room { suc self.old.count < 2 ^ 64 }
         requires spelled { MaySpell item }
-        ensures { IfOk result (λ r. r ≡ pure.sequence_with self item) }
+        ensures { OnOk result (self.new ≡ pure.sequence_with self.old item) }
     {
-        let count = self.count + 1;
-        let items = match (self.items, item) {
-            (Some(items), Some(node)) => Some(items.with(Spelled::new(node))?),
-            _ => None,
+        self.count += 1;
+        let Some(node) = item else {
+            self.items = None;
+            return Ok(());
         };
-        Ok(Sequence { items, count })
+        match &mut self.items {
+            Some(items) => items.add(Spelled::new(node)),
+            None => Ok(()),
+        }
     }
 
     /// The bytes that the items spell.
@@ -125,16 +131,19 @@ impl Fields {
     }
 
     /// One more pair, for which the count has room.
-    pub(crate) fn with(self, key: Option<Node>, value: Option<Node>) -> Result<Fields, AllocError>
-        requires { suc self.count < 2 ^ 64 }
-        ensures { IfOk result (λ f. f ≡ pure.fields_with self key value) }
+    pub(crate) fn add(&mut self, key: Option<Node>, value: Option<Node>) -> Result<(), AllocError>
+        requires { suc self.old.count < 2 ^ 64 }
+        ensures { OnOk result (self.new ≡ pure.fields_with self.old key value) }
     {
-        let count = self.count + 1;
-        let pairs = match (self.pairs, key, value) {
-            (Some(pairs), Some(key), Some(value)) => Some(pairs.with(key, value)?),
-            _ => None,
+        self.count += 1;
+        let (Some(key), Some(value)) = (key, value) else {
+            self.pairs = None;
+            return Ok(());
         };
-        Ok(Fields { pairs, count })
+        match &mut self.pairs {
+            Some(pairs) => pairs.add(key, value),
+            None => Ok(()),
+        }
     }
 
     /// The map, and what is wrong with its indicator.

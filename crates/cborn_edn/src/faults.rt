@@ -3,7 +3,7 @@
 use cborn_lex::LexFault;
 use thiserror::Error;
 
-/// What is wrong with the tokens of a text, or with what they mean. [`EdnReason::number`] has the numbers.
+/// What is wrong with the tokens of a text, or with what they mean.
 #[derive(Clone, Copy, PartialEq, Eq, Debug, Error)]
 pub enum EdnReason {
     /// The first token with which no text of the grammar goes on.
@@ -68,7 +68,7 @@ impl EdnReason {
     ghost use Rattle.cborn_edn.specs.Meaning.{number_of};
 
     /// The number of the reason: 20 to 22 for the tokens, 30 to 36 for what they mean. At one place the lowest is told.
-    pub fn number(self) -> u8
+    pub(crate) fn number(self) -> u8
         ensures { result ≡ number_of self }
     {
         match self {

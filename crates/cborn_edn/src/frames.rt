@@ -49,8 +49,41 @@ pub(crate) enum Frame {
 }
 
 impl Frame {
-    ghost use Rattle.std.specs.Prelude.{◌≡◌};
+    ghost use Rattle.std.specs.Prelude.{◌≡◌, IfOk, Some, None, if◌then◌else◌};
     ghost use Rattle.cborn_edn.specs.Levels.{is_level, has_items, has_pairs};
+    ghost use Rattle.cborn_edn.specs.Draft as pure;
+    ghost use Rattle.cborn_edn.specs.Ready.{MaySpell, HasRoom};
+
+    /// Takes the item in, where the bracket may end behind it or a comma may follow. Whether that is so.
+    pub(crate) fn settle(&mut self, alloc: Global, item: Option<Node>) -> Result<bool, AllocError>
+        requires spelled { MaySpell item }
+        requires room { HasRoom self.old }
+        ensures settled { IfOk result (λ b. pure.settled self.old item ≡ (if b then Some self.new else None)) }
+        ensures level { is_level self.new ≡ is_level self.old }
+    {
+        match self {
+            Frame::Top(items) => items.add(item)?,
+            Frame::Array { row, .. } => row.add(item)?,
+            Frame::Embedded { items, .. } => items.add(item)?,
+            Frame::Value {
+                place,
+                mark,
+                fields,
+                key,
+            } => {
+                let (place, mark) = (*place, *mark);
+                let mut fields = std::mem::replace(fields, Fields::new(alloc));
+                fields.add(key.take(), item)?;
+                *self = Frame::Key {
+                    place,
+                    mark,
+                    fields,
+                };
+            }
+            _ => return Ok(false),
+        }
+        Ok(true)
+    }
 
     // Whether it makes what stands inside one deeper.
     fn is_level(&self) -> bool
@@ -113,8 +146,13 @@ impl Model for Frames {
 }
 
 impl Frames {
-    ghost use Rattle.std.specs.Prelude.{◌≡◌, ◌<◌, ◌^◌, [], ◌∷◌, OnOk, MatchOption};
+    ghost use Rattle.std.specs.Prelude.{◌≡◌, ℕ, ◌<◌, ◌^◌, Option, [], ◌∷◌, OnOk, IfOk, Some, None, MatchOption, if◌then◌else◌};
     ghost use Rattle.cborn_edn.specs.Levels.{levels_in, filled};
+    ghost use Rattle.cborn_edn.specs.Draft as pure;
+    ghost use Rattle.cborn_edn.specs.Ready.{MaySpell, HaveRoom};
+    ghost use Rattle.cborn_edn.specs.declared.slips.Slip.{Slip};
+    ghost use Rattle.cborn_lex.specs.declared.classes.Class.TheVariants.{Comma};
+    ghost use Rattle.cborn_edn.specs.declared.states.Phase.TheVariants.{Wants};
 
     pub(crate) fn new(alloc: Global) -> Frames
         ensures { result ≡ [] }
@@ -157,6 +195,19 @@ impl Frames {
             self.levels -= 1;
         }
         Some(frame)
+    }
+
+    /// A comma behind an item: the innermost takes the item in, where a comma may follow. Whether that is so.
+    #[tactic(auto, using(crate::proofs::Innermost::innermost))]
+    pub(crate) fn settle(&mut self, alloc: Global, item: Option<Node>) -> Result<bool, AllocError>
+        requires spelled { MaySpell item }
+        requires room { HaveRoom self.old }
+        ensures { IfOk result (λ b. (slip : Option Slip) (start : ℕ) → pure.after self.old slip item start Comma ≡ (if b then Some (pure.keep self.new Wants slip) else None)) }
+    {
+        let Some(frame) = self.frames.last_mut() else {
+            return Ok(false);
+        };
+        frame.settle(alloc, item)
     }
 
     /// Whether a closing bracket of this class stands behind items or pairs, where the innermost wants one more.

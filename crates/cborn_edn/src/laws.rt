@@ -41,10 +41,10 @@ pub fn both_profiles()
     ensures { (tokens : List Token) (t : Input) → Parse ProfileOne tokens t → Parse ProfileTwo tokens t }
 {}
 
-/// A tree of lengths and counts below 2^64 says nodes exactly if it has no slip. What it says fits its widths and is no deeper than the tree. Where there is a slip, there is one first.
+/// A tree that says nodes has no slip. For the converse the tree is counted: lengths and counts are below 2^64, strings are bytes, and words are below 24. A counted tree without a slip says nodes, and what it says fits its widths and is no deeper than the tree. Where there is a slip, there is one first.
 pub fn one_meaning()
     ensures says { (t : Input) → CountedInput t → ((p : ℕ) (r : EdnReason) → HasSlip t p r → ⊥) → (nodes : Trees) × Says t nodes }
-    ensures no_slip { (t : Input) (nodes : Trees) (p : ℕ) (r : EdnReason) → CountedInput t → Says t nodes → HasSlip t p r → ⊥ }
+    ensures no_slip { (t : Input) (nodes : Trees) (p : ℕ) (r : EdnReason) → Says t nodes → HasSlip t p r → ⊥ }
     ensures fits { (t : Input) (nodes : Trees) → CountedInput t → Says t nodes → FitsAll nodes × (depth_all nodes ≤ depth_of_input t) }
     ensures first { (t : Input) (p : ℕ) (r : EdnReason) → HasSlip t p r → (q : ℕ) × (s : EdnReason) × FirstSlip t q s }
     ensures one_first { (t : Input) (p q : ℕ) (r s : EdnReason) → FirstSlip t p r → FirstSlip t q s → (p ≡ q) × (r ≡ s) }
@@ -63,12 +63,13 @@ pub fn shown_text_reads_back()
     ensures only { (profile : Profile) (limit : ℕ) (nodes : Trees) (text : List ℕ) (says : Trees) → FitsAll nodes → Shown nodes text → Notates profile limit text says → (unplaced_all says ≡ unplaced_all nodes) × (spelled_all says ≡ spelled_all nodes) }
 {}
 
-/// Nodes that are the same, places aside, fit their widths alike, are as deep, spell the same bytes and mean the same items.
+/// Nodes that are the same, places aside, fit their widths alike, are as deep, spell the same bytes, mean the same items and have the same fixed notation.
 pub fn places_aside()
     ensures fits { (nodes others : Trees) → unplaced_all nodes ≡ unplaced_all others → FitsAll nodes → FitsAll others }
     ensures depth { (nodes others : Trees) → unplaced_all nodes ≡ unplaced_all others → depth_all nodes ≡ depth_all others }
     ensures bytes { (nodes others : Trees) → unplaced_all nodes ≡ unplaced_all others → spelled_all nodes ≡ spelled_all others }
     ensures meaning { (nodes others : Trees) (items : Values) → unplaced_all nodes ≡ unplaced_all others → AllMean nodes items → AllMean others items }
+    ensures text { (nodes others : Trees) (text : List ℕ) → unplaced_all nodes ≡ unplaced_all others → Shown nodes text → Shown others text }
 {}
 
 /// A text notates at most one list of nodes. It notates the same under each larger limit, and what it notates under profile 1, places included, it notates under profile 2.
@@ -78,10 +79,10 @@ pub fn one_notation()
     ensures both { (limit : ℕ) (text : List ℕ) (nodes : Trees) → Notates ProfileOne limit text nodes → Notates ProfileTwo limit text nodes }
 {}
 
-/// A text of fewer than 2^56 bytes has an answer: it notates nodes, or it has a lexical stop, a jam or a slip. It never notates nodes and has a slip, whatever the limits. The nodes that it notates fit their widths and are within the limit. The lengths and counts of its tree are below 2^64.
+/// A text of fewer than 2^56 bytes has an answer: it notates nodes, or it has a lexical stop, a jam or a slip. The nodes that it notates fit their widths and are within the limit. Its tree is counted: lengths and counts are below 2^64, strings are bytes, and words are below 24. No text, however long, notates nodes and has a slip, whatever the limits.
 pub fn short_text()
     ensures answered { (profile : Profile) (limit : ℕ) (text : List ℕ) → AreBytes text → length text < 2 ^ 56 → ((nodes : Trees) × Notates profile limit text nodes) ⊎ (((p : ℕ) × (r : LexReason) × Stop profile text p r) ⊎ ((p : ℕ) × (r : EdnReason) × (Jams profile limit text p r ⊎ Slips profile limit text p r))) }
-    ensures no_slip { (profile : Profile) (limit most : ℕ) (text : List ℕ) (nodes : Trees) (p : ℕ) (r : EdnReason) → AreBytes text → length text < 2 ^ 56 → Notates profile limit text nodes → Slips profile most text p r → ⊥ }
+    ensures no_slip { (profile : Profile) (limit most : ℕ) (text : List ℕ) (nodes : Trees) (p : ℕ) (r : EdnReason) → Notates profile limit text nodes → Slips profile most text p r → ⊥ }
     ensures fits { (profile : Profile) (limit : ℕ) (text : List ℕ) (nodes : Trees) → AreBytes text → length text < 2 ^ 56 → Notates profile limit text nodes → FitsAll nodes × (depth_all nodes ≤ limit) }
     ensures counted { (profile : Profile) (text : List ℕ) (tokens : List Token) (t : Input) → AreBytes text → length text < 2 ^ 56 → Lex profile text tokens → Parse profile tokens t → CountedInput t }
 {}

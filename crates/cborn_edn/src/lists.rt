@@ -22,7 +22,7 @@ impl Model for NodeList {
 }
 
 impl NodeList {
-    ghost use Rattle.std.specs.Prelude.{◌≡◌, IfOk};
+    ghost use Rattle.std.specs.Prelude.{◌≡◌, OnOk};
     ghost use Rattle.cborn_model.specs.Tree.{no_item, trees};
     ghost use Rattle.cborn_edn.specs.Meaning.{snoc};
 
@@ -35,12 +35,11 @@ impl NodeList {
     }
 
     #[tactic(auto, using(crate::proofs::Snocs::snocs))]
-    pub(crate) fn with(self, node: Node) -> Result<NodeList, AllocError>
-        ensures { IfOk result (λ l. l ≡ snoc self node) }
+    pub(crate) fn add(&mut self, node: Node) -> Result<(), AllocError>
+        ensures { OnOk result (self.new ≡ snoc self.old node) }
     {
-        let mut nodes = self.nodes;
-        nodes.push(node)?;
-        Ok(NodeList { nodes })
+        self.nodes.push(node)?;
+        Ok(())
     }
 
     pub(crate) fn into_vec(self) -> Vec<Node>
@@ -68,7 +67,7 @@ impl Model for SpelledList {
 }
 
 impl SpelledList {
-    ghost use Rattle.std.specs.Prelude.{◌≡◌, IfOk};
+    ghost use Rattle.std.specs.Prelude.{◌≡◌, OnOk};
     ghost use Rattle.cborn_model.specs.Tree.{no_item, trees};
     ghost use Rattle.cborn_edn.specs.Meaning.{snoc};
 
@@ -81,12 +80,11 @@ impl SpelledList {
     }
 
     #[tactic(auto, using(crate::proofs::Snocs::snocs))]
-    pub(crate) fn with(self, item: Spelled) -> Result<SpelledList, AllocError>
-        ensures { IfOk result (λ l. l ≡ snoc self item) }
+    pub(crate) fn add(&mut self, item: Spelled) -> Result<(), AllocError>
+        ensures { OnOk result (self.new ≡ snoc self.old item) }
     {
-        let mut items = self.items;
-        items.push(item)?;
-        Ok(SpelledList { items })
+        self.items.push(item)?;
+        Ok(())
     }
 
     pub(crate) fn as_slice(&self) -> &[Spelled]
@@ -120,7 +118,7 @@ impl Model for PairList {
 }
 
 impl PairList {
-    ghost use Rattle.std.specs.Prelude.{◌≡◌, IfOk};
+    ghost use Rattle.std.specs.Prelude.{◌≡◌, OnOk};
     ghost use Rattle.cborn_model.specs.Tree.{no_entry, entries};
     ghost use Rattle.cborn_edn.specs.Meaning.{snoc_entry};
 
@@ -133,12 +131,11 @@ impl PairList {
     }
 
     #[tactic(auto, using(crate::proofs::Snocs::snocs))]
-    pub(crate) fn with(self, key: Node, value: Node) -> Result<PairList, AllocError>
-        ensures { IfOk result (λ l. l ≡ snoc_entry self key value) }
+    pub(crate) fn add(&mut self, key: Node, value: Node) -> Result<(), AllocError>
+        ensures { OnOk result (self.new ≡ snoc_entry self.old key value) }
     {
-        let mut pairs = self.pairs;
-        pairs.push((key, value))?;
-        Ok(PairList { pairs })
+        self.pairs.push((key, value))?;
+        Ok(())
     }
 
     pub(crate) fn into_vec(self) -> Vec<(Node, Node)>

@@ -105,8 +105,8 @@ fn parsed(
         let spare = is_one(profile) && state.is_behind_comma(&token.class);
         let reach = state.reach(&token.class);
         match state.step(alloc, token) {
-            Ok(Some(next)) => state = next,
-            Ok(None) => return Err(refused(place, EdnReason::UnexpectedToken)),
+            Ok(true) => {}
+            Ok(false) => return Err(refused(place, EdnReason::UnexpectedToken)),
             Err(_) => return Err(EdnFault::OutOfMemory),
         }
         if spare {

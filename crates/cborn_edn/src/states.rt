@@ -1,8 +1,8 @@
 //! The reader of tokens: what is open, and what stands right before the next token.
 
-ghost use Rattle.std.specs.Prelude.{◌≡◌, suc, ◌^◌, ◌<◌, [], ◌∷◌, Some, None, IfOk};
+ghost use Rattle.std.specs.Prelude.{◌≡◌, suc, ◌^◌, ◌<◌, [], ◌∷◌, Some, None, IfOk, if◌then◌else◌};
 ghost use Rattle.cborn_edn.specs.Draft as pure;
-ghost use Rattle.cborn_edn.specs.Ready.{IsReady, IsHeld, MayEnd};
+ghost use Rattle.cborn_edn.specs.Ready.{IsReady, IsHeld, MayEnd, HaveRoom};
 ghost use Rattle.cborn_edn.specs.declared.frames.Frame.TheVariants.{Top};
 ghost use Rattle.cborn_edn.specs.declared.states.Phase.TheVariants.{Wants};
 
@@ -10,9 +10,9 @@ use crate::closings::{after, after_number, more};
 use crate::contents::Sequence;
 use crate::frames::{Frame, Frames};
 use crate::lists::SpelledList;
-use crate::numbers::is_small;
+use crate::numbers::{integer, is_small};
 use crate::openings::{begin, begin_chunk, begin_number};
-use crate::slips::{Slip, earlier};
+use crate::slips::{Slip, earlier, slip_at};
 use crate::strings::Pieces;
 use cborn_lex::{Class, Token};
 use cborn_model::Node;
@@ -101,25 +101,63 @@ impl State {
         }
     }
 
-    /// The state behind `token`, or none where the grammar has no such token here.
-    pub(crate) fn step(self, alloc: Global, token: Token) -> Result<Option<State>, AllocError>
-        requires { IsReady self }
-        ensures { IfOk result (λ o. o ≡ pure.draft_step self token) }
+    /// Takes `token`. Whether the grammar has such a token here; where it has none, the state is of no use.
+    pub(crate) fn step(&mut self, alloc: Global, token: Token) -> Result<bool, AllocError>
+        requires { IsReady self.old }
+        ensures { IfOk result (λ b. pure.draft_step self.old token ≡ (if b then Some self.new else None)) }
     {
-        let State {
-            frames,
-            phase,
-            slip,
-        } = self;
-        let Token { start, class, .. } = token;
-        match phase {
-            Phase::Wants => begin(alloc, frames, slip, start, class),
-            Phase::Has(item) => after(alloc, frames, slip, item, start, class),
-            Phase::Builds(string) => more(alloc, frames, slip, string, start, class),
-            Phase::WantsChunk => begin_chunk(alloc, frames, slip, start, class),
-            Phase::WantsNumber { place } => Ok(begin_number(frames, slip, place, start, class)),
-            Phase::HasNumber(item) => Ok(after_number(frames, slip, item, class)),
+        if let Phase::Wants = &self.phase {
+            if let Class::Number {
+                negative,
+                magnitude,
+                mark,
+            } = &token.class
+            {
+                let judged = integer(alloc, token.start, *negative, *magnitude, *mark)?;
+                self.slip = earlier(self.slip, slip_at(token.start, &judged));
+                self.phase = Phase::Has(judged.ok());
+                return Ok(true);
+            }
         }
+        if let Phase::Has(item) = &mut self.phase {
+            if let Class::Comma = &token.class {
+                let item = item.take();
+                self.phase = Phase::Wants;
+                return self.frames.settle(alloc, item);
+            }
+        }
+        let frames = std::mem::replace(&mut self.frames, Frames::new(alloc));
+        let phase = std::mem::replace(&mut self.phase, Phase::Wants);
+        match step_whole(alloc, frames, phase, self.slip, token)? {
+            Some(next) => {
+                *self = next;
+                Ok(true)
+            }
+            None => Ok(false),
+        }
+    }
+}
+
+// The state behind `token`, or none where the grammar has no such token here.
+fn step_whole(
+    alloc: Global,
+    frames: Frames,
+    phase: Phase,
+    slip: Option<Slip>,
+    token: Token,
+) -> Result<Option<State>, AllocError>
+    requires spelled { MayEnd phase }
+    requires room { HaveRoom frames }
+    ensures { IfOk result (λ o. o ≡ pure.step_in frames slip phase token.start token.class) }
+{
+    let Token { start, class, .. } = token;
+    match phase {
+        Phase::Wants => begin(alloc, frames, slip, start, class),
+        Phase::Has(item) => after(alloc, frames, slip, item, start, class),
+        Phase::Builds(string) => more(alloc, frames, slip, string, start, class),
+        Phase::WantsChunk => begin_chunk(alloc, frames, slip, start, class),
+        Phase::WantsNumber { place } => Ok(begin_number(frames, slip, place, start, class)),
+        Phase::HasNumber(item) => Ok(after_number(frames, slip, item, class)),
     }
 }
 
@@ -188,12 +226,14 @@ fn finished_top(
             }
         }
         Phase::Has(item) => {
-            let items = items.with(item)?;
+            let mut items = items;
+            items.add(item)?;
             Ok(Some((items.items, slip)))
         }
         Phase::Builds(string) => {
             let (item, found) = string.into_item(alloc);
-            let items = items.with(item)?;
+            let mut items = items;
+            items.add(item)?;
             Ok(Some((items.items, earlier(slip, found))))
         }
         _ => Ok(None),

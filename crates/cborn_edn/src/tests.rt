@@ -1,7 +1,7 @@
 //! Texts with the bytes that their items spell, or with their faults; and bytes, shown.
 
 use crate::{EdnFault, EdnReason, read_notation, show};
-use cborn_lex::Profile;
+use cborn_lex::{LexFault, Profile};
 use cborn_model::Limit;
 use cborn_wire::{read_all, spell_all};
 use std::alloc::{AllocError, Global};
@@ -40,11 +40,11 @@ fn shown(alloc: Global, digits: &str) -> Result<String, AllocError> {
 /// Whether a text has items, or a fault of its own, which stands at its end where the text ends too early.
 fn is_told(alloc: Global, profile: Profile, text: &str) -> bool {
     match read_notation(alloc, LIMIT, profile, text) {
-        Ok(_) | Err(EdnFault::Lex(_)) => true,
+        Ok(_) | Err(EdnFault::Lex(LexFault::Refused { .. })) => true,
         Err(EdnFault::Refused { place, reason }) => {
             reason != EdnReason::UnexpectedEnd || place == text.len() as u64
         }
-        Err(EdnFault::OutOfMemory) => false,
+        Err(EdnFault::OutOfMemory | EdnFault::Lex(LexFault::OutOfMemory)) => false,
     }
 }
 

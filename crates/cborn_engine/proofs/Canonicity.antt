@@ -16,6 +16,7 @@ use Rattle.cborn_engine.specs.declared.kinds.Kind.TheVariants as kind
 use Rattle.cborn_engine.specs.Holding.{Spells, Holds, Canon, IsWrittenAs}
 use Rattle.cborn_engine.specs.Refusing.{IsRead}
 use Rattle.cborn_engine.specs.Loading.{Reads}
+use Rattle.cborn_engine.specs.Encoding.{Encodes}
 use Rattle.cborn_engine.specs.Writing.{Writes, WriteAnswers}
 use Rattle.cborn_engine.specs.Canonical.{IsCanonical, NormaliseAnswers, Normalises}
 use Rattle.cborn_engine.proofs.Notated.{fits}
@@ -102,20 +103,20 @@ held_sound order k limit input vs x short h d =
     record { proper = sequence_proper order h.nodes vs x f.0 h.meant d; shallow = sequence_shallow limit h.nodes vs f.0 f.1 h.meant }
 
 -- what was encoded of what was read holds items
-pub encoded_held : (order : List ℕ → List ℕ → Ordering) (laws : IsKeyOrder order) (k : Kind) (limit most : ℕ) (before after : Option (List ℕ)) (items : Vec Value Global) (xs : List Value) (output : List ℕ) → most ≤ 2 ^ 30 → Reads k limit most before after (Ok items) → xs ≡ items.items → DetSeq order xs output → (vs : List Value) × Holds kind.Wire limit output vs
-encoded_held order laws k limit most before after items xs output bounded h e d =
-    let encoded : DetSeq order items.items output = subst (λ (us : List Value). DetSeq order us output) e d in
-    let sound : AreSound limit items.items = held_sound order k limit h.input items.items output (omega (arith, h.answer.0, bounded)) h.answer.1 encoded in
-    let back = sequence_back order laws limit 0 items.items output sound.proper sound.shallow encoded in
-    (back.items, holds_back kind.Wire limit items.items output output back refl)
+pub encoded_held : (order : List ℕ → List ℕ → Ordering) (laws : IsKeyOrder order) (k : Kind) (limit most : ℕ) (before after : Option (List ℕ)) (bytes : Vec ℕ Global) → most ≤ 2 ^ 30 → Encodes order k limit most before after (Ok bytes) → (vs : List Value) × Holds kind.Wire limit bytes.items vs
+encoded_held order laws k limit most before after bytes bounded h =
+    let e = h.answer.1 in
+    let sound : AreSound limit e.items = held_sound order k limit h.input e.items bytes.items (omega (arith, h.answer.0, bounded)) e.held e.encoded in
+    let back = sequence_back order laws limit 0 e.items bytes.items sound.proper sound.shallow e.encoded in
+    (back.items, holds_back kind.Wire limit e.items bytes.items bytes.items back refl)
 
 -- what was encoded of what was read, written out
-pub normalised : (order : List ℕ → List ℕ → Ordering) (laws : IsKeyOrder order) (k out : Kind) (limit most : ℕ) (before after sent sent_after : Option (List ℕ)) (items : Vec Value Global) (xs : List Value) (output zs ys : List ℕ) (r : Result Unit EngineFault) → most ≤ 2 ^ 30 → length output < 2 ^ 64 → Reads k limit most before after (Ok items) → xs ≡ items.items → DetSeq order xs output → IsWrittenAs out output zs → ys ≡ zs → Writes sent sent_after ys r → Normalises order k out limit most before after sent sent_after r
-normalised order laws k out limit most before after sent sent_after items xs output zs ys r bounded small h e d t f w =
-    let encoded : DetSeq order items.items output = subst (λ (us : List Value). DetSeq order us output) e d in
-    let told : IsWrittenAs out output ys = subst (IsWrittenAs out output) (sym f) t in
-    let sound : AreSound limit items.items = held_sound order k limit h.input items.items output (omega (arith, h.answer.0, bounded)) h.answer.1 encoded in
-    let all : IsCanonical order k out limit h.input ys = canonical order laws k out limit h.input items.items output ys sound small h.answer.1 encoded told in
+pub normalised : (order : List ℕ → List ℕ → Ordering) (laws : IsKeyOrder order) (k out : Kind) (limit most : ℕ) (before after sent sent_after : Option (List ℕ)) (bytes : Vec ℕ Global) (zs ys : List ℕ) (r : Result Unit EngineFault) → most ≤ 2 ^ 30 → length bytes.items < 2 ^ 64 → Encodes order k limit most before after (Ok bytes) → IsWrittenAs out bytes.items zs → ys ≡ zs → Writes sent sent_after ys r → Normalises order k out limit most before after sent sent_after r
+normalised order laws k out limit most before after sent sent_after bytes zs ys r bounded small h t f w =
+    let e = h.answer.1 in
+    let told : IsWrittenAs out bytes.items ys = subst (IsWrittenAs out bytes.items) (sym f) t in
+    let sound : AreSound limit e.items = held_sound order k limit h.input e.items bytes.items (omega (arith, h.answer.0, bounded)) e.held e.encoded in
+    let all : IsCanonical order k out limit h.input ys = canonical order laws k out limit h.input e.items bytes.items ys sound small e.held e.encoded told in
     record { input = h.input; output = w.output; taken = h.taken; given = w.written; answer = answer r w.answer all; to_end = ended r w.answer }
   where
     answer : (r : Result Unit EngineFault) → WriteAnswers ys w.output r → IsCanonical order k out limit h.input ys → NormaliseAnswers order k out limit most h.input w.output r
@@ -129,5 +130,21 @@ normalised order laws k out limit most before after sent sent_after items xs out
     ended (Err _) a = absurd a
 
 -- there was no memory to answer
-pub no_answer : (order : List ℕ → List ℕ → Ordering) (k out : Kind) (limit most : ℕ) (before after sent : Option (List ℕ)) (items : Vec Value Global) → Reads k limit most before after (Ok items) → Normalises order k out limit most before after sent sent (Err fault.OutOfMemory)
-no_answer order k out limit most before after sent items h = record { input = h.input; output = []; taken = h.taken; given = nothing_written sent; answer = (h.answer.0, refl); to_end = tt }
+pub no_answer : (order : List ℕ → List ℕ → Ordering) (k out : Kind) (limit most : ℕ) (before after sent : Option (List ℕ)) (bytes : Vec ℕ Global) → Encodes order k limit most before after (Ok bytes) → Normalises order k out limit most before after sent sent (Err fault.OutOfMemory)
+no_answer order k out limit most before after sent bytes h = record { input = h.input; output = []; taken = h.taken; given = nothing_written sent; answer = (h.answer.0, refl); to_end = tt }
+
+-- ---- what was read, and then encoded
+
+pub encoded_all : (order : List ℕ → List ℕ → Ordering) (k : Kind) (limit most : ℕ) (before after : Option (List ℕ)) (items : Vec Value Global) (xs : List Value) (bytes : Vec ℕ Global) → Reads k limit most before after (Ok items) → xs ≡ items.items → DetSeq order xs bytes.items → Encodes order k limit most before after (Ok bytes)
+encoded_all order k limit most before after items xs bytes h e d = record {
+  input = h.input;
+  taken = h.taken;
+  answer = (h.answer.0, record { items = items.items; held = h.answer.1; encoded = subst (λ (us : List Value). DetSeq order us bytes.items) e d });
+  to_end = h.to_end;
+}
+
+pub not_encoded : (order : List ℕ → List ℕ → Ordering) (k : Kind) (limit most : ℕ) (before after : Option (List ℕ)) (why : EngineFault) → Reads k limit most before after (Err why) → Encodes order k limit most before after (Err why)
+not_encoded order k limit most before after why h = record { input = h.input; taken = h.taken; answer = h.answer; to_end = h.to_end }
+
+pub encoding_short : (order : List ℕ → List ℕ → Ordering) (k : Kind) (limit most : ℕ) (before after : Option (List ℕ)) (items : Vec Value Global) → Reads k limit most before after (Ok items) → Encodes order k limit most before after (Err fault.OutOfMemory)
+encoding_short order k limit most before after items h = record { input = h.input; taken = h.taken; answer = h.answer.0; to_end = tt }

@@ -21,7 +21,7 @@ use Rattle.cborn_engine.specs.Faults.{of_stop, of_wire}
 use Rattle.cborn_engine.specs.Loading.{Loads}
 use Rattle.cborn_engine.specs.Reading.{PieceAnswers}
 
-abbrev StaysRefused : ℕ → List ℕ → WireFault → Type 0
+abbrev pub StaysRefused : ℕ → List ℕ → WireFault → Type 0
 StaysRefused limit x (wire.Refused p r) = Refused limit x p r
 StaysRefused limit x wire.OutOfMemory = ⊤
 
@@ -36,8 +36,12 @@ pub record SoFar (limit most left : ℕ) (before after : Option (List ℕ)) (ref
   pub count : length input + left ≡ most
   pub fed : IsFedSoFar limit input refused f
 
-nothing_longer : (x f y : List ℕ) → x ≡ [] → x ≡ f ++ y → length f ≤ 0
+pub nothing_longer : (x f y : List ℕ) → x ≡ [] → x ≡ f ++ y → length f ≤ 0
 nothing_longer x f y e h = omega (arith, ap length e, ap length h, length-append f y)
+
+pub none_taken : (a : Option (List ℕ)) → Consumes a a []
+none_taken None = tt
+none_taken (Some x) = refl
 
 -- nothing was read and nothing fed
 pub at_first : (limit most : ℕ) (a : Option (List ℕ)) → SoFar limit most most a a false (fresh limit)
@@ -47,10 +51,6 @@ at_first limit most a = record {
   count = omega arith;
   fed = (refl, refl, refl, refl, (0, refl, record { front = []; rest = []; whole = refl; read = record { spells = refl; fit = tt; shallow = omega arith }; placed = tt; longest = λ f y others h w. nothing_longer [] f y refl h }));
 }
-  where
-    none_taken : (a : Option (List ℕ)) → Consumes a a []
-    none_taken None = tt
-    none_taken (Some x) = refl
 
 -- what is allowed still, and what was fed, is no more than the most
 pub fed_below : (limit most left : ℕ) (before after : Option (List ℕ)) (f : Feeding) → SoFar limit most left before after false f → f.fed + left ≤ most
@@ -65,7 +65,7 @@ halted limit most left a b c refused f buf stop.Failed s p =
     let n : length s.input ≤ most = omega (arith, s.count) in
     record { input = s.input; taken = Consumes-kept a b c s.input s.taken p; answer = (n, tt); to_end = tt }
 
-stays : (limit : ℕ) (x y : List ℕ) (why : WireFault) → StaysRefused limit x why → StaysRefused limit (x ++ y) why
+pub stays : (limit : ℕ) (x y : List ℕ) (why : WireFault) → StaysRefused limit x why → StaysRefused limit (x ++ y) why
 stays limit x y (wire.Refused p r) h = refused_stays limit x y p r h
 stays limit x y wire.OutOfMemory h = tt
 
@@ -104,7 +104,7 @@ fed_on limit most left n a b c f g buf r s p h m e =
       fed = fed_now limit s.input (take n buf) f g r s.fed h;
     }
 
-taken_all : (a b c : Option (List ℕ)) (x buf : List ℕ) (n : ℕ) → Consumes a b x → Consumes b c (take n buf) → n ≡ 0 → Consumes a c x
+pub taken_all : (a b c : Option (List ℕ)) (x buf : List ℕ) (n : ℕ) → Consumes a b x → Consumes b c (take n buf) → n ≡ 0 → Consumes a c x
 taken_all a b c x buf n t u e = subst (Consumes a c) (append-nil x) (Consumes-trans a b c x [] t (subst (λ (m : ℕ). Consumes b c (take m buf)) e u))
 
 -- what the feeder makes of an input that ended

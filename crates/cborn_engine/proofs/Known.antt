@@ -1,5 +1,5 @@
 -- Inputs that are known.
-use Rattle.std.proofs.Common.{◌≡◌, ◌≤◌, ◌^◌, ℕ, List, [], ◌∷◌, ◌++◌, length, inl, inr, Option, None, Some, append-nil, sym, ◌∙◌, ap, subst, arith}
+use Rattle.std.proofs.Common.{◌≡◌, ◌≤◌, ℕ, List, [], ◌∷◌, ◌++◌, length, inl, inr, Option, None, Some, Err, append-nil, sym, ◌∙◌, ap, subst, arith}
 use Rattle.std.specs.Io.KnownBytes.{Consumes, IsAtEnd}
 use Rattle.std.specs.List.{AllZip}
 use Rattle.cborn_model.specs.Tree.{Tree, trees}
@@ -24,6 +24,7 @@ use Rattle.cborn_engine.specs.declared.kinds.Kind.{Kind}
 use Rattle.cborn_engine.specs.declared.kinds.Kind.TheVariants as kind
 use Rattle.cborn_engine.specs.Holding.{IsNotation, Spells, Holds}
 use Rattle.cborn_engine.specs.Refusing.{IsUnspelled, IsUntold, IsUnnotated, IsNoText, IsRefused, IsNoRefusal}
+use Rattle.cborn_engine.specs.Loading.{LoadAnswers, IsNoFlaw}
 use Rattle.cborn_engine.proofs.Meant.{spells_once}
 use Rattle.cborn_engine.proofs.Notated.{no_stop, no_jam, no_slip}
 
@@ -47,29 +48,18 @@ flawless (n ∷ ns) (v ∷ vs) p r m (inl h) = no_flaw n v m.0 p r h.is
 flawless (n ∷ ns) (v ∷ vs) p r m (inr h) = flawless ns vs p r m.1 h.1
 
 -- a text that notates nodes isn't refused
-told : (p : Profile) (limit : ℕ) (x : List ℕ) (ns : List Tree) (why : EdnFault) → length x ≤ 2 ^ 30 → IsNotation p limit x ns → IsUntold p limit x why → ⊥
-told p limit x ns (edn.Lex (lex.Refused q r)) l h f = no_stop p limit x ns h q r f.1
-told p limit x ns (edn.Lex lex.OutOfMemory) l h f = absurd f
-told p limit x ns (edn.Refused q r) l h (u, inl f) = no_jam p limit x ns h q r f
-told p limit x ns (edn.Refused q r) l h (u, inr f) = no_slip p limit x ns h l q r f
-told p limit x ns edn.OutOfMemory l h f = absurd f
-
--- a text is at most 2^30 bytes long
-abbrev IsBounded : Kind → List ℕ → Type 0
-IsBounded kind.Wire x = Unit {0}
-IsBounded kind.Notation x = length x ≤ 2 ^ 30
-IsBounded kind.Notation2 x = length x ≤ 2 ^ 30
-
-bounded : (k : Kind) (x : List ℕ) → length x ≤ 2 ^ 30 → IsBounded k x
-bounded kind.Wire x l = tt
-bounded kind.Notation x l = l
-bounded kind.Notation2 x l = l
+told : (p : Profile) (limit : ℕ) (x : List ℕ) (ns : List Tree) (why : EdnFault) → IsNotation p limit x ns → IsUntold p limit x why → ⊥
+told p limit x ns (edn.Lex (lex.Refused q r)) h f = no_stop p limit x ns h q r f.1
+told p limit x ns (edn.Lex lex.OutOfMemory) h f = absurd f
+told p limit x ns (edn.Refused q r) h (u, inl f) = no_jam p limit x ns h q r f
+told p limit x ns (edn.Refused q r) h (u, inr f) = no_slip p limit x ns h q r f
+told p limit x ns edn.OutOfMemory h f = absurd f
 
 -- nodes that are spelled are read
-notated : (k : Kind) (limit : ℕ) (x : List ℕ) (ns : List Tree) (why : EdnFault) → IsBounded k x → Spells k limit x ns → IsUnnotated k limit x why → ⊥
-notated kind.Wire limit x ns why l h f = absurd f
-notated kind.Notation limit x ns why l h f = told profile.One limit x ns why l h f
-notated kind.Notation2 limit x ns why l h f = told profile.Two limit x ns why l h f
+notated : (k : Kind) (limit : ℕ) (x : List ℕ) (ns : List Tree) (why : EdnFault) → Spells k limit x ns → IsUnnotated k limit x why → ⊥
+notated kind.Wire limit x ns why h f = absurd f
+notated kind.Notation limit x ns why h f = told profile.One limit x ns why h f
+notated kind.Notation2 limit x ns why h f = told profile.Two limit x ns why h f
 
 wellformed : (k : Kind) (limit : ℕ) (x : List ℕ) (ns : List Tree) (why : WireFault) → Spells k limit x ns → IsUnspelled k limit x why → ⊥
 wellformed kind.Wire limit x ns (wire.Refused p r) h f = not_both limit x p r (trees ns, h.0) f
@@ -82,22 +72,34 @@ text kind.Wire limit x ns p h f = absurd f
 text kind.Notation limit x ns p h f = f.0 h.0
 text kind.Notation2 limit x ns p h f = f.0 h.0
 
+-- nodes that are spelled are loaded
+unloaded : (k : Kind) (limit most : ℕ) (x : List ℕ) (ns : List Tree) (why : EngineFault) → length x ≤ most → Spells k limit x ns → IsRefused k limit most x why → IsNoFlaw why → IsNoRefusal why
+unloaded k limit most x ns (fault.Wire why) l h f n = wellformed k limit x ns why h f.1
+unloaded k limit most x ns (fault.Invalid why) l h f n = absurd n
+unloaded k limit most x ns (fault.Edn why) l h f n = notated k limit x ns why h f.1
+unloaded k limit most x ns (fault.TextInput p) l h f n = text k limit x ns p h f.1
+unloaded k limit most x ns (fault.Show why) l h f n = absurd f
+unloaded k limit most x ns fault.TooLong l h f n = absurd (omega (arith, f))
+unloaded k limit most x ns fault.WriteFault l h f n = absurd f
+unloaded k limit most x ns fault.ReadFault l h f n = tt
+unloaded k limit most x ns fault.OutOfMemory l h f n = tt
+
 module _ (k : Kind) (limit most : ℕ) (x : List ℕ) (vs : List Value) (h : Holds k limit x vs) where
-  no_refusal : (why : EngineFault) → length x ≤ most → IsBounded k x → IsRefused k limit most x why → IsNoRefusal why
-  no_refusal (fault.Wire why) l m f = wellformed k limit x h.nodes why h.spelled f.1
-  no_refusal (fault.Invalid (invalid.Refused p r)) l m f =
+  no_refusal : (why : EngineFault) → length x ≤ most → IsRefused k limit most x why → IsNoRefusal why
+  no_refusal (fault.Invalid (invalid.Refused p r)) l f =
       flawless h.nodes vs p r h.meant (subst (λ (ns : List Tree). IsRefusalOfAll ns (invalid.Refused p r)) (spells_once k limit x f.1.nodes h.nodes f.1.spelled h.spelled) f.1.flaw)
-  no_refusal (fault.Invalid invalid.OutOfMemory) l m f = absurd f.1
-  no_refusal (fault.Edn why) l m f = notated k limit x h.nodes why m h.spelled f.1
-  no_refusal (fault.TextInput p) l m f = text k limit x h.nodes p h.spelled f.1
-  no_refusal (fault.Show why) l m f = absurd f
-  no_refusal fault.TooLong l m f = absurd (omega (arith, f))
-  no_refusal fault.WriteFault l m f = absurd f
-  no_refusal fault.ReadFault l m f = tt
-  no_refusal fault.OutOfMemory l m f = tt
+  no_refusal (fault.Invalid invalid.OutOfMemory) l f = absurd f.1
+  no_refusal (fault.Wire why) l f = unloaded k limit most x h.nodes (fault.Wire why) l h.spelled f tt
+  no_refusal (fault.Edn why) l f = unloaded k limit most x h.nodes (fault.Edn why) l h.spelled f tt
+  no_refusal (fault.TextInput p) l f = unloaded k limit most x h.nodes (fault.TextInput p) l h.spelled f tt
+  no_refusal (fault.Show why) l f = absurd f
+  no_refusal fault.TooLong l f = unloaded k limit most x h.nodes fault.TooLong l h.spelled f tt
+  no_refusal fault.WriteFault l f = absurd f
+  no_refusal fault.ReadFault l f = tt
+  no_refusal fault.OutOfMemory l f = tt
 
-pub bytes_read : (limit most : ℕ) (x : List ℕ) (vs : List Value) (why : EngineFault) → length x ≤ most → Holds kind.Wire limit x vs → IsRefused kind.Wire limit most x why → IsNoRefusal why
-bytes_read limit most x vs why l h f = no_refusal kind.Wire limit most x vs h why l tt f
+pub nodes_loaded : (k : Kind) (limit most : ℕ) (x : List ℕ) (ns : List Tree) (why : EngineFault) → length x ≤ most → Spells k limit x ns → LoadAnswers k limit most x (Err why) → IsNoRefusal why
+nodes_loaded k limit most x ns why l h f = unloaded k limit most x ns why l h f.0 f.1
 
-pub input_read : (k : Kind) (limit most : ℕ) (x : List ℕ) (vs : List Value) (why : EngineFault) → length x ≤ most → length x ≤ 2 ^ 30 → Holds k limit x vs → IsRefused k limit most x why → IsNoRefusal why
-input_read k limit most x vs why l m h f = no_refusal k limit most x vs h why l (bounded k x m) f
+pub input_read : (k : Kind) (limit most : ℕ) (x : List ℕ) (vs : List Value) (why : EngineFault) → length x ≤ most → Holds k limit x vs → IsRefused k limit most x why → IsNoRefusal why
+input_read k limit most x vs why l h f = no_refusal k limit most x vs h why l f

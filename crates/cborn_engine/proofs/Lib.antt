@@ -16,3 +16,5 @@ pub mod Proper
 pub mod Notated
 pub mod Unfailing
 pub mod Headline
+pub mod Streamed
+pub mod Following

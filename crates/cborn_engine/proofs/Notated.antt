@@ -27,5 +27,5 @@ module _ (p : Profile) (limit : ℕ) (text : List ℕ) (ns : List Tree) (h : IsN
       let same : j.tokens ≡ h.1.tokens = one_list p text j.tokens h.1.tokens j.lex h.1.lex in
       not_both p limit (length text) h.1.tokens q r (h.1.tree, h.1.parse, h.1.shallow) (subst (λ (ts : List Token). Jam p limit (length text) ts q r) same j.jam)
 
-  pub no_slip : length text ≤ 2 ^ 30 → (q : ℕ) (r : EdnReason) → Slips p limit text q r → ⊥
-  no_slip l q r s = notated_or_slips p limit limit text (trees ns) q r (utf8_bytes text h.0) (omega (arith, l)) h.1 s
+  pub no_slip : (q : ℕ) (r : EdnReason) → Slips p limit text q r → ⊥
+  no_slip q r s = notated_or_slips p limit limit text (trees ns) q r h.1 s

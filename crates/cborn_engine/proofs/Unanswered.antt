@@ -7,6 +7,7 @@ use Rattle.cborn_engine.specs.declared.faults.EngineFault.TheVariants as fault
 use Rattle.cborn_engine.specs.declared.kinds.Kind.{Kind}
 use Rattle.cborn_engine.specs.Faults.{of_first}
 use Rattle.cborn_engine.specs.Refusing.{IsRefused, IsRead, IsReadBefore}
+use Rattle.cborn_engine.specs.Encoding.{Encodes}
 use Rattle.cborn_engine.specs.Loading.{Loads, Reads, IsNoFlaw}
 use Rattle.cborn_engine.specs.Canonical.{NormaliseAnswers, Normalises}
 use Rattle.cborn_engine.specs.Showing.{ShowAnswers, Shows, IsShown, IsSpelledAs, IsUnshownAs, IsUnspelledAs}
@@ -21,7 +22,7 @@ nothing_read : (s : Option (List ℕ)) → Consumes s s []
 nothing_read None = tt
 nothing_read (Some xs) = refl
 
-pub not_normalised : (order : List ℕ → List ℕ → Ordering) (k out : Kind) (limit most : ℕ) (before after sent : Option (List ℕ)) (why : EngineFault) → Reads k limit most before after (Err why) → Normalises order k out limit most before after sent sent (Err why)
+pub not_normalised : (order : List ℕ → List ℕ → Ordering) (k out : Kind) (limit most : ℕ) (before after sent : Option (List ℕ)) (why : EngineFault) → Encodes order k limit most before after (Err why) → Normalises order k out limit most before after sent sent (Err why)
 not_normalised order k out limit most before after sent why h = record { input = h.input; output = []; taken = h.taken; given = nothing_written sent; answer = answer why h.answer; to_end = h.to_end }
   where
     answer : (why : EngineFault) → IsRefused k limit most h.input why → NormaliseAnswers order k out limit most h.input [] (Err why)
@@ -53,14 +54,14 @@ pub not_compared : (k l : Kind) (limit most : ℕ) (before after before2 : Optio
 not_compared k l limit most before after before2 why h = record { first = h.input; second = []; taken = h.taken; taken2 = nothing_read before2; answer = answer why h.answer; to_end = ended why h.to_end }
   where
     answer : (why : EngineFault) → IsRefused k limit most h.input why → CompareAnswers k l limit most h.input [] (Err (of_first why))
-    answer (fault.Wire w) r = (r, refl)
-    answer (fault.Edn w) r = (r, refl)
-    answer (fault.TextInput p) r = (r, refl)
+    answer (fault.Wire w) r = (r, tt, refl)
+    answer (fault.Edn w) r = (r, tt, refl)
+    answer (fault.TextInput p) r = (r, tt, refl)
     answer (fault.Show w) r = absurd r
-    answer (fault.Invalid w) r = (r, refl)
-    answer fault.ReadFault r = (r, refl)
-    answer fault.TooLong r = (r, refl)
-    answer fault.WriteFault r = (r, refl)
+    answer (fault.Invalid w) r = (r, tt, refl)
+    answer fault.ReadFault r = (r, tt, refl)
+    answer fault.TooLong r = (r, tt, refl)
+    answer fault.WriteFault r = (r, tt, refl)
     answer fault.OutOfMemory r = let n : 0 ≤ most = omega arith in (r, n)
 
     ended : (why : EngineFault) → IsReadBefore why after → AreRead (Err (of_first why)) after before2

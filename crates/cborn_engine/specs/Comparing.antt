@@ -5,6 +5,8 @@ use Rattle.std.specs.List.{AllZip}
 use Rattle.cborn_model.specs.Value.{Value, Same}
 use Rattle.cborn_engine.specs.declared.faults.CompareFault.{CompareFault}
 use Rattle.cborn_engine.specs.declared.faults.CompareFault.TheVariants as compared
+use Rattle.cborn_engine.specs.declared.faults.EngineFault.{EngineFault}
+use Rattle.cborn_engine.specs.declared.faults.EngineFault.TheVariants as fault
 use Rattle.cborn_engine.specs.declared.kinds.Kind.{Kind}
 use Rattle.cborn_engine.specs.Holding.{Holds}
 use Rattle.cborn_engine.specs.Reading.{read_failures_at}
@@ -40,12 +42,17 @@ pub record AreCompared (k l : Kind) (limit : ℕ) (x y : List ℕ) (answer : Opt
 abbrev pub HoldSameItems : Kind → Kind → ℕ → List ℕ → List ℕ → Type 0
 HoldSameItems k l limit x y = AreCompared k l limit x y None
 
+-- Why an input alone gave no items. Want of memory is told of neither input, but as the comparison's own.
+abbrev pub IsOfOneInput : EngineFault → Type 0
+IsOfOneInput fault.OutOfMemory = ⊥
+IsOfOneInput _ = ⊤
+
 -- what comparing these two inputs answers: the first is refused before a byte of the second is read
 abbrev pub CompareAnswers : Kind → Kind → ℕ → ℕ → List ℕ → List ℕ → Result (Option ℕ) CompareFault → Type 0
 CompareAnswers k l limit most x y (Ok answer) = (length x ≤ most) × (length y ≤ most) × AreCompared k l limit x y answer
-CompareAnswers k l limit most x y (Err (compared.First why)) = IsRefused k limit most x why × (y ≡ [])
+CompareAnswers k l limit most x y (Err (compared.First why)) = IsRefused k limit most x why × IsOfOneInput why × (y ≡ [])
 CompareAnswers k l limit most x y (Err (compared.Second why)) =
-    (length x ≤ most) × ((items : List Value) × Holds k limit x items) × IsRefused l limit most y why
+    (length x ≤ most) × ((items : List Value) × Holds k limit x items) × IsRefused l limit most y why × IsOfOneInput why
 CompareAnswers k l limit most x y (Err compared.OutOfMemory) = (length x ≤ most) × (length y ≤ most)
 
 -- the readers were read to their ends before this was told

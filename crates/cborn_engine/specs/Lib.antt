@@ -10,3 +10,4 @@ pub mod Showing
 pub mod Comparing
 pub mod Checking
 pub mod Defects
+pub mod Encoding

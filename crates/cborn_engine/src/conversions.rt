@@ -10,13 +10,13 @@ ghost use Rattle.cborn_engine.specs.Holding.{Holds, IsFixedText, IsWrittenAs};
 ghost use Rattle.cborn_engine.specs.Showing.{Shows, IsSpelledAs, IsUnspelledAs};
 ghost use Rattle.cborn_engine.specs.Writing.{write_failures};
 
+use crate::encodings::read_encoded;
 use crate::faults::EngineFault;
-use crate::inputs::{load, read_items};
+use crate::inputs::load;
 use crate::kinds::Kind;
 use crate::outputs::write_answer;
 use crate::sinks::Sink;
 use crate::sources::Source;
-use cborn_det::encode_all;
 use cborn_edn::{ShowFault, show};
 use cborn_model::{KeyOrder, Limit, Spelled};
 use cborn_wire::{WireFault, read_all, spell_all};
@@ -38,8 +38,7 @@ pub fn normalise<O: KeyOrder, R: Source, W: Sink>(
     ensures read_failures { R.failed reader.new ≡ read_failures result (R.failed reader.old) }
     ensures write_failures { W.failed writer.new ≡ write_failures result (W.failed writer.old) }
 {
-    let items = read_items(alloc, limit, in_kind, reader)?;
-    let bytes = encode_all::<O>(alloc, &items)?;
+    let bytes = read_encoded::<O, R>(alloc, limit, in_kind, reader)?;
     let answer = written(alloc, limit, out_kind, bytes)?;
     write_answer(writer, &answer)
 }

@@ -1,13 +1,14 @@
 //! What follows from the contracts. Each function does nothing; its contract is a theorem over the definitions in `specs/`.
 
-ghost use Rattle.std.specs.Prelude.{◌≡◌, ◌≤◌, ◌^◌, ◌↔◌, ℕ, List, Option, Some, Ok, length};
+ghost use Rattle.std.specs.Prelude.{◌≡◌, ◌≤◌, ◌↔◌, ℕ, List, Option, Some, Ok, Err, length};
 ghost use Rattle.std.specs.Io.KnownBytes.{Consumes, IsAtEnd};
 ghost use Rattle.std.specs.List.{AllZip};
+ghost use Rattle.cborn_model.specs.Tree.{Tree};
 ghost use Rattle.cborn_model.specs.Value.{Value, Same};
 ghost use Rattle.cborn_engine.specs.declared.faults.EngineFault.{EngineFault};
 ghost use Rattle.cborn_engine.specs.declared.kinds.Kind.{Kind};
-ghost use Rattle.cborn_engine.specs.declared.kinds.Kind.TheVariants as kind;
-ghost use Rattle.cborn_engine.specs.Holding.{Holds};
+ghost use Rattle.cborn_engine.specs.Holding.{Holds, Spells};
+ghost use Rattle.cborn_engine.specs.Loading.{LoadAnswers};
 ghost use Rattle.cborn_engine.specs.Refusing.{IsRefused, IsNoRefusal};
 ghost use Rattle.cborn_engine.specs.Canonical.{IsCanonical, NormaliseAnswers};
 ghost use Rattle.cborn_engine.specs.Comparing.{HoldSameItems};
@@ -42,8 +43,8 @@ pub fn whole_input()
     ensures { (x input : List ℕ) (after : Option (List ℕ)) → Consumes (Some x) after input → IsAtEnd after → input ≡ x }
 {}
 
-/// An input that holds items, and is no longer than allowed, is refused only where the reader failed or memory was refused; notation where it has at most 2^30 bytes.
+/// An input that holds items, and is no longer than allowed, is refused only where the reader failed or memory was refused. So is the loading of one that spells nodes, whether they mean items or not.
 pub fn held_input()
-    ensures bytes { (limit most : ℕ) (x : List ℕ) (vs : List Value) (why : EngineFault) → length x ≤ most → Holds kind.Wire limit x vs → IsRefused kind.Wire limit most x why → IsNoRefusal why }
-    ensures all { (k : Kind) (limit most : ℕ) (x : List ℕ) (vs : List Value) (why : EngineFault) → length x ≤ most → length x ≤ 2 ^ 30 → Holds k limit x vs → IsRefused k limit most x why → IsNoRefusal why }
+    ensures items { (k : Kind) (limit most : ℕ) (x : List ℕ) (vs : List Value) (why : EngineFault) → length x ≤ most → Holds k limit x vs → IsRefused k limit most x why → IsNoRefusal why }
+    ensures nodes { (k : Kind) (limit most : ℕ) (x : List ℕ) (nodes : List Tree) (why : EngineFault) → length x ≤ most → Spells k limit x nodes → LoadAnswers k limit most x (Err why) → IsNoRefusal why }
 {}

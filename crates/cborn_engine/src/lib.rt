@@ -5,6 +5,7 @@ mod checks;
 mod comparisons;
 mod conversions;
 mod counters;
+mod encodings;
 mod faults;
 mod inputs;
 mod kinds;

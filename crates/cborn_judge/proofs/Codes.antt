@@ -78,9 +78,6 @@ codes_more codes marks marks' bytes bytes' last last' position rising rising' x 
       subst (λ z. bytewise z x ≡ Less) f o.1));
 }
 
-pub no_codes : (bytes : List ℕ) (marks : List (ℕ × ℕ)) → bytes ≡ [] → marks ≡ [] → AreCodes [] marks bytes 0 true
-no_codes bytes marks b m = record { marked = (m, b); within = omega arith; last_at = λ before c e. absurd (let l = ap length e in omega (arith, length-append before (c ∷ []))); rise = λ t. tt }
-
 -- ---- codes that rise
 
 below_all : (x : Code) (cs : List Code) (z : Code) → Rising bytewise (map code_bytes (x ∷ cs)) → IsOneOf z cs → bytewise x.0 z.0 ≡ Less

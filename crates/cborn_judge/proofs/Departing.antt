@@ -1,10 +1,10 @@
 -- The first defect of a node by those of its parts.
-use Rattle.std.proofs.Common.{◌≡◌, ℕ, ◌+◌, ◌<◌, ◌≤◌, ◌⊎◌, inl, inr, List, [], ◌∷◌, ◌++◌, length, get_or, take, refl, sym, subst, Option, None, Ordering}
+use Rattle.std.proofs.Common.{◌≡◌, ℕ, ◌+◌, ◌<◌, ◌≤◌, ◌⊎◌, inl, inr, List, [], ◌∷◌, ◌++◌, length, get_or, take, refl, sym, subst, Option, Ordering}
 use Rattle.std.specs.Prelude.{◌↔◌}
 use Rattle.std.proofs.lemmas.List.{take_all}
 use Rattle.cborn_model.proofs.Trees.{count-trees, count_entries-entries}
 use Rattle.cborn_model.specs.Meaning.{IsByteString, joined_chunks}
-use Rattle.cborn_model.specs.Tree.{Tree, Uint, Nint, Bytes, Text, ByteChunks, TextChunks, Items, Pairs, Tagged, Simple, trees, entries, count, count_entries}
+use Rattle.cborn_model.specs.Tree.{Tree, Uint, Nint, Bytes, Text, ByteChunks, TextChunks, Items, Pairs, Tagged, trees, entries, count, count_entries}
 use Rattle.cborn_model.specs.declared.heads.Size.{Size}
 use Rattle.cborn_model.specs.declared.heads.Width.{Width}
 use Rattle.cborn_model.specs.declared.nodes.Chunk.{Chunk}
@@ -89,9 +89,6 @@ module _ (order : List ℕ → List ℕ → Ordering) where
 
   pub text_chunks_found : (q : ℕ) (cs : List Chunk) (o : Option defect.Defect) → FindsDefect (ChunksDefect q cs) o → FindsDefect (DefectIn order (TextChunks q cs)) o
   text_chunks_found q cs o h = leaf_found (TextChunks q cs) o (itself (TextChunks q cs)) h
-
-  pub simple_found : (q n : ℕ) → FindsDefect (DefectIn order (Simple q n)) None
-  simple_found q n = leaf_found (Simple q n) None (itself (Simple q n)) (λ p r d. d)
 
   -- ---- a node by its head and its children
 

@@ -155,9 +155,6 @@ module _ (order : List ℕ → List ℕ → Ordering) where
     pub ends : Ends codes bytes previous
     pub found : FindsDefect (DescentAt order (entries ns)) first
 
-  pub nothing_seen : (bytes : List ℕ) → Seen [] bytes None None
-  nothing_seen bytes = record { codes = []; are = tt; ends = refl; found = λ p r d. d.1 }
-
   -- the key before, if there is one, is not below
   abbrev pub After : List ℕ → Option ℕ → List ℕ → ℕ → ℕ → DefectReason → Type 0
   After bytes None x q p r = ⊥
@@ -238,6 +235,3 @@ module _ (order : List ℕ → List ℕ → Ordering) where
         → Seen (take (i + 1) xs) bytes' (Some start) o
     seen-take_more xs i start n bytes bytes' x previous first next o l e h k b s f m =
         subst (λ t. Seen t bytes' (Some start) o) (sym (passed_one xs i n l e)) (subst (λ z. Seen (take i xs ++ n ∷ []) bytes' (Some z) o) (sym s) (seen_more (take i xs) n bytes bytes' x previous first next o h k b f m))
-
-  pub all_seen : (xs : List (Tree × Tree)) (i : ℕ) (bytes : List ℕ) (previous : Option ℕ) (first : Option defect.Defect) → length xs ≤ i → Seen (take i xs) bytes previous first → FindsDefect (DescentAt order (entries xs)) first
-  all_seen xs i bytes previous first l h = let w : Seen xs bytes previous first = subst (λ t. Seen t bytes previous first) (take_all i xs l) h in w.found

@@ -15,6 +15,7 @@ use Rattle.cborn_model.specs.declared.nodes.Chunk.{Chunk}
 use Rattle.cborn_model.specs.Tree.{Tree, Uint, Nint, Bytes, Text, ByteChunks, TextChunks, Items, Pairs, Tagged, Simple, Trees, no_item, more, Entries, no_entry, entry, count, count_entries, depth, depth_all, depth_entries}
 use Rattle.cborn_model.specs.declared.heads.Size.TheVariants.{Fixed, Endless}
 use Rattle.cborn_model.specs.Spelled.{ending, chunk_bytes, spelled, spelled_all, spelled_entries, Fits, FitsAll, FitsEntries, ChunksFit}
+use Rattle.cborn_judge.specs.Flaws.{Within, WithinAll, WithinEntries, IsWord}
 use Rattle.cborn_model.specs.Meaning.{joined_chunks, IsNumber, IsByteString, IsBignum, ChunksAreText, Means, AllMean, EntriesMean}
 
 -- ---- at most one
@@ -237,28 +238,65 @@ at_value : (v w : Value) (n : ℕ) → v ≡ w → value_depth w ≤ n → value
 at_value v w n e h = let d : value_depth v ≡ value_depth w = ap value_depth e in omega arith
 
 mutual
-  pub meaning_shallow : (t : Tree) (v : Value) → Fits t → Means t v → value_depth v ≤ depth t
-  meaning_shallow (Uint p w n) v f h = shallow_number false n v h (holds_below w n f)
-  meaning_shallow (Nint p w n) v f h = shallow_number true n v h (holds_below w n f)
-  meaning_shallow (Bytes p w b) v f h = at_value v (bytes b) 0 h (omega arith)
-  meaning_shallow (Text p w b) v f h = at_value v (text b) 0 h.1 (omega arith)
-  meaning_shallow (ByteChunks p cs) v f h = at_value v (bytes (joined_chunks cs)) 0 h (omega arith)
-  meaning_shallow (TextChunks p cs) v f h = at_value v (text (joined_chunks cs)) 0 h.1 (omega arith)
-  meaning_shallow (Items p s ts) v f h = at_value v (array h.0) (suc (depth_all ts)) h.2 (let k = all_shallow ts h.0 f.1 h.1 in omega arith)
-  meaning_shallow (Pairs p s es) v f h = at_value v (dict h.0) (suc (depth_entries es)) h.3 (let k = entries_shallow es h.0 f.1 h.1 in omega arith)
-  meaning_shallow (Tagged p w n t) v f (inl h) = let k = shallow_bignum false (big_endian h.1.0) v h.1.2 in omega arith
-  meaning_shallow (Tagged p w n t) v f (inr (inl h)) = let k = shallow_bignum true (big_endian h.1.0) v h.1.2 in omega arith
-  meaning_shallow (Tagged p w n t) v f (inr (inr h)) = at_value v (tagged n h.2) (suc (depth t)) h.4 (let k = meaning_shallow t h.2 f.1 h.3 in omega arith)
-  meaning_shallow (Simple p n) v f h = at_value v (simple n) 0 h (omega arith)
+  -- an integer above 64 bits would be deeper than its node, which has no depth
+  pub means_shallow : (t : Tree) (v : Value) → ((q : Tree) → Within q t → IsWord q) → Means t v → value_depth v ≤ depth t
+  means_shallow (Uint p w n) v f h = shallow_number false n v h (f (Uint p w n) refl)
+  means_shallow (Nint p w n) v f h = shallow_number true n v h (f (Nint p w n) refl)
+  means_shallow (Bytes p w b) v f h = at_value v (bytes b) 0 h (omega arith)
+  means_shallow (Text p w b) v f h = at_value v (text b) 0 h.1 (omega arith)
+  means_shallow (ByteChunks p cs) v f h = at_value v (bytes (joined_chunks cs)) 0 h (omega arith)
+  means_shallow (TextChunks p cs) v f h = at_value v (text (joined_chunks cs)) 0 h.1 (omega arith)
+  means_shallow (Items p s ts) v f h = at_value v (array h.0) (suc (depth_all ts)) h.2 (let k = all_shallow ts h.0 (λ q i. f q (inr i)) h.1 in omega arith)
+  means_shallow (Pairs p s es) v f h = at_value v (dict h.0) (suc (depth_entries es)) h.3 (let k = entries_shallow es h.0 (λ q i. f q (inr i)) h.1 in omega arith)
+  means_shallow (Tagged p w n t) v f (inl h) = let k = shallow_bignum false (big_endian h.1.0) v h.1.2 in omega arith
+  means_shallow (Tagged p w n t) v f (inr (inl h)) = let k = shallow_bignum true (big_endian h.1.0) v h.1.2 in omega arith
+  means_shallow (Tagged p w n t) v f (inr (inr h)) = at_value v (tagged n h.2) (suc (depth t)) h.4 (let k = means_shallow t h.2 (λ q i. f q (inr i)) h.3 in omega arith)
+  means_shallow (Simple p n) v f h = at_value v (simple n) 0 h (omega arith)
 
-  all_shallow : (ts : Trees) (vs : Values) → FitsAll ts → AllMean ts vs → values_depth vs ≤ depth_all ts
+  all_shallow : (ts : Trees) (vs : Values) → ((q : Tree) → WithinAll q ts → IsWord q) → AllMean ts vs → values_depth vs ≤ depth_all ts
   all_shallow no_item no_values f h = omega arith
   all_shallow no_item (value v vs) f h = absurd h
   all_shallow (more t ts) no_values f h = absurd h
-  all_shallow (more t ts) (value v vs) f h = omega (arith, meaning_shallow t v f.0 h.0, all_shallow ts vs f.1 h.1)
+  all_shallow (more t ts) (value v vs) f h = omega (arith, means_shallow t v (λ q i. f q (inl i)) h.0, all_shallow ts vs (λ q i. f q (inr i)) h.1)
 
-  entries_shallow : (es : Entries) (ps : Couples) → FitsEntries es → EntriesMean es ps → pairs_depth ps ≤ depth_entries es
+  entries_shallow : (es : Entries) (ps : Couples) → ((q : Tree) → WithinEntries q es → IsWord q) → EntriesMean es ps → pairs_depth ps ≤ depth_entries es
   entries_shallow no_entry no_pairs f h = omega arith
   entries_shallow no_entry (pair a b ps) f h = absurd h
   entries_shallow (entry k v es) no_pairs f h = absurd h
-  entries_shallow (entry k v es) (pair a b ps) f h = omega (arith, meaning_shallow k a f.0 h.0, meaning_shallow v b f.1 h.1, entries_shallow es ps f.2 h.2)
+  entries_shallow (entry k v es) (pair a b ps) f h = omega (
+    arith,
+    means_shallow k a (λ q i. f q (inl i)) h.0,
+    means_shallow v b (λ q i. f q (inr (inl i))) h.1,
+    entries_shallow es ps (λ q i. f q (inr (inr i))) h.2,
+  )
+
+-- each integer of a node that fits its head has at most 64 bits
+mutual
+  words_fit : (t : Tree) → Fits t → (q : Tree) → Within q t → IsWord q
+  words_fit (Uint p w n) f q e = subst IsWord (sym e) (holds_below w n f)
+  words_fit (Nint p w n) f q e = subst IsWord (sym e) (holds_below w n f)
+  words_fit (Bytes p w b) f q e = subst IsWord (sym e) tt
+  words_fit (Text p w b) f q e = subst IsWord (sym e) tt
+  words_fit (ByteChunks p cs) f q e = subst IsWord (sym e) tt
+  words_fit (TextChunks p cs) f q e = subst IsWord (sym e) tt
+  words_fit (Items p s ts) f q (inl e) = subst IsWord (sym e) tt
+  words_fit (Items p s ts) f q (inr i) = words_fit_all ts f.1 q i
+  words_fit (Pairs p s es) f q (inl e) = subst IsWord (sym e) tt
+  words_fit (Pairs p s es) f q (inr i) = words_fit_entries es f.1 q i
+  words_fit (Tagged p w n t) f q (inl e) = subst IsWord (sym e) tt
+  words_fit (Tagged p w n t) f q (inr i) = words_fit t f.1 q i
+  words_fit (Simple p n) f q e = subst IsWord (sym e) tt
+
+  words_fit_all : (ts : Trees) → FitsAll ts → (q : Tree) → WithinAll q ts → IsWord q
+  words_fit_all no_item f q i = absurd i
+  words_fit_all (more t ts) f q (inl i) = words_fit t f.0 q i
+  words_fit_all (more t ts) f q (inr i) = words_fit_all ts f.1 q i
+
+  words_fit_entries : (es : Entries) → FitsEntries es → (q : Tree) → WithinEntries q es → IsWord q
+  words_fit_entries no_entry f q i = absurd i
+  words_fit_entries (entry k v es) f q (inl i) = words_fit k f.0 q i
+  words_fit_entries (entry k v es) f q (inr (inl i)) = words_fit v f.1 q i
+  words_fit_entries (entry k v es) f q (inr (inr i)) = words_fit_entries es f.2 q i
+
+pub meaning_shallow : (t : Tree) (v : Value) → Fits t → Means t v → value_depth v ≤ depth t
+meaning_shallow t v f h = means_shallow t v (words_fit t f) h

@@ -1,23 +1,22 @@
 -- What the pairs of a map mean, or their first flaw, as a loop over them meets them; and their keys.
 use Rattle.std.proofs.Common.{◌≡◌, ℕ, ◌+◌, ◌<◌, ◌≤◌, ◌⊎◌, ◌^◌, inl, inr, List, [], ◌∷◌, ◌++◌, length, map, get_or, take, refl, sym, ap, ◌∙◌, subst, arith, Option, None, Some}
 use Rattle.std.specs.Prelude.{◌↔◌, slice_index, ⊤}
-use Rattle.std.proofs.lemmas.Bool.{cases_lt}
 use Rattle.std.proofs.lemmas.List.{length-take-le, take_all, map-append, length-map, get_or-map}
-use Rattle.cborn_model.specs.First.{NoLater, IsFirst}
+use Rattle.cborn_model.specs.First.{IsFirst}
 use Rattle.cborn_model.specs.ItemView.{item_value, pair_value}
 use Rattle.cborn_model.specs.Meaning.{Means, EntriesMean}
-use Rattle.cborn_model.specs.Tree.{Tree, Pairs, Entries, entries, place}
+use Rattle.cborn_model.specs.Tree.{Tree, Pairs, entries, place}
 use Rattle.cborn_model.specs.Valid.{IsProper, HasProperPairs, HasNewKeys}
 use Rattle.cborn_model.specs.Value.{Value, pairs_of, pair_count, dict}
 use Rattle.cborn_model.specs.declared.items.Item.{Item}
 use Rattle.cborn_model.specs.declared.heads.Size.{Size}
 use Rattle.cborn_model.proofs.Values.{pair_count-pairs_of}
-use Rattle.cborn_judge.specs.Flaws.{Within, WithinEntries, HasRepeat, FlawAt, Flaw, IsFirstFlaw, flaw_rank}
+use Rattle.cborn_judge.specs.Flaws.{Within, WithinEntries, FlawAt, Flaw, IsFirstFlaw, flaw_rank}
 use Rattle.cborn_judge.specs.Judged.{FindsFlaw, IsEarlierFlaw, IsEarliestFlaw, FlawAmong, MeansItem, ArePairsJudged, PairFlaw, RepeatFlaw, IsFirstWith, IsJudged}
 use Rattle.cborn_judge.specs.declared.judgments.Judged.{Judged}
 use Rattle.cborn_judge.specs.declared.judgments.Judged.TheVariants as judged
 use Rattle.cborn_judge.specs.Keeping.{code_bytes, code_position, AreKept, IsNextKey, KeepsKey}
-use Rattle.cborn_judge.specs.Places.{IsLeast, key_places}
+use Rattle.cborn_judge.specs.Places.{key_places}
 use Rattle.cborn_judge.specs.declared.faults.Flaw as flaw
 use Rattle.cborn_judge.specs.declared.faults.InvalidReason.{InvalidReason}
 use Rattle.cborn_judge.specs.declared.faults.InvalidReason.TheVariants.{DuplicateKey}
@@ -149,18 +148,6 @@ abbrev pub IsRepeatOf : Option ℕ → Option flaw.Flaw → Type 0
 IsRepeatOf None None = ⊤
 IsRepeatOf (Some p) (Some f) = (f.place ≡ p) × (f.reason ≡ DuplicateKey)
 IsRepeatOf _ _ = ⊥
-
--- from a least place to the first repeat
-pub repeat_found : (es : Entries) (least : Option ℕ) (o : Option flaw.Flaw) → IsLeast (HasRepeat es) least → IsRepeatOf least o → FindsFlaw (RepeatFlaw es) o
-repeat_found es None None h e = λ p r f. h p f.1
-repeat_found es None (Some f) h e = absurd e
-repeat_found es (Some p) None h e = absurd e
-repeat_found es (Some p) (Some f) h e = record { is = (e.1, subst (HasRepeat es) (sym e.0) h.0); first = λ q s g. first_of q s g (h.1 q g.1) }
-  where
-    first_of : (q : ℕ) (s : InvalidReason) → RepeatFlaw es q s → p ≤ q → NoLater (f.place, flaw_rank f.reason) (q, flaw_rank s)
-    first_of q s g l =
-        let r : flaw_rank f.reason ≡ flaw_rank s = ap flaw_rank (e.1 ∙ sym g.0) in
-        elim (cases_lt p q) [ inl k ↦ inl (omega (arith, e.0)) | inr k ↦ inr (omega (arith, e.0), omega arith) ]
 
 abbrev Whole : List (Tree × Tree) → ℕ → Option flaw.Flaw → List (Item × Item) → Type 0
 Whole ns i o ys = ArePairsJudged (take i ns) o ys

@@ -2,10 +2,8 @@
 use Rattle.std.proofs.Common.{◌≡◌, ◌≢◌, ℕ, suc, ◌<◌, ◌≤◌, ◌⊎◌, inl, inr, List, [], ◌∷◌, refl, sym, ap, ◌∙◌, subst, arith, true, false, Bool, true≢false, add-one, IsPermutation, Ordering, Less, Equal, Greater, is_lt, nat_cmp, eqb}
 use Rattle.std.specs.Prelude.{⊤, ◌↔◌}
 use Rattle.std.specs.Ordering.{ordering_then, ordering_reverse}
-use Rattle.std.specs.Cmp.{IsTotalOrder}
 use Rattle.std.specs.List.{AllByRecursion, IsDistinct}
 use Rattle.std.specs.List.Sorted.{IsSortedBy}
-use Rattle.std.proofs.lemmas.Cmp.{nat_list_cmp_total, nat_cmp_total, then_total, on_total}
 use Rattle.std.proofs.lemmas.List.Sorted.{IsPermutation-sym}
 use Rattle.std.proofs.lemmas.Map.Keys.{IsDistinct-IsPermutation, ge_from_not_lt}
 use Rattle.std.proofs.lemmas.Bool.{eqb-true, eq-eqb, cases_eq}
@@ -180,10 +178,6 @@ module _ {X : Type 0} (bytes : X → List ℕ) (position : X → ℕ) where
         earlier_again n xs u.0 z h (one_of_moved ys xs u.0 q u.1) (one_of_moved ys xs z q u.2) u.3 u.4),
   )
 
-  -- what a sort by the key order gives
-  key_total : IsTotalOrder (key_order bytes position)
-  key_total = then_total (on_total bytes nat_list_cmp_total) (on_total position nat_cmp_total)
-
   abbrev AtOnePlace : X → X → Bool
   AtOnePlace x y = eqb (position x) (position y)
 
@@ -242,16 +236,3 @@ module _ {X : Type 0} (bytes : X → List ℕ) (position : X → ℕ) where
   -- keys in the order of their positions, once sorted
   pub sorted_in_order : (n : ℕ) (xs ys : List X) → PositionsRise bytes position n xs → IsPermutation xs ys → IsSortedBy (λ x y. is_lt (key_order bytes position x y)) ys → InOrder ys
   sorted_in_order n xs ys h p s = in_order_sorted ys s (IsDistinct-IsPermutation AtOnePlace at_one_turned xs ys p (positions_apart n xs h))
-
--- the repeats of a map are the places of the keys that tie once their encodings are sorted
-module _ {X : Type 0} (bytes : X → List ℕ) (position place_of : X → ℕ) where
-  pub repeat_tied : (es : Entries) (ks ys : List X) (p : ℕ) → AreKeys bytes position place_of es 0 ks → IsPermutation ks ys → IsSortedBy (λ x y. is_lt (key_order bytes position x y)) ys → HasRepeat es p → (z : X) × IsTied bytes ys z × (place_of z ≡ p)
-  repeat_tied es ks ys p h q s r =
-      let rise = keys_rise bytes position place_of es 0 0 ks (omega arith) h in
-      let u = repeat_again bytes position place_of es 0 ks p h r in
-      (u.0, (again_tied bytes position 0 ks ys u.0 rise q (sorted_in_order bytes position 0 ks ys rise q s)).0 u.1, u.2)
-
-  pub tied_repeat : (es : Entries) (ks ys : List X) (z : X) → AreKeys bytes position place_of es 0 ks → IsPermutation ks ys → IsSortedBy (λ x y. is_lt (key_order bytes position x y)) ys → IsTied bytes ys z → HasRepeat es (place_of z)
-  tied_repeat es ks ys z h q s t =
-      let rise = keys_rise bytes position place_of es 0 0 ks (omega arith) h in
-      again_repeat bytes position place_of es 0 ks z h ((again_tied bytes position 0 ks ys z rise q (sorted_in_order bytes position 0 ks ys rise q s)).1 t)

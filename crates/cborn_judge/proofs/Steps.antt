@@ -1,7 +1,7 @@
 -- The flaws of a node, one level at a time.
 use Rattle.std.proofs.Common.{◌≡◌, ℕ, ◌⊎◌, inl, inr, List, get_or, refl, subst}
 use Rattle.std.specs.Prelude.{◌↔◌}
-use Rattle.cborn_judge.specs.Flaws.{Within, WithinAll, WithinEntries, HasRepeat, FlawAt, Flaw}
+use Rattle.cborn_judge.specs.Flaws.{Within, HasRepeat, FlawAt, Flaw}
 use Rattle.cborn_judge.specs.declared.faults.InvalidReason.{InvalidReason}
 use Rattle.cborn_judge.specs.declared.faults.InvalidReason.TheVariants.{DuplicateKey}
 use Rattle.cborn_judge.specs.Judged.{FlawIn, FlawAmong}
@@ -9,34 +9,10 @@ use Rattle.cborn_judge.specs.Repeats.{AreKeys}
 use Rattle.cborn_judge.specs.Places.{Key, key_bytes, key_position, IsRepeatAt}
 use Rattle.cborn_judge.proofs.Repeating.{repeat_again, again_repeat}
 use Rattle.cborn_model.specs.declared.heads.Size.{Size}
-use Rattle.cborn_model.specs.Tree.{Tree, Items, Pairs, Tagged, Trees, more, Entries, entry}
+use Rattle.cborn_model.specs.Tree.{Tree, Items, Pairs, Tagged, Trees, Entries}
 use Rattle.cborn_model.specs.declared.heads.Width.{Width}
 
 -- ---- flaws, level by level
-
-pub flaw_more : (t : Tree) (ts : Trees) (p : ℕ) (r : InvalidReason) → FlawIn (more t ts) p r ↔ (Flaw t p r ⊎ FlawIn ts p r)
-flaw_more t ts p r = ((λ f. to f.0 f.1 f.2), from)
-  where
-    to : (q : Tree) → WithinAll q (more t ts) → FlawAt q p r → Flaw t p r ⊎ FlawIn ts p r
-    to q (inl i) f = inl (q, i, f)
-    to q (inr i) f = inr (q, i, f)
-
-    from : Flaw t p r ⊎ FlawIn ts p r → FlawIn (more t ts) p r
-    from (inl f) = (f.0, inl f.1, f.2)
-    from (inr f) = (f.0, inr f.1, f.2)
-
-pub flaw_entry : (k v : Tree) (es : Entries) (p : ℕ) (r : InvalidReason) → FlawAmong (entry k v es) p r ↔ (Flaw k p r ⊎ Flaw v p r ⊎ FlawAmong es p r)
-flaw_entry k v es p r = ((λ f. to f.0 f.1 f.2), from)
-  where
-    to : (q : Tree) → WithinEntries q (entry k v es) → FlawAt q p r → Flaw k p r ⊎ Flaw v p r ⊎ FlawAmong es p r
-    to q (inl i) f = inl (q, i, f)
-    to q (inr (inl i)) f = inr (inl (q, i, f))
-    to q (inr (inr i)) f = inr (inr (q, i, f))
-
-    from : Flaw k p r ⊎ Flaw v p r ⊎ FlawAmong es p r → FlawAmong (entry k v es) p r
-    from (inl f) = (f.0, inl f.1, f.2)
-    from (inr (inl f)) = (f.0, inr (inl f.1), f.2)
-    from (inr (inr f)) = (f.0, inr (inr f.1), f.2)
 
 pub flaw_items : (p : ℕ) (s : Size) (ts : Trees) (q : ℕ) (r : InvalidReason) → Flaw (Items p s ts) q r ↔ FlawIn ts q r
 flaw_items p s ts q r = ((λ f. to f.0 f.1 f.2), (λ f. (f.0, inr f.1, f.2)))

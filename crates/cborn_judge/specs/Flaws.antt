@@ -1,8 +1,8 @@
 -- Why a node means nothing, and where (RFC 8949 sections 3.1, 3.4.3 and 5.6).
-use Rattle.std.specs.Prelude.{◌≡◌, ℕ, ◌⊎◌, List, [], ◌∷◌, IsUtf8, ⊤}
+use Rattle.std.specs.Prelude.{◌≡◌, ◌<◌, ◌^◌, ℕ, ◌⊎◌, List, [], ◌∷◌, IsUtf8, ⊤}
 use Rattle.cborn_model.specs.Value.{Value, Same}
 use Rattle.cborn_model.specs.declared.nodes.Chunk.{Chunk}
-use Rattle.cborn_model.specs.Tree.{Tree, Text, TextChunks, Items, Pairs, Tagged, Trees, no_item, more, Entries, no_entry, entry, place}
+use Rattle.cborn_model.specs.Tree.{Tree, Uint, Nint, Text, TextChunks, Items, Pairs, Tagged, Trees, no_item, more, Entries, no_entry, entry, place}
 use Rattle.cborn_model.specs.First.{IsFirst}
 use Rattle.cborn_judge.specs.declared.faults.InvalidReason.{InvalidReason}
 use Rattle.cborn_judge.specs.declared.faults.InvalidReason.TheVariants.{NotUtf8, BadBignum, DuplicateKey}
@@ -25,6 +25,12 @@ abbrev mutual
   pub WithinEntries : Tree → Entries → Type 0
   WithinEntries q no_entry = ⊥
   WithinEntries q (entry k v es) = Within q k ⊎ Within q v ⊎ WithinEntries q es
+
+-- the node is no integer, or one of at most 64 bits, as each is that a head holds
+abbrev pub IsWord : Tree → Type 0
+IsWord (Uint p w n) = n < 2 ^ 64
+IsWord (Nint p w n) = n < 2 ^ 64
+IsWord _ = ⊤
 
 -- the number of a reason
 abbrev pub flaw_rank : InvalidReason → ℕ

@@ -24,7 +24,7 @@ pub enum DefectReason {
     KeyOrder,
 }
 
-/// A departure from the deterministic encoding, and where. `place` is that of the head of the node, chunk, tag or key.
+/// A departure from the deterministic encoding, and where. `place` is that of the head of the node, chunk, tag or key: its offset in bytes, from the start of the input that the node was read from.
 #[derive(Clone, Copy, PartialEq, Eq, Debug, Error)]
 #[error("offset {place}: {reason}")]
 pub struct Defect {

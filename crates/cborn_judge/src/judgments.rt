@@ -33,7 +33,9 @@ pub(crate) enum JudgedPair {
     Flawed(Flaw),
 }
 
-/// The item that the node means, or the first of all its flaws.
+/// The item that the node means (RFC 8949 section 5.3; bignums: section 3.4.3), or the first of all its flaws: the one at the least place, and there the one with the least number.
+///
+/// `Refused` tells the reason and the place of that flaw, which is the offset of the head of the node or chunk where it stands, in bytes from the start of the input that the node was read from. `OutOfMemory` where memory was refused.
 pub fn judge(alloc: Global, spelled: &Spelled) -> Result<Valid, Invalid>
     ensures meant { IfOk result (λ valid. Means spelled.now valid) }
     ensures refused { IfErr result (IsRefusal spelled.now) }
@@ -57,7 +59,9 @@ fn judge_with(alloc: Global, spelled: &Spelled, spare: &mut Vec<Keys>) -> Result
     }
 }
 
-/// The items that the nodes mean, in order, or the first flaw of the first node that means nothing.
+/// The items that the nodes mean, in order (RFC 8949 sections 5.3 and 3.4.3), or the first flaw of the first node that means nothing.
+///
+/// The errors are those of [`judge`]: `Refused` with the reason and the place of that flaw, and `OutOfMemory` where memory was refused.
 pub fn judge_all(alloc: Global, spelled: &[Spelled]) -> Result<Vec<Valid>, Invalid>
     ensures meant { IfOk result (λ items. AllZip Means spelled.now items.items) }
     ensures refused { IfErr result (IsRefusalOfAll spelled.now) }

@@ -11,7 +11,7 @@ ghost use Rattle.cborn_det.specs.Det.{Det, DetValues};
 ghost use Rattle.cborn_judge.specs.declared.defects.DefectReason as departs;
 ghost use Rattle.cborn_judge.specs.declared.faults.InvalidReason as invalid;
 ghost use Rattle.cborn_judge.specs.Defects.{Defect, IsFirstDefect, SequenceDefect, IsFirstOfSequence};
-ghost use Rattle.cborn_judge.specs.Flaws.{Flaw, IsFirstFlaw};
+ghost use Rattle.cborn_judge.specs.Flaws.{Flaw, IsFirstFlaw, IsWord, Within};
 
 use cborn_model::KeyOrder;
 
@@ -20,10 +20,10 @@ pub fn one_meaning()
     ensures { (t : Tree) (a b : Value) → Means t a → Means t b → a ≡ b }
 {}
 
-/// What a node means is valid, and no deeper than the node.
+/// What a node that fits means is valid. What any node means whose integers are below 2^64, or down to -2^64, is no deeper than the node.
 pub fn valid_meaning()
     ensures valid { (t : Tree) (a : Value) → Fits t → length (spelled t) < 2 ^ 64 → Means t a → IsProper a }
-    ensures shallow { (t : Tree) (a : Value) → Fits t → Means t a → value_depth a ≤ depth t }
+    ensures shallow { (t : Tree) (a : Value) → ((q : Tree) → Within q t → IsWord q) → Means t a → value_depth a ≤ depth t }
 {}
 
 /// A node has no flaw exactly if it means an item.

@@ -20,9 +20,9 @@ use crate::strings::{judge_byte_chunks, judge_text_chunks};
 use cborn_model::{ByteString, Form, Item, ItemBox, ItemList, Node, PairList, Spelled, Valid};
 use std::alloc::{AllocError, Global};
 
-/// The item that the node means, or the first of all its flaws: what `judge` answers, but the node is given up.
+/// The item that the node means (RFC 8949 section 5.3; bignums: section 3.4.3), or the first of all its flaws: what `judge` answers, but the node is given up.
 ///
-/// `Refused` tells the place of the flaw, in bytes from the start of the input that the node was read from. `OutOfMemory` may come at any time.
+/// `Refused` tells the reason and the place of that flaw, which is the offset of the head of the node or chunk where it stands, in bytes from the start of the input that the node was read from. `OutOfMemory` where memory was refused. The node is freed with either.
 pub fn judge_owned(alloc: Global, spelled: Spelled) -> Result<Valid, Invalid>
     ensures meant { IfOk result (λ valid. Means spelled valid) }
     ensures refused { IfErr result (IsRefusal spelled) }
@@ -46,9 +46,9 @@ fn judge_with(alloc: Global, spelled: Spelled, spare: &mut Vec<Keys>) -> Result<
     }
 }
 
-/// The items that the nodes mean, in order, or the first flaw of the first node that means nothing: what `judge_all` answers, but the nodes are given up.
+/// The items that the nodes mean, in order (RFC 8949 sections 5.3 and 3.4.3), or the first flaw of the first node that means nothing: what `judge_all` answers, but the nodes are given up.
 ///
-/// The errors are those of `judge_owned`.
+/// The errors are those of `judge_owned`: `Refused` with the reason and the place of that flaw, and `OutOfMemory` where memory was refused.
 pub fn judge_all_owned(alloc: Global, spelled: Vec<Spelled>) -> Result<Vec<Valid>, Invalid>
     ensures meant { IfOk result (λ items. AllZip Means spelled.items items.items) }
     ensures refused { IfErr result (IsRefusalOfAll spelled.items) }

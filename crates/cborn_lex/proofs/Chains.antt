@@ -172,9 +172,6 @@ some_answer profile text h = answered profile text (chain_below profile (suc (le
 
 -- Profiles.
 
-no_bad_piece : (p : Piece) (r : LexReason) (a : Front) → a ≡ front_of p → a ≡ Bad r → ⊥
-no_bad_piece p r a e h = not_bad p r (sym e ∙ h)
-
 two_from : (k : Start) (c : ℕ) (s z : List ℕ) (p : Piece) → ReadsFrom k One c s z (front_of p) → ReadsFrom k Two c s z (front_of p)
 two_from white c s z p h = h
 two_from slash c s z p h = h

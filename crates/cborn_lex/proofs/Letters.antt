@@ -167,9 +167,6 @@ pub record Decoded (q : ℕ) (content rest bytes : List ℕ) : Type 0 where
   pub whole : content ≡ flat_map written letters ++ rest
   pub value : bytes ≡ flat_map meant letters
 
-pub none_decoded : (q : ℕ) (content : List ℕ) → Decoded q content content []
-none_decoded q content = record { letters = []; allowed = refl; whole = refl; value = refl }
-
 raw_allowed : (q : ℕ) (s : List ℕ) → list_all is_raw s ≡ true → list_all (is_letter q) (map raw s) ≡ true
 raw_allowed q [] h = refl
 raw_allowed q (c ∷ s) h = let hs = and_parts (is_raw c) (list_all is_raw s) h in and_from _ _ hs.0 (raw_allowed q s hs.1)

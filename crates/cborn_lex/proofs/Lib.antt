@@ -13,8 +13,5 @@ pub mod Progress
 pub mod Words
 pub mod Ends
 pub mod Letters
-pub mod Written
-pub mod Decimals
 pub mod Spelling
 pub mod Weights
-pub mod Quoting

@@ -21,9 +21,6 @@ abbrev pub letter_at : ℕ → List ℕ → Option (Letter × List ℕ)
 letter_at q [] = None
 letter_at q (c ∷ x) = cond (eqb c 92) (escape_at q x) (cond (leb 32 c) (Some (raw c, x)) None)
 
-escape_u : (q : ℕ) → is_escape q 117 ≡ false
-escape_u q = refl
-
 pub letter_is : (q : ℕ) (l : Letter) (x : List ℕ) → is_letter q l ≡ true → letter_at q (written l ++ x) ≡ Some (l, x)
 letter_is q (raw c) x h =
     let hs = and_parts (leb 32 c) (not (eqb c 92)) h in

@@ -33,12 +33,6 @@ dict_proper ps vs r e h f =
     let g : IsTrue r ↔ IsProper (dict (pairs_of (pairs ps))) = (λ y. (h.0, f.0 y, subst (λ n. n < 2 ^ 64) (sym count) h.1), λ k. f.1 k.1) in
     subst (λ l. IsTrue r ↔ IsProper (dict (pairs_of l))) e g
 
-pub dict_improper : (ps : List (Item × Item)) (vs : List (Value × Value)) → pairs ps ≡ vs → (HasProperPairs (pairs_of (pairs ps)) × (length ps < 2 ^ 64) → ⊥) → IsProper (dict (pairs_of vs)) → ⊥
-dict_improper ps vs e f h =
-    let count = pair_count-pairs_of (pairs ps) ∙ length-map ps pair_value in
-    let g : IsProper (dict (pairs_of (pairs ps))) = subst (λ l. IsProper (dict (pairs_of l))) (sym e) h in
-    f (g.0, subst (λ n. n < 2 ^ 64) count g.2)
-
 -- a key whose value is given isn't new
 pub given_not_new : (k v : Value) (ps : List (Value × Value)) → IsNew k (pairs_of ps) → Gives k v ps → ⊥
 given_not_new k v [] h g = g

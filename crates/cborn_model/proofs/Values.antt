@@ -3,7 +3,7 @@ use Rattle.std.proofs.Common.{◌≡◌, ℕ, suc, ◌<◌, ◌≤◌, max, map,
 use Rattle.std.proofs.lemmas.List.Recursion.{max_bounds}
 use Rattle.cborn_model.specs.declared.items.Item.{Item}
 use Rattle.cborn_model.specs.ItemView.{item_value, pair_value}
-use Rattle.cborn_model.specs.Value.{Value, Couples, no_pairs, pair, values_of, pairs_of, listed, value_count, pair_count, height, height_all, height_pairs}
+use Rattle.cborn_model.specs.Value.{Value, values_of, pairs_of, listed, value_count, pair_count, height, height_all, height_pairs}
 
 pub value_count-values_of : (vs : List Value) → value_count (values_of vs) ≡ length vs
 value_count-values_of [] = refl
@@ -16,10 +16,6 @@ pair_count-pairs_of (p ∷ ps) = ap suc (pair_count-pairs_of ps)
 pub listed-pairs_of : (ps : List (Value × Value)) → listed (pairs_of ps) ≡ ps
 listed-pairs_of [] = refl
 listed-pairs_of (p ∷ ps) = ap (λ qs. p ∷ qs) (listed-pairs_of ps)
-
-pub pairs_of-listed : (ps : Couples) → pairs_of (listed ps) ≡ ps
-pairs_of-listed no_pairs = refl
-pairs_of-listed (pair k v ps) = ap (λ qs. pair k v qs) (pairs_of-listed ps)
 
 abbrev pub pair_height : Item × Item → ℕ
 pair_height p = max (height (item_value p.0)) (height (item_value p.1))

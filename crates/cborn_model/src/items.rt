@@ -106,7 +106,7 @@ impl ItemBox {
     ghost use Rattle.std.specs.Prelude.{◌≡◌, IfOk};
     ghost use Rattle.cborn_model.specs.ItemView.{item_value};
 
-    /// This item, on the heap.
+    /// This item, on the heap. An error says that memory was refused; the item is then freed.
     pub fn new(alloc: Global, item: Item) -> Result<ItemBox, AllocError>
         ensures { IfOk result (λ b. b ≡ item_value item) }
     {

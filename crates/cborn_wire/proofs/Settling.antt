@@ -6,7 +6,7 @@ use Rattle.cborn_model.specs.declared.heads.Size.TheVariants.{Endless}
 use Rattle.cborn_model.specs.Heads.{Major, Unsigned, Negative, ByteString, TextString, Array, Map, Tag, Other, Argument, Given, Unbounded}
 use Rattle.cborn_model.specs.Tree.{Tree, Items, Pairs, Tagged, Trees, no_item, Entries, no_entry, count, count_entries}
 use Rattle.cborn_wire.specs.Slots.{Kind, OfBytes, OfText, Begun, begun_items, begun_pairs, begun_value, begun_tag, begun_chunks}
-use Rattle.cborn_wire.specs.Machine.{snoc, snoc_entry, number, Goal, argument_of, content_of, State, is_full, items_tree, pairs_tree, string_tree, chunks_tree, finished, items_at, pairs_at, string_done, content_at, ended, after_head, gather, Settles}
+use Rattle.cborn_wire.specs.Machine.{snoc, snoc_entry, State, is_full, items_tree, pairs_tree, string_tree, chunks_tree, finished, items_at, pairs_at, string_done, content_at, ended, after_head, Settles}
 
 settles_if : (ready : Trees) (c : Bool) {s u : State} → Settles ready s → Settles ready u → Settles ready (cond c s u)
 settles_if ready true h k = h
@@ -67,7 +67,3 @@ module _ (ready : Trees) where
   settles_head ByteString Unbounded os fed p = inl refl
   settles_head TextString Unbounded os fed p = inl refl
   settles_head Tag Unbounded os fed p = inl refl
-
-  pub settles_gather : (g : Goal) (os : List Begun) (fed p n : ℕ) (got : List ℕ) → Settles ready (gather fed p ready os g n got)
-  settles_gather (argument_of m w) os fed p n got = settles_if ready (leb n (length got)) (settles_head m (Given w (number w got)) os fed p) (inl refl)
-  settles_gather (content_of k w) os fed p n got = settles_content os fed p k w n got

@@ -82,13 +82,6 @@ wide Two h = tt
 wide Four h = tt
 wide Eight h = tt
 
-wide_bytes : (w : Width) → IsWide w → 0 < width_bytes w
-wide_bytes Direct h = absurd h
-wide_bytes One h = omega arith
-wide_bytes Two h = omega arith
-wide_bytes Four h = omega arith
-wide_bytes Eight h = omega arith
-
 pub wide_info : (w : Width) (n : ℕ) → IsWide w → info_for (Given w n) ≡ Next w
 wide_info Direct n h = absurd h
 wide_info One n h = refl

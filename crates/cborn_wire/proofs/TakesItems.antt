@@ -86,14 +86,6 @@ whole_string fed p ready (begun_value q a es t ∷ os) k w bytes h = refl
 whole_string fed p ready (begun_tag q v n ∷ os) k w bytes h = refl
 whole_string fed p ready (begun_chunks q l cs ∷ os) k w bytes h = absurd h
 
-not_other : (k : Kind) → is_other (major_of k) ≡ false
-not_other OfBytes = refl
-not_other OfText = refl
-
-not_container : (k : Kind) (full : Bool) → (is_container (major_of k) && full) ≡ false
-not_container OfBytes full = refl
-not_container OfText full = refl
-
 pub takes_chunks : (limit : ℕ) (cs : List Chunk) (fed : ℕ) (ready : Trees) (os : List Begun) (p : ℕ) (k : Kind) (before : List Chunk) (x : List ℕ) → ChunksFit cs → ChunksPlaced (major_of k) fed cs
     → run limit (Live fed ready (begun_chunks p k before ∷ os) nothing) (flat_map (chunk_bytes (major_of k)) cs ++ x)
     ≡ run limit (Live (fed + length (flat_map (chunk_bytes (major_of k)) cs)) ready (begun_chunks p k (before ++ cs) ∷ os) nothing) x

@@ -35,7 +35,7 @@ pub enum WireReason {
     Truncated,
 }
 
-/// Why no items were read.
+/// Why no items were read. A refusal has the number of its reason, from 1 to 8; want of memory has the number 9.
 #[derive(Clone, Copy, PartialEq, Eq, Debug, Error)]
 pub enum WireFault {
     /// The bytes are not well-formed. `place` is the offset of the head that may not stand there, in bytes from the start of the input; for `Truncated` it is the input's length.

@@ -61,7 +61,7 @@ impl Feeder {
         self.fed
     }
 
-    /// Takes a piece. It is refused, at the offset of the head in the whole input, where a head in it may stand in no well-formed input that begins so; `OutOfMemory` where memory was. After either, this and each later call answers that same fault, `fed` stays as it is, and the items that were complete before the fault's place are still to take (where memory was refused, some of them).
+    /// Takes a piece, the next bytes of the input: all that were fed with it may be at most 2^64-1 bytes. It is refused, at the offset of the head in the whole input, where a head in it may stand in no well-formed input that begins so; `OutOfMemory` where memory was. After either, this and each later call answers that same fault, `fed` stays as it is, and the items that were complete before the fault's place are still to take (where memory was refused, some of them).
     pub fn feed(&mut self, piece: &[u8]) -> Result<(), WireFault>
         requires { self.old.fed + length piece.now < 2 ^ 64 }
         ensures fed { self.old.fault ≡ None → Feeds piece.now self.old result self.new }

@@ -265,7 +265,7 @@ fn first_bytes(major: u8, width: Width, n: u64) -> ([u8; 9], usize)
     (bytes, 1 + width_len(width))
 }
 
-/// Appends the head of major type `major`, from 0 to 7, with the argument `n`, which fits the width. Where memory is refused `out` stays as it was.
+/// Appends the head of major type `major`, from 0 to 7, with the argument `n`, which fits the width (RFC 8949 section 3). An error says that memory was refused; `out` then stays as it was.
 pub fn push_head(out: &mut Vec<u8>, major: u8, width: Width, n: u64) -> Result<(), AllocError>
     requires major { major ≤ 7 }
     requires fits { Holds width n }

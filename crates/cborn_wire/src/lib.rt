@@ -1,4 +1,16 @@
 //! The bytes of data items: read and written (RFC 8949 section 3).
+//!
+//! The reader is the [`Feeder`], which is fed an input by pieces, cut anywhere, and gives its items as they become whole;
+//! [`read_all`] feeds it an input that is held whole, and [`read_one`] reads a single item from an offset on. All keep what
+//! has begun on one stack (`stacks`), which has no recursion and takes a head or a part of a string at a time: `refusals`
+//! tells where a head may not stand, `frames` has what an open array, map, tag or indefinite string is made of, and
+//! `finishing` puts what is whole into what stands around it. The writer is [`spell`], which writes what a node was read
+//! from. Below both stand single heads, in `heads`.
+//!
+//! A reader of the definitions starts at `specs/Faults.antt`, which tells where bytes are no items, and why; what the items
+//! of well-formed bytes are is told by `cborn_model`. `specs/Feeding.antt` is what a feeder is seen as, and
+//! `specs/Reading.antt` is about one item. `Machine` and `StackView` are devices of the proofs. [`laws`] has what is proved
+//! of the definitions alone.
 #![tactic(auto)]
 
 mod faults;

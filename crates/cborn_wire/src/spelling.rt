@@ -11,7 +11,7 @@ use crate::push_head;
 use cborn_model::{ByteString, Chunk, Form, Node, Size, Spelled, Width};
 use std::alloc::{AllocError, Global};
 
-/// The bytes that `item` spells.
+/// The bytes that `item` spells. An error says that memory was refused.
 pub fn spell(alloc: Global, item: &Spelled) -> Result<Vec<u8>, AllocError>
     ensures { IfOk result (λ v. v.items ≡ spelled item.now) }
 {
@@ -20,7 +20,7 @@ pub fn spell(alloc: Global, item: &Spelled) -> Result<Vec<u8>, AllocError>
     Ok(bytes)
 }
 
-/// The bytes that the items spell, one after another: a sequence (RFC 8742).
+/// The bytes that the items spell, one after another: a sequence (RFC 8742). An error says that memory was refused.
 pub fn spell_all(alloc: Global, items: &[Spelled]) -> Result<Vec<u8>, AllocError>
     ensures { IfOk result (λ v. v.items ≡ spelled_all (trees items.now)) }
 {

@@ -2,12 +2,42 @@
 //!
 //! `rt try --test --fail-alloc N` refuses the growth number N. With ample memory the same functions compare each call with its answer.
 use super::memory::{Bytes, Taken};
-use crate::{CompareFault, EngineFault, Kind, check, compare, load, normalise, show_all};
+use crate::{CompareFault, EngineFault, Kind, Sink, check, compare, load, normalise, show_all};
 use cborn_det::{encode, equal_bytes};
 use cborn_judge::{Defect, DefectReason, Invalid, InvalidReason, first_defect, judge_all};
 use cborn_model::{Bytewise, Limit};
 use cborn_wire::{Feeder, WireFault, read_all, read_one, spell_all};
+use std::alloc::Global;
 use std::test::Fail;
+
+/// Whether showing answers this output, or that memory was refused, also to the writer.
+fn is_shown(alloc: Global, from: Kind, input: &[u8], to: Kind, output: &[u8]) -> bool {
+    let mut out = Taken::new(alloc);
+    let mut bytes = Bytes::new(input, 2);
+    match show_all(alloc, Limit::USUAL, from, to, &mut bytes, &mut out) {
+        Ok(()) => out.bytes.as_slice() == output,
+        Err(EngineFault::OutOfMemory) => out.writes == 0,
+        Err(why) => why == EngineFault::WriteFault && Sink::failures(&out) == 1,
+    }
+}
+
+/// Whether normalising answers this output, or that memory was refused, also to the writer.
+fn is_normalised(alloc: Global, from: Kind, input: &[u8], to: Kind, output: &[u8]) -> bool {
+    let mut out = Taken::new(alloc);
+    let mut bytes = Bytes::new(input, 2);
+    match normalise::<Bytewise, Bytes<'_>, Taken>(
+        alloc,
+        Limit::USUAL,
+        from,
+        to,
+        &mut bytes,
+        &mut out,
+    ) {
+        Ok(()) => out.bytes.as_slice() == output,
+        Err(EngineFault::OutOfMemory) => out.writes == 0,
+        Err(why) => why == EngineFault::WriteFault && Sink::failures(&out) == 1,
+    }
+}
 
 #[test]
 fn refused_to_normalise(rt: HostRuntime) -> Result<(), Fail> {
@@ -29,28 +59,51 @@ fn refused_to_normalise(rt: HostRuntime) -> Result<(), Fail> {
         ),
     ];
     for (input, output) in cases {
-        let mut out = Taken::new(rt.alloc());
-        let mut bytes = Bytes::new(input, 2);
-        let result = normalise::<Bytewise, Bytes<'_>, Taken>(
-            rt.alloc(),
-            Limit::USUAL,
-            kind,
-            kind,
-            &mut bytes,
-            &mut out,
+        assert!(rt;
+            is_normalised(rt.alloc(), kind, input, kind, output),
+            "{input:?}"
         );
-        match result {
-            Ok(()) => assert_eq!(rt; out.bytes.as_slice(), output),
-            Err(EngineFault::OutOfMemory) => assert_eq!(rt; out.writes, 0),
-            Err(why) => assert_eq!(rt; why, EngineFault::WriteFault),
-        }
-        let mut out = Taken::new(rt.alloc());
-        let mut bytes = Bytes::new(input, 2);
-        match show_all(rt.alloc(), Limit::USUAL, kind, kind, &mut bytes, &mut out) {
-            Ok(()) => assert_eq!(rt; out.bytes.as_slice(), input),
-            Err(EngineFault::OutOfMemory) => assert_eq!(rt; out.writes, 0),
-            Err(why) => assert_eq!(rt; why, EngineFault::WriteFault),
-        }
+        assert!(rt; is_shown(rt.alloc(), kind, input, kind, input), "{input:?}");
+    }
+    Ok(())
+}
+
+/// An input, and what both showing and normalising it write.
+const CONVERTED: [(Kind, &[u8], Kind, &[u8]); 4] = [
+    (
+        Kind::Notation,
+        b"<<1, 2_0>>",
+        Kind::Wire,
+        b"\x43\x01\x18\x02",
+    ),
+    (
+        Kind::Notation,
+        b"\"a\" h'c3' h'a9'",
+        Kind::Wire,
+        b"\x63\x61\xc3\xa9",
+    ),
+    (
+        Kind::Notation2,
+        b"{1: ['b'], } # c",
+        Kind::Notation,
+        b"{1: [h'62']}\n",
+    ),
+    (
+        Kind::Wire,
+        b"\x64\x22\x5c\x0a\x01",
+        Kind::Notation,
+        b"\"\\\"\\\\\\n\\u0001\"\n",
+    ),
+];
+
+#[test]
+fn refused_on_notation(rt: HostRuntime) -> Result<(), Fail> {
+    for (from, input, to, output) in CONVERTED {
+        assert!(rt; is_shown(rt.alloc(), from, input, to, output), "{input:?}");
+        assert!(rt;
+            is_normalised(rt.alloc(), from, input, to, output),
+            "{input:?}"
+        );
     }
     Ok(())
 }

@@ -36,18 +36,20 @@ const NORMALISED: [(Kind, &[u8], Kind, &[u8]); 8] = [
 #[test]
 fn normalised(rt: HostRuntime) -> Result<(), Fail> {
     for (from, input, to, output) in NORMALISED {
-        let mut bytes = Bytes::new(input, 3);
-        let mut out = Taken::new(rt.alloc());
-        let result = normalise::<Bytewise, Bytes<'_>, Taken>(
-            rt.alloc(),
-            Limit::USUAL,
-            from,
-            to,
-            &mut bytes,
-            &mut out,
-        );
-        assert_eq!(rt; result, Ok(()));
-        assert_eq!(rt; out.bytes.as_slice(), output, "{input:?}");
+        for step in [1, 3] {
+            let mut bytes = Bytes::new(input, step);
+            let mut out = Taken::new(rt.alloc());
+            let result = normalise::<Bytewise, Bytes<'_>, Taken>(
+                rt.alloc(),
+                Limit::USUAL,
+                from,
+                to,
+                &mut bytes,
+                &mut out,
+            );
+            assert_eq!(rt; result, Ok(()));
+            assert_eq!(rt; out.bytes.as_slice(), output, "{input:?}");
+        }
     }
     Ok(())
 }
@@ -69,12 +71,14 @@ fn refused(rt: HostRuntime) -> Result<(), Fail> {
         (b"\x22\xff\x22".as_slice(), EngineFault::TextInput(1)),
     ];
     for (input, fault) in cases {
-        let mut bytes = Bytes::new(input, 2);
-        let mut out = Taken::new(rt.alloc());
-        let kind = Kind::Notation;
-        let result = show_all(rt.alloc(), Limit::USUAL, kind, kind, &mut bytes, &mut out);
-        assert_eq!(rt; result, Err(fault), "{input:?}");
-        assert_eq!(rt; out.writes, 0);
+        for step in [1, 2] {
+            let mut bytes = Bytes::new(input, step);
+            let mut out = Taken::new(rt.alloc());
+            let kind = Kind::Notation;
+            let result = show_all(rt.alloc(), Limit::USUAL, kind, kind, &mut bytes, &mut out);
+            assert_eq!(rt; result, Err(fault), "{input:?}");
+            assert_eq!(rt; out.writes, 0);
+        }
     }
     Ok(())
 }
@@ -123,7 +127,7 @@ fn compared(rt: HostRuntime) -> Result<(), Fail> {
         ),
     ];
     for (input, answer) in cases {
-        let mut first = Bytes::new(input, 4);
+        let mut first = Bytes::new(input, 1);
         let mut second = Bytes::new(b"\xc2\x49\x01\x00\x00\x00\x00\x00\x00\x00\x00", 4);
         let result = compare::<Bytewise, Bytes<'_>, Bytes<'_>>(
             rt.alloc(),

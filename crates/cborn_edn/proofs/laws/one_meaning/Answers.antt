@@ -1,13 +1,14 @@
-use Rattle.cborn_edn.proofs.Agree.{says, no_slip}
+use Rattle.cborn_edn.proofs.Agree.{says}
 use Rattle.cborn_edn.proofs.Fit.{said_fits}
 use Rattle.cborn_edn.proofs.First.{none_among, nothing_among, some_first, one_first}
+use Rattle.cborn_edn.proofs.NoSlip.{no_slip}
 use Rattle.cborn_edn.specs.Meaning.{input_slips}
 use Rattle.cborn_edn.proofs.laws.one_meaning.Goals as goal
 
 pub returns : goal.returns
 returns c = record {
   says = λ t h none. says t h (none_among (input_slips t) none);
-  no_slip = λ t ts p r h said. nothing_among (input_slips t) p r (no_slip t ts h said);
+  no_slip = λ t ts p r said. nothing_among (input_slips t) p r (no_slip t ts said);
   fits = said_fits;
   first = λ t p r. some_first (input_slips t) p r;
   one_first = λ t. one_first (input_slips t);

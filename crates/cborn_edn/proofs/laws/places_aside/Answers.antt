@@ -1,3 +1,4 @@
+use Rattle.cborn_edn.proofs.SameText.{same_notation}
 use Rattle.cborn_edn.proofs.Unplaced.{same_fit, same_depth, same_bytes, same_meaning}
 use Rattle.cborn_edn.proofs.laws.places_aside.Goals as goal
 
@@ -7,4 +8,5 @@ returns c = record {
   depth = same_depth;
   bytes = same_bytes;
   meaning = λ nodes others items e. same_meaning nodes others e items;
+  text = λ nodes others text e. same_notation nodes others text e;
 }

@@ -1,4 +1,4 @@
-use Rattle.std.proofs.Common.{rules, ◌≡◌, sym, ap, ◌∙◌, subst, ◌^◌, ◌<◌, ◌≤◌, [], ◌∷◌, ◌++◌, Some, length, length-append, append_assoc, arith}
+use Rattle.std.proofs.Common.{rules, ◌≡◌, sym, ap, ◌∙◌, subst, ◌^◌, ◌<◌, ◌≤◌, [], ◌∷◌, ◌++◌, Some, None, if◌then◌else◌, length, length-append, append_assoc, arith}
 use Rattle.std.specs.Vec.Iter.{into_iter_items}
 use Rattle.cborn_lex.proofs.Weights.{AreModest, text_light}
 use Rattle.cborn_edn.specs.Draft.{draft_step, reach}
@@ -25,13 +25,13 @@ loop-token-preserved c =
     let few : length inv.0 < 2 ^ 63 = omega (arith, ap length whole, length-append inv.0 (t ∷ rest)) in
     let light = text_light c.args.profile c.requires.0 c.args.tokens.items c.requires.1 c.requires.2 in
     let modest = back inv.0 (t ∷ rest) (subst AreModest whole light.0) in
-    let steps : draft_step c.loop-token.state t ≡ Some c.in-Ok-Some.next = sym c.in-Ok-Some.ensures ∙ c.in-Ok-Some.field-0-is in
+    let steps : draft_step c.loop-token.state t ≡ Some c.step.new.self = c.in-Ok-true.ensures ∙ ap (λ b. if b then Some c.step.new.self else None) c.in-Ok-true.field-0-test in
     let low : reach c.loop-token.state.frames t.class ≤ c.args.limit = omega (arith, c.reach-reach.ensures) in (
       search rules,
       (
         inv.0 ++ (t ∷ []),
         whole ∙ sym (append_assoc inv.0 (t ∷ []) rest),
-        next_reached c.args.limit inv.0 c.loop-token.state inv.2 t c.in-Ok-Some.next few modest.0 c.in_memory.ensures steps low,
+        next_reached c.args.limit inv.0 c.loop-token.state inv.2 t c.step.new.self few modest.0 c.in_memory.ensures steps low,
       ),
     )
 

@@ -1,4 +1,4 @@
-use Rattle.std.proofs.Common.{◌∙◌, sym, ap, Some, None, ◌≡◌, Ok, Err, IfOk, IfErr}
+use Rattle.std.proofs.Common.{◌∙◌, sym, ap, Some, None, Ok, Err, IfOk, IfErr}
 use Rattle.std.specs.Prelude.{Result}
 use Rattle.cborn_model.specs.Tree.{trees}
 use Rattle.cborn_edn.proofs.Reading.{jam_told, no_end, notated, whole_told}

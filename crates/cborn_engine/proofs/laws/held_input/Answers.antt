@@ -1,8 +1,8 @@
-use Rattle.cborn_engine.proofs.Known.{bytes_read, input_read}
+use Rattle.cborn_engine.proofs.Known.{input_read, nodes_loaded}
 use Rattle.cborn_engine.proofs.laws.held_input.Goals as goal
 
-pub returns-clause-bytes : goal.returns-clause-bytes
-returns-clause-bytes c = bytes_read
+pub returns-clause-items : goal.returns-clause-items
+returns-clause-items c = input_read
 
-pub returns-clause-all : goal.returns-clause-all
-returns-clause-all c = input_read
+pub returns-clause-nodes : goal.returns-clause-nodes
+returns-clause-nodes c = nodes_loaded
