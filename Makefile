@@ -7,7 +7,7 @@ LIBRARIES := cborn_model cborn_wire cborn_det cborn_judge cborn_lex cborn_edn cb
 
 help:
 	@echo 'make build      prove every crate and build the program, $(PROGRAM)'
-	@echo 'make test       everything: the merge gate from nothing, then make tables and make growths'
+	@echo 'make test       the merge gate from nothing, then make tables and make growths'
 	@echo 'make tables     the built program on the tables of tests/, and the examples of the documents'
 	@echo 'make growths    the built program on those tables, each growth refused in turn'
 	@echo 'make library-growths   the tests of the libraries, proved and built first, each growth refused in turn'

@@ -8,7 +8,7 @@ The bytes depend on the scale alone. At scale 1:
     integers.cbor   16 MB  a sequence of integers of mixed widths, some wider than needed
     records.cbor    16 MB  one array of records with 20 short text keys in random order
     strings.cbor    32 MB  one array of long strings, some in chunks
-    nests.cbor       8 MB  one array of nests, 100 deep, half of them of indefinite length
+    nests.cbor       8 MB  one array of nests of 97 levels, about half of them of indefinite length
     keys.cbor        2 MB  one map of 200,000 shuffled keys
     tagged.cbor      6 MB  a sequence of 200,000 small tagged items
 """

@@ -38,8 +38,9 @@ pub const SHOW_NOTES: &str = "\
 Reads a sequence of CBOR data items (RFC 8949) from FILE, or from standard input,
 and writes each as it is spelled: in diagnostic notation (section 8), a line for
 each item, with an indicator where a head isn't the shortest, or with --to wire
-as bytes. Items that aren't valid are shown too. Nothing is put in order or
-shortened: normalise does that. A FILE named - is a file of that name.
+as bytes. Items that aren't valid are shown too, but as notation no text that
+isn't UTF-8. Nothing is put in order or shortened: normalise does that.
+A FILE named - is a file of that name.
 
 Exit status:
   0  done

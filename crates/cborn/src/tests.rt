@@ -379,6 +379,11 @@ fn broken_streams(rt: HostRuntime) -> Result<(), Fail> {
     let status = run(&rt, rt.alloc(), &words, Broken, Broken, &mut err);
     assert_eq!(rt; status, 4);
     assert_eq!(rt; err.as_slice(), b"cborn: read failed\n".as_slice());
+    // Nothing is written here, so the flush alone fails.
+    err.clear();
+    let status = run(&rt, rt.alloc(), &words, b"".as_slice(), Broken, &mut err);
+    assert_eq!(rt; status, 4);
+    assert_eq!(rt; err.as_slice(), b"cborn: write failed\n".as_slice());
     let status = run(&rt, rt.alloc(), &["cborn"], Broken, Broken, Broken);
     assert_eq!(rt; status, 3);
     Ok(())

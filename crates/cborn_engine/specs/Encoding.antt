@@ -1,4 +1,4 @@
--- What reading an input and encoding what it holds answers.
+-- What reading an input and encoding what it holds answers. No public contract cites it.
 use Rattle.std.specs.Prelude.{◌≡◌, ℕ, ◌≤◌, List, [], ◌∷◌, ◌++◌, length, Option, Some, None, Result, Ok, Err, Vec}
 use Rattle.std.specs.Global.{Global}
 use Rattle.std.specs.List.{AllZip}

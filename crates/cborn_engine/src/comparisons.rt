@@ -52,7 +52,7 @@ fn first_difference<O: KeyOrder>(
     }
 }
 
-/// Compares what two inputs hold. None: they hold the same items. Else the least index, from 0, at which the items differ or only one input has an item. The answer doesn't depend on `O`.
+/// Compares what two inputs hold. None: they hold the same items. Else the least index, from 0, at which the items differ or only one input has an item. The answer doesn't depend on `O`. Each input has at most 2^30 bytes.
 ///
 /// # Errors
 /// `First`, where the first input gave no items, by `ReadFault`, `TooLong` or the fault of its content as `normalise` tells it, at its offset in bytes from the start of that input; then not a byte of the second was read. `Second`, likewise, where the first input gave items and the second gave none. `OutOfMemory` may come at any time, and is never inside of `First` or `Second`.

@@ -43,7 +43,7 @@ pub fn normalise<O: KeyOrder, R: Source, W: Sink>(
     write_answer(writer, &answer)
 }
 
-/// Writes the items of the input as they are spelled.
+/// Writes the items of the input as they are spelled: as bytes (RFC 8949 section 3), or in the fixed notation (section 8). The input has at most 2^30 bytes.
 ///
 /// # Errors
 /// Those of `load_within`, and `Show` where the output is notation and a text string in it isn't UTF-8, at the lowest place of one. At these nothing was written. `WriteFault` where the writer failed; then a front of the answer went out.

@@ -35,7 +35,7 @@ pub enum EngineFault {
     /// The input is longer than it may be.
     #[error("input too long")]
     TooLong,
-    /// The writer failed. What went out before is the front of the answer.
+    /// The writer failed. What went out before is a front of the answer.
     #[error("write failed")]
     WriteFault,
     /// Memory was refused.

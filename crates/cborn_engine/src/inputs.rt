@@ -18,7 +18,7 @@ use std::alloc::Global;
 /// The most bytes of an input.
 pub const MOST: u64 = 1 << 30;
 
-/// The items of the whole input, which has at most 2^30 bytes. The faults are those of `load_within`.
+/// The items of the whole input as they are spelled, valid or not. The input has at most 2^30 bytes. The errors are those of `load_within`.
 pub fn load<R: Source>(
     alloc: Global,
     limit: Limit,
@@ -31,9 +31,10 @@ pub fn load<R: Source>(
     load_within(alloc, limit, MOST, kind, reader)
 }
 
-/// The items of the whole input, which has at most `most` bytes.
+/// The items of the whole input as they are spelled, valid or not, none deeper than `limit`, each with its place in bytes from the start of the input. The input has at most `most` bytes, and `most` is at most 2^30.
 ///
-/// The input is read to its end before a fault of its content is told. `ReadFault` comes where the reader failed, and ends the reading. `TooLong` comes where it gave `most` + 1 bytes, and no more are read. Then comes the fault of the content, told at its offset in bytes from the start of the input. `OutOfMemory` may come at any time.
+/// # Errors
+/// `ReadFault` where the reader failed, which ends the reading. `TooLong` where it gave `most` + 1 bytes; no more are read. Else, once the input has ended, the fault of its content, at its offset in bytes from the start of the input: `Wire` where bytes aren't well-formed (RFC 8949 section 3), `TextInput` where a text isn't UTF-8, `Edn` where a text notates no items (RFC 8949 section 8). `OutOfMemory` may come at any time.
 pub fn load_within<R: Source>(
     alloc: Global,
     limit: Limit,
@@ -80,7 +81,7 @@ fn load_bytes<R: Source>(
     Ok(feeder.finish()?)
 }
 
-/// What the whole input holds.
+/// What the whole input holds. The faults are those of `load_within`, and `Invalid`.
 pub fn read_items<R: Source>(
     alloc: Global,
     limit: Limit,

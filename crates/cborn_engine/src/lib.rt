@@ -1,4 +1,8 @@
-//! Sequences of data items over readers and writers.
+//! Sequences of data items (RFC 8742) end to end: from readers to writers.
+//!
+//! [`load`] reads a whole input, bytes or notation ([`Kind`]), and gives its items as they are spelled. [`normalise`] and [`show_all`] go on to a writer; [`compare`] and [`check`] answer. What is read from is a [`Source`], what is written to a [`Sink`]; [`Counted`] makes them of the readers and writers of std.
+//!
+//! A reader of the definitions starts at `specs/Holding.antt` (what an input holds, and its canonical form) and `specs/Canonical.antt` (the headline). `Refusing` says why an input is refused; `Loading`, `Showing`, `Comparing` and `Checking` say what the other calls answer. [`laws`] has the headline in one place. In the code `pieces`, `texts` and `inputs` read, `encodings` encodes bytes item by item as they are read, and `outputs` writes.
 #![tactic(auto)]
 
 mod checks;

@@ -1,6 +1,7 @@
 //! What no clause says: worked examples, readers and writers that fail, and each growth refused.
 
 mod comparing;
+mod counted;
 mod examples;
 mod growths;
 mod memory;

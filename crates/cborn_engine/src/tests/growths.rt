@@ -1,6 +1,6 @@
 //! Each growth refused: the answer is want of memory, or the answer with ample memory.
 //!
-//! `rt try --test --fail-alloc N` refuses the growth number N. With ample memory the same functions compare each call with its answer.
+//! `make library-growths` refuses each growth in turn. With ample memory the same functions compare each call with its answer.
 use super::memory::{Bytes, Taken};
 use crate::{CompareFault, EngineFault, Kind, Sink, check, compare, load, normalise, show_all};
 use cborn_det::{encode, equal_bytes};
