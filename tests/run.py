@@ -7,41 +7,51 @@ A table is a list of cases, each a paragraph of lines 'WORD REST':
 
     case NAME            what the case shows
     file NAME hex BYTES  a file in the folder that the program runs in; 'text' in place of 'hex' takes
-                         a text with the escapes \\n and \\xNN, and 'folder' makes a folder
+                         a text with the escapes \\n and \\xNN (none, if it isn't ASCII), and 'folder'
+                         makes a folder
+    length NAME N        zeros behind what that file holds, so that it has N bytes
+    stdin hex BYTES      standard input, which is else empty
+    input failing        standard input fails behind these bytes, in place of ending
+    output WHERE         standard output goes to 'closed', a pipe whose reader has gone, to 'first N', a file
+                         that fails behind N bytes, or to a file that is named, as /dev/full
     run ARGUMENTS        the program's arguments, quoted as in a shell
-    stdin hex BYTES      standard input, which is else empty; 'BYTES * N' repeats them
     stdout hex BYTES     what it must write to standard output, which is else nothing;
                          'stdout holds TEXT' asks only that the text occurs
     stderr TEXT          what it must write to standard error, with the newline at its end, which is else
                          nothing; 'stderr holds TEXT' asks only that the text occurs
-    output WHERE         standard output goes to 'closed', a pipe whose reader has gone, or to a file,
-                         as /dev/full
     status N             the exit status, which is else 0
 
+In BYTES 'X * N' repeats X, 'X * A..B' puts each number from A to B (up or down) in place of its {..}, formatted
+as Python does, and '+' stands between parts. The last four words tell of a run: several runs may stand
+in one case, on the same files and input, and where one stands right behind another they must do the same.
 'stdout holds' and 'stderr holds' may stand more than once. A line that begins with '#' is a comment.
 """
 import collections
+import contextlib
+import itertools
 import os
 import pathlib
+import resource
 import shlex
+import signal
+import socket
 import subprocess
 import sys
 import tempfile
 
 Outcome = collections.namedtuple("Outcome", "stdout stderr status")
+OF_A_RUN = ("run", "stdout", "stderr", "status")
 
 
 class Case:
-    """A case of a table, whose files lie in a folder."""
+    """One run of a case of a table, whose files lie in a folder."""
 
     def __init__(self, lines, folder):
         self.name, self.words, self.folder = str(lines), None, folder
-        self.stdin, self.output, self.status = b"", None, 0
+        self.stdin, self.is_failing, self.output, self.room, self.status = b"", False, None, None, 0
         self.wanted = {"stdout": [], "stderr": []}
         for word, rest in lines:
             self.read(word, rest)
-        if self.words is None:
-            raise ValueError(f"a case without run: {self.name}")
 
     def read(self, word, rest):
         if word == "case":
@@ -53,16 +63,22 @@ class Case:
                 path.mkdir()
             else:
                 path.write_bytes(given_bytes(what))
-        elif word == "run":
-            self.words = shlex.split(rest)
+        elif word == "length":
+            name, _, length = rest.partition(" ")
+            os.truncate(pathlib.Path(self.folder, name), int(length))
         elif word == "stdin":
             self.stdin = given_bytes(rest)
+        elif (word, rest) == ("input", "failing"):
+            self.is_failing = True
+        elif word == "output":
+            self.output, _, room = rest.partition(" ")
+            self.room = int(room) if room else None
+        elif word == "run":
+            self.name, self.words = f"{self.name}: {rest}", shlex.split(rest)
         elif word in self.wanted:
             is_part = rest.startswith("holds ")
             whole = given_bytes if word == "stdout" else lambda it: text_bytes(it) + b"\n"
             self.wanted[word].append((is_part, text_bytes(rest[6:]) if is_part else whole(rest)))
-        elif word == "output":
-            self.output = rest
         elif word == "status":
             self.status = int(rest)
         else:
@@ -70,26 +86,50 @@ class Case:
 
     def run(self, program, **how):
         """What the program writes, and its status."""
-        if self.output == "closed":
-            reader, to = os.pipe()
-            os.close(reader)
-        else:
-            to = subprocess.PIPE if self.output is None else os.open(self.output, os.O_WRONLY)
-        try:
+        with contextlib.ExitStack() as opened:
+            to = self.standard_output(opened)
             done = subprocess.run(
                 [program, *self.words],
                 cwd=self.folder,
-                input=self.stdin,
                 stdout=to,
                 stderr=subprocess.PIPE,
                 timeout=60,
                 check=False,
+                preexec_fn=None if self.room is None else self.limit_files,
+                **self.standard_input(opened),
                 **how,
             )
-        finally:
-            if self.output is not None:
-                os.close(to)
-        return Outcome(done.stdout or b"", done.stderr, done.returncode)
+            written = done.stdout if self.room is None else os.pread(to, self.room + 1, 0)
+        return Outcome(written or b"", done.stderr, done.returncode)
+
+    def standard_input(self, opened):
+        """How subprocess.run is told the standard input."""
+        if not self.is_failing:
+            return {"input": self.stdin}
+        ours, theirs = map(opened.enter_context, socket.socketpair())
+        ours.send(self.stdin)
+        # the other side is closed with a byte that it didn't read, which fails the reads behind its own bytes
+        theirs.send(b"?")
+        ours.close()
+        return {"stdin": theirs}
+
+    def standard_output(self, opened):
+        if self.output is None:
+            return subprocess.PIPE
+        if self.output == "closed":
+            reader, writer = os.pipe()
+            os.close(reader)
+        elif self.room is not None:
+            writer, _ = tempfile.mkstemp(dir=self.folder)
+        else:
+            writer = os.open(self.output, os.O_WRONLY)
+        opened.callback(os.close, writer)
+        return writer
+
+    def limit_files(self):
+        """In the process to come, fail each write to a file behind its first bytes."""
+        signal.signal(signal.SIGXFSZ, signal.SIG_IGN)
+        resource.setrlimit(resource.RLIMIT_FSIZE, (self.room, self.room))
 
     def differences(self, outcome):
         """What is wrong with an outcome, line by line."""
@@ -114,11 +154,17 @@ def given_bytes(rest):
         return text_bytes(value)
     if kind != "hex":
         raise ValueError(f"neither hex nor text: {rest}")
-    out = b""
-    for part in value.split("+"):
-        piece, _, times = part.partition("*")
-        out += bytes.fromhex(piece) * (int(times) if times else 1)
-    return out
+    parts = [part.partition("*") for part in value.split("+")]
+    return b"".join(repeated(piece, times or "1") for piece, _, times in parts)
+
+
+def repeated(piece, times):
+    """The bytes of hexadecimal digits, N times, or once for each number of A..B."""
+    first, is_range, last = times.partition("..")
+    if not is_range:
+        return bytes.fromhex(piece) * int(times)
+    step = 1 if int(first) <= int(last) else -1
+    return b"".join(bytes.fromhex(piece.format(n)) for n in range(int(first), int(last) + step, step))
 
 
 def paragraphs(path):
@@ -134,11 +180,23 @@ def paragraphs(path):
             lines.append((word, rest))
 
 
+def single_runs(lines):
+    """The lines of a case once for each of its runs, with what that run must do."""
+    shared = [line for line in lines if line[0] not in OF_A_RUN]
+    own = [line for line in lines if line[0] in OF_A_RUN]
+    if [word for word, _ in lines].count("case") != 1 or not own or own[0][0] != "run":
+        raise ValueError(f"a case needs one name, and a run in front of what it does: {lines}")
+    groups = [list(group) for _, group in itertools.groupby(own, lambda line: line[0] == "run")]
+    for runs, wanted in itertools.zip_longest(groups[::2], groups[1::2], fillvalue=[]):
+        for run in runs:
+            yield [*shared, run, *wanted]
+
+
 def cases(names):
-    """Each case of the tables of these names, or of all tables beside this script."""
+    """Each run of each case of the tables of these names, or of all tables beside this script."""
     here = pathlib.Path(__file__).resolve().parent
     for table in [pathlib.Path(name) for name in names] or sorted(here.glob("*.table")):
-        for lines in paragraphs(table):
+        for lines in itertools.chain.from_iterable(map(single_runs, paragraphs(table))):
             with tempfile.TemporaryDirectory() as folder:
                 yield table.name, Case(lines, folder)
 
