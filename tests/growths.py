@@ -10,6 +10,8 @@ A command line has to answer as it does with ample memory, or to answer want of 
 standard output, and one line on standard error. A test has to pass, or to fail by want of memory: by the error
 that a call answered, and not by an answer that differs. refuse.c, which is compiled by $CC or cc, refuses.
 """
+import concurrent.futures
+import itertools
 import os
 import pathlib
 import re
@@ -48,9 +50,9 @@ def wants_of_memory(words):
             yield Outcome(b"", f"cborn: {which}cannot read {word}\n".encode(), 4)
 
 
-def command_lines(library, program, tables):
-    """Each command line: its name, the outcomes of its runs, and which outcomes it may have."""
-    for table, case in cases(tables):
+def command_lines(library, program, tables, share):
+    """Each command line of a share: its name, the outcomes of its runs, and which outcomes it may have."""
+    for table, case in share(cases(tables)):
         allowed = [case.run(program), *wants_of_memory(case.words)]
         outcomes = refused_in_turn(library, lambda **how: case.run(program, **how))
         yield f"{table}: {case.name}", list(outcomes), allowed.__contains__
@@ -65,34 +67,45 @@ def passes_or_wants(outcome):
     return outcome.status == 0 or (outcome.status in STOPPED and WANT.search(outcome.stderr))
 
 
-def built_tests(library, tests, words):
-    """Each test: its name, the outcomes of its runs, and which outcomes it may have."""
+def built_tests(library, tests, words, share):
+    """Each test of a share: its name, the outcomes of its runs, and which outcomes it may have."""
     listed = subprocess.run([tests, "--list"], capture_output=True, text=True, check=True).stdout
-    for name in re.findall(r"^(.*): test$", listed, re.MULTILINE):
-        if not words or any(word in name for word in words):
-            outcomes = refused_in_turn(library, lambda **how: run_test(tests, name, **how))
-            yield name, list(outcomes), passes_or_wants
+    names = re.findall(r"^(.*): test$", listed, re.MULTILINE)
+    for name in share(name for name in names if not words or any(word in name for word in words)):
+        outcomes = refused_in_turn(library, lambda **how: run_test(tests, name, **how))
+        yield name, list(outcomes), passes_or_wants
+
+
+def tried(find, library, program, words, first, shares):
+    """Each so many-th run from the first on: how many growths and runs that were, and a line for each wrong outcome."""
+    growths = runs = 0
+    wrong = []
+    for name, outcomes, is_allowed in find(library, program, words, lambda all: itertools.islice(all, first, None, shares)):
+        growths, runs = growths + len(outcomes), runs + 1
+        for nth, outcome in enumerate(outcomes, 1):
+            if not is_allowed(outcome):
+                wrong.append(f"{name}: growth {nth} of {len(outcomes)}: {outcome}")
+    return growths, runs, wrong
 
 
 def main():
     source = pathlib.Path(__file__).resolve().parent / "refuse.c"
-    growths = runs = failed = 0
-    with tempfile.TemporaryDirectory() as folder:
+    with tempfile.TemporaryDirectory() as folder, concurrent.futures.ProcessPoolExecutor() as pool:
         library = f"{folder}/refuse.so"
         compiler = os.environ.get("CC", "cc")
         subprocess.run([compiler, "-O2", "-shared", "-fPIC", "-o", library, str(source)], check=True)
         are_tests = sys.argv[1] == "--tests"
-        program, *rest = sys.argv[2:] if are_tests else sys.argv[1:]
-        run_all = built_tests if are_tests else command_lines
-        found = run_all(library, str(pathlib.Path(program).resolve()), rest)
-        for name, outcomes, is_allowed in found:
-            growths, runs = growths + len(outcomes), runs + 1
-            for nth, outcome in enumerate(outcomes, 1):
-                if not is_allowed(outcome):
-                    failed += 1
-                    print(f"{name}: growth {nth} of {len(outcomes)}: {outcome}")
-    print(f"{growths} growths of {runs} runs refused in turn, {failed} failed")
-    return 1 if failed or not growths else 0
+        program, *words = sys.argv[2:] if are_tests else sys.argv[1:]
+        find = built_tests if are_tests else command_lines
+        program = str(pathlib.Path(program).resolve())
+        shares = os.cpu_count() or 1
+        parts = [pool.submit(tried, find, library, program, words, first, shares) for first in range(shares)]
+        all_growths, all_runs, all_wrong = zip(*(part.result() for part in parts))
+    wrong = sum(all_wrong, [])
+    for line in wrong:
+        print(line)
+    print(f"{sum(all_growths)} growths of {sum(all_runs)} runs refused in turn, {len(wrong)} failed")
+    return 1 if wrong or not sum(all_growths) else 0
 
 
 if __name__ == "__main__":
