@@ -1,6 +1,6 @@
 //! What a reader has begun and not ended.
 
-ghost use Rattle.std.specs.Prelude.{◌≡◌, ◌<◌, ◌≤◌, ◌+◌, ◌*◌, max, [], ◌∷◌, ◌++◌, OnOk, OnErr, vec_len, vec_capacity};
+ghost use Rattle.std.specs.Prelude.{ℕ, ◌≡◌, ◌<◌, ◌≤◌, ◌+◌, ◌*◌, max, [], ◌∷◌, ◌++◌, OnOk, OnErr, vec_len, vec_capacity};
 ghost use Rattle.cborn_wire.specs.Slots.{slot_in};
 ghost use Rattle.cborn_wire.specs.Faults.{needs_item};
 ghost use Rattle.cborn_wire.specs.StackView.{seen_frame, Puts, Closes};
@@ -80,35 +80,13 @@ impl Frame {
                 place,
                 argument,
                 items,
-            } => {
-                push_part(items, node)?;
-                if !argument.is_met(items.len()) {
-                    return Ok(None);
-                }
-                let items = std::mem::replace(items, Vec::new(alloc));
-                let form = Form::Items(argument.size(), items);
-                let place = *place;
-                Ok(Some(Node { place, form }))
-            }
+            } => put_item(alloc, *place, *argument, items, node),
             Frame::Pairs {
                 place,
                 argument,
                 pairs,
                 key,
-            } => {
-                let Some(first) = key.take() else {
-                    *key = Some(node);
-                    return Ok(None);
-                };
-                push_part(pairs, (first, node))?;
-                if !argument.is_met(pairs.len()) {
-                    return Ok(None);
-                }
-                let pairs = std::mem::replace(pairs, Vec::new(alloc));
-                let form = Form::Pairs(argument.size(), pairs);
-                let place = *place;
-                Ok(Some(Node { place, form }))
-            }
+            } => put_key_or_value(alloc, *place, *argument, pairs, key, node),
             Frame::Tag {
                 place,
                 width,
@@ -180,6 +158,49 @@ impl Frame {
             Frame::Chunks { .. } => false,
         }
     }
+}
+
+// Puts an item into an open array at `place`: the array, where it is whole with that.
+fn put_item(
+    alloc: Global,
+    place: u64,
+    argument: Argument,
+    items: &mut Vec<Node>,
+    node: Node,
+) -> Result<Option<Node>, WireFault>
+    ensures { (at : ℕ) → Puts at (Frame.Items place argument items.old) (Frame.Items place argument items.new) node result }
+{
+    push_part(items, node)?;
+    if !argument.is_met(items.len()) {
+        return Ok(None);
+    }
+    let items = std::mem::replace(items, Vec::new(alloc));
+    let form = Form::Items(argument.size(), items);
+    Ok(Some(Node { place, form }))
+}
+
+// Puts a key, or the value of `key`, into an open map at `place`: the map, where it is whole with that.
+fn put_key_or_value(
+    alloc: Global,
+    place: u64,
+    argument: Argument,
+    pairs: &mut Vec<(Node, Node)>,
+    key: &mut Option<Node>,
+    node: Node,
+) -> Result<Option<Node>, WireFault>
+    ensures { (at : ℕ) → Puts at (Frame.Pairs place argument pairs.old key.old) (Frame.Pairs place argument pairs.new key.new) node result }
+{
+    let Some(first) = key.take() else {
+        *key = Some(node);
+        return Ok(None);
+    };
+    push_part(pairs, (first, node))?;
+    if !argument.is_met(pairs.len()) {
+        return Ok(None);
+    }
+    let pairs = std::mem::replace(pairs, Vec::new(alloc));
+    let form = Form::Pairs(argument.size(), pairs);
+    Ok(Some(Node { place, form }))
 }
 
 /// Appends a part to what is open. The list takes room for one part at its first, and then for twice as many as it has: in a deep nest most lists have one part, and that is all that they hold. No room is taken for what a head announces.
