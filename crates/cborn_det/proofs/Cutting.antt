@@ -64,7 +64,7 @@ abbrev pub Below : (List ℕ → List ℕ → Ordering) → Option (Bor (List �
 Below order None k = ⊤
 Below order (Some b) k = order b.now k ≡ Less
 
-is_less : (o : Ordering) → is_lt o ≡ true → o ≡ Less
+pub is_less : (o : Ordering) → is_lt o ≡ true → o ≡ Less
 is_less Less h = refl
 is_less Equal h = cc
 is_less Greater h = cc

@@ -11,6 +11,14 @@ use Rattle.cborn_model.specs.declared.heads.Width.TheVariants.{Direct, One}
 use Rattle.cborn_model.specs.Heads.{IsHead, least}
 use Rattle.cborn_det.specs.Det.{Det, DetValues, DetPairs, Entry, joined, major_of, bignum_tag}
 
+pub small : (b : Bool) → major_of b < 2
+small true = omega arith
+small false = omega arith
+
+pub tags : (b : Bool) → (bignum_tag b ≡ 2) ⊎ (bignum_tag b ≡ 3)
+tags true = inr refl
+tags false = inl refl
+
 module _ (order : List ℕ → List ℕ → Ordering) where
   -- what may follow a head of the major type m with the argument n
   data Content (m n : ℕ) (c : List ℕ) : Type 0 where
@@ -37,10 +45,6 @@ module _ (order : List ℕ → List ℕ → Ordering) where
         | inl p ↦ record { major = major_of s; width = least (big_endian m); argument = big_endian m; head = x; content = []; is_head = p.1; follows = bare (inl (small s)) refl; is = sym (append-nil x) }
         | inr p ↦ record { major = 6; width = least (bignum_tag s); argument = bignum_tag s; head = p.1; content = p.2; is_head = p.3; follows = inner refl (bytes m) p.4; is = p.5 }
       ]
-    where
-      small : (b : Bool) → major_of b < 2
-      small true = omega arith
-      small false = omega arith
   seen (bytes b) x d = record { major = 2; width = least (length b); argument = length b; head = d.0; content = b; is_head = d.1; follows = string (inl refl) refl; is = d.2 }
   seen (text b) x d = record { major = 3; width = least (length b); argument = length b; head = d.0; content = b; is_head = d.1; follows = string (inr refl) refl; is = d.2 }
   seen (array vs) x d = record { major = 4; width = least (value_count vs); argument = value_count vs; head = d.0; content = d.1; is_head = d.2; follows = items refl vs refl d.3; is = d.4 }
@@ -157,10 +161,6 @@ module _ (order : List ℕ → List ℕ → Ordering) where
           | inr p ↦ reads_from 6 (least (bignum_tag s)) (bignum_tag s) p.1 p.2 x p.3 p.5
               (inner_reads (bignum_tag s) p.2 (reads_from 2 (least (length m)) (length m) p.4.0 m p.2 p.4.1 p.4.2 (string_reads 2 m (inl refl))))
         ]
-      where
-        small : (b : Bool) → major_of b < 2
-        small true = omega arith
-        small false = omega arith
     reads (bytes b) x d = reads_from 2 (least (length b)) (length b) d.0 b x d.1 d.2 (string_reads 2 b (inl refl))
     reads (text b) x d = reads_from 3 (least (length b)) (length b) d.0 b x d.1 d.2 (string_reads 3 b (inr refl))
     reads (array vs) x d = reads_from 4 (least (value_count vs)) (value_count vs) d.0 d.1 x d.2 d.4 (items_read vs d.1 (values_read vs d.1 d.3))

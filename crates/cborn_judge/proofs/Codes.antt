@@ -22,11 +22,6 @@ use Rattle.cborn_judge.proofs.Repeating.{repeat_again}
 use Rattle.cborn_judge.proofs.Steps.{repeats_alike}
 use Rattle.cborn_judge.specs.Repeats.{IsOneOf, IsAgain, AreKeys}
 
-pub less_from : (o : Ordering) → is_lt o ≡ true → o ≡ Less
-less_from Less e = refl
-less_from Equal e = cc
-less_from Greater e = cc
-
 -- ---- one more
 
 -- a list ends in one element at most

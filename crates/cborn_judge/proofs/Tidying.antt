@@ -8,6 +8,7 @@ use Rattle.cborn_judge.specs.Tidy.{spelled_pairs, SizeIsTidy, IsTidy, AllTidy, E
 use Rattle.cborn_model.proofs.OneHead.{one_head, append_same}
 use Rattle.cborn_model.proofs.Rearranging.{All_moved}
 use Rattle.cborn_det.proofs.Canon.{string_one}
+use Rattle.cborn_det.proofs.Reading.{small, tags}
 use Rattle.cborn_model.proofs.OneMagnitude.{one_magnitude, large, fits_in, below_power}
 use Rattle.cborn_judge.proofs.Meanings.{holds_below, same_count, same_count_entries, number_valid, bignum_below}
 use Rattle.cborn_model.specs.Value.{Value, Values, Couples, integer, bytes, text, array, dict, tagged, simple, no_values, value, no_pairs, pair, value_count, pair_count}
@@ -130,14 +131,6 @@ same_width _ _ n k h g e = absurd (omega arith)
 bits_low : (w : Width) (n : ℕ) → Holds w n → information w n < 31
 bits_low Direct n h = omega arith
 bits_low _ n h = omega arith
-
-small : (b : Bool) → major_of b < 2
-small true = omega arith
-small false = omega arith
-
-tags : (b : Bool) → (bignum_tag b ≡ 2) ⊎ (bignum_tag b ≡ 3)
-tags true = inr refl
-tags false = inl refl
 
 least_direct : (n : ℕ) → n < 24 → least n ≡ Direct
 least_direct n h = ap (λ c. cond c Direct (cond (ltb n 256) One (cond (ltb n (2 ^ 16)) Two (cond (ltb n (2 ^ 32)) Four Eight)))) (lt-ltb n 24 h)

@@ -2,7 +2,8 @@ use Rattle.std.proofs.Common.{rules, ◌≡◌, ◌++◌, ◌∷◌, [], List, �
 use Rattle.std.proofs.lemmas.List.{take_all}
 use Rattle.std.proofs.Math.Seq.{drop-append_seam, take-append_seam}
 use Rattle.cborn_model.specs.Orders.{bytewise}
-use Rattle.cborn_judge.proofs.Codes.{codes_more, less_from}
+use Rattle.cborn_det.proofs.Cutting.{is_less}
+use Rattle.cborn_judge.proofs.Codes.{codes_more}
 use Rattle.cborn_judge.proofs.keys.Keys.push.Goals as goal
 use Rattle.cborn_judge.proofs.keys.Keys.push.Goals.{then-self, else-self}
 
@@ -20,7 +21,7 @@ returns c =
       e.0,
       e.1,
       λ codes k. codes_more codes c.args.self.now.marks.items c.push.new.self.items old c.push_encoding.new.out.items c.args.self.now.last c.len-start.result c.args.position c.args.self.now.rising c.if-self.self e.0 k marks e.2 begin (λ t. elim c.if-self.branch [
-        | then-self w ↦ (search rules, sym compared ∙ less_from c.compare-order.result (sym w.is_lt-self.ensures ∙ sym w.self-is ∙ t))
+        | then-self w ↦ (search rules, sym compared ∙ is_less c.compare-order.result (sym w.is_lt-self.ensures ∙ sym w.self-is ∙ t))
         | else-self w ↦ absurd (true≢false (sym t ∙ w.self-is ∙ w.if-self.false))
       ]),
     )
