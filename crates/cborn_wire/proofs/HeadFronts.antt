@@ -152,3 +152,12 @@ pub wide_fronts : (x rest : List ℕ) (r : HeadRead) (w : Width) → rest ≡ dr
 wide_fronts [] rest r w same are h i e reads = absurd (omega arith)
 wide_fronts (b ∷ y) rest r w same are h i e reads =
     subst (λ (l : List ℕ). ReadsHead (b ∷ l) r) same (reads b refl i (ap (λ j. reason_of element_or_end false (major_at (b / 32)) j rest) i ∙ next_free rest (major_at (b / 32)) w (no_other (b / 32) (omega (arith, are.0)) e)))
+
+-- A byte below 24 is the head of an unsigned integer.
+pub small_head : (x : List ℕ) → 0 < length x → get_or x 0 0 < 24 → IsHeadOf x (record { major = 0; argument = Given Direct (get_or x 0 0) }) 1
+small_head [] some h = absurd (omega arith)
+small_head (b ∷ y) some h =
+    let none : b / 32 ≡ 0 = omega arith in
+    let same : b % 32 ≡ b = omega arith in
+    subst (λ (n : ℕ). IsHeadOf (b ∷ y) (record { major = 0; argument = Given Direct n }) 1) same
+    (subst (λ (m : ℕ). IsHeadOf (b ∷ y) (record { major = m; argument = Given Direct (b % 32) }) 1) none (direct_head y b (omega arith) (omega arith)))

@@ -28,5 +28,6 @@ pub mod Advancing
 pub mod Refusing
 pub mod HeadSteps
 pub mod HeadFronts
+pub mod HeadTaken
 pub mod FeederKeeps
 pub mod Spellings

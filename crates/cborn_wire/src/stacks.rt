@@ -86,6 +86,18 @@ impl Stack {
         if let Partial::Nothing = self.partial {
             return self.take_head(limit, piece);
         }
+        self.take_more(limit, piece)
+    }
+
+    // What stands at the front of `piece`, where there may be a part before it. It stands apart, since a head that has none would pay for its locals.
+    #[inline(never)]
+    fn take_more(&mut self, limit: u64, piece: &[u8]) -> Result<usize, WireFault>
+        requires some { 0 < length piece.now }
+        requires room { self.old.at + length piece.now < 2 ^ 64 }
+        requires small { limit ≤ 1024 }
+        requires reached { (base : ℕ) × IsReached limit base (seen self.old) }
+        ensures { Advances limit (seen self.old) piece.now self.old self.new result }
+    {
         match std::mem::replace(&mut self.partial, Partial::Nothing) {
             Partial::Nothing => self.take_head(limit, piece),
             Partial::Argument {
@@ -105,9 +117,30 @@ impl Stack {
         }
     }
 
-    // A head, or the initial byte of one that ends behind the piece.
+    // A head, or the initial byte of one that ends behind the piece. The commonest, an integer that is its initial byte, is taken here, and any other apart.
     #[inline(always)]
     fn take_head(&mut self, limit: u64, piece: &[u8]) -> Result<usize, WireFault>
+        requires nothing { self.old.partial ≡ Partial.Nothing }
+        requires some { 0 < length piece.now }
+        requires room { self.old.at + length piece.now < 2 ^ 64 }
+        requires small { limit ≤ 1024 }
+        requires reached { (base : ℕ) × IsReached limit base (seen self.old) }
+        ensures { Advances limit (seen self.old) piece.now self.old self.new result }
+    {
+        let place = self.at;
+        let first = piece[0];
+        if first < 24 && self.refusal(limit, first).is_none() {
+            let argument = Argument::Given(Width::Direct, first as u64);
+            self.at = place + 1;
+            self.take(place, Head { major: 0, argument })?;
+            return Ok(1);
+        }
+        self.take_any_head(limit, piece)
+    }
+
+    // The same of any head.
+    #[inline(always)]
+    fn take_any_head(&mut self, limit: u64, piece: &[u8]) -> Result<usize, WireFault>
         requires nothing { self.old.partial ≡ Partial.Nothing }
         requires some { 0 < length piece.now }
         requires room { self.old.at + length piece.now < 2 ^ 64 }

@@ -1,15 +1,19 @@
-use Rattle.std.proofs.Common.{rules, ◌≡◌, ◌+◌, ◌/◌, ◌%◌, [], refl, sym, ap, ◌∙◌, subst, take, get_or, nat_le, None}
+use Rattle.std.proofs.Common.{rules, ◌+◌, sym, ◌∙◌, subst, get_or, arith}
 use Rattle.std.proofs.lemmas.Result.{err_from_is_err_and}
-use Rattle.cborn_wire.specs.Slots.{slot, open_depth}
-use Rattle.cborn_wire.specs.Faults.{major_at, info_at, reason_of}
-use Rattle.cborn_wire.specs.HeadReading.{seen_argument}
-use Rattle.cborn_wire.specs.Machine.{nothing, after_head, run, Settles}
-use Rattle.cborn_wire.specs.StackView.{seen, seen_with, seen_partial, opened, ready_of}
+use Rattle.cborn_model.specs.declared.heads.Width.TheVariants.{Direct}
+use Rattle.cborn_wire.specs.declared.heads.Argument.TheVariants.{Given}
+use Rattle.cborn_wire.specs.declared.heads.Head.{Head}
+use Rattle.cborn_wire.specs.Faults.{major_at}
+use Rattle.cborn_wire.specs.HeadReading.{seen_argument, IsHeadOf}
+use Rattle.cborn_wire.specs.Machine.{Settles}
+use Rattle.cborn_wire.specs.StackView.{seen, seen_partial, opened, ready_of}
 use Rattle.cborn_wire.proofs.Settling.{settles_head}
 use Rattle.cborn_wire.proofs.ByteLists.{are_bytes}
 use Rattle.cborn_wire.proofs.Reached.{reached_begun}
 use Rattle.cborn_wire.proofs.Advancing.{made_by, fails_on}
-use Rattle.cborn_wire.proofs.HeadSteps.{first_refused, second_refused, head_taken, head_fits}
+use Rattle.cborn_wire.proofs.HeadFronts.{small_head}
+use Rattle.cborn_wire.proofs.HeadSteps.{head_fits}
+use Rattle.cborn_wire.proofs.HeadTaken.{goes_over}
 use Rattle.cborn_wire.proofs.stacks.Stack.take_head.Goals as goal
 
 pub refusal-requires : goal.refusal-requires
@@ -17,47 +21,28 @@ refusal-requires c =
     let s = c.args.self.now in
     reached_begun c.args.limit c.requires.reached.0 s.at (ready_of s) (opened s) (seen_partial s.partial) c.requires.reached.1
 
-pub returns-in-Some : goal.returns-in-Some
-returns-in-Some c =
-    let s = c.args.self.now in
-    let from : seen s ≡ seen_with s nothing = ap (λ p. seen_with s (seen_partial p)) c.requires.nothing in
-    (refl, ap (λ u. run c.args.limit u c.args.piece.now) from ∙ first_refused c.args.limit s.at (ready_of s) (opened s) c.args.piece.now c.in-Some.reason c.requires.some (sym c.in-Some.is ∙ c.refusal.ensures))
-
 pub take-requires-clause-made : goal.take-requires-clause-made
 take-requires-clause-made c =
     let s = c.args.self.now in
-    let from : seen s ≡ seen_with s nothing = ap (λ p. seen_with s (seen_partial p)) c.requires.nothing in
-    let none : None ≡ reason_of (slot (opened s)) (nat_le c.args.limit (open_depth (opened s))) (major_at (get_or c.args.piece.now 0 0 / 32)) (info_at (get_or c.args.piece.now 0 0 % 32)) [] = search rules in
-    let h = c.in-Full.head in
-    let goes : run c.args.limit (seen s) (take c.in-Full.len c.args.piece.now) ≡ after_head (s.at + c.in-Full.len) s.at (ready_of s) (opened s) (major_at h.major) (seen_argument h.argument)
-    = ap (λ u. run c.args.limit u (take c.in-Full.len c.args.piece.now)) from ∙ head_taken c.args.limit s.at (ready_of s) (opened s) c.args.piece.now h c.in-Full.len c.in-Full.ensures none in
-    made_by c.args.limit (seen s) _ c.in-Full.len c.args.piece.now goes c.requires.reached.0 c.requires.small c.requires.reached.1 (are_bytes c.args.piece.now c.type_inv.piece)
+    let x = c.args.piece.now in
+    let h : Head = record { major = 0; argument = Given Direct (get_or x 0 0) } in
+    let i : IsHeadOf x h 1 = small_head x c.requires.some (omega (arith, c.if-first-lt24.true)) in
+    made_by c.args.limit (seen s) _ 1 x (goes_over c.args.limit s x h 1 c.requires.nothing i (search rules)) c.requires.reached.0 c.requires.small c.requires.reached.1 (are_bytes x c.type_inv.piece)
 
-pub returns-in_err-take-in-Full : goal.returns-in_err-take-in-Full
-returns-in_err-take-in-Full c =
+pub returns-in_err-take : goal.returns-in_err-take
+returns-in_err-take c =
     let s = c.args.self.now in
-    let from : seen s ≡ seen_with s nothing = ap (λ p. seen_with s (seen_partial p)) c.requires.nothing in
-    let none : None ≡ reason_of (slot (opened s)) (nat_le c.args.limit (open_depth (opened s))) (major_at (get_or c.args.piece.now 0 0 / 32)) (info_at (get_or c.args.piece.now 0 0 % 32)) [] = search rules in
-    let h = c.in-Full.head in
-    let goes : run c.args.limit (seen s) (take c.in-Full.len c.args.piece.now) ≡ after_head (s.at + c.in-Full.len) s.at (ready_of s) (opened s) (major_at h.major) (seen_argument h.argument)
-    = ap (λ u. run c.args.limit u (take c.in-Full.len c.args.piece.now)) from ∙ head_taken c.args.limit s.at (ready_of s) (opened s) c.args.piece.now h c.in-Full.len c.in-Full.ensures none in
+    let x = c.args.piece.now in
+    let h : Head = record { major = 0; argument = Given Direct (get_or x 0 0) } in
+    let i : IsHeadOf x h 1 = small_head x c.requires.some (omega (arith, c.if-first-lt24.true)) in
     let p = err_from_is_err_and c.from_residual.result c.from_residual.ensures.1 in
-    rw (p.1, p.2) (fails_on c.args.limit (seen s) _ c.in-Full.len c.args.piece.now goes s.ready.items c.take.new.self.ready.items c.in_err-take-in-Full.field-0.0 c.in_err-take-in-Full.ensures)
+    rw (p.1, p.2) (fails_on c.args.limit (seen s) _ 1 x (goes_over c.args.limit s x h 1 c.requires.nothing i (search rules)) s.ready.items c.take.new.self.ready.items c.in_err-take.field-0.0 c.in_err-take.ensures)
 
-pub returns-in_ok-take-in-Full : goal.returns-in_ok-take-in-Full
-returns-in_ok-take-in-Full c =
+pub returns-then-is_none : goal.returns-then-is_none
+returns-then-is_none c =
     let s = c.args.self.now in
-    let from : seen s ≡ seen_with s nothing = ap (λ p. seen_with s (seen_partial p)) c.requires.nothing in
-    let none : None ≡ reason_of (slot (opened s)) (nat_le c.args.limit (open_depth (opened s))) (major_at (get_or c.args.piece.now 0 0 / 32)) (info_at (get_or c.args.piece.now 0 0 % 32)) [] = search rules in
-    let h = c.in-Full.head in
-    let goes : run c.args.limit (seen s) (take c.in-Full.len c.args.piece.now) ≡ after_head (s.at + c.in-Full.len) s.at (ready_of s) (opened s) (major_at h.major) (seen_argument h.argument)
-    = ap (λ u. run c.args.limit u (take c.in-Full.len c.args.piece.now)) from ∙ head_taken c.args.limit s.at (ready_of s) (opened s) c.args.piece.now h c.in-Full.len c.in-Full.ensures none in
-    let within = head_fits c.args.piece.now c.in-Full.head c.in-Full.len c.in-Full.ensures in
-    (within.0, within.1, goes ∙ sym c.in_ok-take-in-Full.ensures, subst (Settles (ready_of s)) (sym c.in_ok-take-in-Full.ensures) (settles_head (ready_of s) (major_at h.major) (seen_argument h.argument) (opened s) (s.at + c.in-Full.len) s.at))
-
-pub returns-in-Bad : goal.returns-in-Bad
-returns-in-Bad c =
-    let s = c.args.self.now in
-    let from : seen s ≡ seen_with s nothing = ap (λ p. seen_with s (seen_partial p)) c.requires.nothing in
-    let none : None ≡ reason_of (slot (opened s)) (nat_le c.args.limit (open_depth (opened s))) (major_at (get_or c.args.piece.now 0 0 / 32)) (info_at (get_or c.args.piece.now 0 0 % 32)) [] = search rules in
-    (refl, ap (λ u. run c.args.limit u c.args.piece.now) from ∙ second_refused c.args.limit s.at (ready_of s) (opened s) c.args.piece.now c.in-Bad.reason c.requires.some none c.in-Bad.ensures)
+    let x = c.args.piece.now in
+    let h : Head = record { major = 0; argument = Given Direct (get_or x 0 0) } in
+    let i : IsHeadOf x h 1 = small_head x c.requires.some (omega (arith, c.if-first-lt24.true)) in
+    let within = head_fits x h 1 i in
+    (within.0, within.1, goes_over c.args.limit s x h 1 c.requires.nothing i (search rules) ∙ sym c.in_ok-take.ensures, subst (Settles (ready_of s)) (sym c.in_ok-take.ensures) (settles_head (ready_of s) (major_at 0) (seen_argument h.argument) (opened s) (s.at + 1) s.at))
