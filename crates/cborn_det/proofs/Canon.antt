@@ -7,7 +7,7 @@ use Rattle.std.proofs.lemmas.Bool.{cases_lt}
 use Rattle.cborn_model.proofs.OneHead.{one_head, least_holds}
 use Rattle.cborn_model.proofs.Rearranging.{All_moved, carried, carried_left}
 use Rattle.cborn_det.proofs.Rising.{one_arrangement, arranged}
-use Rattle.cborn_det.proofs.Reading.{small, tags, reads, EntryReads, pairs_read, arranged_reads}
+use Rattle.cborn_det.proofs.Reading.{small, reads, EntryReads, pairs_read, arranged_reads}
 use Rattle.cborn_model.proofs.OneMagnitude.{one_magnitude, one_number}
 use Rattle.cborn_model.specs.Value.{Value, Values, Couples, integer, bytes, text, array, dict, tagged, simple, no_values, value, no_pairs, pair, listed, value_count, pair_count, pairs_of, number, Same, SameValues, SamePairs}
 use Rattle.cborn_model.proofs.Values.{listed-pairs_of}
@@ -38,6 +38,10 @@ record Led (v : Value) (x : List ℕ) : Type 0 where
   is_head : IsHead major width argument head
   is : x ≡ head ++ content
   leads : Leads v major argument
+
+tags : (b : Bool) → (bignum_tag b ≡ 2) ⊎ (bignum_tag b ≡ 3)
+tags true = inr refl
+tags false = inl refl
 
 -- items of one constructor
 abbrev Alike : Value → Value → Type 0

@@ -15,10 +15,6 @@ pub small : (b : Bool) → major_of b < 2
 small true = omega arith
 small false = omega arith
 
-pub tags : (b : Bool) → (bignum_tag b ≡ 2) ⊎ (bignum_tag b ≡ 3)
-tags true = inr refl
-tags false = inl refl
-
 module _ (order : List ℕ → List ℕ → Ordering) where
   -- what may follow a head of the major type m with the argument n
   data Content (m n : ℕ) (c : List ℕ) : Type 0 where

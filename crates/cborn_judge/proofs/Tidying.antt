@@ -8,7 +8,7 @@ use Rattle.cborn_judge.specs.Tidy.{spelled_pairs, SizeIsTidy, IsTidy, AllTidy, E
 use Rattle.cborn_model.proofs.OneHead.{one_head, append_same}
 use Rattle.cborn_model.proofs.Rearranging.{All_moved}
 use Rattle.cborn_det.proofs.Canon.{string_one}
-use Rattle.cborn_det.proofs.Reading.{small, tags}
+use Rattle.cborn_det.proofs.Reading.{small}
 use Rattle.cborn_model.proofs.OneMagnitude.{one_magnitude, large, fits_in, below_power}
 use Rattle.cborn_judge.proofs.Meanings.{holds_below, same_count, same_count_entries, number_valid, bignum_below}
 use Rattle.cborn_model.specs.Value.{Value, Values, Couples, integer, bytes, text, array, dict, tagged, simple, no_values, value, no_pairs, pair, value_count, pair_count}
