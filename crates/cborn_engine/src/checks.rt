@@ -1,5 +1,5 @@
 //! Whether bytes are deterministic.
-ghost use Rattle.std.specs.Prelude.{◌≡◌, ◌^◌, IfOk, IfErr};
+ghost use Rattle.std.specs.Prelude.{◌≡◌, ◌≤◌, ◌+◌, ◌^◌, IfOk, IfErr};
 ghost use Rattle.cborn_judge.specs.Flaws.{IsRefusalOfAll};
 ghost use Rattle.cborn_engine.specs.Checking.{Checks};
 ghost use Rattle.cborn_engine.specs.Defects.{Finds};
@@ -37,6 +37,7 @@ pub fn check<O: KeyOrder, R: Source>(
 ) -> Result<Option<Defect>, EngineFault>
     ensures checks { Checks O.order limit (2 ^ 30) (R.remaining reader.old) (R.remaining reader.new) result }
     ensures failures { R.failed reader.new ≡ read_failures result (R.failed reader.old) }
+    ensures calls { R.asked reader.new ≤ R.asked reader.old + 2 ^ 30 + 1 }
 {
     let nodes = load(alloc, limit, Kind::Wire, reader)?;
     let defect = defect_of::<O>(alloc, &nodes)?;

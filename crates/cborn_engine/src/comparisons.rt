@@ -1,5 +1,5 @@
 //! Whether two inputs hold the same items.
-ghost use Rattle.std.specs.Prelude.{◌≡◌, ◌^◌, IfOk, IfErr};
+ghost use Rattle.std.specs.Prelude.{◌≡◌, ◌≤◌, ◌+◌, ◌^◌, IfOk, IfErr};
 ghost use Rattle.cborn_engine.specs.Comparing.{Compares, Difference, IsFirst, first_failures, second_failures};
 ghost use Rattle.cborn_engine.specs.Faults.{of_first, of_second};
 
@@ -69,6 +69,8 @@ pub fn compare<O: KeyOrder, R: Source, Q: Source>(
     ensures unread { IfErr result (λ why. IsFirst why → second.new ≡ second.old) }
     ensures first_failures { R.failed first.new ≡ first_failures result (R.failed first.old) }
     ensures second_failures { Q.failed second.new ≡ second_failures result (Q.failed second.old) }
+    ensures first_calls { R.asked first.new ≤ R.asked first.old + 2 ^ 30 + 1 }
+    ensures second_calls { Q.asked second.new ≤ Q.asked second.old + 2 ^ 30 + 1 }
 {
     let ours = match read_items(alloc, limit, kind_a, first) {
         Ok(items) => items,

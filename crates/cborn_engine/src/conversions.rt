@@ -1,5 +1,5 @@
 //! From a reader to a writer.
-ghost use Rattle.std.specs.Prelude.{◌≡◌, ◌^◌, List, IfOk, IfErr};
+ghost use Rattle.std.specs.Prelude.{◌≡◌, ◌≤◌, ◌+◌, ◌^◌, List, IfOk, IfErr};
 ghost use Rattle.cborn_model.specs.Tree.{trees};
 ghost use Rattle.cborn_model.specs.Value.{Value};
 ghost use Rattle.cborn_edn.specs.Shown.{Shown};
@@ -38,6 +38,7 @@ pub fn normalise<O: KeyOrder, R: Source, W: Sink>(
     ensures normalises { Normalises O.order in_kind out_kind limit (2 ^ 30) (R.remaining reader.old) (R.remaining reader.new) (W.contents writer.old) (W.contents writer.new) result }
     ensures read_failures { R.failed reader.new ≡ read_failures result (R.failed reader.old) }
     ensures write_failures { W.failed writer.new ≡ write_failures result (W.failed writer.old) }
+    ensures calls { R.asked reader.new ≤ R.asked reader.old + 2 ^ 30 + 1 }
 {
     let bytes = read_encoded::<O, R>(alloc, limit, in_kind, reader)?;
     let answer = written(alloc, limit, out_kind, bytes)?;
@@ -59,6 +60,7 @@ pub fn show_all<R: Source, W: Sink>(
     ensures shows { Shows in_kind out_kind limit (2 ^ 30) (R.remaining reader.old) (R.remaining reader.new) (W.contents writer.old) (W.contents writer.new) result }
     ensures read_failures { R.failed reader.new ≡ read_failures result (R.failed reader.old) }
     ensures write_failures { W.failed writer.new ≡ write_failures result (W.failed writer.old) }
+    ensures calls { R.asked reader.new ≤ R.asked reader.old + 2 ^ 30 + 1 }
 {
     let nodes = load(alloc, limit, in_kind, reader)?;
     let answer = spelled(alloc, out_kind, &nodes)?;

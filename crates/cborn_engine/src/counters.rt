@@ -6,7 +6,7 @@ use crate::sources::Source;
 use std::io;
 use std::io::{Read, Write};
 
-/// A reader or a writer of std, with the count of its failures. An interrupted call is a failure as any other: nothing is tried again.
+/// A reader or a writer of std, with the count of its failures. An interrupted call is a failure as any other: nothing is tried again. Reads aren't counted.
 #[derive(Drop)]
 pub struct Counted<T> {
     pub inner: T,

@@ -1,5 +1,5 @@
 //! Reading a whole input, and encoding what it holds. Of bytes an item is encoded once it is complete, and is not kept.
-ghost use Rattle.std.specs.Prelude.{◌≡◌, ◌≤◌, ◌^◌, ℕ, List, [], None, IfOk};
+ghost use Rattle.std.specs.Prelude.{◌≡◌, ◌≤◌, ◌+◌, ◌^◌, ℕ, List, [], None, IfOk};
 ghost use Rattle.cborn_engine.specs.declared.kinds.Kind.TheVariants as kinds;
 ghost use Rattle.cborn_engine.specs.Encoding.{Encodes, Adds, IsStreamed};
 ghost use Rattle.cborn_engine.specs.Reading.{read_failures};
@@ -24,6 +24,7 @@ pub fn read_encoded<O: KeyOrder, R: Source>(
 ) -> Result<Vec<u8>, EngineFault>
     ensures encodes { Encodes O.order kind limit (2 ^ 30) (R.remaining reader.old) (R.remaining reader.new) result }
     ensures failures { R.failed reader.new ≡ read_failures result (R.failed reader.old) }
+    ensures calls { R.asked reader.new ≤ R.asked reader.old + 2 ^ 30 + 1 }
 {
     match kind {
         Kind::Wire => encode_bytes::<O, R>(alloc, limit, reader),
@@ -42,6 +43,7 @@ fn encode_bytes<O: KeyOrder, R: Source>(
 ) -> Result<Vec<u8>, EngineFault>
     ensures encodes { Encodes O.order kinds.Wire limit (2 ^ 30) (R.remaining reader.old) (R.remaining reader.new) result }
     ensures failures { R.failed reader.new ≡ read_failures result (R.failed reader.old) }
+    ensures calls { R.asked reader.new ≤ R.asked reader.old + 2 ^ 30 + 1 }
 {
     let mut feeder = Feeder::new(alloc, limit);
     let mut buf = [0; 4096];

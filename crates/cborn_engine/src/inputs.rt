@@ -1,5 +1,5 @@
 //! Reading a whole input.
-ghost use Rattle.std.specs.Prelude.{◌≡◌, ◌≤◌, ◌^◌};
+ghost use Rattle.std.specs.Prelude.{◌≡◌, ◌≤◌, ◌+◌, ◌^◌};
 ghost use Rattle.cborn_engine.specs.declared.kinds.Kind.TheVariants as kinds;
 ghost use Rattle.cborn_engine.specs.Loading.{Loads, Reads};
 ghost use Rattle.cborn_engine.specs.Reading.{read_failures};
@@ -27,6 +27,7 @@ pub fn load<R: Source>(
 ) -> Result<Vec<Spelled>, EngineFault>
     ensures loads { Loads kind limit (2 ^ 30) (R.remaining reader.old) (R.remaining reader.new) result }
     ensures failures { R.failed reader.new ≡ read_failures result (R.failed reader.old) }
+    ensures calls { R.asked reader.new ≤ R.asked reader.old + 2 ^ 30 + 1 }
 {
     load_within(alloc, limit, MOST, kind, reader)
 }
@@ -45,6 +46,7 @@ pub fn load_within<R: Source>(
     requires { most ≤ 2 ^ 30 }
     ensures loads { Loads kind limit most (R.remaining reader.old) (R.remaining reader.new) result }
     ensures failures { R.failed reader.new ≡ read_failures result (R.failed reader.old) }
+    ensures calls { R.asked reader.new ≤ R.asked reader.old + most + 1 }
 {
     match kind {
         Kind::Wire => load_bytes(alloc, limit, most, reader),
@@ -63,6 +65,7 @@ fn load_bytes<R: Source>(
     requires { most ≤ 2 ^ 30 }
     ensures loads { Loads kinds.Wire limit most (R.remaining reader.old) (R.remaining reader.new) result }
     ensures failures { R.failed reader.new ≡ read_failures result (R.failed reader.old) }
+    ensures calls { R.asked reader.new ≤ R.asked reader.old + most + 1 }
 {
     let mut feeder = Feeder::new(alloc, limit);
     let mut buf = [0; 4096];
@@ -90,6 +93,7 @@ pub fn read_items<R: Source>(
 ) -> Result<Vec<Valid>, EngineFault>
     ensures reads { Reads kind limit (2 ^ 30) (R.remaining reader.old) (R.remaining reader.new) result }
     ensures failures { R.failed reader.new ≡ read_failures result (R.failed reader.old) }
+    ensures calls { R.asked reader.new ≤ R.asked reader.old + 2 ^ 30 + 1 }
 {
     let nodes = load(alloc, limit, kind, reader)?;
     Ok(judge_all_owned(alloc, nodes)?)

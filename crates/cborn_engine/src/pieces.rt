@@ -1,5 +1,5 @@
 //! Reading a piece of an input.
-ghost use Rattle.std.specs.Prelude.{◌≡◌, ◌≤◌, ◌<◌, ◌^◌, length};
+ghost use Rattle.std.specs.Prelude.{◌≡◌, ◌≤◌, ◌<◌, ◌+◌, ◌^◌, length};
 ghost use Rattle.cborn_engine.specs.Reading.{PieceAnswers, piece_failures};
 
 use crate::sources::Source;
@@ -19,6 +19,7 @@ pub fn read_piece<R: Source>(reader: &mut R, buf: &mut [u8], left: u64) -> Resul
     requires bounded { left ≤ 2 ^ 30 }
     ensures piece { PieceAnswers (R.remaining reader.old) (R.remaining reader.new) left buf.new result }
     ensures failures { R.failed reader.new ≡ piece_failures result (R.failed reader.old) }
+    ensures calls { R.asked reader.new ≤ R.asked reader.old + 1 }
 {
     let room = (left + 1).min(buf.len() as u64) as usize;
     let count = match reader.read_some(&mut buf[..room]) {

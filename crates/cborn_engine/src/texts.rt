@@ -1,5 +1,5 @@
 //! Reading a whole text.
-ghost use Rattle.std.specs.Prelude.{◌≡◌, ◌≤◌, ◌^◌};
+ghost use Rattle.std.specs.Prelude.{◌≡◌, ◌≤◌, ◌+◌, ◌^◌};
 ghost use Rattle.cborn_engine.specs.Loading.{Loads, kind_of};
 ghost use Rattle.cborn_engine.specs.Reading.{Collects, read_failures};
 
@@ -21,6 +21,7 @@ pub fn read_bytes<R: Source>(
     requires { most ≤ 2 ^ 30 }
     ensures collects { Collects most (R.remaining reader.old) (R.remaining reader.new) result }
     ensures failures { R.failed reader.new ≡ read_failures result (R.failed reader.old) }
+    ensures calls { R.asked reader.new ≤ R.asked reader.old + most + 1 }
 {
     let mut bytes = Vec::new(alloc);
     let mut buf = [0; 4096];
@@ -46,6 +47,7 @@ pub fn load_text<R: Source>(
     requires { most ≤ 2 ^ 30 }
     ensures loads { Loads (kind_of profile) limit most (R.remaining reader.old) (R.remaining reader.new) result }
     ensures failures { R.failed reader.new ≡ read_failures result (R.failed reader.old) }
+    ensures calls { R.asked reader.new ≤ R.asked reader.old + most + 1 }
 {
     let bytes = read_bytes(alloc, most, reader)?;
     let text = match from_utf8(&bytes) {

@@ -6,13 +6,14 @@ use std::alloc::Global;
 use std::io;
 use std::io::ErrorKind;
 
-/// Gives bytes, at most `step` a call, and fails at one call.
+/// Gives bytes, at most `step` a call, fails at one call, and counts its calls.
 #[derive(Drop)]
 pub struct Bytes<'a> {
     pub rest: &'a [u8],
     step: usize,
     calls_to_failure: u64,
     failed: u64,
+    pub calls: u64,
 }
 
 impl<'a> Bytes<'a> {
@@ -28,6 +29,7 @@ impl<'a> Bytes<'a> {
             step,
             calls_to_failure,
             failed: 0,
+            calls: 0,
         }
     }
 }
@@ -37,7 +39,10 @@ impl Source for Bytes<'_> {
 
     ghost failed = { λ b. b.failed };
 
+    ghost asked = { λ b. b.calls };
+
     fn read_some(&mut self, buf: &mut [u8]) -> io::Result<usize> {
+        self.calls = self.calls.saturating_add(1);
         if self.calls_to_failure == 0 {
             self.failed = self.failed.saturating_add(1);
             return Err(io::Error::from(ErrorKind::Interrupted));

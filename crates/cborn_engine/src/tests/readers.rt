@@ -92,6 +92,45 @@ fn inputs_within_a_bound(rt: HostRuntime) -> Result<(), Fail> {
     Ok(())
 }
 
+fn calls_of_load(alloc: Global, kind: Kind, input: &[u8], step: usize) -> u64 {
+    let mut bytes = Bytes::new(input, step);
+    let _nodes = load_within(alloc, Limit::USUAL, 5, kind, &mut bytes);
+    bytes.calls
+}
+
+/// Catches a reader that is asked again behind its end or a byte too many.
+#[test]
+fn calls_of_readers(rt: HostRuntime) -> Result<(), Fail> {
+    let zeros = b"\x00\x00\x00\x00\x00\x00\x00";
+    for (length, step, calls) in [
+        (0, 1, 1),
+        (3, 1, 4),
+        (3, 4096, 2),
+        (5, 1, 6),
+        (7, 1, 6),
+        (7, 4, 2),
+        (7, 4096, 1),
+    ] {
+        let input = &zeros[..length];
+        let of_bytes = calls_of_load(rt.alloc(), Kind::Wire, input, step);
+        assert_eq!(rt; of_bytes, calls, "{length} by {step}");
+        let of_text = calls_of_load(rt.alloc(), Kind::Notation, input, step);
+        assert_eq!(rt; of_text, calls, "{length} by {step}");
+    }
+    Ok(())
+}
+
+/// Catches a reader that is asked again behind its failure.
+#[test]
+fn calls_of_failing_readers(rt: HostRuntime) -> Result<(), Fail> {
+    for (calls_to_failure, calls) in [(0, 1), (2, 3), (7, 8), (8, 8)] {
+        let mut bytes = Bytes::failing(INPUT, 1, calls_to_failure);
+        let _result = normalised(rt.alloc(), &mut bytes, &mut Taken::new(rt.alloc()));
+        assert_eq!(rt; bytes.calls, calls, "{calls_to_failure}");
+    }
+    Ok(())
+}
+
 #[test]
 fn second_readers(rt: HostRuntime) -> Result<(), Fail> {
     let kind = Kind::Wire;

@@ -21,6 +21,7 @@ pieces-preserved-in-Continue-branch-2 g c =
           (streamed_on g.O.KeyOrder.order c.args.limit _ c.pieces.left _ (g.R.Source.remaining c.pieces.reader) _ c.pieces.feeder c.pieces.flaw c.pieces.bytes.items c.read_piece.new.buf c.in_ok-count.count _ c.in_ok-count.ensures.piece left
           c.feed.new.self c.encode_ready.new.feeder c.encode_ready.new.flaw c.encode_ready.new.bytes.items c.feed.result (sym c.is_err-is_refused.ensures.value ∙ c.if-not-is_refused-2.true) so_far (c.feed.ensures.fed so_far.flows.1.sound) c.in_ok-encode_ready.ensures);
       failures = cc (c.in_ok-count.ensures.failures);
+      calls = omega (arith, c.pieces.invariant.calls, c.in_ok-count.ensures.calls, c.in_ok-count.ensures.piece.0, c.if-count-eq0.false);
     }
 
 pub returns-in_err-encode_ready-clause-encodes : goal.returns-in_err-encode_ready-clause-encodes
@@ -39,6 +40,7 @@ pieces-preserved-else-not-is_refused-2 g c =
           (refused_on g.O.KeyOrder.order c.args.limit _ c.pieces.left _ (g.R.Source.remaining c.pieces.reader) _ c.pieces.feeder c.pieces.flaw c.pieces.bytes.items c.read_piece.new.buf c.in_ok-count.count _ c.in_ok-count.ensures.piece left
           c.feed.new.self c.feed.result (sym c.is_err-is_refused.ensures.value ∙ c.if-not-is_refused-2.false) so_far (c.feed.ensures.fed so_far.flows.1.sound));
       failures = cc (c.in_ok-count.ensures.failures);
+      calls = omega (arith, c.pieces.invariant.calls, c.in_ok-count.ensures.calls, c.in_ok-count.ensures.piece.0, c.if-count-eq0.false);
     }
 
 pub pieces-preserved : goal.pieces-preserved
@@ -49,6 +51,7 @@ pieces-preserved g c =
           (read_on g.O.KeyOrder.order c.args.limit _ c.pieces.left _ (g.R.Source.remaining c.pieces.reader) _ c.pieces.feeder c.pieces.flaw c.pieces.bytes.items c.read_piece.new.buf c.in_ok-count.count _ c.in_ok-count.ensures.piece left
           (rw c.if-not-is_refused.false at c.pieces.invariant.so_far));
       failures = cc (c.in_ok-count.ensures.failures);
+      calls = omega (arith, c.pieces.invariant.calls, c.in_ok-count.ensures.calls, c.in_ok-count.ensures.piece.0, c.if-count-eq0.false);
     }
 
 pub returns-in_err-finish-clause-encodes : goal.returns-in_err-finish-clause-encodes

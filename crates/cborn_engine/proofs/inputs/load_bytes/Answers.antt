@@ -19,10 +19,11 @@ pieces-preserved g c =
           (read_on c.args.limit c.args.most c.pieces.left c.in_ok-count.count _ (g.R.Source.remaining c.pieces.reader) _ c.pieces.feeder c.read_piece.new.buf
           (rw c.if-not-is_refused.false at c.pieces.invariant.so_far) c.in_ok-count.ensures.piece _ left);
       failures = cc (c.in_ok-count.ensures.failures);
+      calls = omega (arith, c.pieces.invariant.calls, c.in_ok-count.ensures.calls, c.in_ok-count.ensures.piece.0, c.if-count-eq0.false);
     }
 
 pub pieces-init : goal.pieces-init
-pieces-init g c = record { so_far = rw c.new-feeder.ensures (at_first c.args.limit c.args.most (g.R.Source.remaining c.args.reader.now)); failures = refl }
+pieces-init g c = record { so_far = rw c.new-feeder.ensures (at_first c.args.limit c.args.most (g.R.Source.remaining c.args.reader.now)); failures = refl; calls = omega arith }
 
 pub pieces-preserved-then-not-is_refused : goal.pieces-preserved-then-not-is_refused
 pieces-preserved-then-not-is_refused g c =
@@ -33,6 +34,7 @@ pieces-preserved-then-not-is_refused g c =
           (fed_on c.args.limit c.args.most c.pieces.left c.in_ok-count.count _ (g.R.Source.remaining c.pieces.reader) _ c.pieces.feeder c.feed.new.self c.read_piece.new.buf c.feed.result
           so_far c.in_ok-count.ensures.piece (c.feed.ensures.fed so_far.fed.3) _ left);
       failures = cc (c.in_ok-count.ensures.failures);
+      calls = omega (arith, c.pieces.invariant.calls, c.in_ok-count.ensures.calls, c.in_ok-count.ensures.piece.0, c.if-count-eq0.false);
     }
 
 pub returns-in_err-finish-clause-loads : goal.returns-in_err-finish-clause-loads

@@ -1,4 +1,4 @@
-use Rattle.std.proofs.Common.{◌≡◌}
+use Rattle.std.proofs.Common.{◌≡◌, ◌≤◌, ◌+◌}
 use Rattle.cborn_engine.proofs.Fed.{SoFar}
 use Rattle.cborn_engine.proofs.inputs.load_bytes.Given as goal
 
@@ -6,6 +6,7 @@ abbrev pub invariant-pieces : goal.invariant-pieces
 invariant-pieces g l = record {
   so_far : SoFar l.fn.limit l.most l.left (g.R.Source.remaining l.initial.reader) (g.R.Source.remaining l.reader) l.is_refused l.feeder;
   failures : g.R.Source.failed l.reader ≡ g.R.Source.failed l.initial.reader;
+  calls : g.R.Source.asked l.reader + l.left ≤ g.R.Source.asked l.initial.reader + l.most;
 }
 
 abbrev pub decreases-pieces : goal.decreases-pieces
