@@ -275,28 +275,28 @@ mutual
   fields_short (loose_fields b) es h e = pairs_before_short b es h e
   fields_short (tight_fields ps) es h e = pairs_said_short ps es h e
 
--- How many items and pairs stand in a row.
+-- How many items and pairs stand in a row: between two there is a comma.
 mutual
-  row_few : (r : Row) → row_length r ≤ length (tokens_of_row r)
+  row_few : (r : Row) → 2 * row_length r ≤ suc (length (tokens_of_row r))
   row_few (row b i) = omega (arith, row_before_few b, some_item i, length-append (tokens_of_row_before b) (tokens_of i))
 
-  row_before_few : (b : RowBefore) → row_length_before b ≤ length (tokens_of_row_before b)
+  row_before_few : (b : RowBefore) → 2 * row_length_before b ≤ length (tokens_of_row_before b)
   row_before_few no_item = omega arith
   row_before_few (after_row r c) = omega (arith, row_few r, length-append (tokens_of_row r) (token c Comma ∷ []))
 
-pub content_few : (c : Content) → content_length c ≤ length (tokens_of_content c)
-content_few (loose b) = row_before_few b
+pub content_few : (c : Content) → 2 * content_length c ≤ suc (length (tokens_of_content c))
+content_few (loose b) = let l = row_before_few b in omega arith
 content_few (tight r) = row_few r
 
 mutual
-  pairs_few : (ps : Pairs) → pairs_length ps ≤ length (tokens_of_pairs ps)
-  pairs_few (pairs b k c v) = omega (arith, pairs_before_few b, some_item k, length-append (tokens_of_pairs_before b) (tokens_of k ++ (token c Colon ∷ tokens_of v)), length-append (tokens_of k) (token c Colon ∷ tokens_of v))
+  pairs_few : (ps : Pairs) → 2 * pairs_length ps ≤ length (tokens_of_pairs ps)
+  pairs_few (pairs b k c v) = omega (arith, pairs_before_few b, some_item k, some_item v, length-append (tokens_of_pairs_before b) (tokens_of k ++ (token c Colon ∷ tokens_of v)), length-append (tokens_of k) (token c Colon ∷ tokens_of v))
 
-  pairs_before_few : (b : PairsBefore) → pairs_length_before b ≤ length (tokens_of_pairs_before b)
+  pairs_before_few : (b : PairsBefore) → 2 * pairs_length_before b ≤ length (tokens_of_pairs_before b)
   pairs_before_few no_pair = omega arith
   pairs_before_few (after_pairs ps c) = omega (arith, pairs_few ps, length-append (tokens_of_pairs ps) (token c Comma ∷ []))
 
-pub fields_few : (f : Fields) → fields_length f ≤ length (tokens_of_fields f)
+pub fields_few : (f : Fields) → 2 * fields_length f ≤ length (tokens_of_fields f)
 fields_few (loose_fields b) = pairs_before_few b
 fields_few (tight_fields ps) = pairs_few ps
 

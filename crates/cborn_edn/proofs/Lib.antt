@@ -9,6 +9,7 @@ pub mod FirstSlips
 pub mod Bignums
 pub mod Telling
 pub mod Reading
+pub mod Underway
 pub mod Innermost
 pub mod Separated
 pub mod Escapes

@@ -67,13 +67,13 @@ ends_counted (in_array st s m) c ArrayClose a h k l = (h, (l, k))
 ends_counted (in_embed g o s) c (EmbedClose m) a h k l = (h.0, with_piece_counted o (embedded s c a m) h.1 k)
 ends_counted _ _ _ _ _ _ _ = tt
 
-loose_counted : (st : Stack) (e : Class) (a : Span) → length (held_stack st) < 2 ^ 63 → CountedStack st → After (ends_loose st e a) CountedState
+loose_counted : (st : Stack) (e : Class) (a : Span) → length (held_stack st) < 2 ^ 64 → CountedStack st → After (ends_loose st e a) CountedState
 loose_counted (in_row n b) e a l h = ends_counted n (loose b) e a h.0 h.1 (omega (arith, content_few (loose b), length-append (held_nest n) (tokens_of_row_before b)))
 loose_counted (in_key st s m b) MapClose a l h =
     (h.0, (omega (arith, fields_few (loose_fields b), length-append (held_stack st) (token s (MapOpen m) ∷ tokens_of_pairs_before b)), h.1))
 loose_counted _ _ _ _ _ = tt
 
-begin_counted : (st : Stack) (e : Class) (a : Span) → length (held_stack st) < 2 ^ 63 → IsModest e → CountedStack st → After (begin st e a) CountedState
+begin_counted : (st : Stack) (e : Class) (a : Span) → length (held_stack st) < 2 ^ 64 → IsModest e → CountedStack st → After (begin st e a) CountedState
 begin_counted st (ArrayOpen m) a l k h = (h, tt)
 begin_counted st (MapOpen m) a l k h = (h, tt)
 begin_counted st EmbedOpen a l k h = ((h, tt), tt)
@@ -89,7 +89,7 @@ begin_counted st MapClose a l k h = loose_counted st MapClose a l h
 begin_counted st (EmbedClose m) a l k h = loose_counted st (EmbedClose m) a l h
 begin_counted st _ a l k h = tt
 
-after_counted : (i : Item) (a : Span) (st : Stack) (e : Class) → length (held_stack st ++ tokens_of i) < 2 ^ 63 → CountedStack st → Counted i → After (after st i e a) CountedState
+after_counted : (i : Item) (a : Span) (st : Stack) (e : Class) → length (held_stack st ++ tokens_of i) < 2 ^ 64 → CountedStack st → Counted i → After (after st i e a) CountedState
 after_counted i a (in_row n b) Comma l h k = (h.0, (h.1, k))
 after_counted i a (in_row n b) e l h k =
     ends_counted n (tight (row b i)) e a h.0 (h.1, k)
@@ -117,13 +117,13 @@ after_counted i a (in_value st s m b k c) MapClose l h g =
 after_counted i a (in_tag st s n m) ParenClose l h k = (h, k)
 after_counted _ _ _ _ _ _ _ = tt
 
-string_counted : (g : Home) (ps : Pieces) (e : Class) (a : Span) → length (held_home g ++ tokens_of_pieces ps) < 2 ^ 63 → CountedHome g → CountedPieces ps → IsShort (joined ps) → After (after_string g ps e a) CountedState
+string_counted : (g : Home) (ps : Pieces) (e : Class) (a : Span) → length (held_home g ++ tokens_of_pieces ps) < 2 ^ 64 → CountedHome g → CountedPieces ps → IsShort (joined ps) → After (after_string g ps e a) CountedState
 string_counted (as_item st) ps e a l h k j = after_counted (string ps) a st e l h (j, k)
 string_counted (as_chunk st s b) ps Comma a l h k j = (h.0, (h.1, j, k))
 string_counted (as_chunk st s b) ps ParenClose a l h k j = (h.0, (h.1, j, k))
 string_counted _ _ _ _ _ _ _ _ = tt
 
-more_counted : (g : Home) (ps : Pieces) (e : Class) (a : Span) → length (held_home g ++ tokens_of_pieces ps) < 2 ^ 63 → IsModest e → CountedHome g → CountedPieces ps → IsShort (joined ps) → After (more_string g ps e a) CountedState
+more_counted : (g : Home) (ps : Pieces) (e : Class) (a : Span) → length (held_home g ++ tokens_of_pieces ps) < 2 ^ 64 → IsModest e → CountedHome g → CountedPieces ps → IsShort (joined ps) → After (more_string g ps e a) CountedState
 more_counted g ps (Text x m) a l modest h k j = (h, (k, modest))
 more_counted g ps (Bytes q x m) a l modest h k j = (h, (k, modest))
 more_counted g ps EmbedOpen a l modest h k j = ((h, k), tt)
@@ -143,7 +143,7 @@ number_ended : (st : Stack) (s b : Span) (n : _) (v : ℕ) (m : Mark) (e : Class
 number_ended st s b n v m ParenClose a h = (h, tt)
 number_ended _ _ _ _ _ _ _ _ _ = tt
 
-counted_step : (s : State) (e : Class) (a : Span) → length (held s) < 2 ^ 63 → IsModest e → CountedState s → ShortState s → After (step_by s e a) CountedState
+counted_step : (s : State) (e : Class) (a : Span) → length (held s) < 2 ^ 64 → IsModest e → CountedState s → ShortState s → After (step_by s e a) CountedState
 counted_step (wants st) e a l k h j = begin_counted st e a l k h
 counted_step (has st i) e a l k h j = after_counted i a st e l h.0 h.1
 counted_step (builds g ps) e a l k h j = more_counted g ps e a l k h.0 h.1 j
@@ -195,10 +195,10 @@ may_end (wants_chunk st s b) h l = tt
 may_end (wants_number st s) h l = tt
 may_end (has_number st s b n v m) h l = tt
 
-row_room : (n : Nest) (b : RowBefore) → length (held_nest n ++ tokens_of_row_before b) < 2 ^ 63 → suc (kept_row_before b).count < 2 ^ 64
+row_room : (n : Nest) (b : RowBefore) → length (held_nest n ++ tokens_of_row_before b) < 2 ^ 64 → suc (kept_row_before b).count < 2 ^ 64
 row_room n b l = omega (arith, (agree_row_before b).count_is, content_few (loose b), length-append (held_nest n) (tokens_of_row_before b))
 
-stack_room : (st : Stack) → length (held_stack st) < 2 ^ 63 → HaveRoom (frames_of st)
+stack_room : (st : Stack) → length (held_stack st) < 2 ^ 64 → HaveRoom (frames_of st)
 stack_room (in_row at_top b) l = row_room at_top b l
 stack_room (in_row (in_array st s m) b) l = row_room (in_array st s m) b l
 stack_room (in_row (in_embed h o s) b) l = row_room (in_embed h o s) b l
@@ -208,11 +208,11 @@ stack_room (in_value st s m b k c) l =
     omega (arith, (agree_fields (loose_fields b)).fields_count_is, fields_few (loose_fields b), length-append (held_stack st) (token s (MapOpen m) ∷ inner), length-append (tokens_of_pairs_before b) (tokens_of k ++ (token c Colon ∷ [])))
 stack_room (in_tag st s n m) l = tt
 
-home_room : (g : Home) → length (held_home g) < 2 ^ 63 → HaveRoom (frames_home g)
+home_room : (g : Home) → length (held_home g) < 2 ^ 64 → HaveRoom (frames_home g)
 home_room (as_item st) l = stack_room st l
 home_room (as_chunk st s b) l = tt
 
-have_room : (s : State) → length (held s) < 2 ^ 63 → HaveRoom (kept_state s).frames
+have_room : (s : State) → length (held s) < 2 ^ 64 → HaveRoom (kept_state s).frames
 have_room (wants st) l = stack_room st l
 have_room (has st i) l = stack_room st (omega (arith, length-append (held_stack st) (tokens_of i)))
 have_room (builds g ps) l = home_room g (omega (arith, length-append (held_home g) (tokens_of_pieces ps)))
@@ -244,7 +244,7 @@ module _ (limit : ℕ) (ts : List Token) (d : KeptState) (r : Reached limit ts d
   short_state : IsHeld d.phase → ShortState r.state
   short_state h = short_from r.state (subst (λ (x : KeptState). IsHeld x.phase) (sym r.same) h)
 
-  pub next_reached : (t : Token) (e : KeptState) → length ts < 2 ^ 63 → IsModest t.class → IsHeld d.phase → draft_step d t ≡ Some e → kept_reach d.frames t.class ≤ limit → Reached limit (ts ++ (t ∷ [])) e
+  pub next_reached : (t : Token) (e : KeptState) → length ts < 2 ^ 64 → IsModest t.class → IsHeld d.phase → draft_step d t ≡ Some e → kept_reach d.frames t.class ≤ limit → Reached limit (ts ++ (t ∷ [])) e
   next_reached t e few modest whole steps low = go (step r.state t) refl (grows r.state t.class (span t)) (counted_step r.state t.class (span t) (omega (arith, ap length r.took)) modest r.counted (short_state whole))
     where
       onto : (o : Option State) → step r.state t ≡ o → kept_option o ≡ Some e
@@ -258,7 +258,7 @@ module _ (limit : ℕ) (ts : List Token) (d : KeptState) (r : Reached limit ts d
           let moved : kept_reach d.frames t.class ≡ kept_reach (kept_state r.state).frames t.class = ap (λ (x : KeptState). kept_reach x.frames t.class) (sym r.same) in
           record { state = u; same = cc; took = g.held ∙ ap (λ l. l ++ (t ∷ [])) r.took; low = omega (arith, g.deep, r.low); counted = h }
 
-  pub ready : limit ≤ 1024 → length ts < 2 ^ 63 → IsReady d
+  pub ready : limit ≤ 1024 → length ts < 2 ^ 64 → IsReady d
   ready small few =
       let low = r.low in
       subst IsReady r.same (may_end r.state r.counted (omega arith), have_room r.state (omega (arith, ap length r.took)))

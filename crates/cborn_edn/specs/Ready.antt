@@ -1,7 +1,10 @@
 -- A device of the proofs: what a token asks of the state that it meets. No definition cites it.
-use Rattle.std.specs.Prelude.{suc, ◌^◌, ◌<◌, List, [], ◌∷◌, Option, Some, None}
+use Rattle.std.specs.Prelude.{◌≡◌, ℕ, suc, ◌^◌, ◌<◌, ◌≤◌, List, [], ◌∷◌, Option, Some, None}
 use Rattle.cborn_model.specs.Tree.{Tree, Trees}
 use Rattle.cborn_model.specs.Spelled.{IsSpelled}
+use Rattle.cborn_lex.specs.declared.classes.Profile.{Profile}
+use Rattle.cborn_lex.specs.declared.classes.Token.{Token}
+use Rattle.cborn_edn.specs.declared.faults.EdnReason.{EdnReason}
 use Rattle.cborn_edn.specs.declared.slips.Slip.{Slip}
 use Rattle.cborn_edn.specs.declared.frames.Frame.{Frame}
 use Rattle.cborn_edn.specs.declared.frames.Frame.TheVariants.{Top, Array, Embedded, Value}
@@ -9,7 +12,7 @@ use Rattle.cborn_edn.specs.declared.states.Phase.{Phase}
 use Rattle.cborn_edn.specs.declared.states.Phase.TheVariants.{Has, Builds}
 use Rattle.cborn_edn.specs.declared.states.State.{State}
 use Rattle.cborn_edn.specs.Meaning.{IsShort}
-use Rattle.cborn_edn.specs.Draft.{string_item}
+use Rattle.cborn_edn.specs.Draft.{string_item, draft_step, draft_run, reach, Stuck}
 
 -- an item that a sequence can keep, if there is one
 abbrev pub MaySpell : Option Tree → Type 0
@@ -47,3 +50,8 @@ abbrev pub IsTold : Option Trees × Option Slip → Type 0
 IsTold (None, None) = ⊥
 IsTold (None, Some s) = Unit {0}
 IsTold (Some ts, s) = Unit {0}
+
+-- what the token t makes of the state d: the state e within the limit, from which each run goes on, or the reason why each run ends there
+abbrev pub Steps : Profile → ℕ → State → Token → State → Option EdnReason → Type 0
+Steps p limit d t e None = (draft_step d t ≡ Some e) × (reach d.frames t.class ≤ limit) × ((more : List Token) → draft_run p limit (t ∷ more) d ≡ draft_run p limit more e)
+Steps p limit d t e (Some r) = (more : List Token) → draft_run p limit (t ∷ more) d ≡ Stuck t.start r

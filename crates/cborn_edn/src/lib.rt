@@ -20,7 +20,7 @@
 //! [`read_notation`] gives what a text notates, or why it notates nothing, and [`show`] gives the fixed notation. Start with
 //! `Notates` and follow the definitions that it names; [`laws`] has what is proved of them alone, above all that the fixed
 //! notation notates the nodes that it shows. In the code start with `readers` and `showing`: the reader takes one token at a
-//! time (`states`), and keeps in `frames` what is open.
+//! time from the text (`states`), keeps in `frames` what is open, and keeps no token.
 #![tactic(auto)]
 
 mod closings;

@@ -1,22 +1,22 @@
 //! Notation, read.
 
-ghost use Rattle.std.specs.Prelude.{◌≡◌, ℕ, List, Option, Some, None, IfOk, IfErr};
-ghost use Rattle.cborn_model.specs.Bytes.{AreBytes};
+ghost use Rattle.std.specs.Prelude.{◌≡◌, ◌≤◌, ◌⊎◌, ℕ, List, length, Option, Some, None, IfOk, IfErr};
 ghost use Rattle.cborn_model.specs.Tree.{Trees, trees};
-ghost use Rattle.cborn_lex.specs.Lex.{Lex};
+ghost use Rattle.cborn_lex.specs.Lex.{Lex, Between, IsStopFrom};
+ghost use Rattle.cborn_lex.specs.declared.faults.LexFault.{LexFault as LexStop};
 ghost use Rattle.cborn_edn.specs.Notates.{Notates, IsRefused};
 ghost use Rattle.cborn_edn.specs.declared.faults.EdnFault.TheVariants.{Refused};
 ghost use Rattle.cborn_edn.specs.declared.slips.Slip.{Slip as FoundSlip};
-ghost use Rattle.cborn_edn.specs.Draft.{IsFirstSlip, Done, draft_run, first_state, finished, is_one, IsStuck, lexical};
-ghost use Rattle.cborn_edn.specs.Ready.{IsReady, IsTold};
+ghost use Rattle.cborn_edn.specs.Draft.{IsFirstSlip, Done, draft_run, first_state, finished, is_one, lexical};
+ghost use Rattle.cborn_edn.specs.Ready.{IsReady, IsTold, Steps};
 
 use crate::lists::SpelledList;
 use crate::slips::Slip;
 use crate::states::{State, finished};
 use crate::{EdnFault, EdnReason};
-use cborn_lex::{LexFault, Profile, Token, tokens};
+use cborn_lex::{LexFault, Profile, Token, token_from};
 use cborn_model::{Limit, Spelled};
-use std::alloc::Global;
+use std::alloc::{AllocError, Global};
 
 /// The items of `text`, under that profile of the notation, none deeper than `limit`. The place of a node is the offset of its first token, in bytes from the start of the text; a chunk's is that of its first piece.
 ///
@@ -31,22 +31,14 @@ pub fn read_notation(
     ensures notates { IfOk result (λ items. Notates profile limit text.now (trees items.items)) }
     ensures refused { IfErr result (IsRefused profile limit text.now) }
 {
-    let tokens = match tokens(alloc, profile, text) {
-        Ok(tokens) => tokens,
-        Err(fault) => return Err(lexical(fault)),
-    };
-    let end = text.len() as u64;
-    let state = match parsed(alloc, limit, profile, tokens) {
-        Ok(state) => state,
-        Err(fault) => return Err(fault),
-    };
+    let state = parsed(alloc, limit, profile, text)?;
     let ended = match finished(alloc, state) {
         Ok(ended) => ended,
         Err(_) => return Err(EdnFault::OutOfMemory),
     };
     match ended {
         Some(whole) => told(whole),
-        None => Err(refused(end, EdnReason::UnexpectedEnd)),
+        None => Err(refused(text.len() as u64, EdnReason::UnexpectedEnd)),
     }
 }
 
@@ -81,43 +73,74 @@ fn refused(place: u64, reason: EdnReason) -> EdnFault
     EdnFault::Refused { place, reason }
 }
 
-// The state behind all tokens of some text.
-fn parsed(
-    alloc: Global,
-    limit: Limit,
-    profile: Profile,
-    tokens: Vec<Token>,
-) -> Result<State, EdnFault>
-    requires { (text : List ℕ) × AreBytes text × Lex profile text tokens.items }
+// The state behind all tokens of the text.
+fn parsed(alloc: Global, limit: Limit, profile: Profile, text: &str) -> Result<State, EdnFault>
     ensures ready { IfOk result IsReady }
     ensures told { IfOk result (λ state. (items : Option Trees) (slip : Option FoundSlip) → finished state ≡ Some (items, slip) → IsTold (items, slip)) }
-    ensures parsed { IfOk result (λ state. draft_run profile limit tokens.items first_state ≡ Done state) }
-    ensures refused { IfErr result (IsStuck (draft_run profile limit tokens.items first_state)) }
+    ensures parsed { IfOk result (λ state. (tokens : List Token) × Lex profile text.now tokens × (draft_run profile limit tokens first_state ≡ Done state)) }
+    ensures refused { IfErr result (IsRefused profile limit text.now) }
 {
     let mut state = match State::new(alloc) {
         Ok(state) => state,
         Err(_) => return Err(EdnFault::OutOfMemory),
     };
-    let most = limit.get();
-    for token in tokens {
+    let mut at = 0;
+    'tokens: loop {
         state.in_memory();
+        let token = match token_from(alloc, profile, text, at) {
+            Ok(Some(token)) => token,
+            Ok(None) => return Ok(state),
+            Err(fault) => return Err(lexical(fault)),
+        };
         let place = token.start;
-        let spare = is_one(profile) && state.is_behind_comma(&token.class);
-        let reach = state.reach(&token.class);
-        match state.step(alloc, token) {
-            Ok(true) => {}
-            Ok(false) => return Err(refused(place, EdnReason::UnexpectedToken)),
+        at = token.stop;
+        match step(alloc, limit, profile, &mut state, token) {
+            Ok(None) => {}
+            Ok(Some(reason)) => {
+                return Err(first_fault(alloc, profile, text, at, refused(place, reason)));
+            }
             Err(_) => return Err(EdnFault::OutOfMemory),
         }
-        if spare {
-            return Err(refused(place, EdnReason::UnexpectedToken));
-        }
-        if reach > most {
-            return Err(refused(place, EdnReason::TooDeep));
-        }
     }
-    state.in_memory();
-    Ok(state)
+}
+
+// Takes `token`. The reason, where no text of the grammar within the limit goes on with it; then the state is of no use.
+fn step(
+    alloc: Global,
+    limit: Limit,
+    profile: Profile,
+    state: &mut State,
+    token: Token,
+) -> Result<Option<EdnReason>, AllocError>
+    requires { IsReady state.old }
+    ensures { IfOk result (Steps profile limit state.old token state.new) }
+{
+    let spare = is_one(profile) && state.is_behind_comma(&token.class);
+    let reach = state.reach(&token.class);
+    if !state.step(alloc, token)? || spare {
+        return Ok(Some(EdnReason::UnexpectedToken));
+    }
+    if reach > limit.get() {
+        return Ok(Some(EdnReason::TooDeep));
+    }
+    Ok(None)
+}
+
+// A fault of the grammar, or the lexical fault that follows from `at` on, which comes first.
+fn first_fault(alloc: Global, profile: Profile, text: &str, at: u64, fault: EdnFault) -> EdnFault
+    requires { at ≤ length text.now }
+    ensures { ((tokens : List Token) × Between profile text.now at (length text.now) tokens × (result ≡ fault)) ⊎ ((stop : LexStop) × IsStopFrom profile text.now at stop × (result ≡ lexical stop)) }
+{
+    let mut at = at;
+    'tokens: loop {
+        let token = match token_from(alloc, profile, text, at) {
+            Ok(Some(token)) => token,
+            Ok(None) => return fault,
+            Err(stop) => return lexical(stop),
+        };
+        at = token.stop;
+        drop(token);
+    }
 }
 
 fn is_one(profile: Profile) -> bool

@@ -300,6 +300,39 @@ fn tells_fronts_of_each_profile(rt: HostRuntime) -> Result<(), Fail> {
     Ok(())
 }
 
+/// Texts with two faults, the limit, and the one that is told: that of a token before that of the grammar, and this before that of meaning.
+const TWO_FAULTS: [(&str, u64, &str); 11] = [
+    ("] 007", 128, "offset 2: bad number"),
+    ("1 2, \"a", 128, "offset 5: unclosed string"),
+    ("1 2, \"a\"", 128, "offset 2: unexpected token"),
+    ("[[1]] /x", 1, "offset 6: unclosed comment"),
+    ("[[1]] /x/", 1, "offset 1: too deep"),
+    ("[[1] 2", 1, "offset 1: too deep"),
+    ("256_0, 1.5", 128, "offset 7: float left out"),
+    ("256_0, ]", 128, "offset 7: unexpected token"),
+    ("256_0, ", 128, "offset 7: unexpected end"),
+    ("256_0, 7_7, ]", 128, "offset 7: bad indicator"),
+    ("[1, h'4'", 128, "offset 4: bad hex"),
+];
+
+#[test]
+fn tells_faults_in_order(rt: HostRuntime) -> Result<(), Fail> {
+    let alloc = rt.alloc();
+    for (text, most, want) in TWO_FAULTS {
+        let limit = Limit::new(most).unwrap_or(LIMIT);
+        for profile in [Profile::One, Profile::Two] {
+            let got = spelled(alloc, limit, profile, text)?;
+            assert!(rt; got.as_str() == want, "{text} is {got}");
+        }
+    }
+    let spare = spelled(alloc, LIMIT, Profile::One, "[1,] #")?;
+    assert!(rt;
+        spare.as_str() == "offset 5: unexpected character",
+        "{spare}"
+    );
+    Ok(())
+}
+
 /// A front so many times, a middle, and a back so many times; the limit; and the answer, or how it begins.
 const NESTS: [(&str, &str, &str, u64, u64, &str); 9] = [
     (

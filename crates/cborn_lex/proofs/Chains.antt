@@ -98,7 +98,7 @@ lower : (m n end : ℕ) (ts : List Token) → m ≤ n → SpansRise n ts end →
 lower m n end [] h k = omega arith
 lower m n end (t ∷ ts) h k = let i = k.0 in (omega arith, k.1, k.2)
 
-some_long : (profile : Profile) (s z : List ℕ) (a : Front) → Reads profile s z a → 0 < length s
+pub some_long : (profile : Profile) (s z : List ℕ) (a : Front) → Reads profile s z a → 0 < length s
 some_long profile [] z a h = absurd h
 some_long profile (c ∷ s) z a h = omega arith
 

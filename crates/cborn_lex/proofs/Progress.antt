@@ -5,12 +5,14 @@ use Rattle.std.proofs.Common.{length-drop, true}
 use Rattle.std.proofs.lemmas.Bool.{cond-true}
 use Rattle.cborn_lex.specs.declared.classes.Profile.{Profile}
 use Rattle.cborn_lex.specs.declared.faults.LexReason.{LexReason}
+use Rattle.cborn_lex.specs.declared.faults.LexFault.{LexFault}
+use Rattle.cborn_lex.specs.declared.faults.LexFault.TheVariants.{Refused, OutOfMemory}
 use Rattle.cborn_lex.specs.declared.classes.Class.{Class}
 use Rattle.cborn_lex.specs.declared.classes.Token.{Token}
 use Rattle.cborn_lex.specs.Tokens.{Front, Blank, Read, Bad, is_white}
 use Rattle.cborn_lex.specs.Forms.{Start, white, start_of, ReadsFrom, Reads}
-use Rattle.cborn_lex.specs.Lex.{Piece, gap, token, slice, front_of, spelled, AreRead, tokens, Lex, Stop}
-use Rattle.cborn_lex.proofs.Chains.{bad_ends}
+use Rattle.cborn_lex.specs.Lex.{Piece, gap, token, slice, front_of, spelled, AreRead, tokens, Lex, Stop, Between, IsStopAt, IsStopFrom}
+use Rattle.cborn_lex.proofs.Chains.{bad_ends, some_long}
 
 pub first_reads : (profile : Profile) (text tail : List ℕ) (n : ℕ) (a : Front) → 0 < length text → tail ≡ drop 1 text → n ≤ length tail → ReadsFrom (start_of (get_or text 0 0)) profile (get_or text 0 0) (take n tail) (drop n tail) a
     → (0 < n + 1) × (n + 1 ≤ length text) × Reads profile (take (n + 1) text) (drop (n + 1) text) a
@@ -19,83 +21,154 @@ first_reads profile (c ∷ x) tail n a some e h k =
     let same : tail ≡ x = e in
     (omega arith, omega (arith, ap length same), rw add-one (subst (λ (y : List ℕ). ReadsFrom (start_of c) profile c (take n y) (drop n y) a) same k))
 
-pub record Progress (profile : Profile) (text : List ℕ) (at : ℕ) (ts : List Token) : Type 0 where
-  pub pieces : List Piece
-  pub read : AreRead profile pieces (drop at text)
-  pub whole : text ≡ spelled pieces ++ drop at text
-  pub place : at ≡ length (spelled pieces)
-  pub placed : ts ≡ tokens 0 pieces
+-- Pieces one after another.
 
-pub start : (profile : Profile) (text : List ℕ) → Progress profile text 0 []
-start profile text = record { pieces = []; read = tt; whole = refl; place = refl; placed = refl }
+spelled_more : (ps qs : List Piece) (z : List ℕ) → spelled (ps ++ qs) ++ z ≡ spelled ps ++ (spelled qs ++ z)
+spelled_more [] qs z = refl
+spelled_more (p ∷ ps) qs z = append_assoc (slice p) (spelled (ps ++ qs)) z ∙ (ap (λ x. slice p ++ x) (spelled_more ps qs z) ∙ sym (append_assoc (slice p) (spelled ps) (spelled qs ++ z)))
 
-spelled_last : (ps : List Piece) (p : Piece) (z : List ℕ) → spelled (ps ++ p ∷ []) ++ z ≡ spelled ps ++ (slice p ++ z)
-spelled_last [] p z = ap (λ x. x ++ z) (append-nil (slice p))
-spelled_last (q ∷ ps) p z = append_assoc (slice q) (spelled (ps ++ p ∷ [])) z ∙ (ap (λ x. slice q ++ x) (spelled_last ps p z) ∙ sym (append_assoc (slice q) (spelled ps) (slice p ++ z)))
+read_more : (profile : Profile) (ps qs : List Piece) (z : List ℕ) → AreRead profile ps (spelled qs ++ z) → AreRead profile qs z → AreRead profile (ps ++ qs) z
+read_more profile [] qs z h k = k
+read_more profile (p ∷ ps) qs z h k = (subst (λ (x : List ℕ). Reads profile (slice p) x (front_of p)) (sym (spelled_more ps qs z)) h.0, read_more profile ps qs z h.1 k)
 
-read_last : (profile : Profile) (ps : List Piece) (p : Piece) (z : List ℕ) → AreRead profile ps (slice p ++ z) → Reads profile (slice p) z (front_of p) → AreRead profile (ps ++ p ∷ []) z
-read_last profile [] p z h k = (k, tt)
-read_last profile (q ∷ ps) p z h k = (subst (λ (x : List ℕ). Reads profile (slice q) x (front_of q)) (sym (spelled_last ps p z)) h.0, read_last profile ps p z h.1 k)
+tokens_more : (n : ℕ) (ps qs : List Piece) → tokens n (ps ++ qs) ≡ tokens n ps ++ tokens (n + length (spelled ps)) qs
+tokens_more n [] qs = ap (λ m. tokens m qs) (omega arith)
+tokens_more n (gap s ∷ ps) qs = tokens_more (n + length s) ps qs ∙ ap (λ m. tokens (n + length s) ps ++ tokens m qs) (omega (arith, length-append s (spelled ps)))
+tokens_more n (token k s ∷ ps) qs = ap (λ ts. record { start = n; stop = n + length s; class = k } ∷ ts) (tokens_more (n + length s) ps qs ∙ ap (λ m. tokens (n + length s) ps ++ tokens m qs) (omega (arith, length-append s (spelled ps))))
 
-tokens_last : (n : ℕ) (ps : List Piece) (p : Piece) → tokens n (ps ++ p ∷ []) ≡ tokens n ps ++ tokens (n + length (spelled ps)) (p ∷ [])
-tokens_last n [] p = ap (λ m. tokens m (p ∷ [])) (omega arith)
-tokens_last n (gap s ∷ ps) p = tokens_last (n + length s) ps p ∙ ap (λ m. tokens (n + length s) ps ++ tokens m (p ∷ [])) (omega (arith, length-append s (spelled ps)))
-tokens_last n (token k s ∷ ps) p = ap (λ ts. record { start = n; stop = n + length s; class = k } ∷ ts) (tokens_last (n + length s) ps p ∙ ap (λ m. tokens (n + length s) ps ++ tokens m (p ∷ [])) (omega (arith, length-append s (spelled ps))))
+size_more : (ps qs : List Piece) → length (spelled (ps ++ qs)) ≡ length (spelled ps) + length (spelled qs)
+size_more ps qs =
+    let l = ap length (spelled_more ps qs []) in
+    omega (arith, l, length-append (spelled (ps ++ qs)) [], length-append (spelled ps) (spelled qs ++ []), length-append (spelled qs) [])
 
--- one more piece p, the next n bytes
-next : (profile : Profile) (text : List ℕ) (at n : ℕ) (ts us : List Token) (p : Piece) → Progress profile text at ts → slice p ≡ take n (drop at text) → n ≤ length (drop at text) → Reads profile (slice p) (drop n (drop at text)) (front_of p) → us ≡ ts ++ tokens at (p ∷ []) → Progress profile text (at + n) us
-next profile text at n ts us p h e k r placed =
+-- LAW: nothing stands between a place and itself
+pub nothing : (profile : Profile) (text : List ℕ) (n : ℕ) → Between profile text n n []
+nothing profile text n = record { pieces = []; read = tt; whole = refl; place = omega arith; placed = refl }
+
+-- LAW: what stands between three places
+pub joins : (profile : Profile) (text : List ℕ) (l m n : ℕ) (ts us : List Token) → Between profile text l m ts → Between profile text m n us → Between profile text l n (ts ++ us)
+joins profile text l m n ts us h k =
+    let place = h.place in
+    let far = k.place in
+    let size = size_more h.pieces k.pieces in
+    record {
+      pieces = h.pieces ++ k.pieces;
+      read = read_more profile h.pieces k.pieces (drop n text) (subst (AreRead profile h.pieces) k.whole h.read) k.read;
+      whole = h.whole ∙ (ap (λ x. spelled h.pieces ++ x) k.whole ∙ sym (spelled_more h.pieces k.pieces (drop n text)));
+      place = omega arith;
+      placed = ap (λ x. x ++ us) h.placed ∙ (ap (λ x. tokens l h.pieces ++ x) (k.placed ∙ ap (λ i. tokens i k.pieces) place) ∙ sym (tokens_more l h.pieces k.pieces));
+    }
+
+pub inside : (profile : Profile) (text : List ℕ) (n m : ℕ) (ts : List Token) → n ≤ length text → Between profile text n m ts → (n ≤ m) × (m ≤ length text)
+inside profile text n m ts h k =
+    let place = k.place in
+    (omega arith, omega (arith, ap length k.whole, length-append (spelled k.pieces) (drop m text), length-drop n text, length-drop m text))
+
+-- one piece p, the next n bytes
+one : (profile : Profile) (text : List ℕ) (at n : ℕ) (p : Piece) → slice p ≡ take n (drop at text) → n ≤ length (drop at text) → Reads profile (slice p) (drop n (drop at text)) (front_of p) → Between profile text at (at + n) (tokens at (p ∷ []))
+one profile text at n p e k r =
     let z = drop (at + n) text in
     let behind : drop n (drop at text) ≡ z = drop-drop n at text in
     let split : drop at text ≡ slice p ++ z = sym (take-append-drop n (drop at text)) ∙ rw (e, behind) refl in
     let size : length (slice p) ≡ n = ap length e ∙ length-take-le n (drop at text) k in
     record {
-      pieces = h.pieces ++ p ∷ [];
-      read = read_last profile h.pieces p z (subst (λ (x : List ℕ). AreRead profile h.pieces x) split h.read) (subst (λ (x : List ℕ). Reads profile (slice p) x (front_of p)) behind r);
-      whole = h.whole ∙ (ap (λ x. spelled h.pieces ++ x) split ∙ sym (spelled_last h.pieces p z));
-      place = let l = ap length (spelled_last h.pieces p []) in let m : length (spelled (h.pieces ++ p ∷ [])) ≡ length (spelled h.pieces) + length (slice p) = omega (arith, l, length-append (spelled (h.pieces ++ p ∷ [])) [], length-append (spelled h.pieces) (slice p ++ []), length-append (slice p) []) in let o = h.place in omega arith;
-      placed = placed ∙ (ap (λ x. x ++ tokens at (p ∷ [])) h.placed ∙ (ap (λ m. tokens 0 h.pieces ++ tokens m (p ∷ [])) (let o = h.place in omega arith) ∙ sym (tokens_last 0 h.pieces p)));
+      pieces = p ∷ [];
+      read = (subst (λ (x : List ℕ). Reads profile (slice p) x (front_of p)) behind r, tt);
+      whole = split ∙ ap (λ x. x ++ z) (sym (append-nil (slice p)));
+      place = omega (arith, length-append (slice p) []);
+      placed = refl;
     }
 
-pub after_blank : (profile : Profile) (text : List ℕ) (at n : ℕ) (ts : List Token) → Progress profile text at ts → n ≤ length (drop at text) → Reads profile (take n (drop at text)) (drop n (drop at text)) Blank → Progress profile text (at + n) ts
-after_blank profile text at n ts h k r = next profile text at n ts ts (gap (take n (drop at text))) h refl k r (sym (append-nil ts))
+pub after_blank : (profile : Profile) (text : List ℕ) (from at n : ℕ) → Between profile text from at [] → n ≤ length (drop at text) → Reads profile (take n (drop at text)) (drop n (drop at text)) Blank → Between profile text from (at + n) []
+after_blank profile text from at n h k r = joins profile text from at (at + n) [] [] h (one profile text at n (gap (take n (drop at text))) refl k r)
 
 white_reads : (profile : Profile) (x : List ℕ) → 0 < length x → is_white (get_or x 0 0) ≡ true → Reads profile (take 1 x) (drop 1 x) Blank
 white_reads profile [] h k = absurd (omega arith)
 white_reads profile (c ∷ x) h k = subst (λ (s : Start). ReadsFrom s profile c [] x Blank) (sym (cond-true (is_white c) white _ k)) (refl, refl)
 
-pub after_white : (profile : Profile) (text : List ℕ) (at : ℕ) (ts : List Token) → Progress profile text at ts → at < length text → is_white (get_or text at 0) ≡ true → Progress profile text (at + 1) ts
-after_white profile text at ts h k e =
+pub after_white : (profile : Profile) (text : List ℕ) (from at : ℕ) → Between profile text from at [] → at < length text → is_white (get_or text at 0) ≡ true → Between profile text from (at + 1) []
+after_white profile text from at h k e =
     let size : 0 < length (drop at text) = omega (arith, length-drop at text) in
     let zero : at + 0 ≡ at = omega arith in
     let here : get_or (drop at text) 0 0 ≡ get_or text at 0 = get_or-drop at text 0 0 ∙ ap (λ n. get_or text n 0) zero in
-    after_blank profile text at 1 ts h size (white_reads profile (drop at text) size (ap is_white here ∙ e))
+    after_blank profile text from at 1 h size (white_reads profile (drop at text) size (ap is_white here ∙ e))
 
-pub after_token : (profile : Profile) (text : List ℕ) (at n : ℕ) (ts : List Token) (class : Class) → Progress profile text at ts → n ≤ length (drop at text) → Reads profile (take n (drop at text)) (drop n (drop at text)) (Read class)
-    → Progress profile text (at + n) (ts ++ record { start = at; stop = at + n; class = class } ∷ [])
-after_token profile text at n ts class h k r =
-    next profile text at n ts _ (token class (take n (drop at text))) h refl k r (ap (λ m. ts ++ record { start = at; stop = at + m; class = class } ∷ []) (sym (length-take-le n (drop at text) k)))
+pub then_token : (profile : Profile) (text : List ℕ) (from at n : ℕ) (class : Class) → Between profile text from at [] → n ≤ length (drop at text) → Reads profile (take n (drop at text)) (drop n (drop at text)) (Read class)
+    → Between profile text from (at + n) (record { start = at; stop = at + n; class = class } ∷ [])
+then_token profile text from at n class h k r =
+    let piece = token class (take n (drop at text)) in
+    let placed : tokens at (piece ∷ []) ≡ record { start = at; stop = at + n; class = class } ∷ [] = ap (λ m. record { start = at; stop = at + m; class = class } ∷ []) (length-take-le n (drop at text) k) in
+    joins profile text from at (at + n) [] _ h (subst (Between profile text at (at + n)) placed (one profile text at n piece refl k r))
 
-pub finished : (profile : Profile) (text : List ℕ) (at : ℕ) (ts : List Token) → Progress profile text at ts → length text ≤ at → Lex profile text ts
-finished profile text at ts h k =
-    let e = drop_all at text k in
-    record { pieces = h.pieces; read = subst (λ (x : List ℕ). AreRead profile h.pieces x) e h.read; whole = h.whole ∙ (ap (λ x. spelled h.pieces ++ x) e ∙ append-nil (spelled h.pieces)); placed = h.placed }
+pub then_end : (profile : Profile) (text : List ℕ) (from at : ℕ) → from ≤ length text → Between profile text from at [] → length text ≤ at → Between profile text from (length text) []
+then_end profile text from at small h k =
+    let l = inside profile text from at [] small h in
+    let same : at ≡ length text = omega (arith, l.1) in
+    subst (λ (n : ℕ). Between profile text from n []) same h
 
-pub stopped : (profile : Profile) (text : List ℕ) (at n : ℕ) (ts : List Token) (reason : LexReason) → Progress profile text at ts → Reads profile (take n (drop at text)) (drop n (drop at text)) (Bad reason) → Stop profile text at reason
-stopped profile text at n ts reason h r =
-    let e = sym (take-append-drop n (drop at text)) in
-    record {
-      pieces = h.pieces;
-      front = take n (drop at text);
-      rest = drop n (drop at text);
-      read = subst (λ (x : List ℕ). AreRead profile h.pieces x) e h.read;
-      no_piece = bad_ends profile (take n (drop at text)) (drop n (drop at text)) reason r;
-      bad = r;
-      whole = h.whole ∙ ap (λ x. spelled h.pieces ++ x) e;
-      place = h.place;
-    }
+pub then_stop : (profile : Profile) (text : List ℕ) (from at n : ℕ) (reason : LexReason) → Between profile text from at [] → Reads profile (take n (drop at text)) (drop n (drop at text)) (Bad reason) → IsStopFrom profile text from (Refused at reason)
+then_stop profile text from at n reason h r =
+    let e = sym (take-append-drop n (drop at text)) in (
+      length (spelled h.pieces),
+      h.place,
+      record {
+        pieces = h.pieces;
+        front = take n (drop at text);
+        rest = drop n (drop at text);
+        read = subst (λ (x : List ℕ). AreRead profile h.pieces x) e h.read;
+        no_piece = bad_ends profile (take n (drop at text)) (drop n (drop at text)) reason r;
+        bad = r;
+        whole = h.whole ∙ ap (λ x. spelled h.pieces ++ x) e;
+        place = refl;
+      },
+    )
 
 -- the same of a slice and a front that equal these
 pub reads_at : (profile : Profile) (x y : List ℕ) (n : ℕ) (a b : Front) → x ≡ y → a ≡ b → n ≤ length x → Reads profile (take n x) (drop n x) a → (n ≤ length y) × Reads profile (take n y) (drop n y) b
 reads_at profile x y n a b e f h k =
     (subst (λ (z : List ℕ). n ≤ length z) e h, subst (λ (c : Front). Reads profile (take n y) (drop n y) c) f (subst (λ (z : List ℕ). Reads profile (take n z) (drop n z) a) e k))
+
+-- Whole texts.
+
+-- LAW: all that stands in a text
+pub whole_text : (profile : Profile) (text : List ℕ) (ts : List Token) → Between profile text 0 (length text) ts → Lex profile text ts
+whole_text profile text ts h =
+    let e = drop_all (length text) text (omega arith) in
+    record { pieces = h.pieces; read = subst (λ (x : List ℕ). AreRead profile h.pieces x) e h.read; whole = h.whole ∙ (ap (λ x. spelled h.pieces ++ x) e ∙ append-nil (spelled h.pieces)); placed = h.placed }
+
+-- LAW: where the rest stops, all stops
+pub stops : (profile : Profile) (text : List ℕ) (m n : ℕ) (ts : List Token) (e : LexFault) → Between profile text m n ts → IsStopFrom profile text n e → IsStopFrom profile text m e
+stops profile text m n ts OutOfMemory h k = tt
+stops profile text m n ts (Refused p r) h (q, e, k) =
+    let z = k.front ++ k.rest in
+    let split = k.whole in
+    let near = h.place in
+    let far = k.place in
+    let size = size_more h.pieces k.pieces in (
+      length (spelled h.pieces) + q,
+      omega arith,
+      record {
+        pieces = h.pieces ++ k.pieces;
+        front = k.front;
+        rest = k.rest;
+        read = read_more profile h.pieces k.pieces z (subst (AreRead profile h.pieces) split h.read) k.read;
+        no_piece = k.no_piece;
+        bad = k.bad;
+        whole = h.whole ∙ (ap (λ x. spelled h.pieces ++ x) split ∙ sym (spelled_more h.pieces k.pieces z));
+        place = omega arith;
+      },
+    )
+
+-- LAW: the stop of a whole text
+pub whole_stop : (profile : Profile) (text : List ℕ) (e : LexFault) → IsStopFrom profile text 0 e → IsStopAt profile text e
+whole_stop profile text OutOfMemory h = tt
+whole_stop profile text (Refused p r) (q, e, h) = let same : q ≡ p = omega arith in subst (λ (n : ℕ). Stop profile text n r) same h
+
+-- a token takes some bytes
+long : (profile : Profile) (ps : List Piece) (n : ℕ) (z : List ℕ) → AreRead profile ps z → length (tokens n ps) ≤ length (spelled ps)
+long profile [] n z h = omega arith
+long profile (gap s ∷ ps) n z h = let l = long profile ps (n + length s) z h.1 in omega (arith, length-append s (spelled ps))
+long profile (token k s ∷ ps) n z h = let l = long profile ps (n + length s) z h.1 in omega (arith, length-append s (spelled ps), some_long profile s (spelled ps ++ z) (Read k) h.0)
+
+pub few : (profile : Profile) (text : List ℕ) (n m : ℕ) (ts : List Token) → Between profile text n m ts → n + length ts ≤ m
+few profile text n m ts h = let place = h.place in omega (arith, ap length h.placed, long profile h.pieces n (drop m text) h.read)

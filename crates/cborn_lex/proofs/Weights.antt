@@ -1,6 +1,6 @@
 -- What a token weighs: one, and the bytes of its content. The tokens of a text weigh no more than four times its length.
-use Rattle.std.proofs.Common.{◌≡◌, refl, sym, ap, ◌∙◌, subst, ℕ, suc, ◌+◌, ◌-◌, ◌*◌, ◌%◌, ◌^◌, ◌<◌, ◌≤◌, List, [], ◌∷◌, ◌++◌, length, map, replicate, Bool, true, false, ◌&&◌, not, cond, ltb, eqb, inl, inr, Option, Some, None, Result, Ok, Err, arith}
-use Rattle.std.proofs.lemmas.List.{length-append, length-map, length-replicate}
+use Rattle.std.proofs.Common.{◌≡◌, refl, sym, ap, ◌∙◌, subst, ℕ, suc, ◌+◌, ◌-◌, ◌*◌, ◌%◌, ◌^◌, ◌<◌, ◌≤◌, List, [], ◌∷◌, ◌++◌, length, take, drop, map, replicate, Bool, true, false, ◌&&◌, not, cond, ltb, eqb, inl, inr, Option, Some, None, Result, Ok, Err, arith}
+use Rattle.std.proofs.lemmas.List.{length-append, length-map, length-replicate, take-append-drop}
 use Rattle.std.proofs.lemmas.Bool.{cond_both, and_parts, and_from, lt-ltb, ltb-true}
 use Rattle.std.proofs.lemmas.List.Folds.{list_all-append}
 use Rattle.std.specs.List.{list_all, list_any, flat_map, filter}
@@ -24,7 +24,7 @@ use Rattle.cborn_lex.specs.Tokens.{Front, Blank, Read, Bad, mark_of, marked, is_
 use Rattle.cborn_lex.specs.Numbers.{integer, within, signed, number_front, word_front}
 use Rattle.cborn_lex.specs.Strings.{Letter, raw, escaped, unit, pair, written, meant, is_letter, escape_code, are_hex, code, is_high, is_low, IsText, Mote, digit as digit_mote, space, comment, mote, digits, IsHex, to_standard, filled, IsBase64, is_content, is_unclosed}
 use Rattle.cborn_lex.specs.Forms.{IsString, Prefix, hexadecimal, base64, unknown, prefix_of, IsPrefixed, IsAfterWord, ReadsNumber, Quote, double, simple, Start, white, slash, hash, less, greater, paren, letter, minus, digit, other, single, opening, quote, start_of, paren_front, ReadsFrom, Reads}
-use Rattle.cborn_lex.specs.Lex.{Piece, gap, token, spelled, AreRead, tokens, Lex}
+use Rattle.cborn_lex.specs.Lex.{Piece, gap, token, spelled, AreRead, tokens, Lex, Between}
 use Rattle.cborn_lex.proofs.Decoded.{is_byte, are_bytes}
 use Rattle.cborn_lex.proofs.Base64s.{bytes_from}
 
@@ -342,3 +342,10 @@ text_light profile text ts h lex =
     let whole = lex.whole in
     let r = tokens_light profile lex.pieces 0 [] (ap are_bytes (sym whole) ∙ as_test text h) lex.read in
     rw lex.placed (r.0, omega (arith, r.1, ap length whole))
+
+-- LAW: tokens that stand between two places of a text are modest, also where the rest of it has none
+pub between_modest : (profile : Profile) (text : List ℕ) (n m : ℕ) (ts : List Token) → AreBytes text → Between profile text n m ts → AreModest ts
+between_modest profile text n m ts h b =
+    let behind : are_bytes (drop n text) ≡ true = (split (take n text) (drop n text) (ap are_bytes (take-append-drop n text) ∙ as_test text h)).1 in
+    let here = (split (spelled b.pieces) (drop m text) (ap are_bytes (sym b.whole) ∙ behind)).0 in
+    rw b.placed (tokens_light profile b.pieces n (drop m text) here b.read).0

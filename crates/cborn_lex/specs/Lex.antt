@@ -1,5 +1,5 @@
 -- The tokens of a text, and where it stops being tokens.
-use Rattle.std.specs.Prelude.{◌≡◌, ℕ, ◌+◌, ◌<◌, ◌≤◌, List, [], ◌∷◌, ◌++◌, length}
+use Rattle.std.specs.Prelude.{◌≡◌, ℕ, ◌+◌, ◌<◌, ◌≤◌, List, [], ◌∷◌, ◌++◌, length, drop, Option, Some, None}
 use Rattle.cborn_lex.specs.declared.classes.Profile.{Profile}
 use Rattle.cborn_lex.specs.declared.classes.Class.{Class}
 use Rattle.cborn_lex.specs.declared.classes.Token.{Token}
@@ -68,3 +68,21 @@ SpansRise n (t ∷ ts) end = (n ≤ t.start) × (t.start < t.stop) × SpansRise 
 abbrev pub IsStopAt : Profile → List ℕ → LexFault → Type 0
 IsStopAt profile text (Refused n r) = Stop profile text n r
 IsStopAt profile text OutOfMemory = Unit {0}
+
+-- from n up to m the text is white space, comments and the tokens ts, as it goes on behind m
+pub record Between (profile : Profile) (text : List ℕ) (n m : ℕ) (ts : List Token) : Type 0 where
+  pub pieces : List Piece
+  pub read : AreRead profile pieces (drop m text)
+  pub whole : drop n text ≡ spelled pieces ++ drop m text
+  pub place : m ≡ n + length (spelled pieces)
+  pub placed : ts ≡ tokens n pieces
+
+-- the first token from n on, or none up to the end
+abbrev pub IsNext : Profile → List ℕ → ℕ → Option Token → Type 0
+IsNext profile text n (Some t) = Between profile text n t.stop (t ∷ [])
+IsNext profile text n None = Between profile text n (length text) []
+
+-- what a refusal tells of the text from n on
+abbrev pub IsStopFrom : Profile → List ℕ → ℕ → LexFault → Type 0
+IsStopFrom profile text n (Refused p r) = (q : ℕ) × (p ≡ n + q) × Stop profile (drop n text) q r
+IsStopFrom profile text n OutOfMemory = Unit {0}

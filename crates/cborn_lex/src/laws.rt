@@ -1,9 +1,10 @@
 //! What holds of every text.
 
-ghost use Rattle.std.specs.Prelude.{◌≡◌, ℕ, ◌<◌, List, ◌⊎◌, length, drop};
+ghost use Rattle.std.specs.Prelude.{◌≡◌, ℕ, ◌<◌, List, [], ◌++◌, ◌⊎◌, length, drop};
 ghost use Rattle.hex.specs.Hex.{IsBytes};
 ghost use Rattle.cborn_lex.specs.declared.classes.Token.{Token};
-ghost use Rattle.cborn_lex.specs.Lex.{Lex, Stop, HasNoPiece, SpansRise};
+ghost use Rattle.cborn_lex.specs.declared.faults.LexFault.{LexFault};
+ghost use Rattle.cborn_lex.specs.Lex.{Lex, Stop, HasNoPiece, SpansRise, Between, IsStopAt, IsStopFrom};
 
 use crate::classes::Profile;
 use crate::faults::LexReason;
@@ -30,4 +31,13 @@ pub fn no_token_at_stop()
 /// A text of profile 1 has the same tokens, at the same places, in profile 2.
 pub fn both_profiles()
     ensures { (text : List ℕ) (ts : List Token) → Lex Profile.One text ts → Lex Profile.Two text ts }
+{}
+
+/// What is read token by token, from 0 up to the end or to a stop, is what the text holds.
+pub fn token_by_token()
+    ensures begins { (profile : Profile) (text : List ℕ) (n : ℕ) → Between profile text n n [] }
+    ensures joins { (profile : Profile) (text : List ℕ) (l m n : ℕ) (ts us : List Token) → Between profile text l m ts → Between profile text m n us → Between profile text l n (ts ++ us) }
+    ensures whole { (profile : Profile) (text : List ℕ) (ts : List Token) → Between profile text 0 (length text) ts → Lex profile text ts }
+    ensures whole_stop { (profile : Profile) (text : List ℕ) (e : LexFault) → IsStopFrom profile text 0 e → IsStopAt profile text e }
+    ensures stops { (profile : Profile) (text : List ℕ) (m n : ℕ) (ts : List Token) (e : LexFault) → Between profile text m n ts → IsStopFrom profile text n e → IsStopFrom profile text m e }
 {}

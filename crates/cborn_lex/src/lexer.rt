@@ -1,7 +1,7 @@
 //! The tokens of a text.
 
-ghost use Rattle.std.specs.Prelude.{IfOk, IfErr};
-ghost use Rattle.cborn_lex.specs.Lex.{Lex, IsStopAt};
+ghost use Rattle.std.specs.Prelude.{◌≤◌, length, IfOk, IfErr};
+ghost use Rattle.cborn_lex.specs.Lex.{Lex, IsStopAt, IsNext, IsStopFrom};
 
 use crate::classes::{Profile, Token};
 use crate::faults::LexFault;
@@ -15,30 +15,48 @@ pub fn tokens(alloc: Global, profile: Profile, text: &str) -> Result<Vec<Token>,
     ensures ok { IfOk result (λ v. Lex profile text.now v.items) }
     ensures refused { IfErr result (λ e. IsStopAt profile text.now e) }
 {
-    let bytes = text.as_bytes();
     let mut found = Vec::new(alloc);
-    let mut at: usize = 0;
-    while at < bytes.len() {
-        if is_white(bytes[at]) {
-            at += 1;
+    let mut at = 0;
+    'tokens: while let Some(token) = token_from(alloc, profile, text, at)? {
+        at = token.stop;
+        found.push(token)?;
+    }
+    Ok(found)
+}
+
+/// The first token of `text` at or behind the offset `at`, in bytes, and `None` where only white space and comments are left. Who begins at 0 and goes on at each token's `stop` gets the tokens that [`tokens`] gives, one by one, and no list of them is kept.
+/// Where the text from `at` on begins with no token, the place, from the start of the text, and the reason of what is bad. `OutOfMemory` if memory was refused.
+pub fn token_from(
+    alloc: Global,
+    profile: Profile,
+    text: &str,
+    at: u64,
+) -> Result<Option<Token>, LexFault>
+    requires { at ≤ length text.now }
+    ensures ok { IfOk result (λ o. IsNext profile text.now at o) }
+    ensures refused { IfErr result (λ e. IsStopFrom profile text.now at e) }
+{
+    let bytes = text.as_bytes();
+    let mut place = at as usize;
+    while place < bytes.len() {
+        if is_white(bytes[place]) {
+            place += 1;
         } else {
-            let (front, n) = first_of(alloc, profile, rest_of(bytes, at))?;
+            let (front, n) = first_of(alloc, profile, rest_of(bytes, place))?;
             match front {
                 Front::Blank => {}
-                Front::Read(class) => {
-                    found.push(Token {
-                        start: at as u64,
-                        stop: (at + n) as u64,
-                        class,
-                    })?;
-                }
+                Front::Read(class) => return Ok(Some(Token {
+                    start: place as u64,
+                    stop: (place + n) as u64,
+                    class,
+                })),
                 Front::Bad(reason) => return Err(LexFault::Refused {
-                    place: at as u64,
+                    place: place as u64,
                     reason,
                 }),
             }
-            at += n;
+            place += n;
         }
     }
-    Ok(found)
+    Ok(None)
 }

@@ -14,7 +14,7 @@
 //!  └ ArrayOpen, with the indicator Endless
 //! ```
 //!
-//! `specs/Forms.antt` has the forms, and `specs/Lex.antt` says what the tokens of a text are and where a text stops being tokens. [`tokens`] gives exactly these, and [`laws`] says that each text has one or the other.
+//! `specs/Forms.antt` has the forms, and `specs/Lex.antt` says what the tokens of a text are and where a text stops being tokens. [`tokens`] gives exactly these, and [`token_from`] the same one by one, for who needs no list of them. [`laws`] says that each text has tokens or a stop, and that what is read one by one is what the text holds.
 #![tactic(auto)]
 
 mod classes;
@@ -32,4 +32,4 @@ mod tests;
 
 pub use classes::{Class, Mark, Profile, Token};
 pub use faults::{LexFault, LexReason};
-pub use lexer::tokens;
+pub use lexer::{token_from, tokens};

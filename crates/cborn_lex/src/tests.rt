@@ -1,6 +1,6 @@
 //! Texts with their tokens or faults, of the standards and of this project's rules.
 
-use crate::{Class, LexFault, LexReason, Mark, Profile, Token, tokens};
+use crate::{Class, LexFault, LexReason, Mark, Profile, Token, token_from, tokens};
 use cborn_model::Width;
 use std::alloc::{AllocError, Global};
 use std::test::Fail;
@@ -65,20 +65,44 @@ fn class_shown(alloc: Global, class: &Class) -> Result<String, AllocError> {
     }
 }
 
+fn token_shown(alloc: Global, token: &Token) -> Result<String, AllocError> {
+    let class = class_shown(alloc, &token.class)?;
+    format!(in alloc; "{}-{} {class}; ", token.start, token.stop)
+}
+
 /// The tokens with their places, or the words of the fault.
 fn shown(alloc: Global, profile: Profile, text: &str) -> Result<String, AllocError> {
     match tokens(alloc, profile, text) {
         Ok(found) => {
             let mut all = String::new(alloc);
             for token in &found {
-                let class = class_shown(alloc, &token.class)?;
-                let one = format!(in alloc; "{}-{} {class}; ", token.start, token.stop)?;
-                all.push_str(one.as_str())?;
+                all.push_str(&token_shown(alloc, token)?)?;
             }
             Ok(all)
         }
         Err(fault) => format!(in alloc; "{fault}"),
     }
+}
+
+/// The tokens from `at` on, read one by one, and then the words of the fault, if there is one.
+fn shown_from(alloc: Global, profile: Profile, text: &str, at: u64) -> Result<String, AllocError> {
+    let end = text.len() as u64;
+    let mut all = String::new(alloc);
+    let mut at = at;
+    for _ in 0..=end {
+        if at > end {
+            return format!(in alloc; "behind the end");
+        }
+        match token_from(alloc, profile, text, at) {
+            Ok(Some(token)) => {
+                all.push_str(&token_shown(alloc, &token)?)?;
+                at = token.stop;
+            }
+            Ok(None) => return Ok(all),
+            Err(fault) => return format!(in alloc; "{all}{fault}"),
+        }
+    }
+    format!(in alloc; "without end")
 }
 
 /// Texts that are the same in both profiles.
@@ -225,5 +249,46 @@ fn line_comments(rt: HostRuntime) -> Result<(), Fail> {
             "{text}"
         );
     }
+    Ok(())
+}
+
+/// Texts, an offset, and what is read from there on.
+const FROM: [(&str, u64, &str); 13] = [
+    ("[_ 1_1]", 0, "0-2 [_; 3-6 1_1; 6-7 ]; "),
+    ("[_ 1_1]", 2, "3-6 1_1; 6-7 ]; "),
+    ("[_ 1_1]", 6, "6-7 ]; "),
+    ("[_ 1_1]", 7, ""),
+    ("", 0, ""),
+    ("/a/1//2", 4, "6-7 2; "),
+    ("1 / a / ", 1, ""),
+    ("1 (0)", 0, "0-1 1; offset 2: unexpected character"),
+    ("1 /x", 0, "0-1 1; offset 2: unclosed comment"),
+    ("1 /x", 1, "offset 2: unclosed comment"),
+    ("\"a\" h'4'", 0, "0-3 text 61; offset 4: bad hex"),
+    ("-1(0)", 0, "0-2 -1; offset 2: unexpected character"),
+    ("<<1, 2_0>>_3", 3, "3-4 ,; 5-8 2_0; 8-12 >>_3; "),
+];
+
+#[test]
+fn one_by_one(rt: HostRuntime) -> Result<(), Fail> {
+    let alloc = rt.alloc();
+    for (text, at, expected) in FROM {
+        for profile in [Profile::One, Profile::Two] {
+            assert_eq!(rt;
+                shown_from(alloc, profile, text, at)?.as_str(),
+                expected,
+                "{profile:?} {text} from {at}"
+            );
+        }
+    }
+    let line = "1 # two\n3";
+    assert_eq!(rt;
+        shown_from(alloc, Profile::Two, line, 1)?.as_str(),
+        "8-9 3; "
+    );
+    assert_eq!(rt;
+        shown_from(alloc, Profile::One, line, 0)?.as_str(),
+        "0-1 1; offset 2: unexpected character"
+    );
     Ok(())
 }

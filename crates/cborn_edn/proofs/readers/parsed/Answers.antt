@@ -1,45 +1,48 @@
-use Rattle.std.proofs.Common.{rules, ◌≡◌, sym, ap, ◌∙◌, subst, ◌^◌, ◌<◌, ◌≤◌, [], ◌∷◌, ◌++◌, Some, None, if◌then◌else◌, length, length-append, append_assoc, arith}
-use Rattle.std.specs.Vec.Iter.{into_iter_items}
-use Rattle.cborn_lex.proofs.Weights.{AreModest, text_light}
-use Rattle.cborn_edn.specs.Draft.{draft_step, reach}
-use Rattle.cborn_edn.proofs.Counting.{back}
-use Rattle.cborn_edn.proofs.Reached.{Reached, first_reached, next_reached, ready, told}
+use Rattle.std.proofs.Common.{sym, subst, ◌∷◌, [], arith}
+use Rattle.cborn_lex.specs.Lex.{IsNext}
+use Rattle.cborn_lex.proofs.Progress.{inside, few}
+use Rattle.cborn_lex.proofs.Weights.{utf8_bytes}
+use Rattle.cborn_edn.proofs.Underway.{Underway, begins, is_ready, is_told, goes_on, ends, stopped, jams}
 use Rattle.cborn_edn.proofs.readers.parsed.Goals as goal
 
-pub loop-token-init : goal.loop-token-init
-loop-token-init c = (search rules, ([], search rules, subst (Reached c.args.limit []) (sym c.in-Ok.ensures) (first_reached c.args.limit)))
+pub tokens-init : goal.tokens-init
+tokens-init c = (subst (Underway c.args.profile c.args.limit c.args.text.now 0) (sym c.in-Ok.ensures) (begins c.args.profile c.args.limit c.args.text.now), omega arith)
+
+pub returns-in-Ok-None-clause-ready : goal.returns-in-Ok-None-clause-ready
+returns-in-Ok-None-clause-ready c = is_ready c.args.profile c.args.limit c.args.text.now c.tokens.at c.tokens.state c.tokens.invariant.0 (omega arith) (omega arith)
+
+pub returns-in-Ok-None-clause-told : goal.returns-in-Ok-None-clause-told
+returns-in-Ok-None-clause-told c = is_told c.args.profile c.args.limit c.args.text.now c.tokens.at c.tokens.state c.tokens.invariant.0 c.in_memory.ensures
+
+pub returns-in-Ok-None-clause-parsed : goal.returns-in-Ok-None-clause-parsed
+returns-in-Ok-None-clause-parsed c =
+    let last = subst (IsNext c.args.profile c.args.text.now c.tokens.at) c.in-Ok-None.field-0-is c.in-Ok-None.ensures.ok in
+    ends c.args.profile c.args.limit c.args.text.now c.tokens.at c.tokens.state c.tokens.invariant.0 last
+
+pub returns-in-Err-token_from-clause-refused : goal.returns-in-Err-token_from-clause-refused
+returns-in-Err-token_from-clause-refused c =
+    rw c.lexical.ensures (stopped c.args.profile c.args.limit c.args.text.now c.tokens.at c.tokens.state c.tokens.invariant.0 c.in-Err-token_from.fault c.in-Err-token_from.ensures.refused)
 
 pub step-requires : goal.step-requires
-step-requires c =
-    let inv = c.loop-token.invariant.1 in
-    let few : length inv.0 < 2 ^ 63 = omega (arith, ap length inv.1, length-append inv.0 (into_iter_items c.loop-token.token-iterator)) in
-    ready c.args.limit inv.0 c.loop-token.state inv.2 (omega arith) few
+step-requires c = is_ready c.args.profile c.args.limit c.args.text.now c.tokens.at c.tokens.state c.tokens.invariant.0 (omega arith) (omega arith)
 
-pub loop-token-preserved : goal.loop-token-preserved
-loop-token-preserved c =
-    let inv = c.loop-token.invariant.1 in
-    let t = c.in-Some.token in
-    let rest = into_iter_items c.next.new.self in
-    let next : into_iter_items c.loop-token.token-iterator ≡ t ∷ rest = search rules in
-    let whole : c.args.tokens.items ≡ inv.0 ++ (t ∷ rest) = inv.1 ∙ ap (λ l. inv.0 ++ l) next in
-    let few : length inv.0 < 2 ^ 63 = omega (arith, ap length whole, length-append inv.0 (t ∷ rest)) in
-    let light = text_light c.args.profile c.requires.0 c.args.tokens.items c.requires.1 c.requires.2 in
-    let modest = back inv.0 (t ∷ rest) (subst AreModest whole light.0) in
-    let steps : draft_step c.loop-token.state t ≡ Some c.step.new.self = c.in-Ok-true.ensures ∙ ap (λ b. if b then Some c.step.new.self else None) c.in-Ok-true.field-0-test in
-    let low : reach c.loop-token.state.frames t.class ≤ c.args.limit = omega (arith, c.reach-reach.ensures) in (
-      search rules,
-      (
-        inv.0 ++ (t ∷ []),
-        whole ∙ sym (append_assoc inv.0 (t ∷ []) rest),
-        next_reached c.args.limit inv.0 c.loop-token.state inv.2 t c.step.new.self few modest.0 c.in_memory.ensures steps low,
-      ),
+pub tokens-smaller : goal.tokens-smaller
+tokens-smaller c =
+    let t = c.in-Ok-Some.token in
+    let next = subst (IsNext c.args.profile c.args.text.now c.tokens.at) c.in-Ok-Some.field-0-is c.in-Ok-Some.ensures.ok in
+    omega (arith, (inside c.args.profile c.args.text.now c.tokens.at t.stop (t ∷ []) c.tokens.invariant.1 next).1, few c.args.profile c.args.text.now c.tokens.at t.stop (t ∷ []) next)
+
+pub tokens-preserved : goal.tokens-preserved
+tokens-preserved c =
+    let t = c.in-Ok-Some.token in
+    let next = subst (IsNext c.args.profile c.args.text.now c.tokens.at) c.in-Ok-Some.field-0-is c.in-Ok-Some.ensures.ok in (
+      goes_on c.args.profile c.args.limit c.args.text.now c.tokens.at c.tokens.state c.tokens.invariant.0 t.stop t c.step.new.state c.in-Ok-None-step.field-0 (omega arith) (utf8_bytes c.args.text.now c.utf8.text) c.in_memory.ensures next c.in-Ok-None-step.ensures c.in-Ok-None-step.field-0-is,
+      (inside c.args.profile c.args.text.now c.tokens.at t.stop (t ∷ []) c.tokens.invariant.1 next).1,
     )
 
-pub returns-clause-ready : goal.returns-clause-ready
-returns-clause-ready c =
-    let inv = c.loop-token.invariant.1 in
-    let few : length inv.0 < 2 ^ 63 = omega (arith, ap length inv.1, length-append inv.0 (into_iter_items c.loop-token.token-iterator)) in
-    ready c.args.limit inv.0 c.loop-token.state inv.2 (omega arith) few
-
-pub returns-clause-told : goal.returns-clause-told
-returns-clause-told c o s e = let inv = c.loop-token.invariant.1 in told c.args.limit inv.0 c.loop-token.state inv.2 o s c.in_memory-2.ensures e
+pub returns-in-Ok-Some-step-clause-refused : goal.returns-in-Ok-Some-step-clause-refused
+returns-in-Ok-Some-step-clause-refused c =
+    let t = c.in-Ok-Some.token in
+    let next = subst (IsNext c.args.profile c.args.text.now c.tokens.at) c.in-Ok-Some.field-0-is c.in-Ok-Some.ensures.ok in
+    let told = c.first_fault.ensures in
+    jams c.args.profile c.args.limit c.args.text.now c.tokens.at c.tokens.state c.tokens.invariant.0 t c.step.new.state c.in-Ok-Some-step.field-0 c.in-Ok-Some-step.reason c.first_fault.result next c.in-Ok-Some-step.ensures c.in-Ok-Some-step.field-0-is (rw c.refused.ensures at told)

@@ -1,11 +1,9 @@
-use Rattle.std.proofs.Common.{◌≡◌, List, ◌++◌}
-use Rattle.std.specs.Vec.Iter.{into_iter_items}
-use Rattle.cborn_lex.specs.declared.classes.Token.{Token}
-use Rattle.cborn_edn.specs.Draft.{draft_run, first_state}
-use Rattle.cborn_edn.proofs.Reached.{Reached}
+use Rattle.std.proofs.Common.{◌≤◌, ◌-◌, length}
+use Rattle.cborn_edn.proofs.Underway.{Underway}
 use Rattle.cborn_edn.proofs.readers.parsed.Given as goal
 
-abbrev pub invariant-loop-token : goal.invariant-loop-token
-invariant-loop-token l =
-    (draft_run l.profile l.fn.limit l.fn.tokens.items first_state ≡ draft_run l.profile l.fn.limit (into_iter_items l.token-iterator) l.state)
-    × ((taken : List Token) × (l.fn.tokens.items ≡ taken ++ into_iter_items l.token-iterator) × Reached l.fn.limit taken l.state)
+abbrev pub invariant-tokens : goal.invariant-tokens
+invariant-tokens l = Underway l.fn.profile l.fn.limit l.fn.text l.at l.state × (l.at ≤ length l.fn.text)
+
+abbrev pub decreases-tokens : goal.decreases-tokens
+decreases-tokens l = length l.fn.text - l.at

@@ -1,30 +1,36 @@
-use Rattle.std.proofs.Common.{ap, sym, ◌∙◌}
-use Rattle.cborn_lex.specs.Tokens.{Blank, Read, Bad}
-use Rattle.cborn_lex.specs.View.{front_view}
-use Rattle.cborn_lex.proofs.Progress.{after_white, after_blank, after_token, reads_at, stopped}
+use Rattle.std.proofs.Common.{sym, subst, ◌∷◌, [], arith, append-nil, Ok, Err, IfErr, ◌≡◌}
+use Rattle.std.specs.Prelude.{Result}
+use Rattle.std.specs.Result.{IsErr, IsErrAnd}
+use Rattle.cborn_lex.specs.Lex.{Between, IsNext, IsStopAt}
+use Rattle.cborn_lex.proofs.Progress.{nothing, joins, inside, few, whole_text, stops, whole_stop}
 use Rattle.cborn_lex.proofs.lexer.tokens.Goals as goal
-use Rattle.cborn_lex.proofs.lexer.tokens.Goals.{in-Blank, in-Read+in_ok-push-in-Read}
 
-pub loop-at-preserved-then-is_white : goal.loop-at-preserved-then-is_white
-loop-at-preserved-then-is_white c = after_white c.args.profile c.as_bytes-bytes.result.now c.loop-at.at c.loop-at.found.items c.loop-at.invariant c.loop-at-test.true (sym c.is_white.ensures ∙ c.if-is_white.true)
+pub tokens-init : goal.tokens-init
+tokens-init c = (rw c.new-found.ensures.items (nothing c.args.profile c.args.text.now 0), omega arith)
 
-pub loop-at-preserved : goal.loop-at-preserved
-loop-at-preserved c =
-    let text = c.as_bytes-bytes.result.now in
-    let at = c.loop-at.at in
-    let n = c.in_ok-front.n in
-    let h = c.in_ok-front.ensures in
-    elim c.match-front.branch [
-      | in-Blank w ↦
-          let r = reads_at c.args.profile c.rest_of.result.now _ n (front_view c.in_ok-front.front) Blank c.rest_of.ensures (ap front_view w.in-Blank.is) h.1 h.2 in
-          rw w.found-is (after_blank c.args.profile text at n c.loop-at.found.items c.loop-at.invariant r.0 r.1)
-      | in-Read+in_ok-push-in-Read w ↦
-          let r = reads_at c.args.profile c.rest_of.result.now _ n (front_view c.in_ok-front.front) (Read w.in-Read.class) c.rest_of.ensures (ap front_view w.in-Read.is) h.1 h.2 in
-          rw (w.found-is, w.in_ok-push-in-Read.ensures.items) (after_token c.args.profile text at n c.loop-at.found.items w.in-Read.class c.loop-at.invariant r.0 r.1)
-    ]
+pub tokens-preserved : goal.tokens-preserved
+tokens-preserved c =
+    let next = subst (IsNext c.args.profile c.args.text.now c.tokens.at) c.in-Some.is c.in_ok-token.ensures.ok in
+    let far = inside c.args.profile c.args.text.now c.tokens.at c.in-Some.token.stop (c.in-Some.token ∷ []) c.tokens.invariant.1 next in
+    (rw c.in_ok-push.ensures.items (joins c.args.profile c.args.text.now 0 c.tokens.at c.in-Some.token.stop c.tokens.found.items (c.in-Some.token ∷ []) c.tokens.invariant.0 next), far.1)
 
-pub returns-in-Bad-clause-refused : goal.returns-in-Bad-clause-refused
-returns-in-Bad-clause-refused c =
-    let h = c.in_ok-front.ensures in
-    let r = reads_at c.args.profile c.rest_of.result.now _ c.in_ok-front.n (front_view c.in_ok-front.front) (Bad c.in-Bad.reason) c.rest_of.ensures (ap front_view c.in-Bad.is) h.1 h.2 in
-    rw (← c.as_bytes-bytes.ensures.value) (stopped c.args.profile c.as_bytes-bytes.result.now c.loop-at.at c.in_ok-front.n c.loop-at.found.items c.in-Bad.reason c.loop-at.invariant r.1)
+pub tokens-smaller : goal.tokens-smaller
+tokens-smaller c =
+    let next = subst (IsNext c.args.profile c.args.text.now c.tokens.at) c.in-Some.is c.in_ok-token.ensures.ok in
+    let far = inside c.args.profile c.args.text.now c.tokens.at c.in-Some.token.stop (c.in-Some.token ∷ []) c.tokens.invariant.1 next in
+    let more = few c.args.profile c.args.text.now c.tokens.at c.in-Some.token.stop (c.in-Some.token ∷ []) next in
+    omega (arith, far.1, more)
+
+pub returns-clause-ok : goal.returns-clause-ok
+returns-clause-ok c =
+    let last = subst (IsNext c.args.profile c.args.text.now c.tokens.at) c.in_default.is c.in_ok-token.ensures.ok in
+    whole_text c.args.profile c.args.text.now c.tokens.found.items (subst (Between c.args.profile c.args.text.now 0 _) (append-nil c.tokens.found.items) (joins c.args.profile c.args.text.now 0 c.tokens.at _ c.tokens.found.items [] c.tokens.invariant.0 last))
+
+passed_on : {A E : Type 0} (r : Result A E) (x : E) (P : E → Type 0) → P x → IsErr r × IsErrAnd r (λ e. e ≡ x) → IfErr r P
+passed_on (Ok a) x P p h = tt
+passed_on (Err e) x P p h = subst P (sym h.1) p
+
+pub returns-in_err-token-clause-refused : goal.returns-in_err-token-clause-refused
+returns-in_err-token-clause-refused c =
+    let stop = whole_stop c.args.profile c.args.text.now c.in_err-token.field-0.0 (stops c.args.profile c.args.text.now 0 c.tokens.at c.tokens.found.items c.in_err-token.field-0.0 c.tokens.invariant.0 c.in_err-token.ensures.refused) in
+    passed_on c.from_residual.result c.in_err-token.field-0.0 (IsStopAt c.args.profile c.args.text.now) stop c.from_residual.ensures

@@ -1,9 +1,9 @@
-use Rattle.std.proofs.Common.{◌-◌, length}
-use Rattle.cborn_lex.proofs.Progress.{Progress}
+use Rattle.std.proofs.Common.{◌≤◌, ◌-◌, length}
+use Rattle.cborn_lex.specs.Lex.{Between}
 use Rattle.cborn_lex.proofs.lexer.tokens.Given as goal
 
-abbrev pub invariant-loop-at : goal.invariant-loop-at
-invariant-loop-at l = Progress l.profile l.bytes l.at l.found.items
+abbrev pub invariant-tokens : goal.invariant-tokens
+invariant-tokens l = Between l.fn.profile l.fn.text 0 l.at l.found.items × (l.at ≤ length l.fn.text)
 
-abbrev pub decreases-loop-at : goal.decreases-loop-at
-decreases-loop-at l = length l.bytes - l.at
+abbrev pub decreases-tokens : goal.decreases-tokens
+decreases-tokens l = length l.fn.text - l.at
