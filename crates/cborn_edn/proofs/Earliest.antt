@@ -90,6 +90,8 @@ pub earlier-none : (a : Option Slip) → earlier a None ≡ a
 earlier-none None = refl
 earlier-none (Some a) = refl
 
+pub ruleset slips = (earlier-none)
+
 pub earlier-comm : (a b : Option Slip) → earlier a b ≡ earlier b a
 earlier-comm None b = sym (earlier-none b)
 earlier-comm (Some a) None = refl

@@ -2,13 +2,9 @@
 use Rattle.std.proofs.Common.{◌≡◌, refl, sym, ap, ◌∙◌, ◌≤◌, ◌<◌, ◌+◌, ◌-◌, ℕ, suc, List, [], ◌∷◌, ◌++◌, length, take, slice_index_or, slice_set, Bool, true, false, cond, if◌then◌else◌, Option, Some, None, Result, Ok, Err, IfOk, arith}
 use mathlib.Core.List.{reverse}
 use Rattle.std.proofs.lemmas.List.{reverse-append, length-reverse, take_all, take_more, set_split, drop_all}
-use Rattle.cborn_model.specs.Tree.{Tree}
-use Rattle.cborn_lex.specs.declared.classes.Class.TheVariants.{Comma}
-use Rattle.cborn_edn.specs.declared.slips.Slip.{Slip}
-use Rattle.cborn_edn.specs.declared.states.Phase.TheVariants.{Wants}
 use Rattle.cborn_edn.specs.declared.frames.Frame.{Frame}
 use Rattle.cborn_edn.specs.Levels.{is_level, levels_in}
-use Rattle.cborn_edn.specs.Draft.{keep, settled, reopened, after}
+use Rattle.cborn_edn.specs.Draft.{with_innermost}
 
 pub reverse-push : (fs : List Frame) (f : Frame) → reverse (fs ++ f ∷ []) ≡ f ∷ reverse fs
 reverse-push fs f = reverse-append fs (f ∷ [])
@@ -38,16 +34,22 @@ last_set fs n g k h =
     let whole : slice_set fs (n - 1) g ≡ take (n - 1) fs ++ g ∷ [] = set_split fs (n - 1) g (omega (arith, h, k)) ∙ ap (λ l. take (n - 1) fs ++ g ∷ l) (drop_all (suc (n - 1)) fs (omega (arith, h, k))) in
     ap reverse whole ∙ reverse-push (take (n - 1) fs) g
 
-pub same_levels : (f g : Frame) (fs : List Frame) → is_level g ≡ is_level f → levels_in (g ∷ fs) ≡ levels_in (f ∷ fs)
+same_levels : (f g : Frame) (fs : List Frame) → is_level g ≡ is_level f → levels_in (g ∷ fs) ≡ levels_in (f ∷ fs)
 same_levels f g fs e = ap (λ b. cond b (suc (levels_in fs)) (levels_in fs)) e
 
-reopened_if : (b : Bool) (fs : List Frame) (g : Frame) (s : Option Slip) → reopened fs s (if b then Some g else None) ≡ (if b then Some (keep (g ∷ fs) Wants s) else None)
-reopened_if true fs g s = refl
-reopened_if false fs g s = refl
+-- and no level is added or lost where it makes one as before
+pub levels_set : (fs : List Frame) (n : ℕ) (f g : Frame) (k : ℕ) → length fs ≡ n → 0 < n → f ≡ slice_index_or fs (n - 1) f → is_level g ≡ is_level f → k ≡ levels_in (reverse fs) → k ≡ levels_in (reverse (slice_set fs (n - 1) g))
+levels_set fs n f g k l h e same kept =
+    kept ∙ ap levels_in (last_is fs n f l h e) ∙ sym (same_levels f g (reverse (take (n - 1) fs)) same) ∙ sym (ap levels_in (last_set fs n g l h))
 
--- behind a comma, what the innermost makes of the item
-pub settles : (b : Bool) (fs : List Frame) (f g : Frame) (i : Option Tree) → settled f i ≡ (if b then Some g else None) → (s : Option Slip) (p : ℕ) → after (f ∷ fs) s i p Comma ≡ (if b then Some (keep (g ∷ fs) Wants s) else None)
-settles b fs f g i e s p = ap (reopened fs s) e ∙ reopened_if b fs g s
+replaced : (b : Bool) (fs : List Frame) (g : Frame) → with_innermost fs (if b then Some g else None) ≡ (if b then Some (g ∷ fs) else None)
+replaced true fs g = refl
+replaced false fs g = refl
+
+-- what is made of the innermost is made of the last of the vector
+pub innermost_set : (b : Bool) (fs : List Frame) (n : ℕ) (g : Frame) (o : Option Frame) → length fs ≡ n → 0 < n → o ≡ (if b then Some g else None) → with_innermost (reverse (take (n - 1) fs)) o ≡ (if b then Some (reverse (slice_set fs (n - 1) g)) else None)
+innermost_set b fs n g o l h e =
+    ap (with_innermost (reverse (take (n - 1) fs))) e ∙ replaced b (reverse (take (n - 1) fs)) g ∙ ap (λ gs. if b then Some gs else None) (sym (last_set fs n g l h))
 
 pub if_ok : {A E : Type 0} (P Q : A → Type 0) (r : Result A E) → ((a : A) → P a → Q a) → IfOk r P → IfOk r Q
 if_ok P Q (Ok a) f h = f a h

@@ -209,6 +209,32 @@ settled (Embedded b q r) i = Some (Embedded b q (sequence_with r i))
 settled (Value q m f k) i = Some (Key q m (fields_with f k i))
 settled _ i = None
 
+-- the map with the item as a key
+abbrev pub keyed : Frame → Option Tree → Option Frame
+keyed (Key q m f) i = Some (Value q m f i)
+keyed _ i = None
+
+-- the open brackets, where the innermost becomes this one
+abbrev pub with_innermost : List Frame → Option Frame → Option (List Frame)
+with_innermost fs None = None
+with_innermost fs (Some f) = Some (f ∷ fs)
+
+abbrev pub settled_in : List Frame → Option Tree → Option (List Frame)
+settled_in [] i = None
+settled_in (f ∷ fs) i = with_innermost fs (settled f i)
+
+abbrev pub keyed_in : List Frame → Option Tree → Option (List Frame)
+keyed_in [] i = None
+keyed_in (f ∷ fs) i = with_innermost fs (keyed f i)
+
+abbrev pub is_chunked : Frame → Bool
+is_chunked (Chunked q cs) = true
+is_chunked _ = false
+
+abbrev pub are_chunks : List Frame → Bool
+are_chunks [] = false
+are_chunks (f ∷ fs) = is_chunked f
+
 abbrev pub reopened : List Frame → Option Slip → Option Frame → Option State
 reopened fs s None = None
 reopened fs s (Some f) = Some (keep (f ∷ fs) Wants s)

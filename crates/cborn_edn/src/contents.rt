@@ -6,7 +6,7 @@ ghost use Rattle.cborn_edn.specs.Meaning.{and_then, when, same_kind, size_slips}
 ghost use Rattle.cborn_edn.specs.Ready.{MaySpell};
 
 use crate::EdnReason;
-use crate::lists::{ChunkList, NodeList, PairList, SpelledList};
+use crate::lists::{ChunkList, NodeList, PairList, SpelledList, discard};
 use crate::numbers::size_for;
 use crate::slips::{Slip, earlier, slip_at, slip_unless};
 use crate::strings::{Kind, Pieces, chunked};
@@ -32,19 +32,21 @@ impl Row {
     }
 
     /// One more item, for which the count has room.
+    #[inline(never)]
     pub(crate) fn add(&mut self, item: Option<Node>) -> Result<(), AllocError>
         requires { suc self.old.count < 2 ^ 64 }
         ensures { OnOk result (self.new ≡ pure.row_with self.old item) }
     {
         self.count += 1;
         let Some(node) = item else {
-            self.nodes = None;
+            discard(self.nodes.take());
             return Ok(());
         };
-        match &mut self.nodes {
-            Some(nodes) => nodes.add(node),
-            None => Ok(()),
-        }
+        let Some(nodes) = &mut self.nodes else {
+            discard(node);
+            return Ok(());
+        };
+        nodes.add(node)
     }
 
     /// The array, and what is wrong with its indicator.
@@ -59,7 +61,10 @@ impl Row {
                 place,
                 form: Form::Items(size, nodes.into_vec()),
             }),
-            _ => None,
+            (nodes, _) => {
+                discard(nodes);
+                None
+            }
         };
         (node, slip)
     }
@@ -83,6 +88,7 @@ impl Sequence {
     }
 
     /// One more item, which spells bytes, and for which the count has room.
+    #[inline(never)]
     pub(crate) fn add(&mut self, item: Option<Node>) -> Result<(), AllocError>
         requires room { suc self.old.count < 2 ^ 64 }
         requires spelled { MaySpell item }
@@ -90,13 +96,14 @@ impl Sequence {
     {
         self.count += 1;
         let Some(node) = item else {
-            self.items = None;
+            discard(self.items.take());
             return Ok(());
         };
-        match &mut self.items {
-            Some(items) => items.add(Spelled::new(node)),
-            None => Ok(()),
-        }
+        let Some(items) = &mut self.items else {
+            discard(node);
+            return Ok(());
+        };
+        items.add(Spelled::new(node))
     }
 
     /// The bytes that the items spell.
@@ -131,18 +138,18 @@ impl Fields {
     }
 
     /// One more pair, for which the count has room.
+    #[inline(never)]
     pub(crate) fn add(&mut self, key: Option<Node>, value: Option<Node>) -> Result<(), AllocError>
         requires { suc self.old.count < 2 ^ 64 }
         ensures { OnOk result (self.new ≡ pure.fields_with self.old key value) }
     {
         self.count += 1;
-        let (Some(key), Some(value)) = (key, value) else {
-            self.pairs = None;
-            return Ok(());
-        };
-        match &mut self.pairs {
-            Some(pairs) => pairs.add(key, value),
-            None => Ok(()),
+        match (&mut self.pairs, key, value) {
+            (Some(pairs), Some(key), Some(value)) => pairs.add(key, value),
+            (_, key, value) => {
+                discard((self.pairs.take(), key, value));
+                Ok(())
+            }
         }
     }
 
@@ -158,7 +165,10 @@ impl Fields {
                 place,
                 form: Form::Pairs(size, pairs.into_vec()),
             }),
-            _ => None,
+            (pairs, _) => {
+                discard(pairs);
+                None
+            }
         };
         (node, slip)
     }

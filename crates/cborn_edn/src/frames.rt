@@ -1,6 +1,7 @@
 //! What is open around a place in the text.
 
 use crate::contents::{Chunks, Fields, Row, Sequence};
+use crate::lists::{discard, push_one};
 use crate::strings::Pieces;
 use cborn_lex::{Class, Mark};
 use cborn_model::{Node, Width};
@@ -50,12 +51,13 @@ pub(crate) enum Frame {
 
 impl Frame {
     ghost use Rattle.std.specs.Prelude.{◌≡◌, IfOk, Some, None, if◌then◌else◌};
+    ghost use Rattle.cborn_edn.specs.declared.frames.Frame.TheVariants.{Tagged};
     ghost use Rattle.cborn_edn.specs.Levels.{is_level, has_items, has_pairs};
     ghost use Rattle.cborn_edn.specs.Draft as pure;
     ghost use Rattle.cborn_edn.specs.Ready.{MaySpell, HasRoom};
 
     /// Takes the item in, where the bracket may end behind it or a comma may follow. Whether that is so.
-    pub(crate) fn settle(&mut self, alloc: Global, item: Option<Node>) -> Result<bool, AllocError>
+    pub(crate) fn settle(&mut self, item: Option<Node>) -> Result<bool, AllocError>
         requires spelled { MaySpell item }
         requires room { HasRoom self.old }
         ensures settled { IfOk result (λ b. pure.settled self.old item ≡ (if b then Some self.new else None)) }
@@ -65,24 +67,71 @@ impl Frame {
             Frame::Top(items) => items.add(item)?,
             Frame::Array { row, .. } => row.add(item)?,
             Frame::Embedded { items, .. } => items.add(item)?,
-            Frame::Value {
-                place,
-                mark,
-                fields,
-                key,
-            } => {
-                let (place, mark) = (*place, *mark);
-                let mut fields = std::mem::replace(fields, Fields::new(alloc));
+            Frame::Value { fields, key, .. } => {
                 fields.add(key.take(), item)?;
+                let Frame::Value {
+                    place,
+                    mark,
+                    fields,
+                    key: None,
+                } = self.take()
+                else {
+                    unreachable!();
+                };
                 *self = Frame::Key {
                     place,
                     mark,
                     fields,
                 };
             }
-            _ => return Ok(false),
+            _ => {
+                discard(item);
+                return Ok(false);
+            }
         }
         Ok(true)
+    }
+
+    // Makes the item the key of the next pair, where a map wants one. Whether that is so.
+    fn key(&mut self, item: Option<Node>) -> bool
+        ensures keyed { pure.keyed self.old item ≡ (if result then Some self.new else None) }
+        ensures level { is_level self.new ≡ is_level self.old }
+    {
+        match self.take() {
+            Frame::Key {
+                place,
+                mark,
+                fields,
+            } => {
+                *self = Frame::Value {
+                    place,
+                    mark,
+                    fields,
+                    key: item,
+                };
+                true
+            }
+            other => {
+                *self = other;
+                discard(item);
+                false
+            }
+        }
+    }
+
+    // Itself; what stays in its place owns nothing.
+    #[inline]
+    fn take(&mut self) -> Frame
+        ensures taken { result ≡ self.old }
+        ensures left { self.new ≡ Tagged 0 None }
+    {
+        std::mem::replace(
+            self,
+            Frame::Tagged {
+                place: 0,
+                head: None,
+            },
+        )
     }
 
     // Whether it makes what stands inside one deeper.
@@ -146,13 +195,10 @@ impl Model for Frames {
 }
 
 impl Frames {
-    ghost use Rattle.std.specs.Prelude.{◌≡◌, ℕ, ◌<◌, ◌^◌, Option, [], ◌∷◌, OnOk, IfOk, Some, None, MatchOption, if◌then◌else◌};
+    ghost use Rattle.std.specs.Prelude.{◌≡◌, ◌<◌, ◌^◌, [], ◌∷◌, OnOk, IfOk, Some, None, MatchOption, if◌then◌else◌};
     ghost use Rattle.cborn_edn.specs.Levels.{levels_in, filled};
     ghost use Rattle.cborn_edn.specs.Draft as pure;
     ghost use Rattle.cborn_edn.specs.Ready.{MaySpell, HaveRoom};
-    ghost use Rattle.cborn_edn.specs.declared.slips.Slip.{Slip};
-    ghost use Rattle.cborn_lex.specs.declared.classes.Class.TheVariants.{Comma};
-    ghost use Rattle.cborn_edn.specs.declared.states.Phase.TheVariants.{Wants};
 
     pub(crate) fn new(alloc: Global) -> Frames
         ensures { result ≡ [] }
@@ -178,7 +224,7 @@ impl Frames {
         ensures { OnOk result (self.new ≡ frame ∷ self.old) }
     {
         let deeper = frame.is_level();
-        self.frames.push(frame)?;
+        push_one(&mut self.frames, frame)?;
         if deeper {
             self.levels += 1;
         }
@@ -199,15 +245,36 @@ impl Frames {
 
     /// A comma behind an item: the innermost takes the item in, where a comma may follow. Whether that is so.
     #[tactic(auto, using(crate::proofs::Innermost::innermost))]
-    pub(crate) fn settle(&mut self, alloc: Global, item: Option<Node>) -> Result<bool, AllocError>
+    pub(crate) fn settle(&mut self, item: Option<Node>) -> Result<bool, AllocError>
         requires spelled { MaySpell item }
         requires room { HaveRoom self.old }
-        ensures { IfOk result (λ b. (slip : Option Slip) (start : ℕ) → pure.after self.old slip item start Comma ≡ (if b then Some (pure.keep self.new Wants slip) else None)) }
+        ensures { IfOk result (λ b. pure.settled_in self.old item ≡ (if b then Some self.new else None)) }
     {
         let Some(frame) = self.frames.last_mut() else {
             return Ok(false);
         };
-        frame.settle(alloc, item)
+        frame.settle(item)
+    }
+
+    /// A colon behind an item: the item becomes the key of the next pair, where the innermost is a map that wants one. Whether that is so.
+    #[tactic(auto, using(crate::proofs::Innermost::innermost))]
+    pub(crate) fn key(&mut self, item: Option<Node>) -> bool
+        ensures { pure.keyed_in self.old item ≡ (if result then Some self.new else None) }
+    {
+        let Some(frame) = self.frames.last_mut() else {
+            return false;
+        };
+        frame.key(item)
+    }
+
+    /// Whether the innermost holds the chunks of a string.
+    pub(crate) fn are_chunks(&self) -> bool
+        ensures { result ≡ pure.are_chunks self.now }
+    {
+        match self.frames.as_slice().last() {
+            Some(Frame::Chunked { .. }) => true,
+            _ => false,
+        }
     }
 
     /// Whether a closing bracket of this class stands behind items or pairs, where the innermost wants one more.

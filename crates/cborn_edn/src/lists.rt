@@ -1,5 +1,7 @@
 //! Lists of what was read, as values.
 
+ghost use Rattle.std.specs.Prelude.{◌≡◌, [], ◌∷◌, ◌++◌, OnOk, OnErr};
+
 use cborn_model::{Chunk, Node, Spelled};
 use std::alloc::{AllocError, Global};
 use std::marker::Model;
@@ -38,8 +40,7 @@ impl NodeList {
     pub(crate) fn add(&mut self, node: Node) -> Result<(), AllocError>
         ensures { OnOk result (self.new ≡ snoc self.old node) }
     {
-        self.nodes.push(node)?;
-        Ok(())
+        push_one(&mut self.nodes, node)
     }
 
     pub(crate) fn into_vec(self) -> Vec<Node>
@@ -83,8 +84,7 @@ impl SpelledList {
     pub(crate) fn add(&mut self, item: Spelled) -> Result<(), AllocError>
         ensures { OnOk result (self.new ≡ snoc self.old item) }
     {
-        self.items.push(item)?;
-        Ok(())
+        push_one(&mut self.items, item)
     }
 
     pub(crate) fn as_slice(&self) -> &[Spelled]
@@ -134,8 +134,7 @@ impl PairList {
     pub(crate) fn add(&mut self, key: Node, value: Node) -> Result<(), AllocError>
         ensures { OnOk result (self.new ≡ snoc_entry self.old key value) }
     {
-        self.pairs.push((key, value))?;
-        Ok(())
+        push_one(&mut self.pairs, (key, value))
     }
 
     pub(crate) fn into_vec(self) -> Vec<(Node, Node)>
@@ -175,7 +174,7 @@ impl ChunkList {
         ensures { IfOk result (λ l. l ≡ self ++ chunk ∷ []) }
     {
         let mut chunks = self.chunks;
-        chunks.push(chunk)?;
+        push_one(&mut chunks, chunk)?;
         Ok(ChunkList { chunks })
     }
 
@@ -185,3 +184,34 @@ impl ChunkList {
         self.chunks
     }
 }
+
+/// Appends one more. Most lists are short, so the room grows from one, by doubling.
+#[inline]
+pub(crate) fn push_one<T: Drop>(list: &mut Vec<T>, one: T) -> Result<(), AllocError>
+    ensures added { OnOk result (list.new.items ≡ list.old.items ++ one ∷ []) }
+    ensures kept { OnErr result (list.new.items ≡ list.old.items) }
+{
+    if list.len() == list.capacity() {
+        return push_full(list, one);
+    }
+    list.push_reserved(one);
+    Ok(())
+}
+
+// Appends one more to a list without room.
+#[cold]
+#[inline(never)]
+fn push_full<T: Drop>(list: &mut Vec<T>, one: T) -> Result<(), AllocError>
+    ensures added { OnOk result (list.new.items ≡ list.old.items ++ one ∷ []) }
+    ensures kept { OnErr result (list.new.items ≡ list.old.items) }
+{
+    let more = list.len().max(1);
+    list.reserve_exact(more)?;
+    list.push_reserved(one);
+    Ok(())
+}
+
+/// Drops what is of no use, out of line, so that the ways that drop nothing stay short.
+#[cold]
+#[inline(never)]
+pub(crate) fn discard<T: Drop>(_unwanted: T) {}

@@ -117,6 +117,8 @@ fn small_integer(place: u64, below: bool, width: Width, n: u64) -> Node
 }
 
 // A tag over the shortest bytes of `n`, with shortest heads.
+#[cold]
+#[inline(never)]
 fn bignum(alloc: Global, place: u64, below: bool, n: u128) -> Result<Node, AllocError>
     requires { 2 ^ 64 ≤ n }
     ensures { IfOk result (λ t. t ≡ tree.Tagged place Direct (if below then 3 else 2) (tree.Bytes place (least (length (digits_of 256 n))) (digits_of 256 n))) }

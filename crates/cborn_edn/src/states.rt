@@ -1,18 +1,16 @@
 //! The reader of tokens: what is open, and what stands right before the next token.
 
-ghost use Rattle.std.specs.Prelude.{◌≡◌, suc, ◌^◌, ◌<◌, [], ◌∷◌, Some, None, IfOk, if◌then◌else◌};
+ghost use Rattle.std.specs.Prelude.{◌≡◌, suc, ◌^◌, ◌<◌, [], ◌∷◌, Some, None, IfOk, OnOk, if◌then◌else◌};
 ghost use Rattle.cborn_edn.specs.Draft as pure;
-ghost use Rattle.cborn_edn.specs.Ready.{IsReady, IsHeld, MayEnd, HaveRoom};
+ghost use Rattle.cborn_edn.specs.Ready.{IsReady, IsHeld, MayEnd};
 ghost use Rattle.cborn_edn.specs.declared.frames.Frame.TheVariants.{Top};
-ghost use Rattle.cborn_edn.specs.declared.states.Phase.TheVariants.{Wants};
+ghost use Rattle.cborn_edn.specs.declared.states.Phase.TheVariants.{Wants, Has};
 
-use crate::closings::{after, after_number, more};
 use crate::contents::Sequence;
 use crate::frames::{Frame, Frames};
 use crate::lists::SpelledList;
-use crate::numbers::{integer, is_small};
-use crate::openings::{begin, begin_chunk, begin_number};
-use crate::slips::{Slip, earlier, slip_at};
+use crate::numbers::is_small;
+use crate::slips::{Slip, earlier};
 use crate::strings::Pieces;
 use cborn_lex::{Class, Token};
 use cborn_model::Node;
@@ -106,83 +104,69 @@ impl State {
         requires { IsReady self.old }
         ensures { IfOk result (λ b. pure.draft_step self.old token ≡ (if b then Some self.new else None)) }
     {
-        if let Phase::Wants = &self.phase {
-            if let Class::Number {
-                negative,
-                magnitude,
-                mark,
-            } = &token.class
-            {
-                let judged = integer(alloc, token.start, *negative, *magnitude, *mark)?;
-                self.slip = earlier(self.slip, slip_at(token.start, &judged));
-                self.phase = Phase::Has(judged.ok());
-                return Ok(true);
-            }
-        }
-        if let Phase::Has(item) = &mut self.phase {
-            if let Class::Comma = &token.class {
-                let item = item.take();
-                self.phase = Phase::Wants;
-                return self.frames.settle(alloc, item);
-            }
-        }
-        let frames = std::mem::replace(&mut self.frames, Frames::new(alloc));
-        let phase = std::mem::replace(&mut self.phase, Phase::Wants);
-        match step_whole(alloc, frames, phase, self.slip, token)? {
-            Some(next) => {
-                *self = next;
-                Ok(true)
-            }
-            None => Ok(false),
+        let Token { start, class, .. } = token;
+        match std::mem::replace(&mut self.phase, Phase::Wants) {
+            Phase::Wants => self.begin(alloc, start, class),
+            Phase::Has(item) => self.after(alloc, item, start, &class),
+            Phase::Builds(string) => self.more(alloc, string, start, class),
+            Phase::WantsChunk => self.begin_chunk(alloc, start, class),
+            Phase::WantsNumber { place } => Ok(self.begin_number(place, start, &class)),
+            Phase::HasNumber(item) => Ok(self.after_number(item, &class)),
         }
     }
-}
 
-// The state behind `token`, or none where the grammar has no such token here.
-fn step_whole(
-    alloc: Global,
-    frames: Frames,
-    phase: Phase,
-    slip: Option<Slip>,
-    token: Token,
-) -> Result<Option<State>, AllocError>
-    requires spelled { MayEnd phase }
-    requires room { HaveRoom frames }
-    ensures { IfOk result (λ o. o ≡ pure.step_in frames slip phase token.start token.class) }
-{
-    let Token { start, class, .. } = token;
-    match phase {
-        Phase::Wants => begin(alloc, frames, slip, start, class),
-        Phase::Has(item) => after(alloc, frames, slip, item, start, class),
-        Phase::Builds(string) => more(alloc, frames, slip, string, start, class),
-        Phase::WantsChunk => begin_chunk(alloc, frames, slip, start, class),
-        Phase::WantsNumber { place } => Ok(begin_number(frames, slip, place, start, class)),
-        Phase::HasNumber(item) => Ok(after_number(frames, slip, item, class)),
+    /// The next phase. The one before was taken out, so that there is nothing to drop.
+    #[inline]
+    pub(crate) fn enter(&mut self, phase: Phase)
+        requires { self.old.phase ≡ Wants }
+        ensures { self.new ≡ pure.keep self.old.frames phase self.old.slip }
+    {
+        let Phase::Wants = &self.phase else {
+            unreachable!();
+        };
+        self.phase = phase;
     }
-}
 
-/// The state of these parts.
-pub(crate) fn in_phase(frames: Frames, phase: Phase, slip: Option<Slip>) -> Option<State>
-    ensures { result ≡ Some (pure.keep frames phase slip) }
-{
-    Some(State {
-        frames,
-        phase,
-        slip,
-    })
-}
+    /// What is wrong, if anything, with what was just read.
+    #[inline]
+    #[tactic(auto, using(crate::proofs::Earliest::slips))]
+    pub(crate) fn note(&mut self, found: Option<Slip>)
+        ensures { self.new ≡ pure.keep self.old.frames self.old.phase (pure.earlier self.old.slip found) }
+    {
+        if found.is_some() {
+            self.slip = earlier(self.slip, found);
+        }
+    }
 
-/// A bracket opens.
-pub(crate) fn opened(
-    mut frames: Frames,
-    slip: Option<Slip>,
-    frame: Frame,
-    phase: Phase,
-) -> Result<Option<State>, AllocError>
-    ensures { IfOk result (λ o. o ≡ Some (pure.keep (frame ∷ frames) phase slip)) }
-{
-    frames.push(frame)?;
-    Ok(in_phase(frames, phase, slip))
+    /// A bracket opens, in which an item is wanted.
+    #[inline]
+    pub(crate) fn open(&mut self, frame: Frame) -> Result<(), AllocError>
+        requires { self.old.phase ≡ Wants }
+        ensures { OnOk result (self.new ≡ pure.keep (frame ∷ self.old.frames) Wants self.old.slip) }
+    {
+        self.frames.push(frame)
+    }
+
+    /// An item stands complete; `found` is what is wrong with it.
+    #[inline]
+    pub(crate) fn stand(&mut self, item: Option<Node>, found: Option<Slip>)
+        requires { self.old.phase ≡ Wants }
+        ensures { self.new ≡ pure.keep self.old.frames (Has item) (pure.earlier self.old.slip found) }
+    {
+        self.note(found);
+        self.enter(Phase::Has(item));
+    }
+
+    /// A piece stands complete, behind others.
+    #[inline(never)]
+    pub(crate) fn join(&mut self, before: Pieces, piece: Pieces) -> Result<(), AllocError>
+        requires { self.old.phase ≡ Wants }
+        ensures { OnOk result (self.new ≡ pure.built self.old.frames self.old.slip (Some before) piece) }
+    {
+        self.note(before.slip_before(&piece));
+        self.enter(Phase::Builds(before.with(piece)?));
+        Ok(())
+    }
 }
 
 /// The items of the whole text and its first slip, or nothing where the text may not end here.

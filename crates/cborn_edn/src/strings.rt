@@ -130,7 +130,10 @@ impl Pieces {
     pub(crate) fn slip(&self, may_end: bool) -> Option<Slip>
         ensures { result ≡ pure.string_slip may_end self.now }
     {
-        earlier(self.mark_slip(may_end), self.text_slip())
+        match self.mark_slip(may_end) {
+            None => self.text_slip(),
+            marked => earlier(marked, self.text_slip()),
+        }
     }
 
     fn mark_slip(&self, may_end: bool) -> Option<Slip>
