@@ -1,5 +1,5 @@
 -- A scan from piece to piece.
-use Rattle.std.proofs.Common.{◌≡◌, refl, sym, ap, ◌∙◌, subst, ℕ, ◌+◌, ◌<◌, ◌≤◌, List, [], ◌∷◌, ◌++◌, length, take, drop, get_or, arith, append_assoc, append-nil, add-one}
+use Rattle.std.proofs.Common.{◌≡◌, refl, sym, ap, ◌∙◌, subst, ℕ, ◌+◌, ◌<◌, ◌≤◌, List, [], ◌∷◌, ◌++◌, length, take, drop, get_or, arith, append_assoc, append-nil, add-one, Some}
 use Rattle.std.proofs.lemmas.List.{take-append-drop, length-append, length-take-le, drop_all, drop-drop, get_or-drop}
 use Rattle.std.proofs.Common.{length-drop, true}
 use Rattle.std.proofs.lemmas.Bool.{cond-true}
@@ -10,7 +10,8 @@ use Rattle.cborn_lex.specs.declared.faults.LexFault.TheVariants.{Refused, OutOfM
 use Rattle.cborn_lex.specs.declared.classes.Class.{Class}
 use Rattle.cborn_lex.specs.declared.classes.Token.{Token}
 use Rattle.cborn_lex.specs.Tokens.{Front, Blank, Read, Bad, is_white}
-use Rattle.cborn_lex.specs.Forms.{Start, white, start_of, ReadsFrom, Reads}
+use Rattle.cborn_lex.specs.Forms.{Start, white, slash, hash, less, greater, paren, letter, minus, digit, other, single, opening, quote, start_of, ReadsFrom, Reads}
+use Rattle.cborn_lex.specs.View.{single_class}
 use Rattle.cborn_lex.specs.Lex.{Piece, gap, token, slice, front_of, spelled, AreRead, tokens, Lex, Stop, Between, IsStopAt, IsStopFrom}
 use Rattle.cborn_lex.proofs.Chains.{bad_ends, some_long}
 
@@ -20,6 +21,26 @@ first_reads profile [] tail n a some e h k = absurd (omega arith)
 first_reads profile (c ∷ x) tail n a some e h k =
     let same : tail ≡ x = e in
     (omega arith, omega (arith, ap length same), rw add-one (subst (λ (y : List ℕ). ReadsFrom (start_of c) profile c (take n y) (drop n y) a) same k))
+
+single_is : (s : Start) (k : Class) → single_class s ≡ Some k → s ≡ single k
+single_is (single l) k e = let same : l ≡ k = cc in ap single same
+single_is white k e = cc
+single_is slash k e = cc
+single_is hash k e = cc
+single_is less k e = cc
+single_is greater k e = cc
+single_is paren k e = cc
+single_is letter k e = cc
+single_is minus k e = cc
+single_is digit k e = cc
+single_is other k e = cc
+single_is (opening f) k e = cc
+single_is (quote q) k e = cc
+
+-- a character that is a token alone
+pub single_reads : (profile : Profile) (text : List ℕ) (k : Class) → 0 < length text → single_class (start_of (get_or text 0 0)) ≡ Some k → Reads profile (take 1 text) (drop 1 text) (Read k)
+single_reads profile [] k some e = absurd (omega arith)
+single_reads profile (c ∷ x) k some e = subst (λ (s : Start). ReadsFrom s profile c [] x (Read k)) (sym (single_is (start_of c) k e)) (refl, refl)
 
 -- Pieces one after another.
 

@@ -1,4 +1,6 @@
 -- What the private types of the code stand for. They are devices of the proofs; no definition cites them.
+use Rattle.std.specs.Prelude.{Option, Some, None}
+use Rattle.cborn_lex.specs.declared.classes.Class.{Class}
 use Rattle.cborn_lex.specs.declared.classes.Class.TheVariants as classes
 use Rattle.cborn_lex.specs.declared.fronts.Front.{Front as FrontIn}
 use Rattle.cborn_lex.specs.declared.fronts.Front.TheVariants as fronts
@@ -31,3 +33,8 @@ start_view starts.Minus = minus
 start_view starts.Digit = digit
 start_view starts.Letter = letter
 start_view starts.Other = other
+
+-- the token of a character that is one alone
+abbrev pub single_class : Start → Option Class
+single_class (single k) = Some k
+single_class _ = None

@@ -1,10 +1,10 @@
 //! The front of a text: what it is, and how long.
 
-ghost use Rattle.std.specs.Prelude.{◌≡◌, ℕ, ◌<◌, ◌≤◌, List, length, take, drop, slice_index, IfOk, false, ◌⊎◌};
+ghost use Rattle.std.specs.Prelude.{◌≡◌, ℕ, ◌<◌, ◌≤◌, List, length, take, drop, slice_index, None, IfOk, false, ◌⊎◌};
 ghost use Rattle.cborn_lex.specs.declared.classes.Class.TheVariants.{ArrayOpen, MapOpen, EmbedClose};
 ghost use Rattle.cborn_lex.specs.Tokens.{Blank, is_white, mark_of, marked};
 ghost use Rattle.cborn_lex.specs.Forms.{start_of, paren_front, IsIndicator, Through, Lacks, ReadsFrom, Reads};
-ghost use Rattle.cborn_lex.specs.View.{front_view, start_view};
+ghost use Rattle.cborn_lex.specs.View.{front_view, start_view, single_class};
 
 use crate::classes::{Class, Profile};
 use crate::escaped::quoted;
@@ -71,6 +71,20 @@ fn start_of(c: u8) -> Start
         b'0'..=b'9' => Start::Digit,
         b'a'..=b'z' | b'A'..=b'Z' => Start::Letter,
         _ => Start::Other,
+    }
+}
+
+/// The token that the character is alone, if it is one.
+fn single_of(kind: Start) -> Option<Class>
+    ensures { result ≡ single_class (start_view kind) }
+{
+    match kind {
+        Start::CloseArray => Some(Class::ArrayClose),
+        Start::CloseMap => Some(Class::MapClose),
+        Start::CloseParen => Some(Class::ParenClose),
+        Start::Comma => Some(Class::Comma),
+        Start::Colon => Some(Class::Colon),
+        _ => None,
     }
 }
 
@@ -168,7 +182,7 @@ fn greater(tail: &[u8]) -> (Front, usize)
     }
 }
 
-/// What the first character of `text` begins, which `tail` follows, and how many bytes of `tail` belong to it.
+/// What the first character of `text` begins, which is no token alone and which `tail` follows, and how many bytes of `tail` belong to it.
 fn from_start(
     alloc: Global,
     profile: Profile,
@@ -178,6 +192,7 @@ fn from_start(
 ) -> Result<(Front, usize), AllocError>
     requires some { 0 < length text.now }
     requires tail { tail.now ≡ drop 1 text.now }
+    requires not_single { single_class (start_view kind) ≡ None }
     ensures { IfOk result (λ r. (r.1 ≤ length tail.now) × ReadsFrom (start_view kind) profile (slice_index text.now 0) (take r.1 tail.now) (drop r.1 tail.now) (front_view r.0)) }
 {
     match kind {
@@ -197,11 +212,8 @@ fn from_start(
         Start::Digit => Ok(number_at(false, 1, text, tail)),
         Start::Letter => word_at(alloc, text, tail),
         Start::Other => Ok((Front::Bad(LexReason::UnexpectedCharacter), 0)),
-        Start::CloseArray => Ok((Front::Read(Class::ArrayClose), 0)),
-        Start::CloseMap => Ok((Front::Read(Class::MapClose), 0)),
-        Start::CloseParen => Ok((Front::Read(Class::ParenClose), 0)),
-        Start::Comma => Ok((Front::Read(Class::Comma), 0)),
-        Start::Colon => Ok((Front::Read(Class::Colon), 0)),
+        Start::CloseArray | Start::CloseMap | Start::CloseParen | Start::Comma | Start::Colon =>
+            unreachable!(),
     }
 }
 
@@ -211,7 +223,10 @@ pub fn first_of(alloc: Global, profile: Profile, text: &[u8]) -> Result<(Front, 
     requires no_white { is_white (slice_index text.now 0) ≡ false }
     ensures { IfOk result (λ r. (0 < r.1) × (r.1 ≤ length text.now) × Reads profile (take r.1 text.now) (drop r.1 text.now) (front_view r.0)) }
 {
-    let tail = rest_of(text, 1);
-    let (front, n) = from_start(alloc, profile, start_of(text[0]), text, tail)?;
+    let kind = start_of(text[0]);
+    if let Some(class) = single_of(kind) {
+        return Ok((Front::Read(class), 1));
+    }
+    let (front, n) = from_start(alloc, profile, kind, text, rest_of(text, 1))?;
     Ok((front, n + 1))
 }
