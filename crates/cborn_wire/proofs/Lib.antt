@@ -31,3 +31,9 @@ pub mod HeadFronts
 pub mod HeadTaken
 pub mod FeederKeeps
 pub mod Spellings
+pub mod OpenLevels
+pub mod ScanItems
+pub mod ScanHeads
+pub mod ScanSteps
+pub mod ScanWhole
+pub mod ScanIntegers

@@ -8,3 +8,4 @@ pub mod Reading
 pub mod HeadReading
 pub mod StackView
 pub mod FeederView
+pub mod Scanning

@@ -5,11 +5,12 @@
 //! has begun on one stack (`stacks`), which has no recursion and takes a head or a part of a string at a time: `refusals`
 //! tells where a head may not stand, `frames` has what an open array, map, tag or indefinite string is made of, and
 //! `finishing` puts what is whole into what stands around it. The writer is [`spell`], which writes what a node was read
-//! from. Below both stand single heads, in `heads`.
+//! from. Below both stand single heads, in `heads`. [`scan`] tells whether an input that is held whole is well-formed, or its
+//! one fault, and keeps nothing of the items (`scanning`): of what is open only how much is missing (`levels`).
 //!
 //! A reader of the definitions starts at `specs/Faults.antt`, which tells where bytes are no items, and why; what the items
 //! of well-formed bytes are is told by `cborn_model`. `specs/Feeding.antt` is what a feeder is seen as, and
-//! `specs/Reading.antt` is about one item. `Machine` and `StackView` are devices of the proofs. [`laws`] has what is proved
+//! `specs/Reading.antt` is about one item. `Machine`, `StackView` and `Scanning` are devices of the proofs. [`laws`] has what is proved
 //! of the definitions alone.
 #![tactic(auto)]
 
@@ -19,8 +20,10 @@ mod finishing;
 mod frames;
 mod heads;
 pub mod laws;
+mod levels;
 mod readers;
 mod refusals;
+mod scanning;
 mod spelling;
 mod stacks;
 
@@ -28,6 +31,7 @@ pub use faults::{WireFault, WireReason};
 pub use feeders::Feeder;
 pub use heads::{Argument, Head, HeadRead, head_bytes, push_head, read_head};
 pub use readers::{read_all, read_one};
+pub use scanning::scan;
 pub use spelling::{spell, spell_all};
 
 #[cfg(test)]

@@ -7,5 +7,6 @@ mod heads;
 mod limits;
 mod messages;
 mod readers;
+mod scans;
 mod taking;
 mod vectors;

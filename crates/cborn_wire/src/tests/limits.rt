@@ -3,7 +3,7 @@ use super::checks::spells;
 use super::cuts::{by_bytes, refuses_cut};
 use super::vectors::{shallow, wellformed};
 use crate::WireReason::{TooDeep, Truncated};
-use crate::{WireFault, WireReason, read_all};
+use crate::{WireFault, WireReason, read_all, scan};
 use cborn_model::Limit;
 use std::alloc::{AllocError, Global};
 use std::test::Fail;
@@ -67,6 +67,7 @@ fn allows_as_many_as_the_limit(rt: HostRuntime) -> Result<(), Fail> {
         spells(&rt, rt.alloc(), read, &input);
         let read = by_bytes(&rt, rt.alloc(), limit, &input);
         spells(&rt, rt.alloc(), read, &input);
+        assert_eq!(rt; scan(limit, &input), None);
     }
     Ok(())
 }
@@ -82,6 +83,7 @@ fn refuses_more_than_the_limit(rt: HostRuntime) -> Result<(), Fail> {
         assert_eq!(rt; read.err(), fault, "{place}");
         let read = by_bytes(&rt, rt.alloc(), limit, &input);
         assert_eq!(rt; read.err(), fault, "{place}");
+        assert_eq!(rt; scan(limit, &input), Some((place, reason)), "{place}");
     }
     Ok(())
 }

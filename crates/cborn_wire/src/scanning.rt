@@ -1,0 +1,271 @@
+//! Whether bytes are well-formed, and if not where and why, with nothing kept of the items.
+
+ghost use Rattle.std.specs.Prelude.{ℕ, take, slice_index_or as get_or, ◌≡◌, false, ◌/◌, ◌%◌, ◌<◌, ◌≤◌, List, [], length, nat_le, MatchOption};
+ghost use Rattle.cborn_model.specs.Tree.{Trees};
+ghost use Rattle.cborn_model.specs.Spelled.{Wellformed};
+ghost use Rattle.cborn_model.specs.Placed.{PlacedAll};
+ghost use Rattle.cborn_wire.specs.Slots.{Begun, AreBegun, IsNoChunk};
+ghost use Rattle.cborn_wire.specs.Faults.{Fault, major_at, info_at, is_bad_chunk, needs_item, reason_of};
+ghost use Rattle.cborn_wire.specs.HeadReading.{seen_argument};
+ghost use Rattle.cborn_wire.specs.Scanning.{levels, levels_of, take_head, content_of, slot_at, AreSmall, Steps};
+ghost use Rattle.cborn_wire.specs.declared.scanning.Step.TheVariants.{Taken};
+
+use crate::frames::Kind;
+use crate::heads::{is_always_bounded, is_break, is_container, is_endless, is_float, is_reserved};
+use crate::levels::{Level, Levels};
+use crate::{Argument, Head, HeadRead, WireReason, read_head};
+use cborn_model::Limit;
+
+/// What a step of a scan came to.
+#[derive(Clone, Copy, PartialEq, Eq, Debug)]
+pub(crate) enum Step {
+    /// So many bytes were taken.
+    Taken(usize),
+    /// The bytes end within a head or a string.
+    Cut,
+    /// A head may not stand where it stands.
+    Refused(WireReason),
+}
+
+/// The one fault of bytes that are no sequence of items (RFC 8742) in which at most `limit` arrays, maps and tags stand around one another (RFC 8949 section 3): its offset in bytes from their start, and its reason. None where they are such a sequence. Takes no memory, and keeps nothing of the items.
+pub fn scan(limit: Limit, bytes: &[u8]) -> Option<(u64, WireReason)>
+    ensures { MatchOption result ((ts : Trees) × Wellformed limit ts bytes.now × PlacedAll 0 ts) (λ f. Fault limit bytes.now f.0 f.1) }
+{
+    let most = limit.get();
+    let mut levels = Levels::new();
+    let mut at = 0;
+    while at < bytes.len() {
+        match levels.take(most, &bytes[at..]) {
+            Step::Taken(taken) => at += taken,
+            Step::Cut => return Some((bytes.len() as u64, WireReason::Truncated)),
+            Step::Refused(reason) => return Some((at as u64, reason)),
+        }
+    }
+    if levels.top.is_some() {
+        return Some((bytes.len() as u64, WireReason::Truncated));
+    }
+    None
+}
+
+impl Levels {
+    /// Takes the head at the front of `piece`, and the bytes of a string with it.
+    #[inline(always)]
+    fn take(&mut self, limit: u64, piece: &[u8]) -> Step
+        requires kept { self.old.len ≤ 1025 }
+        requires some { 0 < length piece.now }
+        requires small { limit ≤ 1024 }
+        requires begun { (os : List Begun) × AreBegun limit os × (levels_of os ≡ levels self.old) }
+        ensures steps { Steps limit piece.now (levels self.old) (levels self.new) result }
+        ensures kept { self.new.len ≤ 1025 }
+    {
+        if piece[0] < 24 {
+            return self.take_small(limit, piece);
+        }
+        self.take_any(limit, piece)
+    }
+
+    // The same where an integer that is its initial byte comes first.
+    #[inline(always)]
+    fn take_small(&mut self, limit: u64, piece: &[u8]) -> Step
+        requires kept { self.old.len ≤ 1025 }
+        requires some { 0 < length piece.now }
+        requires small { limit ≤ 1024 }
+        requires begun { (os : List Begun) × AreBegun limit os × (levels_of os ≡ levels self.old) }
+        requires first { get_or piece.now 0 0 < 24 }
+        ensures steps { Steps limit piece.now (levels self.old) (levels self.new) result }
+        ensures kept { self.new.len ≤ 1025 }
+    {
+        let run = self.take_run(piece);
+        if run > 0 {
+            return Step::Taken(run);
+        }
+        if self.is_chunked() {
+            return self.take_any(limit, piece);
+        }
+        self.finish();
+        Step::Taken(1)
+    }
+
+    // Takes integers that are their initial bytes, where nothing is open, or an array that goes on behind them. Answers how many they are.
+    #[inline(always)]
+    fn take_run(&mut self, piece: &[u8]) -> usize
+        requires kept { self.old.len ≤ 1025 }
+        ensures steps { 0 < result → (limit : ℕ) → Steps limit piece.now (levels self.old) (levels self.new) (Taken result) }
+        ensures none { result ≡ 0 → levels self.new ≡ levels self.old }
+        ensures kept { self.new.len ≤ 1025 }
+    {
+        match self.top {
+            None => small_run(piece, u64::MAX),
+            Some(Level::EndlessArray) => small_run(piece, u64::MAX),
+            Some(Level::Array(n)) => {
+                let run = small_run(piece, n);
+                self.top = Some(Level::Array(n - run as u64));
+                run
+            }
+            _ => 0,
+        }
+    }
+
+    // An indefinite string is open.
+    #[inline(always)]
+    fn is_chunked(&self) -> bool
+        ensures { result ≡ false → IsNoChunk (slot_at (levels self.now)) }
+    {
+        matches!(self.top, Some(Level::Chunks(_)))
+    }
+
+    // The same for any head.
+    #[inline(never)]
+    fn take_any(&mut self, limit: u64, piece: &[u8]) -> Step
+        requires kept { self.old.len ≤ 1025 }
+        requires some { 0 < length piece.now }
+        requires small { limit ≤ 1024 }
+        requires begun { (os : List Begun) × AreBegun limit os × (levels_of os ≡ levels self.old) }
+        ensures steps { Steps limit piece.now (levels self.old) (levels self.new) result }
+        ensures kept { self.new.len ≤ 1025 }
+    {
+        if let Some(reason) = self.refusal(limit, piece[0]) {
+            return Step::Refused(reason);
+        }
+        match read_head(piece) {
+            HeadRead::Full(head, len) => {
+                let content = content_len(head);
+                if content > (piece.len() - len) as u64 {
+                    return Step::Cut;
+                }
+                self.take_head(head);
+                Step::Taken(len + content as usize)
+            }
+            HeadRead::Short => Step::Cut,
+            HeadRead::Bad(reason) => Step::Refused(reason),
+        }
+    }
+
+    // Why a head with this initial byte may not stand here, as far as that byte tells.
+    #[inline(always)]
+    fn refusal(&self, limit: u64, first: u8) -> Option<WireReason>
+        requires { self.now.len ≤ 1025 }
+        ensures { result ≡ reason_of (slot_at (levels self.now)) (nat_le limit (length (levels self.now))) (major_at (first / 32)) (info_at (first % 32)) [] }
+    {
+        let major = first / 32;
+        let information = first % 32;
+        // An integer, or a string of a definite length, is a bad chunk if it is anything.
+        if major < 4 && information < 28 && !self.is_bad_chunk(major, information) {
+            return None;
+        }
+        self.refusal_in_order(limit, first)
+    }
+
+    // The same for any initial byte. The tests stand in the order of the reasons.
+    #[inline(never)]
+    fn refusal_in_order(&self, limit: u64, first: u8) -> Option<WireReason>
+        requires { self.now.len ≤ 1025 }
+        ensures { result ≡ reason_of (slot_at (levels self.now)) (nat_le limit (length (levels self.now))) (major_at (first / 32)) (info_at (first % 32)) [] }
+    {
+        let major = first / 32;
+        let information = first % 32;
+        if is_reserved(information) {
+            return Some(WireReason::ReservedInfo);
+        }
+        if is_endless(information) && is_always_bounded(major) {
+            return Some(WireReason::EndlessNotAllowed);
+        }
+        if self.is_bad_chunk(major, information) {
+            return Some(WireReason::BadChunk);
+        }
+        if is_break(major, information) && self.needs_item() {
+            return Some(WireReason::UnexpectedBreak);
+        }
+        if is_float(major, information) {
+            return Some(WireReason::FloatLeftOut);
+        }
+        if is_container(major) && self.count() >= limit {
+            return Some(WireReason::TooDeep);
+        }
+        None
+    }
+
+    // In an indefinite string, neither a break nor a definite string of its kind.
+    fn is_bad_chunk(&self, major: u8, information: u8) -> bool
+        requires major { major < 8 }
+        requires information { information < 32 }
+        ensures { result ≡ is_bad_chunk (slot_at (levels self.now)) (major_at major) (info_at information) }
+    {
+        match self.top {
+            Some(Level::Chunks(kind)) => {
+                let wanted = match kind {
+                    Kind::Bytes => 2,
+                    Kind::Text => 3,
+                };
+                !is_break(major, information) && (major != wanted || is_endless(information))
+            }
+            _ => false,
+        }
+    }
+
+    // An item has to stand here, and no break.
+    fn needs_item(&self) -> bool
+        ensures { result ≡ needs_item (slot_at (levels self.now)) }
+    {
+        match self.top {
+            None => true,
+            Some(level) => level.needs_item(),
+        }
+    }
+
+    // A whole head, and the bytes of a string with it.
+    #[inline(always)]
+    fn take_head(&mut self, head: Head)
+        requires kept { self.old.len ≤ 1025 }
+        requires room { length (levels self.old) ≤ 1025 }
+        requires major { head.major < 8 }
+        ensures open { levels self.new ≡ take_head (levels self.old) (major_at head.major) (seen_argument head.argument) }
+        ensures kept { self.new.len ≤ 1025 }
+    {
+        match (head.major, head.argument) {
+            (2, Argument::Endless) => self.begin(Level::Chunks(Kind::Bytes)),
+            (3, Argument::Endless) => self.begin(Level::Chunks(Kind::Text)),
+            (4, argument) => self.begin_items(argument),
+            (5, argument) => self.begin_pairs(argument),
+            (6, _) => self.begin(Level::Tag),
+            (7, Argument::Endless) => {
+                self.leave();
+                self.finish();
+            }
+            _ => self.finish(),
+        }
+    }
+}
+
+// How many bytes of a string follow its head.
+#[inline(always)]
+fn content_len(head: Head) -> u64
+    requires { head.major < 8 }
+    ensures { result ≡ content_of (major_at head.major) (seen_argument head.argument) }
+{
+    match (head.major, head.argument) {
+        (2 | 3, Argument::Given(_, n)) => n,
+        _ => 0,
+    }
+}
+
+// How many integers that are their initial bytes stand at the front, fewer than `below` if any.
+#[inline(always)]
+fn small_run(bytes: &[u8], below: u64) -> usize
+    ensures len { result ≤ length bytes.now }
+    ensures below { 0 < result → result < below }
+    ensures small { AreSmall (take result bytes.now) }
+{
+    let most = if below > bytes.len() as u64 {
+        bytes.len()
+    } else if below == 0 {
+        0
+    } else {
+        (below - 1) as usize
+    };
+    let mut at = 0;
+    while at < most && bytes[at] < 24 {
+        at += 1;
+    }
+    at
+}
