@@ -1,0 +1,9 @@
+pub mod Closing
+pub mod Lists
+pub mod Pairing
+pub mod Heading
+pub mod Keying
+pub mod Iteming
+pub mod Placing
+pub mod Walking
+pub mod Walked

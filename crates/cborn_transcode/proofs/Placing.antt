@@ -1,0 +1,93 @@
+-- What nodes mean does not depend on where they stand.
+use Rattle.std.proofs.Common.{◌≡◌, ℕ, suc, ◌+◌, ◌≤◌, inl, inr, List, [], ◌∷◌, ◌++◌, length, Bool, true, false, refl, sym, ap, ◌∙◌, subst, Ordering}
+use Rattle.std.specs.List.{AllZip}
+use Rattle.cborn_model.specs.declared.nodes.Chunk.{Chunk}
+use Rattle.cborn_model.specs.Heads.{Major, ByteString, TextString, Array, Map, Tag, Given, head, argument}
+use Rattle.cborn_model.specs.Tree.{Tree, Uint, Nint, Bytes, Text, ByteChunks, TextChunks, Items, Pairs, Tagged, Simple, Trees, no_item, more, Entries, no_entry, entry, trees, count, count_entries}
+use Rattle.cborn_model.specs.Spelled.{chunk_bytes, spelled, Wellformed}
+use Rattle.cborn_model.specs.Placed.{PlacedAll}
+use Rattle.cborn_model.specs.Value.{Value, Values, Couples, bytes, text, no_values, value, no_pairs, pair}
+use Rattle.cborn_model.specs.Meaning.{Means, AllMean, EntriesMean, IsByteString, IsBignum, ChunksAreText, joined_chunks}
+use Rattle.cborn_wire.specs.Places.{chunks_from, placed_from, all_from, entries_from}
+use Rattle.cborn_wire.proofs.AsPlaced.{spelled_all-from, depth_all-from, fits_all-from, placed_all-from}
+use Rattle.cborn_wire.proofs.TreeLists.{tree_list, trees-tree_list}
+use Rattle.cborn_transcode.specs.Transcoding.{IsTranscoded}
+
+joined-from : (m : Major) (cs : List Chunk) (p : ℕ) → joined_chunks (chunks_from m p cs) ≡ joined_chunks cs
+joined-from m [] p = refl
+joined-from m (c ∷ cs) p = ap (λ l. c.bytes ++ l) (joined-from m cs (p + length (chunk_bytes m c)))
+
+text-from : (m : Major) (cs : List Chunk) (p : ℕ) → ChunksAreText cs → ChunksAreText (chunks_from m p cs)
+text-from m [] p h = tt
+text-from m (c ∷ cs) p h = (h.0, text-from m cs (p + length (chunk_bytes m c)) h.1)
+
+string-from : (t : Tree) (p : ℕ) (b : List ℕ) → IsByteString t b → IsByteString (placed_from p t) b
+string-from (Bytes q w c) p b h = h
+string-from (ByteChunks q cs) p b h = h ∙ sym (joined-from ByteString cs (suc p))
+string-from (Uint q w n) p b h = absurd h
+string-from (Nint q w n) p b h = absurd h
+string-from (Text q w c) p b h = absurd h
+string-from (TextChunks q cs) p b h = absurd h
+string-from (Items q s ts) p b h = absurd h
+string-from (Pairs q s es) p b h = absurd h
+string-from (Tagged q w n t) p b h = absurd h
+string-from (Simple q n) p b h = absurd h
+
+bignum-from : (negative : Bool) (t : Tree) (p : ℕ) (v : Value) → IsBignum negative t v → IsBignum negative (placed_from p t) v
+bignum-from negative t p v h = (h.0, string-from t p h.0 h.1, h.2)
+
+mutual
+  means-from : (t : Tree) (p : ℕ) (v : Value) → Means t v → Means (placed_from p t) v
+  means-from (Uint q w n) p v h = h
+  means-from (Nint q w n) p v h = h
+  means-from (Bytes q w b) p v h = h
+  means-from (Text q w b) p v h = h
+  means-from (ByteChunks q cs) p v h = h ∙ ap bytes (sym (joined-from ByteString cs (suc p)))
+  means-from (TextChunks q cs) p v h = (text-from TextString cs (suc p) h.0, h.1 ∙ ap text (sym (joined-from TextString cs (suc p))))
+  means-from (Items q s ts) p v h = (h.0, all_mean-from ts (p + length (head Array (argument s (count ts)))) h.0 h.1, h.2)
+  means-from (Pairs q s es) p v h = (h.0, entries_mean-from es (p + length (head Map (argument s (count_entries es)))) h.0 h.1, h.2, h.3)
+  means-from (Tagged q w n t) p v (inl h) = inl (h.0, bignum-from false t (p + length (head Tag (Given w n))) v h.1)
+  means-from (Tagged q w n t) p v (inr (inl h)) = inr (inl (h.0, bignum-from true t (p + length (head Tag (Given w n))) v h.1))
+  means-from (Tagged q w n t) p v (inr (inr h)) = inr (inr (h.0, h.1, h.2, means-from t (p + length (head Tag (Given w n))) h.2 h.3, h.4))
+  means-from (Simple q n) p v h = h
+
+  all_mean-from : (ts : Trees) (p : ℕ) (vs : Values) → AllMean ts vs → AllMean (all_from p ts) vs
+  all_mean-from no_item p no_values h = tt
+  all_mean-from no_item p (value v vs) h = absurd h
+  all_mean-from (more t ts) p no_values h = absurd h
+  all_mean-from (more t ts) p (value v vs) h = (means-from t p v h.0, all_mean-from ts (p + length (spelled t)) vs h.1)
+
+  entries_mean-from : (es : Entries) (p : ℕ) (ps : Couples) → EntriesMean es ps → EntriesMean (entries_from p es) ps
+  entries_mean-from no_entry p no_pairs h = tt
+  entries_mean-from no_entry p (pair a b ps) h = absurd h
+  entries_mean-from (entry k v es) p no_pairs h = absurd h
+  entries_mean-from (entry k v es) p (pair a b ps) h =
+      (means-from k p a h.0, means-from v (p + length (spelled k)) b h.1, entries_mean-from es (p + length (spelled k) + length (spelled v)) ps h.2)
+
+zip-from : (ts : List Tree) (p : ℕ) (vs : List Value) → AllZip Means ts vs → AllZip Means (tree_list (all_from p (trees ts))) vs
+zip-from [] p [] h = tt
+zip-from [] p (v ∷ vs) h = absurd h
+zip-from (t ∷ ts) p [] h = absurd h
+zip-from (t ∷ ts) p (v ∷ vs) h = (means-from t p v h.0, zip-from ts (p + length (spelled t)) vs h.1)
+
+-- the nodes of what was normalised, each at its place
+pub record Placements (limit : ℕ) (input : List ℕ) (items : List Value) : Type 0 where
+  pub nodes : List Tree
+  pub read : Wellformed limit (trees nodes) input
+  pub placed : PlacedAll 0 (trees nodes)
+  pub meant : AllZip Means nodes items
+
+pub placements : (order : List ℕ → List ℕ → Ordering) (limit : ℕ) (input output : List ℕ) (n : IsTranscoded order limit input output) → Placements limit input n.items
+placements order limit input output n =
+    let same : trees (tree_list (all_from 0 (trees n.nodes))) ≡ all_from 0 (trees n.nodes) = trees-tree_list (all_from 0 (trees n.nodes)) in
+    let read : Wellformed limit (all_from 0 (trees n.nodes)) input = record {
+      spells = spelled_all-from (trees n.nodes) 0 ∙ n.read.spells;
+      fit = fits_all-from (trees n.nodes) 0 n.read.fit;
+      shallow = subst (λ (d : ℕ). d ≤ limit) (sym (depth_all-from (trees n.nodes) 0)) n.read.shallow;
+    } in
+    record {
+      nodes = tree_list (all_from 0 (trees n.nodes));
+      read = subst (λ (us : Trees). Wellformed limit us input) (sym same) read;
+      placed = subst (PlacedAll 0) (sym same) (placed_all-from (trees n.nodes) 0);
+      meant = zip-from n.nodes 0 n.items n.meant;
+    }

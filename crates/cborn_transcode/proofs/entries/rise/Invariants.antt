@@ -1,0 +1,10 @@
+use Rattle.std.proofs.Common.{◌++◌, drop, List}
+use Rattle.cborn_model.specs.Orders.{Rising}
+use Rattle.cborn_det.specs.Det.{Entry, keys}
+use Rattle.cborn_det.specs.Appending.{IsWritten}
+use Rattle.cborn_det.proofs.Cutting.{EndsIn}
+use Rattle.cborn_transcode.proofs.entries.rise.Given as goal
+
+-- the entries so far, whose keys rise, and those of what is left
+abbrev pub invariant-loop-key_len : goal.invariant-loop-key_len
+invariant-loop-key_len g l = (es : List Entry) × (front : List Entry) × IsWritten es (drop l.key_len-index l.lengths) l.rest × IsWritten (front ++ es) l.lengths l.written × Rising g.O.KeyOrder.order (keys front) × EndsIn l.before (keys front)

@@ -1,0 +1,175 @@
+use Rattle.std.proofs.Common.{rules, ◌≡◌, ◌≢◌, ◌<◌, ◌+◌, ◌-◌, ◌^◌, ◌++◌, ◌∷◌, [], inl, inr, refl, length, ℕ, List, true, false, subst, sym, arith}
+use Rattle.std.proofs.lemmas.List.{take_rest}
+use Rattle.cborn_wire.specs.declared.heads.Argument.TheVariants.{Given, Endless}
+use Rattle.cborn_transcode.specs.Transcoding.{ItemsTranscoded, PairsTranscoded, MapTranscoded}
+use Rattle.cborn_transcode.proofs.Closing.{uint_done, nint_done, bytes_done, text_done, byte_chunks_done, text_chunks_done, simple_done, bignum_done, tagged_done}
+use Rattle.cborn_transcode.proofs.Lists.{all_none, run_more, all_more, array_done, endless_array_done}
+use Rattle.cborn_transcode.proofs.Pairing.{pairs_none, pairs_more, map_fused, endless_map_fused, arranged_map}
+use Rattle.cborn_transcode.proofs.Iteming.{inside, alone, item_last, under}
+use Rattle.cborn_transcode.proofs.items.+transcoded.Goals.{put_items-else-items-test, put_items-then-items-test+in_ok-after+then-is_done}
+use Rattle.cborn_transcode.proofs.items.+transcoded.Goals as goal
+
+pub put_item-returns : goal.put_item-returns
+put_item-returns g t c =
+    under c.last.result
+    (λ rest e. item_last g.O.KeyOrder.order c.args.room c.args.bytes.now rest.now c.args.out.now.items c.put_node.new.out.items c.in_ok-left.left c.in_ok-left.ensures e)
+    c.last.ensures
+
+pub put_node-returns-in_ok-put_head-in-0 : goal.put_node-returns-in_ok-put_head-in-0
+put_node-returns-in_ok-put_head-in-0 g t c =
+    alone g.O.KeyOrder.order c.args.room c.args.bytes.now _ c.args.out.now.items c.put_head.new.out.items _ c.in-Full.head c.in-Full.len 0 (Given c.in-Given.field-0 c.in-Given.n) (take_rest c.args.bytes.now c.in-Full.len) c.in-Full.ensures c.in-0.is c.in-Given.is (search rules)
+    (λ fits. uint_done g.O.KeyOrder.order c.args.room c.in-Given.field-0 c.in-Given.n _ c.args.out.now.items c.put_head.new.out.items fits c.in_ok-put_head-in-0.ensures)
+
+pub put_node-returns-in_ok-put_head-in-1 : goal.put_node-returns-in_ok-put_head-in-1
+put_node-returns-in_ok-put_head-in-1 g t c =
+    alone g.O.KeyOrder.order c.args.room c.args.bytes.now _ c.args.out.now.items c.put_head-in-1.new.out.items _ c.in-Full.head c.in-Full.len 1 (Given c.in-Given.field-0 c.in-Given.n) (take_rest c.args.bytes.now c.in-Full.len) c.in-Full.ensures c.in-1.is c.in-Given.is (search rules)
+    (λ fits. nint_done g.O.KeyOrder.order c.args.room c.in-Given.field-0 c.in-Given.n _ c.args.out.now.items c.put_head-in-1.new.out.items fits c.in_ok-put_head-in-1.ensures)
+
+pub put_node-returns-in-2 : goal.put_node-returns-in-2
+put_node-returns-in-2 g t c =
+    under c.put_string_leaving.result
+    (λ left s. inside g.O.KeyOrder.order c.args.room c.args.bytes.now _ c.args.out.now.items c.put_string_leaving.new.out.items _ c.in-Full.head c.in-Full.len 2 (Given c.in-Given.field-0 c.in-Given.n) (take_rest c.args.bytes.now c.in-Full.len) c.in-Full.ensures c.in-2.is c.in-Given.is
+    (λ fits. (s.0, s.1, bytes_done g.O.KeyOrder.order c.args.room c.in-Given.field-0 c.in-Given.n _ s.0 c.args.out.now.items c.put_string_leaving.new.out.items fits s.2)))
+    c.put_string_leaving.ensures
+
+pub put_node-returns-in-3 : goal.put_node-returns-in-3
+put_node-returns-in-3 g t c =
+    under c.put_string_leaving-in-3.result
+    (λ left s. inside g.O.KeyOrder.order c.args.room c.args.bytes.now _ c.args.out.now.items c.put_string_leaving-in-3.new.out.items _ c.in-Full.head c.in-Full.len 3 (Given c.in-Given.field-0 c.in-Given.n) (take_rest c.args.bytes.now c.in-Full.len) c.in-Full.ensures c.in-3.is c.in-Given.is
+    (λ fits. (s.0, s.1, text_done g.O.KeyOrder.order c.args.room c.in-Given.field-0 c.in-Given.n _ s.0 c.args.out.now.items c.put_string_leaving-in-3.new.out.items fits s.2)))
+    c.put_string_leaving-in-3.ensures
+
+pub put_node-returns-in-4 : goal.put_node-returns-in-4
+put_node-returns-in-4 g t c =
+    under c.put_fixed_array.result
+    (λ left s. inside g.O.KeyOrder.order c.args.room c.args.bytes.now _ c.args.out.now.items c.put_fixed_array.new.out.items _ c.in-Full.head c.in-Full.len 4 (Given c.in-Given.field-0 c.in-Given.n) (take_rest c.args.bytes.now c.in-Full.len) c.in-Full.ensures c.in-4.is c.in-Given.is (λ fits. s c.in-Given.field-0 fits))
+    c.put_fixed_array.ensures
+
+pub put_node-returns-in-5 : goal.put_node-returns-in-5
+put_node-returns-in-5 g t c =
+    under c.put_fixed_map.result
+    (λ left s. inside g.O.KeyOrder.order c.args.room c.args.bytes.now _ c.args.out.now.items c.put_fixed_map.new.out.items _ c.in-Full.head c.in-Full.len 5 (Given c.in-Given.field-0 c.in-Given.n) (take_rest c.args.bytes.now c.in-Full.len) c.in-Full.ensures c.in-5.is c.in-Given.is (λ fits. s c.in-Given.field-0 fits))
+    c.put_fixed_map.ensures
+
+pub put_node-returns-in-6 : goal.put_node-returns-in-6
+put_node-returns-in-6 g t c =
+    under c.put_tagged.result
+    (λ left s. inside g.O.KeyOrder.order c.args.room c.args.bytes.now _ c.args.out.now.items c.put_tagged.new.out.items _ c.in-Full.head c.in-Full.len 6 (Given c.in-Given.field-0 c.in-Given.n) (take_rest c.args.bytes.now c.in-Full.len) c.in-Full.ensures c.in-6.is c.in-Given.is (λ fits. s c.in-Given.field-0 fits))
+    c.put_tagged.ensures
+
+pub put_node-returns-in_ok-put_simple-in-7 : goal.put_node-returns-in_ok-put_simple-in-7
+put_node-returns-in_ok-put_simple-in-7 g t c =
+    alone g.O.KeyOrder.order c.args.room c.args.bytes.now _ c.args.out.now.items c.put_simple.new.out.items _ c.in-Full.head c.in-Full.len 7 c.in-Full.head.argument (take_rest c.args.bytes.now c.in-Full.len) c.in-Full.ensures c.in-7.is refl (search rules)
+    (λ fits. simple_done g.O.KeyOrder.order c.args.room c.in-Full.head.argument _ c.args.out.now.items c.put_simple.new.out.items c.in_ok-put_simple-in-7.ensures)
+
+pub put_node-returns-in-2-major : goal.put_node-returns-in-2-major
+put_node-returns-in-2-major g t c =
+    under c.put_long_string_leaving.result
+    (λ left s. inside g.O.KeyOrder.order c.args.room c.args.bytes.now _ c.args.out.now.items c.put_long_string_leaving.new.out.items _ c.in-Full.head c.in-Full.len 2 Endless (take_rest c.args.bytes.now c.in-Full.len) c.in-Full.ensures c.in-2-major.is c.in-Endless.is
+    (λ fits. (s.0, s.1, byte_chunks_done g.O.KeyOrder.order c.args.room _ s.0 c.args.out.now.items c.put_long_string_leaving.new.out.items s.2)))
+    c.put_long_string_leaving.ensures
+
+pub put_node-returns-in-3-major : goal.put_node-returns-in-3-major
+put_node-returns-in-3-major g t c =
+    under c.put_long_string_leaving-in-3-major.result
+    (λ left s. inside g.O.KeyOrder.order c.args.room c.args.bytes.now _ c.args.out.now.items c.put_long_string_leaving-in-3-major.new.out.items _ c.in-Full.head c.in-Full.len 3 Endless (take_rest c.args.bytes.now c.in-Full.len) c.in-Full.ensures c.in-3-major.is c.in-Endless.is
+    (λ fits. (s.0, s.1, text_chunks_done g.O.KeyOrder.order c.args.room _ s.0 c.args.out.now.items c.put_long_string_leaving-in-3-major.new.out.items s.2)))
+    c.put_long_string_leaving-in-3-major.ensures
+
+pub put_items-items-init : goal.put_items-items-init
+put_items-items-init g t c = (all_none g.O.KeyOrder.order c.args.room c.args.bytes.now c.args.out.now.items, omega arith)
+
+pub put_items-items-preserved : goal.put_items-items-preserved
+put_items-items-preserved g t c =
+    let some : ItemsTranscoded g.O.KeyOrder.order c.args.room (c.items.count + c.in_ok-after.found) c.args.bytes.now c.in_ok-after.after.now c.args.out.now.items c.put_run.new.out.items =
+    run_more g.O.KeyOrder.order c.args.room c.items.count c.in_ok-after.found c.args.bytes.now c.items.rest.now c.in_ok-after.after.now c.args.out.now.items c.items.out.items c.put_run.new.out.items c.items.invariant.0 (c.in_ok-after.ensures.run g.O.KeyOrder.order) in
+    let more : c.items.count + c.in_ok-after.found ≢ c.args.most = c.is_done.ensures c.if-is_done.false in
+    (all_more g.O.KeyOrder.order c.args.room (c.items.count + c.in_ok-after.found) c.args.bytes.now c.in_ok-after.after.now c.in_ok-rest.rest.now c.args.out.now.items c.put_run.new.out.items c.put_item.new.out.items some c.in_ok-rest.ensures, omega (arith, c.items.invariant.1, c.in_ok-after.ensures.most))
+
+pub put_items-returns : goal.put_items-returns
+put_items-returns g t c =
+    elim c.items-test.branch [
+      | put_items-else-items-test w ↦ rw (w.count-is, w.rest-is, w.out-is) c.items.invariant.0
+      | put_items-then-items-test+in_ok-after+then-is_done w ↦ rw (w.count-is, w.rest-is, w.out-is)
+          (run_more g.O.KeyOrder.order c.args.room c.items.count w.in_ok-after.found c.args.bytes.now c.items.rest.now w.in_ok-after.after.now c.args.out.now.items c.items.out.items w.put_run.new.out.items c.items.invariant.0 (w.in_ok-after.ensures.run g.O.KeyOrder.order))
+    ]
+
+pub put_fixed_array-returns : goal.put_fixed_array-returns
+put_fixed_array-returns g t c w h = (
+  c.in_ok-rest.rest.now,
+  refl,
+  array_done g.O.KeyOrder.order c.args.room w c.args.n c.args.bytes.now c.in_ok-rest.rest.now c.args.out.now.items c.put_head.new.out.items c.put_items.new.out.items (omega arith) h c.in_ok-put_head.ensures
+      (subst (λ (k : ℕ). ItemsTranscoded g.O.KeyOrder.order (c.args.room - 1) k c.args.bytes.now c.in_ok-rest.rest.now c.put_head.new.out.items c.put_items.new.out.items) c.if-count-n.false c.in_ok-rest.ensures),
+)
+
+pub put_endless_array-returns : goal.put_endless_array-returns
+put_endless_array-returns g t c =
+    let pushed : c.push.new.self.items ≡ c.args.out.now.items ++ 0 ∷ [] = search rules in
+    let start : c.len-start.result ≡ length c.args.out.now.items = search rules in (
+      c.in_ok-after.after.now,
+      search rules,
+      endless_array_done g.O.KeyOrder.order c.args.room c.in_ok-rest.count c.len-start.result c.args.bytes.now c.in_ok-rest.rest.now c.in_ok-after.after.now c.args.out.now.items c.put_items.new.out.items c.set_head.new.out.items (omega arith) start c.in_ok-after.ensures
+          (subst (λ (l : List ℕ). ItemsTranscoded g.O.KeyOrder.order (c.args.room - 1) c.in_ok-rest.count c.args.bytes.now c.in_ok-rest.rest.now l c.put_items.new.out.items) pushed c.in_ok-rest.ensures) c.in_ok-set_head.ensures,
+    )
+
+pub put_fixed_map-returns : goal.put_fixed_map-returns
+put_fixed_map-returns g t c w h =
+    let short : length c.args.bytes.now < 2 ^ 64 = omega arith in
+    let start : c.len-start.result ≡ length c.put_head.new.out.items = search rules in
+    let lengths : c.put_pairs.new.lengths.items ≡ c.deref.result.now = search rules in
+    let pairs : PairsTranscoded g.O.KeyOrder.order (c.args.room - 1) c.in_ok-rest.count c.put_pairs.new.lengths.items c.args.bytes.now c.in_ok-rest.rest.now c.put_head.new.out.items c.put_pairs.new.out.items = c.in_ok-rest.ensures (search rules) in
+    let arranged : MapTranscoded g.O.KeyOrder.order (c.args.room - 1) c.in_ok-rest.count c.args.bytes.now c.in_ok-rest.rest.now c.put_head.new.out.items c.arrange.new.out.items =
+    arranged_map g.O.KeyOrder.order (c.args.room - 1) c.in_ok-rest.count c.len-start.result c.deref.result.now c.args.bytes.now c.in_ok-rest.rest.now c.put_head.new.out.items c.put_pairs.new.out.items c.arrange.new.out.items start
+    (subst (λ (l : List (ℕ × ℕ)). PairsTranscoded g.O.KeyOrder.order (c.args.room - 1) c.in_ok-rest.count l c.args.bytes.now c.in_ok-rest.rest.now c.put_head.new.out.items c.put_pairs.new.out.items) lengths pairs) c.in_ok-arrange.ensures in (
+      c.in_ok-rest.rest.now,
+      search rules,
+      map_fused g.O.KeyOrder.order g.met.O.KeyOrder.laws c.args.room w c.args.n c.args.bytes.now c.in_ok-rest.rest.now c.args.out.now.items c.put_head.new.out.items c.arrange.new.out.items (omega arith) short h c.in_ok-put_head.ensures
+          (subst (λ (k : ℕ). MapTranscoded g.O.KeyOrder.order (c.args.room - 1) k c.args.bytes.now c.in_ok-rest.rest.now c.put_head.new.out.items c.arrange.new.out.items) c.if-count-n.false arranged),
+    )
+
+pub put_endless_map-returns : goal.put_endless_map-returns
+put_endless_map-returns g t c =
+    let short : length c.args.bytes.now < 2 ^ 64 = omega arith in
+    let pushed : c.push.new.self.items ≡ c.args.out.now.items ++ 0 ∷ [] = search rules in
+    let head_start : c.len-head_start.result ≡ length c.args.out.now.items = search rules in
+    let start : c.len-start.result ≡ length c.push.new.self.items = search rules in
+    let lengths : c.put_pairs.new.lengths.items ≡ c.deref.result.now = search rules in
+    let pairs : PairsTranscoded g.O.KeyOrder.order (c.args.room - 1) c.in_ok-rest.count c.put_pairs.new.lengths.items c.args.bytes.now c.in_ok-rest.rest.now c.push.new.self.items c.put_pairs.new.out.items = c.in_ok-rest.ensures (search rules) in
+    let arranged : MapTranscoded g.O.KeyOrder.order (c.args.room - 1) c.in_ok-rest.count c.args.bytes.now c.in_ok-rest.rest.now c.push.new.self.items c.arrange.new.out.items =
+    arranged_map g.O.KeyOrder.order (c.args.room - 1) c.in_ok-rest.count c.len-start.result c.deref.result.now c.args.bytes.now c.in_ok-rest.rest.now c.push.new.self.items c.put_pairs.new.out.items c.arrange.new.out.items start
+    (subst (λ (l : List (ℕ × ℕ)). PairsTranscoded g.O.KeyOrder.order (c.args.room - 1) c.in_ok-rest.count l c.args.bytes.now c.in_ok-rest.rest.now c.push.new.self.items c.put_pairs.new.out.items) lengths pairs) c.in_ok-arrange.ensures in (
+      c.in_ok-after.after.now,
+      search rules,
+      endless_map_fused g.O.KeyOrder.order g.met.O.KeyOrder.laws c.args.room c.in_ok-rest.count c.len-head_start.result c.args.bytes.now c.in_ok-rest.rest.now c.in_ok-after.after.now c.args.out.now.items c.arrange.new.out.items c.set_head.new.out.items (omega arith) short head_start c.in_ok-after.ensures
+          (subst (λ (l : List ℕ). MapTranscoded g.O.KeyOrder.order (c.args.room - 1) c.in_ok-rest.count c.args.bytes.now c.in_ok-rest.rest.now l c.arrange.new.out.items) pushed arranged) c.in_ok-set_head.ensures,
+    )
+
+pub put_pairs-pairs-init : goal.put_pairs-pairs-init
+put_pairs-pairs-init g t c =
+    ((λ nil. subst (λ (l : List (ℕ × ℕ)). PairsTranscoded g.O.KeyOrder.order c.args.room 0 l c.args.bytes.now c.args.bytes.now c.args.out.now.items c.args.out.now.items) (sym nil) (pairs_none g.O.KeyOrder.order c.args.room c.args.bytes.now c.args.out.now.items)), omega arith)
+
+pub put_pairs-pairs-preserved : goal.put_pairs-pairs-preserved
+put_pairs-pairs-preserved g t c =
+    ((λ nil. c.in_ok-rest.ensures c.pairs.count c.args.bytes.now c.args.out.now.items (c.pairs.invariant.0 nil)), (let more : c.pairs.count ≢ c.args.most = c.is_done.ensures c.if-is_done.false in omega (arith, c.pairs.invariant.1)))
+
+pub put_pair-returns : goal.put_pair-returns
+put_pair-returns g t c n input start s =
+    let first : c.in_ok-key_len.key_len ≡ length c.put_item.new.out.items - length c.args.out.now.items = search rules in
+    let second : c.in_ok-value_len.value_len ≡ length c.put_item-2.new.out.items - length c.put_item.new.out.items = search rules in
+    let pushed : c.args.lengths.now.items ++ (c.in_ok-key_len.key_len, c.in_ok-value_len.value_len) ∷ [] ≡ c.push.new.self.items = search rules in
+    subst (λ (l : List (ℕ × ℕ)). PairsTranscoded g.O.KeyOrder.order c.args.room (n + 1) l input c.in_ok-rest.rest.now start c.put_item-2.new.out.items) pushed
+    (pairs_more g.O.KeyOrder.order c.args.room n c.args.lengths.now.items (c.in_ok-key_len.key_len, c.in_ok-value_len.value_len) input c.args.bytes.now c.in_ok-after.after.now c.in_ok-rest.rest.now start c.args.out.now.items c.put_item.new.out.items c.put_item-2.new.out.items
+    s c.in_ok-after.ensures c.in_ok-rest.ensures first second)
+
+pub put_tagged-returns-then-n-eq2 : goal.put_tagged-returns-then-n-eq2
+put_tagged-returns-then-n-eq2 g t c w h =
+    (c.in_ok-rest.rest.now, refl, bignum_done g.O.KeyOrder.order c.args.room w false c.args.n c.args.bytes.now c.in_ok-rest.rest.now c.args.out.now.items c.put_bignum.new.out.items (omega arith) h (inl (refl, c.if-n-eq2.true)) c.in_ok-rest.ensures)
+
+pub put_tagged-returns-then-n-eq3 : goal.put_tagged-returns-then-n-eq3
+put_tagged-returns-then-n-eq3 g t c w h =
+    (c.in_ok-rest-2.rest.now, refl, bignum_done g.O.KeyOrder.order c.args.room w true c.args.n c.args.bytes.now c.in_ok-rest-2.rest.now c.args.out.now.items c.put_bignum-then-n-eq3.new.out.items (omega arith) h (inr (refl, c.if-n-eq3.true)) c.in_ok-rest-2.ensures)
+
+pub put_tagged-returns : goal.put_tagged-returns
+put_tagged-returns g t c =
+    under c.put_node.result
+    (λ left s w h. (s.0, s.1, tagged_done g.O.KeyOrder.order c.args.room w c.args.n c.args.bytes.now s.0 c.args.out.now.items c.put_head.new.out.items c.put_node.new.out.items (omega arith) h c.if-n-eq2.false c.if-n-eq3.false c.in_ok-put_head.ensures s.2)) c.put_node.ensures

@@ -1,0 +1,2 @@
+pub mod Transcoding
+pub mod Walking

@@ -1,0 +1,318 @@
+//! Items, one after another and inside one another.
+
+ghost use Rattle.std.specs.Prelude.{◌≡◌, ◌≢◌, ◌∷◌, false, ◌<◌, ◌≤◌, ◌+◌, ◌^◌, ◌++◌, ◌-◌, ℕ, List, [], length, IfSome};
+ghost use Rattle.cborn_model.specs.declared.heads.Width.{Width};
+ghost use Rattle.cborn_model.specs.Heads.{Array, Map, Tag, Given, Unbounded, head, Holds};
+ghost use Rattle.cborn_transcode.specs.Transcoding.{ItemTranscoded, ItemLeaves, ItemsTranscoded, PairsTranscoded};
+
+use crate::entries::arrange;
+use crate::heads::{put_head, set_head};
+use crate::leaves::{
+    behind_break, put_bignum, put_long_string_leaving, put_simple, put_string_leaving,
+};
+use crate::runs::put_run;
+use cborn_model::KeyOrder;
+use cborn_wire::{Argument, HeadRead, read_head};
+use std::alloc::Global;
+
+/// Appends the encoding of the item at the front of `bytes`, which is no deeper than `room`, and
+/// answers what follows it.
+#[cycle(transcoded)]
+#[inline(always)]
+pub(crate) fn put_item<'a, O: KeyOrder>(
+    alloc: Global,
+    room: u64,
+    bytes: &'a [u8],
+    out: &mut Vec<u8>,
+) -> Option<&'a [u8]>
+    requires { room ≤ 1024 }
+    ensures { IfSome result (λ rest. ItemTranscoded O.order room bytes.now rest.now out.old.items out.new.items) }
+{
+    let left = put_node::<O>(alloc, room, bytes, out)?;
+    last(bytes, left)
+}
+
+/// The last `left` bytes.
+#[inline(always)]
+fn last(bytes: &[u8], left: usize) -> Option<&[u8]>
+    ensures { IfSome result (λ rest. (front back : List ℕ) → bytes.now ≡ front ++ back → length back ≡ left → rest.now ≡ back) }
+{
+    if left > bytes.len() {
+        return None;
+    }
+    Some(&bytes[bytes.len() - left..])
+}
+
+/// What `put_item` does; answers how many bytes follow the item, since a number comes back in
+/// registers, and keeps the frames of a deep nest small.
+#[cycle(transcoded)]
+#[inline(never)]
+fn put_node<O: KeyOrder>(alloc: Global, room: u64, bytes: &[u8], out: &mut Vec<u8>) -> Option<usize>
+    requires { room ≤ 1024 }
+    ensures { IfSome result (λ left. ItemLeaves O.order room bytes.now left out.old.items out.new.items) }
+{
+    let HeadRead::Full(head, len) = read_head(bytes) else {
+        return None;
+    };
+    let rest = &bytes[len..];
+    match head.argument {
+        Argument::Given(_, n) => match head.major {
+            0 => {
+                put_head(0, n, out)?;
+                Some(rest.len())
+            }
+            1 => {
+                put_head(1, n, out)?;
+                Some(rest.len())
+            }
+            2 => put_string_leaving(2, n, rest, out),
+            3 => put_string_leaving(3, n, rest, out),
+            4 => put_fixed_array::<O>(alloc, room, n, rest, out),
+            5 => put_fixed_map::<O>(alloc, room, n, rest, out),
+            6 => put_tagged::<O>(alloc, room, n, rest, out),
+            7 => {
+                put_simple(head.argument, out)?;
+                Some(rest.len())
+            }
+            _ => None,
+        },
+        Argument::Endless => match head.major {
+            2 => put_long_string_leaving(2, rest, out),
+            3 => put_long_string_leaving(3, rest, out),
+            4 => put_endless_array::<O>(alloc, room, rest, out),
+            5 => put_endless_map::<O>(alloc, room, rest, out),
+            _ => None,
+        },
+    }
+}
+
+/// The array of the `n` items at the front of `bytes`.
+#[cycle(transcoded)]
+#[inline(never)]
+fn put_fixed_array<O: KeyOrder>(
+    alloc: Global,
+    room: u64,
+    n: u64,
+    bytes: &[u8],
+    out: &mut Vec<u8>,
+) -> Option<usize>
+    requires { room ≤ 1024 }
+    ensures { IfSome result (λ left. (w : Width) → Holds w n → ItemLeaves O.order room (head Array (Given w n) ++ bytes.now) left out.old.items out.new.items) }
+{
+    if room == 0 {
+        return None;
+    }
+    put_head(4, n, out)?;
+    let (rest, count) = put_items::<O>(alloc, room - 1, n, false, bytes, out)?;
+    if count != n {
+        return None;
+    }
+    Some(rest.len())
+}
+
+/// The array of the items at the front of `bytes`, up to a break.
+#[cycle(transcoded)]
+#[inline(never)]
+fn put_endless_array<O: KeyOrder>(
+    alloc: Global,
+    room: u64,
+    bytes: &[u8],
+    out: &mut Vec<u8>,
+) -> Option<usize>
+    requires { room ≤ 1024 }
+    ensures { IfSome result (λ left. ItemLeaves O.order room (head Array Unbounded ++ bytes.now) left out.old.items out.new.items) }
+{
+    if room == 0 {
+        return None;
+    }
+    let start = out.len();
+    out.push(0).ok()?;
+    let (rest, count) = put_items::<O>(alloc, room - 1, u64::MAX, true, bytes, out)?;
+    let after = behind_break(rest)?;
+    set_head(alloc, 4, count, start, out)?;
+    Some(after.len())
+}
+
+/// The items at the front of `bytes`, at most `most`, and where there may be an end up to a break:
+/// answers what follows them, and how many they are.
+#[cycle(transcoded)]
+#[inline(always)]
+fn put_items<'a, O: KeyOrder>(
+    alloc: Global,
+    room: u64,
+    most: u64,
+    may_end: bool,
+    bytes: &'a [u8],
+    out: &mut Vec<u8>,
+) -> Option<(&'a [u8], u64)>
+    requires { room ≤ 1024 }
+    ensures { IfSome result (λ r. ItemsTranscoded O.order room r.1 bytes.now r.0.now out.old.items out.new.items) }
+{
+    let mut rest = bytes;
+    let mut count = 0;
+    'items: for _ in 0..bytes.len() {
+        let (after, found) = put_run(most - count, rest, out)?;
+        rest = after;
+        count += found;
+        if is_done(count, most, may_end, rest) {
+            break;
+        }
+        rest = put_item::<O>(alloc, room, rest, out)?;
+        count += 1;
+    }
+    Some((rest, count))
+}
+
+/// Whether no more is to be taken: all that there may be is taken, or a break ends it.
+#[inline(always)]
+fn is_done(count: u64, most: u64, may_end: bool, bytes: &[u8]) -> bool
+    ensures { result ≡ false → count ≢ most }
+{
+    count == most || (may_end && matches!(bytes, [255, ..]))
+}
+
+/// The map of the `n` pairs at the front of `bytes`.
+#[cycle(transcoded)]
+#[inline(never)]
+fn put_fixed_map<O: KeyOrder>(
+    alloc: Global,
+    room: u64,
+    n: u64,
+    bytes: &[u8],
+    out: &mut Vec<u8>,
+) -> Option<usize>
+    requires { room ≤ 1024 }
+    ensures { IfSome result (λ left. (w : Width) → Holds w n → ItemLeaves O.order room (head Map (Given w n) ++ bytes.now) left out.old.items out.new.items) }
+{
+    let most = bytes.len() as u64;
+    if room == 0 || n > most {
+        return None;
+    }
+    put_head(5, n, out)?;
+    let start = out.len();
+    let mut lengths = Vec::with_capacity(alloc, n.min(64) as usize).ok()?;
+    let (rest, count) = put_pairs::<O>(alloc, room - 1, n, false, bytes, out, &mut lengths)?;
+    if count != n {
+        return None;
+    }
+    arrange::<O>(alloc, &lengths, start, out)?;
+    Some(rest.len())
+}
+
+/// The map of the pairs at the front of `bytes`, up to a break.
+#[cycle(transcoded)]
+#[inline(never)]
+fn put_endless_map<O: KeyOrder>(
+    alloc: Global,
+    room: u64,
+    bytes: &[u8],
+    out: &mut Vec<u8>,
+) -> Option<usize>
+    requires { room ≤ 1024 }
+    ensures { IfSome result (λ left. ItemLeaves O.order room (head Map Unbounded ++ bytes.now) left out.old.items out.new.items) }
+{
+    if room == 0 {
+        return None;
+    }
+    let head_start = out.len();
+    out.push(0).ok()?;
+    let start = out.len();
+    let mut lengths = Vec::new(alloc);
+    let most = bytes.len() as u64;
+    let (rest, count) = put_pairs::<O>(alloc, room - 1, most, true, bytes, out, &mut lengths)?;
+    let after = behind_break(rest)?;
+    arrange::<O>(alloc, &lengths, start, out)?;
+    set_head(alloc, 5, count, head_start, out)?;
+    Some(after.len())
+}
+
+/// The pairs at the front of `bytes`, as `put_items` takes items. The lengths of each key and
+/// value, as they are written, join `lengths`.
+#[cycle(transcoded)]
+#[inline(always)]
+fn put_pairs<'a, O: KeyOrder>(
+    alloc: Global,
+    room: u64,
+    most: u64,
+    may_end: bool,
+    bytes: &'a [u8],
+    out: &mut Vec<u8>,
+    lengths: &mut Vec<(u32, u32)>,
+) -> Option<(&'a [u8], u64)>
+    requires room { room ≤ 1024 }
+    ensures { IfSome result (λ r. lengths.old.items ≡ [] → PairsTranscoded O.order room r.1 lengths.new.items bytes.now r.0.now out.old.items out.new.items) }
+{
+    let mut rest = bytes;
+    let mut count = 0;
+    'pairs: for _ in 0..bytes.len() {
+        if is_done(count, most, may_end, rest) {
+            break;
+        }
+        rest = put_pair::<O>(alloc, room, rest, out, lengths)?;
+        count += 1;
+    }
+    Some((rest, count))
+}
+
+/// The pair at the front of `bytes`, as `put_pairs` takes more.
+#[cycle(transcoded)]
+#[inline(always)]
+fn put_pair<'a, O: KeyOrder>(
+    alloc: Global,
+    room: u64,
+    bytes: &'a [u8],
+    out: &mut Vec<u8>,
+    lengths: &mut Vec<(u32, u32)>,
+) -> Option<&'a [u8]>
+    requires room { room ≤ 1024 }
+    ensures { IfSome result (λ rest. (n : ℕ) (input start : List ℕ) → PairsTranscoded O.order room n lengths.old.items input bytes.now start out.old.items → PairsTranscoded O.order room (n + 1) lengths.new.items input rest.now start out.new.items) }
+{
+    let start = out.len();
+    let after = put_item::<O>(alloc, room, bytes, out)?;
+    let middle = out.len();
+    let rest = put_item::<O>(alloc, room, after, out)?;
+    let end = out.len();
+    let key_len = length_of(start, middle)?;
+    let value_len = length_of(middle, end)?;
+    lengths.push((key_len, value_len)).ok()?;
+    Some(rest)
+}
+
+/// How much the end is above the start, where that fits 32 bits.
+#[inline(always)]
+fn length_of(start: usize, end: usize) -> Option<u32>
+    ensures { IfSome result (λ n. n ≡ end - start) }
+{
+    if end < start {
+        return None;
+    }
+    u32::try_from(end - start).ok()
+}
+
+/// The tag `n` over the item at the front of `bytes`.
+#[cycle(transcoded)]
+#[inline(never)]
+fn put_tagged<O: KeyOrder>(
+    alloc: Global,
+    room: u64,
+    n: u64,
+    bytes: &[u8],
+    out: &mut Vec<u8>,
+) -> Option<usize>
+    requires { room ≤ 1024 }
+    ensures { IfSome result (λ left. (w : Width) → Holds w n → ItemLeaves O.order room (head Tag (Given w n) ++ bytes.now) left out.old.items out.new.items) }
+{
+    if room == 0 {
+        return None;
+    }
+    if n == 2 {
+        let rest = put_bignum(false, bytes, out)?;
+        return Some(rest.len());
+    }
+    if n == 3 {
+        let rest = put_bignum(true, bytes, out)?;
+        return Some(rest.len());
+    }
+    put_head(6, n, out)?;
+    put_node::<O>(alloc, room - 1, bytes, out)
+}

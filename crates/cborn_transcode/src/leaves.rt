@@ -1,0 +1,253 @@
+//! Items without children.
+
+ghost use Rattle.std.specs.Prelude.{◌≡◌, ◌<◌, ◌≤◌, ◌^◌, ◌++◌, ◌∷◌, ◌⊎◌, ℕ, List, length, IsTrue, IsUtf8, IfSome, OnSome};
+ghost use Rattle.cborn_model.specs.Bytes.{AreBytes, IsShortest, big_endian};
+ghost use Rattle.cborn_det.specs.Appending.{Appends};
+ghost use Rattle.cborn_det.specs.Det.{IsInteger, bignum_tag};
+ghost use Rattle.cborn_model.specs.Heads.{IsLeastHead};
+ghost use Rattle.cborn_wire.specs.HeadReading.{ArgumentFits, seen_argument};
+ghost use Rattle.cborn_transcode.specs.Transcoding.{ContentTaken, StringTaken, ChunkTaken, ChunksTaken, LongStringTaken, BignumTaken, SimpleTaken};
+
+use crate::heads::put_head;
+use cborn_model::Width;
+use cborn_wire::{Argument, HeadRead, read_head};
+
+/// A string of the major type, 2 or 3, of `n` bytes.
+#[inline]
+fn put_string<'a>(major: u8, n: u64, bytes: &'a [u8], out: &mut Vec<u8>) -> Option<&'a [u8]>
+    requires { major < 8 }
+    ensures { IfSome result (λ rest. StringTaken major n bytes.now rest.now out.old.items out.new.items) }
+{
+    put_head(major, n, out)?;
+    put_content(major, n, bytes, out)
+}
+
+/// What `put_string` does; answers how many bytes are left.
+#[inline(never)]
+pub(crate) fn put_string_leaving(
+    major: u8,
+    n: u64,
+    bytes: &[u8],
+    out: &mut Vec<u8>,
+) -> Option<usize>
+    requires { major < 8 }
+    ensures { IfSome result (λ left. (rest : List ℕ) × (length rest ≡ left) × StringTaken major n bytes.now rest out.old.items out.new.items) }
+{
+    let rest = put_string(major, n, bytes, out)?;
+    Some(rest.len())
+}
+
+/// The bytes of a string.
+#[inline]
+fn put_content<'a>(major: u8, n: u64, bytes: &'a [u8], out: &mut Vec<u8>) -> Option<&'a [u8]>
+    ensures { IfSome result (λ rest. ContentTaken major n bytes.now rest.now out.old.items out.new.items) }
+{
+    if n > bytes.len() as u64 {
+        return None;
+    }
+    let (content, rest) = bytes.split_at(n as usize);
+    if major == 3 && !is_text(content) {
+        return None;
+    }
+    out.extend_from_slice(content).ok()?;
+    Some(rest)
+}
+
+/// Whether the bytes are UTF-8.
+#[inline]
+pub(crate) fn is_text(bytes: &[u8]) -> bool
+    ensures { IsTrue result → IsUtf8 bytes.now }
+{
+    bytes.is_ascii() || simdutf8::is_utf8(bytes)
+}
+
+/// A string in chunks, up to its break.
+fn put_long_string<'a>(major: u8, bytes: &'a [u8], out: &mut Vec<u8>) -> Option<&'a [u8]>
+    requires { major < 8 }
+    ensures { IfSome result (λ rest. LongStringTaken major bytes.now rest.now out.old.items out.new.items) }
+{
+    let n = joined_len(bytes)?;
+    put_head(major, n, out)?;
+    let start = out.len();
+    let rest = put_chunks(major, bytes, out)?;
+    let after = behind_break(rest)?;
+    if (out.len() - start) as u64 != n {
+        return None;
+    }
+    Some(after)
+}
+
+/// What `put_long_string` does; answers how many bytes are left.
+#[inline(never)]
+pub(crate) fn put_long_string_leaving(major: u8, bytes: &[u8], out: &mut Vec<u8>) -> Option<usize>
+    requires { major < 8 }
+    ensures { IfSome result (λ left. (rest : List ℕ) × (length rest ≡ left) × LongStringTaken major bytes.now rest out.old.items out.new.items) }
+{
+    let rest = put_long_string(major, bytes, out)?;
+    Some(rest.len())
+}
+
+/// What follows the break at the front.
+#[inline(always)]
+pub(crate) fn behind_break(bytes: &[u8]) -> Option<&[u8]>
+    ensures { IfSome result (λ rest. bytes.now ≡ 255 ∷ rest.now) }
+{
+    match bytes {
+        [255, rest @ ..] => Some(rest),
+        _ => None,
+    }
+}
+
+/// How many bytes the chunks up to a break hold, for the head that stands before them. What is then
+/// copied is counted.
+fn joined_len(bytes: &[u8]) -> Option<u64> {
+    let mut rest = bytes;
+    let mut sum: u64 = 0;
+    for _ in 0..bytes.len() {
+        if let [255, ..] = rest {
+            return Some(sum);
+        }
+        let HeadRead::Full(head, len) = read_head(rest) else {
+            return None;
+        };
+        let Argument::Given(_, n) = head.argument else {
+            return None;
+        };
+        let content = rest.get(len..)?;
+        rest = content.get(usize::try_from(n).ok()?..)?;
+        sum = sum.checked_add(n)?;
+    }
+    None
+}
+
+/// Chunks up to a break.
+fn put_chunks<'a>(major: u8, bytes: &'a [u8], out: &mut Vec<u8>) -> Option<&'a [u8]>
+    requires { major < 8 }
+    ensures { IfSome result (λ rest. ChunksTaken major bytes.now rest.now out.old.items out.new.items) }
+{
+    let mut rest = bytes;
+    'chunks: for _ in 0..bytes.len() {
+        if let [255, ..] = rest {
+            break;
+        }
+        rest = put_chunk(major, rest, out)?;
+    }
+    Some(rest)
+}
+
+/// A chunk.
+fn put_chunk<'a>(major: u8, bytes: &'a [u8], out: &mut Vec<u8>) -> Option<&'a [u8]>
+    requires { major < 8 }
+    ensures { IfSome result (λ rest. ChunkTaken major bytes.now rest.now out.old.items out.new.items) }
+{
+    let HeadRead::Full(head, len) = read_head(bytes) else {
+        return None;
+    };
+    if head.major != major {
+        return None;
+    }
+    match head.argument {
+        Argument::Given(_, n) => put_content(major, n, &bytes[len..], out),
+        Argument::Endless => None,
+    }
+}
+
+/// The integer of tag 2, or 3 where negative, over a byte string.
+pub(crate) fn put_bignum<'a>(negative: bool, bytes: &'a [u8], out: &mut Vec<u8>) -> Option<&'a [u8]>
+    ensures { IfSome result (λ rest. BignumTaken negative bytes.now rest.now out.old.items out.new.items) }
+{
+    let HeadRead::Full(head, len) = read_head(bytes) else {
+        return None;
+    };
+    let Argument::Given(_, n) = head.argument else {
+        return None;
+    };
+    let bytes = &bytes[len..];
+    if head.major != 2 || n > bytes.len() as u64 {
+        return None;
+    }
+    let (content, rest) = bytes.split_at(n as usize);
+    put_integer(negative, without_zeros(content), out)?;
+    Some(rest)
+}
+
+/// The integer of these digits, the first of which isn't zero: a head alone within 64 bits, and
+/// otherwise tag 2 or 3 over them.
+fn put_integer(negative: bool, digits: &[u8], out: &mut Vec<u8>) -> Option<()>
+    requires bytes { AreBytes digits.now }
+    requires shortest { IsShortest digits.now }
+    ensures { OnSome result (Appends (IsInteger negative digits.now) out.old.items out.new.items) }
+{
+    if digits.len() <= 8 {
+        let major = if negative { 1 } else { 0 };
+        put_head(major, number_of(digits), out)
+    } else {
+        put_long(negative, digits, out)
+    }
+}
+
+/// The integer of more than eight digits.
+fn put_long(negative: bool, digits: &[u8], out: &mut Vec<u8>) -> Option<()>
+    requires shortest { IsShortest digits.now }
+    requires long { 8 < length digits.now }
+    ensures { OnSome result (Appends (IsInteger negative digits.now) out.old.items out.new.items) }
+{
+    put_tag(negative, out)?;
+    put_head(2, digits.len() as u64, out)?;
+    out.extend_from_slice(digits).ok()?;
+    Some(())
+}
+
+/// Tag 2, or 3 where negative.
+fn put_tag(negative: bool, out: &mut Vec<u8>) -> Option<()>
+    ensures { OnSome result (Appends (IsLeastHead 6 (bignum_tag negative)) out.old.items out.new.items) }
+{
+    if negative {
+        put_head(6, 3, out)
+    } else {
+        put_head(6, 2, out)
+    }
+}
+
+/// The bytes behind the leading zeros.
+fn without_zeros(bytes: &[u8]) -> &[u8]
+    requires { AreBytes bytes.now }
+    ensures bytes { AreBytes result.now }
+    ensures shortest { IsShortest result.now }
+    ensures number { big_endian result.now ≡ big_endian bytes.now }
+{
+    let mut rest = bytes;
+    while let [0, after @ ..] = rest {
+        rest = after;
+    }
+    rest
+}
+
+/// The big-endian number of at most eight bytes.
+fn number_of(bytes: &[u8]) -> u64
+    requires { length bytes.now ≤ 8 }
+    ensures { result ≡ big_endian bytes.now }
+{
+    let mut n: u64 = 0;
+    for byte in bytes {
+        n = n * 256 + u64::from(*byte);
+    }
+    n
+}
+
+/// A simple value.
+pub(crate) fn put_simple(argument: Argument, out: &mut Vec<u8>) -> Option<()>
+    requires { ArgumentFits (seen_argument argument) }
+    ensures { OnSome result (SimpleTaken argument out.old.items out.new.items) }
+{
+    match argument {
+        Argument::Given(Width::Direct, n) => out.push(224 + n as u8).ok(),
+        Argument::Given(Width::One, n) => {
+            if n < 32 {
+                return None;
+            }
+            out.extend_from_slice(&[248, n as u8]).ok()
+        }
+        _ => None,
+    }
+}

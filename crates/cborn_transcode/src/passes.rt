@@ -1,0 +1,49 @@
+//! A whole input.
+
+ghost use Rattle.std.specs.Prelude.{ℕ, ◌≤◌, [], IfSome};
+ghost use Rattle.cborn_transcode.specs.Transcoding.{ItemTranscoded, ItemsTranscoded, IsTranscoded};
+
+use crate::items::put_item;
+use cborn_model::{KeyOrder, Limit};
+use std::alloc::Global;
+
+/// The deterministic encodings of the items that the bytes hold, one after another, the keys of
+/// maps in the order `O` (RFC 8949 section 4.2). None promises nothing: the bytes may hold no
+/// items, or memory was refused, or they hold items in a form that is left to the reader that keeps
+/// a tree.
+pub fn transcode<O: KeyOrder>(alloc: Global, limit: Limit, bytes: &[u8]) -> Option<Vec<u8>>
+    ensures { IfSome result (λ out. IsTranscoded O.order limit bytes.now out.items) }
+{
+    put_all::<O>(alloc, limit.get(), bytes)
+}
+
+/// The encodings of the items, none deeper than `room`, up to the end.
+fn put_all<O: KeyOrder>(alloc: Global, room: u64, bytes: &[u8]) -> Option<Vec<u8>>
+    requires { room ≤ 1024 }
+    ensures { IfSome result (λ out. (n : ℕ) × ItemsTranscoded O.order room n bytes.now [] [] out.items) }
+{
+    let mut out = Vec::with_capacity(alloc, bytes.len()).ok()?;
+    let mut rest = bytes;
+    'items: for _ in 0..bytes.len() {
+        if rest.is_empty() {
+            break;
+        }
+        rest = put_item::<O>(alloc, room, rest, &mut out)?;
+    }
+    if !rest.is_empty() {
+        return None;
+    }
+    Some(out)
+}
+
+/// Appends the deterministic encoding of the one item at the front of the bytes to `out`, the keys of maps in the order `O` (RFC 8949 section 4.2), and answers what follows the item, which isn't looked at. None promises nothing, as with `transcode`, and leaves anything behind what stood in `out`.
+pub fn transcode_item<'a, O: KeyOrder>(
+    alloc: Global,
+    limit: Limit,
+    bytes: &'a [u8],
+    out: &mut Vec<u8>,
+) -> Option<&'a [u8]>
+    ensures { IfSome result (λ rest. ItemTranscoded O.order limit bytes.now rest.now out.old.items out.new.items) }
+{
+    put_item::<O>(alloc, limit.get(), bytes, out)
+}

@@ -1,0 +1,67 @@
+//! Runs of items that are deterministic as they stand.
+
+ghost use Rattle.std.specs.Prelude.{◌≡◌, ◌<◌, ◌≤◌, ◌++◌, ℕ, List, length, take, drop, IfSome, IsTrue};
+ghost use Rattle.std.specs.declared.cmp.Ordering.{Ordering};
+ghost use Rattle.cborn_transcode.specs.Transcoding.{ItemTranscoded, ItemsTranscoded, IsLeast};
+
+use cborn_model::shortest;
+use cborn_wire::{Argument, Head, HeadRead, read_head};
+
+/// Appends the integers with shortest heads at the front of the bytes, at most `most`; answers what
+/// follows them, and how many they are.
+#[inline(always)]
+pub(crate) fn put_run<'a>(most: u64, bytes: &'a [u8], out: &mut Vec<u8>) -> Option<(&'a [u8], u64)>
+    ensures run { IfSome result (λ r. (order : List ℕ → List ℕ → Ordering) → ItemsTranscoded order 0 r.1 bytes.now r.0.now out.old.items out.new.items) }
+    ensures most { IfSome result (λ r. r.1 ≤ most) }
+{
+    let (len, count) = int_run(bytes, most);
+    let (run, rest) = bytes.split_at(len);
+    out.extend_from_slice(run).ok()?;
+    Some((rest, count))
+}
+
+/// The length of the integers with shortest heads at the front of the bytes, at most `most`, and
+/// how many they are.
+fn int_run(bytes: &[u8], most: u64) -> (usize, u64)
+    ensures len { result.0 ≤ length bytes.now }
+    ensures most { result.1 ≤ most }
+    ensures run { (order : List ℕ → List ℕ → Ordering) (old : List ℕ) → ItemsTranscoded order 0 result.1 bytes.now (drop result.0 bytes.now) old (old ++ take result.0 bytes.now) }
+{
+    let mut at = 0;
+    let mut count = 0;
+    'ints: for _ in 0..bytes.len() {
+        if count == most {
+            break;
+        }
+        let len = int_len(&bytes[at..]);
+        if len == 0 {
+            break;
+        }
+        at += len;
+        count += 1;
+    }
+    (at, count)
+}
+
+/// The length of the integer at the front of the bytes, if its head is the shortest; else 0.
+#[inline(always)]
+fn int_len(bytes: &[u8]) -> usize
+    ensures len { result ≤ length bytes.now }
+    ensures read { 0 < result → (order : List ℕ → List ℕ → Ordering) (old : List ℕ) → ItemTranscoded order 0 bytes.now (drop result bytes.now) old (old ++ take result bytes.now) }
+{
+    match read_head(bytes) {
+        HeadRead::Full(head, len) => { if is_least_integer(head) { len } else { 0 } }
+        _ => 0,
+    }
+}
+
+/// The shortest head of an integer.
+#[inline(always)]
+fn is_least_integer(head: Head) -> bool
+    ensures { IsTrue result → (head.major < 2) × IsLeast head.argument }
+{
+    match head.argument {
+        Argument::Given(width, n) => head.major < 2 && width == shortest(n),
+        Argument::Endless => false,
+    }
+}

@@ -1,0 +1,105 @@
+//! What a walk finds in place of items without children, and of keys.
+
+ghost use Rattle.std.specs.Prelude.{◌≡◌, ◌≤◌, ◌++◌, false, length, IsTrue, IfSome};
+ghost use Rattle.cborn_det.proofs.Cutting.{Below};
+ghost use Rattle.cborn_model.specs.Bytes.{IsShortest};
+ghost use Rattle.cborn_model.specs.Tree.{Simple};
+ghost use Rattle.cborn_model.specs.Spelled.{Fits};
+ghost use Rattle.cborn_transcode.specs.Walking.{Leaves, IsLast, LeastHeadRead, ContentWalked, BignumWalked};
+
+use crate::leaves::is_text;
+use cborn_model::{KeyOrder, shortest};
+use cborn_wire::{Argument, HeadRead, read_head};
+
+/// The major type and the argument of the head at the front, which is the shortest, and what follows it.
+#[inline(always)]
+pub(crate) fn read_least(bytes: &[u8]) -> Option<(u8, u64, &[u8])>
+    ensures { IfSome result (λ r. LeastHeadRead r.0 r.1 bytes.now r.2.now) }
+{
+    let HeadRead::Full(head, len) = read_head(bytes) else {
+        return None;
+    };
+    let Argument::Given(width, n) = head.argument else {
+        return None;
+    };
+    if width != shortest(n) {
+        return None;
+    }
+    Some((head.major, n, &bytes[len..]))
+}
+
+/// How many bytes follow the `n` bytes of a string of the major type, 2 or 3.
+#[inline(always)]
+pub(crate) fn walk_content(major: u8, n: u64, bytes: &[u8]) -> Option<usize>
+    ensures { IfSome result (Leaves (ContentWalked major n bytes.now)) }
+{
+    if n > bytes.len() as u64 {
+        return None;
+    }
+    let (content, rest) = bytes.split_at(n as usize);
+    if major == 3 && !is_text(content) {
+        return None;
+    }
+    Some(rest.len())
+}
+
+/// A simple value that has a head (RFC 8949 section 3.3).
+#[inline(always)]
+pub(crate) fn is_simple(n: u64) -> bool
+    ensures { IsTrue result → Fits (Simple 0 n) }
+{
+    n < 24 || (n >= 32 && n < 256)
+}
+
+/// How many bytes follow the byte string of a bignum, which is neither within 64 bits nor begins with a zero (RFC 8949 section 3.4.3).
+#[inline(never)]
+pub(crate) fn walk_bignum(bytes: &[u8]) -> Option<usize>
+    ensures { IfSome result (Leaves (BignumWalked bytes.now)) }
+{
+    let (major, n, rest) = read_least(bytes)?;
+    if major != 2 || n <= 8 || n > rest.len() as u64 {
+        return None;
+    }
+    let (content, after) = rest.split_at(n as usize);
+    if has_leading_zero(content) {
+        return None;
+    }
+    Some(after.len())
+}
+
+#[inline(always)]
+fn has_leading_zero(bytes: &[u8]) -> bool
+    ensures { result ≡ false → IsShortest bytes.now }
+{
+    matches!(bytes, [0, ..])
+}
+
+/// The last `len` of the bytes.
+#[inline(always)]
+pub(crate) fn last(bytes: &[u8], len: usize) -> &[u8]
+    requires { len ≤ length bytes.now }
+    ensures { IsLast bytes.now len result.now }
+{
+    split_before(bytes, len).1
+}
+
+/// What stands before the last `len` of the bytes, and these.
+#[inline(always)]
+pub(crate) fn split_before(bytes: &[u8], len: usize) -> (&[u8], &[u8])
+    requires { len ≤ length bytes.now }
+    ensures parts { bytes.now ≡ result.0.now ++ result.1.now }
+    ensures last { IsLast bytes.now len result.1.now }
+{
+    bytes.split_at(bytes.len() - len)
+}
+
+/// The key before, where there is one, comes before this key.
+#[inline(always)]
+pub(crate) fn rises_above<O: KeyOrder>(before: Option<&[u8]>, key: &[u8]) -> bool
+    ensures { IsTrue result → Below O.order before.entry key.now }
+{
+    match before {
+        Some(before) => O::compare(before, key).is_lt(),
+        None => true,
+    }
+}
