@@ -1,0 +1,9 @@
+pub mod Nodes
+pub mod Couples
+pub mod Scanning
+pub mod Keying
+pub mod Mapping
+pub mod Marking
+pub mod Sequencing
+pub mod Walking
+pub mod Concluding

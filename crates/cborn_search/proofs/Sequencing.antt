@@ -1,0 +1,66 @@
+-- What is found of nodes one after another is what is found of a whole input.
+use Rattle.std.proofs.Common.{◌≡◌, ℕ, ◌+◌, ◌-◌, ◌≤◌, inl, inr, List, [], ◌∷◌, ◌++◌, length, refl, sym, ap, ◌∙◌, subst, arith, append-nil, Bool, Option, None, Some}
+use Rattle.std.specs.List.{AllZip}
+use Rattle.std.specs.Option.{option_or}
+use Rattle.cborn_model.specs.Meaning.{Means}
+use Rattle.cborn_model.specs.Placed.{PlacedAll}
+use Rattle.cborn_model.specs.Spelled.{Wellformed, spelled_all}
+use Rattle.cborn_model.specs.Tree.{Tree, trees}
+use Rattle.cborn_model.specs.Value.{Value}
+use Rattle.cborn_judge.specs.Flaws.{Flaw, IsRefusal, IsRefusalOfAll}
+use Rattle.cborn_judge.specs.declared.faults.Invalid.TheVariants.{Refused, OutOfMemory}
+use Rattle.cborn_judge.specs.declared.faults.InvalidReason.{InvalidReason}
+use Rattle.cborn_judge.proofs.Judging.{meaning}
+use Rattle.cborn_search.specs.Flawed.{Told, FindsTold, HasFlaw, Scanned}
+use Rattle.cborn_search.specs.Reading.{NodesRead}
+use Rattle.cborn_search.specs.Searching.{FlawVerdict, IsFirstFlawOf}
+use Rattle.cborn_search.proofs.Nodes.{no_node, node_more}
+
+mean_more : (ts : List Tree) (vs : List Value) (t : Tree) (v : Value) → AllZip Means ts vs → Means t v → AllZip Means (ts ++ t ∷ []) (vs ++ v ∷ [])
+mean_more [] [] t v h m = (m, tt)
+mean_more [] (w ∷ ws) t v h m = absurd h
+mean_more (s ∷ ts) [] t v h m = absurd h
+mean_more (s ∷ ts) (w ∷ ws) t v h m = (h.0, mean_more ts ws t v h.1 m)
+
+refused_last : (ts : List Tree) (vs : List Value) (t : Tree) (f : Told) → AllZip Means ts vs → IsRefusal t (Refused f.0 f.1) → IsRefusalOfAll (ts ++ t ∷ []) (Refused f.0 f.1)
+refused_last [] [] t f h r = inl r
+refused_last [] (v ∷ vs) t f h r = absurd h
+refused_last (s ∷ ts) [] t f h r = absurd h
+refused_last (s ∷ ts) (v ∷ vs) t f h r = inr ((v, h.0), refused_last ts vs t f h.1 r)
+
+refused_before : (ts : List Tree) (t : Tree) (f : Told) → IsRefusalOfAll ts (Refused f.0 f.1) → IsRefusalOfAll (ts ++ t ∷ []) (Refused f.0 f.1)
+refused_before [] t f r = absurd (no_memory f.0 f.1 r)
+  where
+    no_memory : (p : ℕ) (i : InvalidReason) → Refused p i ≡ OutOfMemory → ⊥
+    no_memory p i e = cc
+refused_before (s ∷ ts) t f (inl r) = inl r
+refused_before (s ∷ ts) t f (inr r) = inr (r.0, refused_before ts t f r.1)
+
+verdict_more : (ts : List Tree) (t : Tree) (a flaw : Option Told) → FlawVerdict ts a → FindsTold (Flaw t) flaw → FlawVerdict (ts ++ t ∷ []) (option_or a flaw)
+verdict_more ts t None None h k = let m = meaning t k in (h.0 ++ m.0 ∷ [], mean_more ts h.0 t m.0 h.1 m.1)
+verdict_more ts t None (Some f) h k = refused_last ts h.0 t f h.1 k
+verdict_more ts t (Some e) flaw h k = refused_before ts t e h
+
+abbrev pub HaveVerdict : Option Told → List Tree → Type 0
+HaveVerdict flaw ts = FlawVerdict ts flaw
+
+pub none_judged : (room total : ℕ) (input : List ℕ) → NodesRead (HaveVerdict None) room total 0 input input
+none_judged room total input = no_node (HaveVerdict None) room total input ([], tt)
+
+pub judged_more : (room total n : ℕ) (input mid rest : List ℕ) (a flaw o : Option Told) (s : Bool) → length input ≤ total → NodesRead (HaveVerdict a) room total n input mid → Scanned room total mid rest flaw s → o ≡ option_or a flaw → NodesRead (HaveVerdict o) room total (n + 1) input rest
+judged_more room total n input mid rest a flaw o s l x y e =
+    node_more (HaveVerdict a) (HaveVerdict o) (HasFlaw flaw s) room total n input mid rest l x y
+    (λ ts t g h. subst (λ (z : Option Told). FlawVerdict (ts ++ t ∷ []) z) (sym e) (verdict_more ts t a flaw g h.0))
+
+no_bytes : (x : List ℕ) → length x ≡ 0 → x ≡ []
+no_bytes [] e = refl
+no_bytes (b ∷ x) e = absurd (omega (arith, e))
+
+-- nodes that were read up to the end
+pub whole_read : (P : List Tree → Type 0) (room n : ℕ) (input rest : List ℕ) → length rest ≡ 0 → (x : NodesRead P room (length input) n input rest) → Wellformed room (trees x.nodes) input × PlacedAll 0 (trees x.nodes)
+whole_read P room n input rest e x =
+    let z : length input - length input ≡ 0 = omega arith in
+    (record { spells = sym (x.read ∙ ap (λ l. spelled_all (trees x.nodes) ++ l) (no_bytes rest e) ∙ append-nil (spelled_all (trees x.nodes))); fit = x.fits; shallow = x.shallow }, subst (λ p. PlacedAll p (trees x.nodes)) z x.placed)
+
+pub flaw_found : (room n : ℕ) (input rest : List ℕ) (o : Option Told) → length rest ≡ 0 → NodesRead (HaveVerdict o) room (length input) n input rest → IsFirstFlawOf room input o
+flaw_found room n input rest o e x = let w = whole_read (HaveVerdict o) room n input rest e x in record { nodes = x.nodes; read = w.0; placed = w.1; verdict = x.holds }

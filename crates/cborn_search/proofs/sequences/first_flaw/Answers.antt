@@ -1,0 +1,24 @@
+use Rattle.std.proofs.Common.{◌≡◌, ◌+◌, ℕ, length, rules, arith, subst}
+use Rattle.cborn_search.specs.Flawed.{HasFlaw, Scanned}
+use Rattle.cborn_search.specs.Searching.{IsFirstFlawOf}
+use Rattle.cborn_search.proofs.Nodes.{node_left}
+use Rattle.cborn_search.proofs.Sequencing.{none_judged, judged_more, flaw_found}
+use Rattle.cborn_search.proofs.sequences.first_flaw.Goals as goal
+
+pub items-init : goal.items-init
+items-init c = (0, none_judged c.get-room.result (length c.args.bytes.now) c.args.bytes.now, omega arith)
+
+pub items-preserved : goal.items-preserved
+items-preserved c =
+    let i = c.items.invariant in
+    let total : ℕ = length c.args.bytes.now in
+    let x : Scanned c.get-room.result total c.items.rest.now c.in_ok-after.after.now c.in_ok-after.flaw c.in_ok-after.field-0-2 = c.in_ok-after.ensures in (
+      i.0 + 1,
+      judged_more c.get-room.result total i.0 c.args.bytes.now c.items.rest.now c.in_ok-after.after.now c.items.first c.in_ok-after.flaw c.or-first.result c.in_ok-after.field-0-2 (omega arith) i.1 x c.or-first.ensures,
+      node_left (HasFlaw c.in_ok-after.flaw c.in_ok-after.field-0-2) c.get-room.result total c.items.rest.now c.in_ok-after.after.now i.2 x,
+    )
+
+pub returns : goal.returns
+returns c =
+    let none : length c.items.rest.now ≡ 0 = search rules in
+    subst (λ (l : ℕ). IsFirstFlawOf l c.args.bytes.now c.items.first) c.get-room.ensures.value (flaw_found c.get-room.result c.items.invariant.0 c.args.bytes.now c.items.rest.now c.items.first none c.items.invariant.1)

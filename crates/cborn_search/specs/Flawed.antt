@@ -1,0 +1,87 @@
+-- What the search for flaws finds.
+use Rattle.std.specs.Prelude.{◌≡◌, ℕ, List, Bool, IsUtf8, Option, MatchBool}
+use Rattle.cborn_model.specs.Meaning.{IsByteString}
+use Rattle.cborn_model.specs.Tree.{Tree, trees, entries}
+use Rattle.cborn_model.specs.declared.nodes.Chunk.{Chunk}
+use Rattle.cborn_judge.specs.Flaws.{flaw_rank, Flaw}
+use Rattle.cborn_judge.specs.Judged.{FlawIn, FlawAmong, ChunkFlaw, IsEarlier, IsEarliest, Finds}
+use Rattle.cborn_judge.specs.Repeats.{AreKeys}
+use Rattle.cborn_judge.specs.declared.faults.InvalidReason.{InvalidReason}
+use Rattle.cborn_judge.specs.declared.faults.InvalidReason.TheVariants.{NotUtf8}
+use Rattle.cborn_search.specs.Reading.{Pair, ChunkRead, ChunksRead, NodeRead, NodesRead, PairsRead}
+
+-- where, and why
+abbrev pub Told : Type 0
+Told = ℕ × InvalidReason
+
+abbrev pub told_place : Told → ℕ
+told_place f = f.0
+
+abbrev pub told_reason : Told → InvalidReason
+told_reason f = f.1
+
+abbrev pub IsEarlierTold : Told → Told → Told → Type 0
+IsEarlierTold = IsEarlier flaw_rank told_place told_reason
+
+abbrev pub IsEarliestTold : Option Told → Option Told → Option Told → Type 0
+IsEarliestTold = IsEarliest flaw_rank told_place told_reason
+
+abbrev pub FindsTold : (ℕ → InvalidReason → Type 0) → Option Told → Type 0
+FindsTold = Finds flaw_rank told_place told_reason
+
+-- the text at this place is not UTF-8
+abbrev pub TextFlaw : ℕ → List ℕ → ℕ → InvalidReason → Type 0
+TextFlaw q b p r = (p ≡ q) × (r ≡ NotUtf8) × (IsUtf8 b → ⊥)
+
+-- the chunk is not UTF-8
+abbrev pub BadChunk : Chunk → ℕ → InvalidReason → Type 0
+BadChunk c = TextFlaw c.place c.bytes
+
+-- of a text its first flaw
+abbrev pub ChunkSeen : ℕ → ℕ → List ℕ → List ℕ → Option Told → Type 0
+ChunkSeen major total input rest flaw = ChunkRead (λ c. major ≡ 3 → FindsTold (BadChunk c) flaw) major total input rest
+
+abbrev pub ChunksSeen : ℕ → ℕ → List ℕ → List ℕ → Option Told → Type 0
+ChunksSeen major total input rest flaw = ChunksRead (λ cs. major ≡ 3 → FindsTold (ChunkFlaw cs) flaw) major total input rest
+
+-- whether the node is a byte string
+abbrev pub IsKind : Bool → Tree → Type 0
+IsKind is_string t = MatchBool is_string ((b : List ℕ) × IsByteString t b) ((b : List ℕ) → IsByteString t b → ⊥)
+
+abbrev pub HasFlaw : Option Told → Bool → Tree → Type 0
+HasFlaw flaw is_string t = FindsTold (Flaw t) flaw × IsKind is_string t
+
+-- a node, its first flaw, and whether it is a byte string
+abbrev pub Scanned : ℕ → ℕ → List ℕ → List ℕ → Option Told → Bool → Type 0
+Scanned room total input rest flaw is_string = NodeRead (HasFlaw flaw is_string) room total input rest
+
+abbrev pub HaveFlaw : Option Told → List Tree → Type 0
+HaveFlaw flaw ts = FindsTold (FlawIn (trees ts)) flaw
+
+-- n nodes one after another, and their first flaw
+abbrev pub ScannedAll : ℕ → ℕ → ℕ → List ℕ → List ℕ → Option Told → Type 0
+ScannedAll room total n input rest flaw = NodesRead (HaveFlaw flaw) room total n input rest
+
+-- a key that means something: its encoding, its position in the map, and its place
+abbrev pub SeenKey : Type 0
+SeenKey = List ℕ × ℕ × ℕ
+
+abbrev pub seen_bytes : SeenKey → List ℕ
+seen_bytes k = k.0
+
+abbrev pub seen_position : SeenKey → ℕ
+seen_position k = k.1
+
+abbrev pub seen_place : SeenKey → ℕ
+seen_place k = k.2
+
+-- these are the keys of the pairs that mean something
+abbrev pub AreSeen : List SeenKey → List Pair → Type 0
+AreSeen keys ns = AreKeys seen_bytes seen_position seen_place (entries ns) 0 keys
+
+abbrev pub PairsFlaw : Option Told → List SeenKey → List Pair → Type 0
+PairsFlaw flaw keys ns = FindsTold (FlawAmong (entries ns)) flaw × AreSeen keys ns
+
+-- n pairs one after another, the first flaw of their keys and values, and the keys that mean something
+abbrev pub PairsSeen : ℕ → ℕ → ℕ → List ℕ → List ℕ → Option Told → List SeenKey → Type 0
+PairsSeen room total n input rest flaw keys = PairsRead (PairsFlaw flaw keys) room total n input rest

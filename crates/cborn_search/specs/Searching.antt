@@ -1,0 +1,39 @@
+-- What a search of a whole input answers.
+use Rattle.std.specs.Prelude.{ℕ, List, Option, None, Some}
+use Rattle.std.specs.declared.cmp.Ordering.{Ordering}
+use Rattle.std.specs.List.{AllZip}
+use Rattle.cborn_model.specs.Meaning.{Means, AllMean}
+use Rattle.cborn_model.specs.Placed.{PlacedAll}
+use Rattle.cborn_model.specs.Spelled.{Wellformed}
+use Rattle.cborn_model.specs.Tree.{Tree, trees}
+use Rattle.cborn_model.specs.Value.{Value, Values}
+use Rattle.cborn_judge.specs.Defects.{SequenceDefect, IsFirstOfSequence}
+use Rattle.cborn_judge.specs.Flaws.{IsRefusalOfAll}
+use Rattle.cborn_judge.specs.declared.defects.Defect.{Defect}
+use Rattle.cborn_judge.specs.declared.defects.DefectReason.{DefectReason}
+use Rattle.cborn_judge.specs.declared.faults.Invalid.TheVariants.{Refused}
+use Rattle.cborn_search.specs.Flawed.{Told}
+
+-- each node means an item, or the first that means nothing has this first flaw
+abbrev pub FlawVerdict : List Tree → Option Told → Type 0
+FlawVerdict nodes None = (items : List Value) × AllZip Means nodes items
+FlawVerdict nodes (Some f) = IsRefusalOfAll nodes (Refused f.0 f.1)
+
+-- the bytes are well-formed under the limit, and this is what the flaws of the nodes that they spell say, each node at its offset
+pub record IsFirstFlawOf (limit : ℕ) (input : List ℕ) (flaw : Option Told) : Type 0 where
+  pub nodes : List Tree
+  pub read : Wellformed limit (trees nodes) input
+  pub placed : PlacedAll 0 (trees nodes)
+  pub verdict : FlawVerdict nodes flaw
+
+-- of nodes that mean items: they have no defect, or this is the first
+abbrev pub DefectVerdict : (List ℕ → List ℕ → Ordering) → List Tree → Option Defect → Type 0
+DefectVerdict order nodes None = (p : ℕ) (r : DefectReason) → SequenceDefect order (trees nodes) p r → ⊥
+DefectVerdict order nodes (Some d) = (items : Values) → AllMean (trees nodes) items → IsFirstOfSequence order (trees nodes) d.place d.reason
+
+-- the bytes are well-formed under the limit, and this is what the defects of the nodes that they spell say, each node at its offset
+pub record IsFirstDefectOf (order : List ℕ → List ℕ → Ordering) (limit : ℕ) (input : List ℕ) (defect : Option Defect) : Type 0 where
+  pub nodes : List Tree
+  pub read : Wellformed limit (trees nodes) input
+  pub placed : PlacedAll 0 (trees nodes)
+  pub verdict : DefectVerdict order nodes defect

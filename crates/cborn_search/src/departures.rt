@@ -1,0 +1,246 @@
+//! The defects of heads, strings, bignums and keys.
+
+ghost use Rattle.std.specs.Prelude.{◌≡◌, ◌≢◌, ◌<◌, ◌≤◌, ◌++◌, ◌⊎◌, ◌↔◌, ℕ, List, length, IsTrue, IfSome, MatchBool};
+ghost use Rattle.cborn_judge.specs.Checked.{FindsDefect, LongAt, LooseBytesAt, IsEarlierDefect, IsEarliestDefect};
+ghost use Rattle.cborn_judge.specs.Defects.{defect_rank, ChunksDefect, IsLoose};
+ghost use Rattle.cborn_search.specs.Departed.{AfterKey, BignumWalked, ChunkWalked, ChunksWalked};
+ghost use Rattle.cborn_search.specs.Digits.{AreDigits, BeginsWith, DigitsWalked};
+
+use crate::flaws::behind_break;
+use crate::leaves::string_at;
+use crate::told::comes_first;
+use cborn_judge::{Defect, DefectReason};
+use cborn_model::{KeyOrder, Width, shortest};
+use cborn_wire::{Argument, HeadRead, read_head};
+
+/// The number of a reason.
+fn number(reason: DefectReason) -> u8
+    ensures { result ≡ defect_rank reason }
+{
+    match reason {
+        DefectReason::LongHead => 1,
+        DefectReason::EndlessLength => 2,
+        DefectReason::LooseBignum => 3,
+        DefectReason::KeyOrder => 4,
+    }
+}
+
+/// The one of the two that comes first.
+fn earlier(defect: Defect, next: Defect) -> Defect
+    ensures { IsEarlierDefect defect next result }
+{
+    if comes_first(
+        next.place,
+        number(next.reason),
+        defect.place,
+        number(defect.reason),
+    ) {
+        next
+    } else {
+        defect
+    }
+}
+
+/// The first of what was found so far and what was found next.
+pub(crate) fn earliest_defect(so_far: Option<Defect>, next: Option<Defect>) -> Option<Defect>
+    ensures { IsEarliestDefect so_far next result }
+{
+    match (so_far, next) {
+        (None, next) => next,
+        (so_far, None) => so_far,
+        (Some(defect), Some(next)) => Some(earlier(defect, next)),
+    }
+}
+
+/// The defect of a head at `place` with the argument `n`.
+pub(crate) fn head_defect(place: u64, width: Width, n: u64) -> Option<Defect>
+    ensures { FindsDefect (LongAt place width n) result }
+{
+    if width == shortest(n) {
+        return None;
+    }
+    let reason = DefectReason::LongHead;
+    Some(Defect { place, reason })
+}
+
+/// The defect of a key at `place` whose encoding follows that of the key before it, if it is not the first.
+pub(crate) fn order_defect<O: KeyOrder>(
+    count: u64,
+    place: u64,
+    before: &[u8],
+    encoding: &[u8],
+) -> Option<Defect>
+    ensures { FindsDefect (AfterKey O.order count place before.now encoding.now) result }
+{
+    if count == 0 {
+        return None;
+    }
+    if O::compare(before, encoding).is_lt() {
+        return None;
+    }
+    let reason = DefectReason::KeyOrder;
+    Some(Defect { place, reason })
+}
+
+/// The chunks of a string at `place`, up to a break: what follows them, and the first defect of the string. None promises nothing.
+pub(crate) fn walk_chunks(
+    major: u8,
+    total: u64,
+    place: u64,
+    bytes: &[u8],
+) -> Option<(&[u8], Option<Defect>)>
+    requires { length bytes.now ≤ total }
+    ensures { IfSome result (λ r. ChunksWalked place major total bytes.now r.0.now r.1) }
+{
+    let reason = DefectReason::EndlessLength;
+    let mut first = Some(Defect { place, reason });
+    let mut rest = bytes;
+    'chunks: for _ in 0..bytes.len() {
+        if let [255, ..] = rest {
+            break;
+        }
+        let (_, after, defect) = walk_chunk(major, total, rest)?;
+        rest = after;
+        first = earliest_defect(first, defect);
+    }
+    Some((rest, first))
+}
+
+/// A chunk: its content, what follows it, and the defect of its head.
+fn walk_chunk(major: u8, total: u64, bytes: &[u8]) -> Option<(&[u8], &[u8], Option<Defect>)>
+    requires { length bytes.now ≤ total }
+    ensures { IfSome result (λ r. ChunkWalked major total bytes.now r.0.now r.1.now r.2) }
+{
+    let HeadRead::Full(head, len) = read_head(bytes) else {
+        return None;
+    };
+    if head.major != major {
+        return None;
+    }
+    let place = total - bytes.len() as u64;
+    match head.argument {
+        Argument::Given(width, n) => {
+            let (content, after) = string_at(n, &bytes[len..])?;
+            let defect = head_defect(place, width, content.len() as u64);
+            Some((content, after, defect))
+        }
+        Argument::Endless => None,
+    }
+}
+
+/// The content of a bignum at `place`: what follows it, and the first defect of the tag, its head aside. None promises nothing.
+pub(crate) fn walk_bignum(total: u64, place: u64, bytes: &[u8]) -> Option<(&[u8], Option<Defect>)>
+    requires { length bytes.now ≤ total }
+    ensures { IfSome result (λ r. BignumWalked place total bytes.now r.0.now r.1) }
+{
+    let HeadRead::Full(head, len) = read_head(bytes) else {
+        return None;
+    };
+    if head.major != 2 {
+        return None;
+    }
+    let inner = total - bytes.len() as u64;
+    match head.argument {
+        Argument::Given(width, n) => {
+            let (content, after) = string_at(n, &bytes[len..])?;
+            let loose = loose_defect(place, content);
+            let long = head_defect(inner, width, content.len() as u64);
+            let first = earliest_defect(loose, long);
+            Some((after, first))
+        }
+        Argument::Endless => {
+            let (after, long, digits) = walk_digits(total, inner, &bytes[len..])?;
+            let end = behind_break(after)?;
+            let loose = loose_digits(place, digits);
+            let first = earliest_defect(loose, long);
+            Some((end, first))
+        }
+    }
+}
+
+/// The bytes of a bignum that is in chunks: how many, and the first, if there is one.
+#[derive(Clone, Copy)]
+struct Digits {
+    len: u64,
+    front: u8,
+}
+
+/// The chunks of the byte string at `place`, up to a break, as `walk_chunks` takes them, and what they are together.
+fn walk_digits(total: u64, place: u64, bytes: &[u8]) -> Option<(&[u8], Option<Defect>, Digits)>
+    requires { length bytes.now ≤ total }
+    ensures { IfSome result (λ r. DigitsWalked place total bytes.now r.0.now r.1 r.2) }
+{
+    let reason = DefectReason::EndlessLength;
+    let mut first = Some(Defect { place, reason });
+    let mut digits = Digits { len: 0, front: 0 };
+    let mut rest = bytes;
+    'chunks: for _ in 0..bytes.len() {
+        if let [255, ..] = rest {
+            break;
+        }
+        let (content, after, defect) = walk_chunk(2, total, rest)?;
+        digits = more_digits(digits, content)?;
+        rest = after;
+        first = earliest_defect(first, defect);
+    }
+    Some((rest, first, digits))
+}
+
+/// The digits and those that follow them.
+fn more_digits(digits: Digits, content: &[u8]) -> Option<Digits>
+    ensures { IfSome result (λ d. (b : List ℕ) → AreDigits digits b → AreDigits d (b ++ content.now)) }
+{
+    let len = digits.len.checked_add(content.len() as u64)?;
+    if digits.len > 0 {
+        let front = digits.front;
+        return Some(Digits { len, front });
+    }
+    let front = first_of(content);
+    Some(Digits { len, front })
+}
+
+/// The first byte, or 0.
+fn first_of(bytes: &[u8]) -> u8
+    ensures { BeginsWith bytes.now result }
+{
+    match bytes {
+        [first, ..] => *first,
+        [] => 0,
+    }
+}
+
+/// Whether the digits begin with 0 or are at most eight.
+fn are_loose(digits: Digits) -> bool
+    ensures { MatchBool result ((digits.len ≤ 8) ⊎ (digits.front ≡ 0)) ((8 < digits.len) × (digits.front ≢ 0)) }
+{
+    digits.len <= 8 || digits.front == 0
+}
+
+/// The defect of a bignum at `place` of these digits.
+fn loose_digits(place: u64, digits: Digits) -> Option<Defect>
+    ensures { (b : List ℕ) → AreDigits digits b → FindsDefect (LooseBytesAt place b) result }
+{
+    if are_loose(digits) {
+        let reason = DefectReason::LooseBignum;
+        return Some(Defect { place, reason });
+    }
+    None
+}
+
+/// The defect of a bignum at `place` of these bytes.
+fn loose_defect(place: u64, bytes: &[u8]) -> Option<Defect>
+    ensures { FindsDefect (LooseBytesAt place bytes.now) result }
+{
+    if is_loose(bytes) {
+        let reason = DefectReason::LooseBignum;
+        return Some(Defect { place, reason });
+    }
+    None
+}
+
+/// Whether these bytes begin with 0 or are at most eight.
+fn is_loose(bytes: &[u8]) -> bool
+    ensures { IsTrue result ↔ IsLoose bytes.now }
+{
+    bytes.len() <= 8 || bytes[0] == 0
+}

@@ -1,0 +1,172 @@
+//! The keys of a map.
+
+ghost use Rattle.std.specs.Prelude.{◌≡◌, ◌≤◌, ◌-◌, ◌∷◌, ◌++◌, ℕ, List, [], length, take, IfSome, OnSome, IsPermutation};
+ghost use Rattle.cborn_model.specs.Tree.{entries};
+ghost use Rattle.cborn_judge.specs.Judged.{RepeatFlaw};
+ghost use Rattle.cborn_transcode.specs.Transcoding.{IsTranscoded};
+ghost use Rattle.cborn_search.specs.Flawed.{FindsTold, SeenKey, AreSeen};
+ghost use Rattle.cborn_search.specs.Marks.{mark_bytes, AreMarked, TakesKey, InPlace, ComesAfter, TieAfter, TieFlaw};
+ghost use Rattle.cborn_search.specs.Reading.{Pair};
+
+use crate::told::earliest;
+use cborn_judge::InvalidReason;
+use cborn_model::{Bytewise, KeyOrder, Limit};
+use cborn_transcode::transcode;
+use std::alloc::Global;
+use std::cmp::Ordering;
+
+/// Where a key's encoding lies among those of the others, and where the key stands.
+#[derive(Clone, Copy)]
+pub(crate) struct Mark {
+    start: u32,
+    len: u32,
+    place: u32,
+}
+
+/// The deterministic encodings of the keys of a map that mean something, one after another.
+#[derive(Drop)]
+pub(crate) struct Keys {
+    bytes: Vec<u8>,
+    marks: Vec<Mark>,
+}
+
+impl Keys {
+    /// No keys.
+    pub(crate) fn new(alloc: Global) -> Keys
+        ensures { AreMarked [] result }
+    {
+        Keys {
+            bytes: Vec::new(alloc),
+            marks: Vec::new(alloc),
+        }
+    }
+
+    /// Takes in the key at the front of `bytes`, the last of `total`, up to `rest`, unless it has a flaw. None promises nothing.
+    #[inline(never)]
+    pub(crate) fn take(
+        &mut self,
+        alloc: Global,
+        total: u64,
+        bytes: &[u8],
+        rest: &[u8],
+        flaw: Option<(u64, InvalidReason)>,
+    ) -> Option<()>
+        requires { length bytes.now ≤ total }
+        ensures { OnSome result (TakesKey total bytes.now rest.now flaw self.old self.new) }
+    {
+        match flaw {
+            Some(_) => Some(()),
+            None => {
+                let encoding = encoded::<Bytewise>(alloc, bytes, rest)?;
+                self.push(&encoding, total - bytes.len() as u64)?;
+                Some(())
+            }
+        }
+    }
+
+    /// Takes in the key at `place` that has this encoding.
+    fn push(&mut self, encoding: &[u8], place: u64) -> Option<()>
+        ensures { OnSome result ((ks : List SeenKey) (n : ℕ) → AreMarked ks self.old → AreMarked (ks ++ (encoding.now, n, place) ∷ []) self.new) }
+    {
+        if encoding.is_empty() {
+            return None;
+        }
+        let start = narrow(self.bytes.len() as u64)?;
+        let len = narrow(encoding.len() as u64)?;
+        let place = narrow(place)?;
+        self.bytes.extend_from_slice(encoding).ok()?;
+        self.marks.push(Mark { start, len, place }).ok()?;
+        Some(())
+    }
+
+    /// The first key that is the same as an earlier one. None promises nothing.
+    #[inline(never)]
+    pub(crate) fn first_repeat(&mut self) -> Option<Option<(u64, InvalidReason)>>
+        ensures { IfSome result (λ first. (ns : List Pair) (ks : List SeenKey) → AreMarked ks self.old → AreSeen ks ns → FindsTold (RepeatFlaw (entries ns)) first) }
+    {
+        if let Some(first) = first_tie(&self.bytes, &self.marks) {
+            return Some(first);
+        }
+        sort(&self.bytes, &mut self.marks);
+        first_tie(&self.bytes, &self.marks)
+    }
+}
+
+/// The encoding of the key at the front of `bytes`, up to `rest`. None promises nothing.
+pub(crate) fn encoded<O: KeyOrder>(alloc: Global, bytes: &[u8], rest: &[u8]) -> Option<Vec<u8>>
+    ensures { IfSome result (λ v. IsTranscoded O.order 1024 (take (length bytes.now - length rest.now) bytes.now) v.items) }
+{
+    if rest.len() > bytes.len() {
+        return None;
+    }
+    let limit = Limit::new(1024)?;
+    let key = &bytes[..bytes.len() - rest.len()];
+    transcode::<O>(alloc, limit, key)
+}
+
+/// The number, where it fits 32 bits.
+fn narrow(n: u64) -> Option<u32>
+    ensures { IfSome result (λ m. m ≡ n) }
+{
+    u32::try_from(n).ok()
+}
+
+/// The bytes that are marked.
+fn bytes_of<'a>(bytes: &'a [u8], mark: &Mark) -> &'a [u8]
+    ensures { result.now ≡ mark_bytes bytes.now mark.now }
+{
+    let start = mark.start as usize;
+    let len = mark.len as usize;
+    if start > bytes.len() {
+        return &[];
+    }
+    let (_, behind) = bytes.split_at(start);
+    if len > behind.len() {
+        return behind;
+    }
+    let (found, _) = behind.split_at(len);
+    found
+}
+
+/// Arranges the marks by their bytes, and those of the same bytes by where they begin.
+fn sort(bytes: &[u8], marks: &mut Vec<Mark>)
+    ensures { IsPermutation marks.old.items marks.new.items }
+{
+    marks.sort_unstable_by(|a, b| match bytes_of(bytes, a).cmp(bytes_of(bytes, b)) {
+        Ordering::Equal => a.start.cmp(&b.start),
+        unequal => unequal,
+    });
+}
+
+/// The first of the keys that have the bytes of the one before them. None: the marks are in no order.
+fn first_tie(bytes: &[u8], marks: &[Mark]) -> Option<Option<(u64, InvalidReason)>>
+    ensures { IfSome result (λ first. InPlace bytes.now marks.now × FindsTold (TieFlaw bytes.now marks.now) first) }
+{
+    let mut first: Option<(u64, InvalidReason)> = None;
+    let mut before: Option<Mark> = None;
+    for mark in marks {
+        let next = tie_with(bytes, before, mark)?;
+        first = earliest(first, next);
+        before = Some(*mark);
+    }
+    Some(first)
+}
+
+/// The flaw of a key that has the bytes of the one before it. None: it doesn't come behind that.
+fn tie_with(bytes: &[u8], before: Option<Mark>, mark: &Mark) -> Option<Option<(u64, InvalidReason)>>
+    ensures { IfSome result (λ next. ComesAfter bytes.now before mark.now × FindsTold (TieAfter bytes.now before mark.now) next) }
+{
+    let Some(before) = before else {
+        return Some(None);
+    };
+    match Bytewise::compare(bytes_of(bytes, &before), bytes_of(bytes, mark)) {
+        Ordering::Less => Some(None),
+        Ordering::Equal => {
+            if before.start >= mark.start {
+                return None;
+            }
+            Some(Some((u64::from(mark.place), InvalidReason::DuplicateKey)))
+        }
+        Ordering::Greater => None,
+    }
+}
