@@ -149,7 +149,7 @@ pub count-snoc : (ts : Trees) (t : Tree) → count (snoc ts t) ≡ suc (count ts
 count-snoc no_node t = refl
 count-snoc (more u ts) t = ap suc (count-snoc ts t)
 
-count-snoc_entry : (es : Entries) (k v : Tree) → count_entries (snoc_entry es k v) ≡ suc (count_entries es)
+pub count-snoc_entry : (es : Entries) (k v : Tree) → count_entries (snoc_entry es k v) ≡ suc (count_entries es)
 count-snoc_entry no_entry k v = refl
 count-snoc_entry (entry l w es) k v = ap suc (count-snoc_entry es k v)
 

@@ -29,7 +29,7 @@ use Rattle.cborn_edn.proofs.MarkTexts.{Closes, mark_is, indicates}
 digit_passes : (q : ℕ → Bool) (c : ℕ) → passes q 48 10 ≡ true → digit_value c < 10 → q c ≡ true
 digit_passes q c t h = let r = digit_from_value c h in passes-at q 48 10 c t r.0 (omega (arith, r.1))
 
-digits_pass : (q : ℕ → Bool) (ds : List ℕ) → passes q 48 10 ≡ true → AllDigits 10 ds → list_all q ds ≡ true
+pub digits_pass : (q : ℕ → Bool) (ds : List ℕ) → passes q 48 10 ≡ true → AllDigits 10 ds → list_all q ds ≡ true
 digits_pass q [] t h = refl
 digits_pass q (c ∷ ds) t h = and_from (q c) (list_all q ds) (digit_passes q c t h.0) (digits_pass q ds t h.1)
 
@@ -63,7 +63,7 @@ digit_start (single k) e = cc
 digit_start (opening k) e = cc
 digit_start (quote q) e = cc
 
-starts : (c : ℕ) → digit_value c < 10 → start_of c ≡ digit
+pub starts : (c : ℕ) → digit_value c < 10 → start_of c ≡ digit
 starts c h = digit_start (start_of c) (digit_passes (λ d. is_digit_start (start_of d)) c refl h)
 
 -- What digits without a leading zero stand for.
@@ -75,7 +75,7 @@ value : (n : ℕ) (ds : List ℕ) → number 10 n ds ≡ digits_value_after 10 n
 value n [] = refl
 value n (d ∷ ds) = value (n * 10 + digit_value d) ds
 
-plain_integer : (negative : Bool) (c : ℕ) (ds : List ℕ) → eqb c 48 ≡ false → AllDigits 10 (c ∷ ds) → integer negative (c ∷ ds) ≡ within (number 10 0 (c ∷ ds))
+pub plain_integer : (negative : Bool) (c : ℕ) (ds : List ℕ) → eqb c 48 ≡ false → AllDigits 10 (c ∷ ds) → integer negative (c ∷ ds) ≡ within (number 10 0 (c ∷ ds))
 plain_integer negative c ds e h =
     let hex : (has_prefix (codes "0x") (c ∷ ds) || has_prefix (codes "0X") (c ∷ ds)) ≡ false = rw e refl in
     let octal : (has_prefix (codes "0o") (c ∷ ds) || has_prefix (codes "0O") (c ∷ ds)) ≡ false = rw e refl in

@@ -14,7 +14,7 @@ module _ {A : Type 0} (sep : List ℕ) (f : A → List ℕ) where
   others-push [] x = ap (λ l. sep ++ l) (append-nil (f x))
   others-push (y ∷ xs) x = ap (λ l. sep ++ (f y ++ l)) (others-push xs x) ∙ simp append_assoc
 
-  separated-push : (xs : List A) (x : A) → separated sep f (xs ++ x ∷ []) ≡ separated sep f xs ++ (between sep (length xs) ++ f x)
+  pub separated-push : (xs : List A) (x : A) → separated sep f (xs ++ x ∷ []) ≡ separated sep f xs ++ (between sep (length xs) ++ f x)
   separated-push [] x = append-nil (f x)
   separated-push (y ∷ xs) x = ap (λ l. f y ++ l) (others-push xs x) ∙ simp append_assoc
 

@@ -42,6 +42,8 @@ mod writing;
 pub use faults::{EdnFault, EdnReason, ShowFault};
 pub use readers::read_notation;
 pub use showing::show;
+pub use strings::Kind;
+pub use writing::{push_between, push_escaped, push_indicator, push_simple};
 
 #[cfg(test)]
 mod tests;

@@ -13,8 +13,10 @@ use std::alloc::{AllocError, Global};
 
 /// Whether a string is of bytes or of text.
 #[derive(Clone, Copy, PartialEq, Eq)]
-pub(crate) enum Kind {
+pub enum Kind {
+    /// Of bytes.
     Bytes,
+    /// Of text.
     Text,
 }
 

@@ -38,24 +38,26 @@ fn shown(alloc: Global, digits: &str) -> Result<String, AllocError> {
 }
 
 /// Whether a text has items, or a fault of its own, which stands at its end where the text ends too early.
-fn is_told(alloc: Global, profile: Profile, text: &str) -> bool {
+fn is_told(alloc: Global, profile: Profile, text: &str) -> Result<bool, EdnFault> {
     match read_notation(alloc, LIMIT, profile, text) {
-        Ok(_) | Err(EdnFault::Lex(LexFault::Refused { .. })) => true,
+        Ok(_) | Err(EdnFault::Lex(LexFault::Refused { .. })) => Ok(true),
         Err(EdnFault::Refused { place, reason }) => {
-            reason != EdnReason::UnexpectedEnd || place == text.len() as u64
+            Ok(reason != EdnReason::UnexpectedEnd || place == text.len() as u64)
         }
-        Err(EdnFault::OutOfMemory | EdnFault::Lex(LexFault::OutOfMemory)) => false,
+        Err(why) => Err(why),
     }
 }
 
 /// Whether each proper front of a text is told under both profiles.
-fn are_fronts_told(alloc: Global, text: &str) -> Result<bool, AllocError> {
+fn are_fronts_told(alloc: Global, text: &str) -> Result<bool, EdnFault> {
     let mut front = String::new(alloc);
     for c in text.chars() {
-        if !is_told(alloc, Profile::One, &front) || !is_told(alloc, Profile::Two, &front) {
+        if !is_told(alloc, Profile::One, &front)? || !is_told(alloc, Profile::Two, &front)? {
             return Ok(false);
         }
-        front.push(c)?;
+        if front.push(c).is_err() {
+            return Err(EdnFault::OutOfMemory);
+        }
     }
     Ok(true)
 }

@@ -73,8 +73,8 @@ fn push_pairs(alloc: Global, out: &mut Vec<u8>, pairs: &[(Node, Node)]) -> Resul
     Ok(())
 }
 
-// Appends what stands before the item at `i`, of those that have `separator` between them.
-pub(crate) fn push_between(out: &mut Vec<u8>, i: usize, separator: &[u8]) -> Result<(), AllocError>
+/// Appends what stands before the item at `i`, of those that have `separator` between them.
+pub fn push_between(out: &mut Vec<u8>, i: usize, separator: &[u8]) -> Result<(), AllocError>
     ensures { OnOk result (out.new.items ≡ out.old.items ++ between separator.now i) }
 {
     if i > 0 {
@@ -107,8 +107,8 @@ fn push_decimal(out: &mut Vec<u8>, n: u128) -> Result<(), AllocError>
     out.extend_from_slice(buffer.format(n).as_bytes())
 }
 
-// Appends the indicator of a head that isn't the shortest for `n`.
-fn push_indicator(out: &mut Vec<u8>, width: Width, n: u64) -> Result<(), AllocError>
+/// Appends the indicator of a head that isn't the shortest for `n`.
+pub fn push_indicator(out: &mut Vec<u8>, width: Width, n: u64) -> Result<(), AllocError>
     ensures { OnOk result (out.new.items ≡ out.old.items ++ pure.indicator (mark_for width n)) }
 {
     if width == shortest(n) {
@@ -139,7 +139,8 @@ fn push_size(out: &mut Vec<u8>, size: Size, n: u64) -> Result<(), AllocError>
     }
 }
 
-fn push_simple(out: &mut Vec<u8>, n: u8) -> Result<(), AllocError>
+/// Appends a simple value.
+pub fn push_simple(out: &mut Vec<u8>, n: u8) -> Result<(), AllocError>
     ensures { OnOk result (out.new.items ≡ out.old.items ++ pure.shown_simple n) }
 {
     match n {
@@ -187,8 +188,8 @@ fn push_text(
     push_indicator(out, width, bytes.len() as u64)
 }
 
-// Appends text with its escapes, run by run.
-fn push_escaped(alloc: Global, out: &mut Vec<u8>, text: &[u8]) -> Result<(), AllocError>
+/// Appends text with its escapes, run by run.
+pub fn push_escaped(alloc: Global, out: &mut Vec<u8>, text: &[u8]) -> Result<(), AllocError>
     ensures { OnOk result (out.new.items ≡ out.old.items ++ flat_map pure.escaped text.now) }
 {
     let mut from = 0;

@@ -1,0 +1,4 @@
+pub mod Decimals
+pub mod Heading
+pub mod Nodes
+pub mod Placing

@@ -1,0 +1,86 @@
+-- Whole texts, and nodes at their places.
+use Rattle.std.proofs.Common.{◌≡◌, ◌≤◌, ℕ, suc, ◌+◌, List, [], ◌∷◌, ◌++◌, length, codes, refl, sym, ap, ◌∙◌, subst, append-nil, arith, true, false, ◌==◌}
+use Rattle.std.proofs.lemmas.Bool.{eqb-true}
+use Rattle.cborn_model.specs.declared.nodes.Chunk.{Chunk}
+use Rattle.cborn_model.specs.Heads.{Major, ByteString, TextString, Array, Map, Tag, Given, head, argument}
+use Rattle.cborn_model.specs.Tree.{Tree, Uint, Nint, Bytes, Text, ByteChunks, TextChunks, Items, Pairs, Tagged, Simple, Trees, no_item, more, Entries, no_entry, entry, trees, count, count_entries}
+use Rattle.cborn_model.specs.Spelled.{chunk_bytes, spelled, spelled_all, Wellformed}
+use Rattle.cborn_model.specs.Placed.{PlacedAll}
+use Rattle.cborn_edn.specs.Shown.{Shown, shown, shown_lines, unplaced_chunks, unplaced, unplaced_all, unplaced_entries}
+use Rattle.cborn_edn.specs.Between.{separated}
+use Rattle.cborn_edn.proofs.Separated.{lines-separated}
+use Rattle.cborn_edn.proofs.SameText.{same_notation}
+use Rattle.cborn_wire.specs.Places.{chunks_from, placed_from, all_from, entries_from}
+use Rattle.cborn_wire.proofs.AsPlaced.{spelled_all-from, depth_all-from, fits_all-from, placed_all-from}
+use Rattle.cborn_wire.proofs.TreeLists.{tree_list, trees-tree_list}
+use Rattle.cborn_show.specs.Passed.{NodesShown, PassShown, IsShownText}
+
+chunks-aside : (m : Major) (cs : List Chunk) (p : ℕ) → unplaced_chunks (chunks_from m p cs) ≡ unplaced_chunks cs
+chunks-aside m [] p = refl
+chunks-aside m (c ∷ cs) p = ap (λ l. record c { place = 0 } ∷ l) (chunks-aside m cs (p + length (chunk_bytes m c)))
+
+mutual
+  aside : (t : Tree) (p : ℕ) → unplaced (placed_from p t) ≡ unplaced t
+  aside (Uint q w n) p = refl
+  aside (Nint q w n) p = refl
+  aside (Bytes q w b) p = refl
+  aside (Text q w b) p = refl
+  aside (ByteChunks q cs) p = ap (ByteChunks 0) (chunks-aside ByteString cs (suc p))
+  aside (TextChunks q cs) p = ap (TextChunks 0) (chunks-aside TextString cs (suc p))
+  aside (Items q s ts) p = ap (Items 0 s) (all-aside ts (p + length (head Array (argument s (count ts)))))
+  aside (Pairs q s es) p = ap (Pairs 0 s) (entries-aside es (p + length (head Map (argument s (count_entries es)))))
+  aside (Tagged q w n t) p = ap (Tagged 0 w n) (aside t (p + length (head Tag (Given w n))))
+  aside (Simple q n) p = refl
+
+  all-aside : (ts : Trees) (p : ℕ) → unplaced_all (all_from p ts) ≡ unplaced_all ts
+  all-aside no_item p = refl
+  all-aside (more t ts) p = λ i. more (aside t p i) (all-aside ts (p + length (spelled t)) i)
+
+  entries-aside : (es : Entries) (p : ℕ) → unplaced_entries (entries_from p es) ≡ unplaced_entries es
+  entries-aside no_entry p = refl
+  entries-aside (entry k v es) p = λ i. entry (aside k p i) (aside v (p + length (spelled k)) i) (entries-aside es (p + length (spelled k) + length (spelled v)) i)
+
+pub placed_text : (limit : ℕ) (input text : List ℕ) → PassShown limit input text → IsShownText limit input text
+placed_text limit input text n =
+    let same : trees (tree_list (all_from 0 (trees n.nodes))) ≡ all_from 0 (trees n.nodes) = trees-tree_list (all_from 0 (trees n.nodes)) in
+    let read : Wellformed limit (all_from 0 (trees n.nodes)) input = record {
+      spells = spelled_all-from (trees n.nodes) 0 ∙ n.read.spells;
+      fit = fits_all-from (trees n.nodes) 0 n.read.fit;
+      shallow = subst (λ (d : ℕ). d ≤ limit) (sym (depth_all-from (trees n.nodes) 0)) n.read.shallow;
+    } in
+    record {
+      nodes = tree_list (all_from 0 (trees n.nodes));
+      read = subst (λ (us : Trees). Wellformed limit us input) (sym same) read;
+      placed = subst (PlacedAll 0) (sym same) (placed_all-from (trees n.nodes) 0);
+      shown = subst (λ (us : Trees). Shown us text) (sym same) (same_notation (trees n.nodes) (all_from 0 (trees n.nodes)) text (sym (all-aside (trees n.nodes) 0)) n.shown);
+    }
+
+-- ---- the end of the input
+
+pub no_lines : (limit : ℕ) (input text : List ℕ) → input ≡ [] → text ≡ [] → PassShown limit input text
+no_lines limit input text e t = record { nodes = []; read = record { spells = sym e; fit = tt; shallow = omega arith }; shown = (tt, t) }
+
+pub some_lines : (limit n : ℕ) (input rest out text : List ℕ) → NodesShown (codes ",\n") limit n input rest [] out → rest ≡ [] → (input ≡ [] → ⊥) → text ≡ out ++ codes "\n" → PassShown limit input text
+some_lines limit n input rest out text s r some t = go s.nodes refl
+  where
+    whole : input ≡ spelled_all (trees s.nodes)
+    whole = s.read ∙ ap (λ l. spelled_all (trees s.nodes) ++ l) r ∙ append-nil (spelled_all (trees s.nodes))
+
+    go : (ns : List Tree) → s.nodes ≡ ns → PassShown limit input text
+    go [] e = absurd (some (whole ∙ ap (λ (ts : List Tree). spelled_all (trees ts)) e))
+    go (x ∷ xs) e = record {
+      nodes = s.nodes;
+      read = record { spells = sym whole; fit = s.fits; shallow = s.shallow };
+      shown = (s.showable, t ∙ ap (λ l. l ++ codes "\n") s.written ∙ lines s.nodes x xs e);
+    }
+      where
+        lines : (ns : List Tree) (x : Tree) (xs : List Tree) → ns ≡ x ∷ xs → separated (codes ",\n") shown ns ++ codes "\n" ≡ shown_lines (trees ns)
+        lines ns x xs e = ap (λ (ts : List Tree). separated (codes ",\n") shown ts ++ codes "\n") e ∙ sym (lines-separated x xs) ∙ ap (λ (ts : List Tree). shown_lines (trees ts)) (sym e)
+
+pub nothing_left : (l : List ℕ) → (length l == 0) ≡ true → l ≡ []
+nothing_left [] h = refl
+nothing_left (x ∷ l) h = let e : length (x ∷ l) ≡ 0 = eqb-true (length (x ∷ l)) 0 h in absurd (omega arith)
+
+pub something_left : (l : List ℕ) → (length l == 0) ≡ false → l ≡ [] → ⊥
+something_left [] h e = let t : true ≡ false = h in cc
+something_left (x ∷ l) h e = let t : length (x ∷ l) ≡ 0 = ap length e in omega arith

@@ -1,0 +1,278 @@
+//! Items, one after another and inside one another.
+
+ghost use Rattle.std.specs.Prelude.{◌≡◌, ◌≢◌, ◌≤◌, ◌++◌, false, codes, OnSome, IfSome};
+ghost use Rattle.cborn_model.specs.Heads.{Array, Map, Tag, Given, Unbounded, head, Holds};
+ghost use Rattle.cborn_edn.specs.Between.{between};
+ghost use Rattle.cborn_edn.specs.Shown.{mark_for, opened};
+ghost use Rattle.cborn_show.specs.Passed.{NodeShown, NodesShown, PairShown, PairsShown};
+
+use crate::leaves::{behind_break, put_long_string, put_simple, put_string};
+use crate::numbers::{put_below, put_indicator, put_number};
+use cborn_model::{Width, shortest};
+use cborn_wire::{Argument, HeadRead, read_head};
+use std::alloc::Global;
+
+/// Appends the text of the item at the front of `bytes`, which is no deeper than `room`, and answers what follows it.
+#[cycle(shown)]
+pub(crate) fn put_item<'a>(
+    alloc: Global,
+    room: u64,
+    bytes: &'a [u8],
+    out: &mut Vec<u8>,
+) -> Option<&'a [u8]>
+    requires { room ≤ 1024 }
+    ensures { IfSome result (λ rest. NodeShown room bytes.now rest.now out.old.items out.new.items) }
+{
+    let HeadRead::Full(head, len) = read_head(bytes) else {
+        return None;
+    };
+    let rest = &bytes[len..];
+    match head.argument {
+        Argument::Given(width, n) => match head.major {
+            0 => {
+                put_number(width, n, out)?;
+                Some(rest)
+            }
+            1 => {
+                put_below(width, n, out)?;
+                Some(rest)
+            }
+            2 => put_string(alloc, false, width, n, rest, out),
+            3 => put_string(alloc, true, width, n, rest, out),
+            4 => put_fixed_array(alloc, room, width, n, rest, out),
+            5 => put_fixed_map(alloc, room, width, n, rest, out),
+            6 => put_tagged(alloc, room, width, n, rest, out),
+            7 => {
+                put_simple(head.argument, out)?;
+                Some(rest)
+            }
+            _ => None,
+        },
+        Argument::Endless => match head.major {
+            2 => put_long_string(alloc, false, rest, out),
+            3 => put_long_string(alloc, true, rest, out),
+            4 => put_endless_array(alloc, room, rest, out),
+            5 => put_endless_map(alloc, room, rest, out),
+            _ => None,
+        },
+    }
+}
+
+/// The array of the `n` items at the front of `bytes`.
+#[cycle(shown)]
+#[inline(never)]
+fn put_fixed_array<'a>(
+    alloc: Global,
+    room: u64,
+    width: Width,
+    n: u64,
+    bytes: &'a [u8],
+    out: &mut Vec<u8>,
+) -> Option<&'a [u8]>
+    requires { room ≤ 1024 }
+    ensures { IfSome result (λ rest. Holds width n → NodeShown room (head Array (Given width n) ++ bytes.now) rest.now out.old.items out.new.items) }
+{
+    if room == 0 {
+        return None;
+    }
+    out.push(b'[').ok()?;
+    put_opened(width, n, out)?;
+    let (rest, count) = put_items(alloc, room - 1, n, false, bytes, out)?;
+    if count != n {
+        return None;
+    }
+    out.push(b']').ok()?;
+    Some(rest)
+}
+
+/// The indicator of an array or a map of `n` entries, and a space behind it.
+#[inline]
+fn put_opened(width: Width, n: u64, out: &mut Vec<u8>) -> Option<()>
+    ensures { OnSome result (out.new.items ≡ out.old.items ++ opened (mark_for width n)) }
+{
+    if width != shortest(n) {
+        put_indicator(width, n, out)?;
+        out.push(b' ').ok()?;
+    }
+    Some(())
+}
+
+/// The array of the items at the front of `bytes`, up to a break.
+#[cycle(shown)]
+#[inline(never)]
+fn put_endless_array<'a>(
+    alloc: Global,
+    room: u64,
+    bytes: &'a [u8],
+    out: &mut Vec<u8>,
+) -> Option<&'a [u8]>
+    requires { room ≤ 1024 }
+    ensures { IfSome result (λ rest. NodeShown room (head Array Unbounded ++ bytes.now) rest.now out.old.items out.new.items) }
+{
+    if room == 0 {
+        return None;
+    }
+    out.extend_from_slice(b"[_ ").ok()?;
+    let (rest, _) = put_items(alloc, room - 1, u64::MAX, true, bytes, out)?;
+    let after = behind_break(rest)?;
+    out.push(b']').ok()?;
+    Some(after)
+}
+
+/// The items at the front of `bytes`, at most `most`, and where there may be an end up to a break: answers what follows them, and how many they are.
+#[cycle(shown)]
+#[inline(always)]
+fn put_items<'a>(
+    alloc: Global,
+    room: u64,
+    most: u64,
+    may_end: bool,
+    bytes: &'a [u8],
+    out: &mut Vec<u8>,
+) -> Option<(&'a [u8], u64)>
+    requires { room ≤ 1024 }
+    ensures { IfSome result (λ r. NodesShown (codes ", ") room r.1 bytes.now r.0.now out.old.items out.new.items) }
+{
+    let mut rest = bytes;
+    let mut count = 0;
+    'items: for _ in 0..bytes.len() {
+        if is_done(count, most, may_end, rest) {
+            break;
+        }
+        put_between(count, out)?;
+        rest = put_item(alloc, room, rest, out)?;
+        count += 1;
+    }
+    Some((rest, count))
+}
+
+/// What stands before the item or the pair with this index.
+#[inline(always)]
+fn put_between(count: u64, out: &mut Vec<u8>) -> Option<()>
+    ensures { OnSome result (out.new.items ≡ out.old.items ++ between (codes ", ") count) }
+{
+    if count > 0 {
+        out.extend_from_slice(b", ").ok()?;
+    }
+    Some(())
+}
+
+/// Whether no more is to be taken: all that there may be is taken, or a break ends it.
+#[inline(always)]
+fn is_done(count: u64, most: u64, may_end: bool, bytes: &[u8]) -> bool
+    ensures { result ≡ false → count ≢ most }
+{
+    count == most || (may_end && matches!(bytes, [255, ..]))
+}
+
+/// The map of the `n` pairs at the front of `bytes`.
+#[cycle(shown)]
+#[inline(never)]
+fn put_fixed_map<'a>(
+    alloc: Global,
+    room: u64,
+    width: Width,
+    n: u64,
+    bytes: &'a [u8],
+    out: &mut Vec<u8>,
+) -> Option<&'a [u8]>
+    requires { room ≤ 1024 }
+    ensures { IfSome result (λ rest. Holds width n → NodeShown room (head Map (Given width n) ++ bytes.now) rest.now out.old.items out.new.items) }
+{
+    if room == 0 {
+        return None;
+    }
+    out.push(b'{').ok()?;
+    put_opened(width, n, out)?;
+    let (rest, count) = put_pairs(alloc, room - 1, n, false, bytes, out)?;
+    if count != n {
+        return None;
+    }
+    out.push(b'}').ok()?;
+    Some(rest)
+}
+
+/// The map of the pairs at the front of `bytes`, up to a break.
+#[cycle(shown)]
+#[inline(never)]
+fn put_endless_map<'a>(
+    alloc: Global,
+    room: u64,
+    bytes: &'a [u8],
+    out: &mut Vec<u8>,
+) -> Option<&'a [u8]>
+    requires { room ≤ 1024 }
+    ensures { IfSome result (λ rest. NodeShown room (head Map Unbounded ++ bytes.now) rest.now out.old.items out.new.items) }
+{
+    if room == 0 {
+        return None;
+    }
+    out.extend_from_slice(b"{_ ").ok()?;
+    let (rest, _) = put_pairs(alloc, room - 1, u64::MAX, true, bytes, out)?;
+    let after = behind_break(rest)?;
+    out.push(b'}').ok()?;
+    Some(after)
+}
+
+/// The pairs at the front of `bytes`, as `put_items` takes items.
+#[cycle(shown)]
+#[inline(always)]
+fn put_pairs<'a>(
+    alloc: Global,
+    room: u64,
+    most: u64,
+    may_end: bool,
+    bytes: &'a [u8],
+    out: &mut Vec<u8>,
+) -> Option<(&'a [u8], u64)>
+    requires { room ≤ 1024 }
+    ensures { IfSome result (λ r. PairsShown room r.1 bytes.now r.0.now out.old.items out.new.items) }
+{
+    let mut rest = bytes;
+    let mut count = 0;
+    'pairs: for _ in 0..bytes.len() {
+        if is_done(count, most, may_end, rest) {
+            break;
+        }
+        put_between(count, out)?;
+        rest = put_pair(alloc, room, rest, out)?;
+        count += 1;
+    }
+    Some((rest, count))
+}
+
+/// The pair at the front of `bytes`.
+#[cycle(shown)]
+#[inline(always)]
+fn put_pair<'a>(alloc: Global, room: u64, bytes: &'a [u8], out: &mut Vec<u8>) -> Option<&'a [u8]>
+    requires { room ≤ 1024 }
+    ensures { IfSome result (λ rest. PairShown room bytes.now rest.now out.old.items out.new.items) }
+{
+    let after = put_item(alloc, room, bytes, out)?;
+    out.extend_from_slice(b": ").ok()?;
+    put_item(alloc, room, after, out)
+}
+
+/// The tag `n` over the item at the front of `bytes`.
+#[cycle(shown)]
+#[inline(never)]
+fn put_tagged<'a>(
+    alloc: Global,
+    room: u64,
+    width: Width,
+    n: u64,
+    bytes: &'a [u8],
+    out: &mut Vec<u8>,
+) -> Option<&'a [u8]>
+    requires { room ≤ 1024 }
+    ensures { IfSome result (λ rest. Holds width n → NodeShown room (head Tag (Given width n) ++ bytes.now) rest.now out.old.items out.new.items) }
+{
+    if room == 0 {
+        return None;
+    }
+    put_number(width, n, out)?;
+    out.push(b'(').ok()?;
+    let rest = put_item(alloc, room - 1, bytes, out)?;
+    out.push(b')').ok()?;
+    Some(rest)
+}

@@ -1,0 +1,11 @@
+use Rattle.std.proofs.Common.{◌≡◌, ◌≤◌, ◌-◌, ◌++◌, true, take, length}
+use Rattle.std.specs.List.{list_all, flat_map}
+use Rattle.cborn_lex.specs.Strings.{Letter, written, meant, is_letter, is_content}
+use Rattle.cborn_spell.specs.Descent.{LettersSoFar}
+use Rattle.cborn_spell.proofs.strings.put_letters.Given as goal
+
+abbrev pub invariant-letters : goal.invariant-letters
+invariant-letters l = (l.at ≤ length l.tail) × LettersSoFar l.tail l.at l.initial.out.items l.out.items
+
+abbrev pub decreases-letters : goal.decreases-letters
+decreases-letters l = length l.tail - l.at

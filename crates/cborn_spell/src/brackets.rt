@@ -1,0 +1,237 @@
+//! What opens and closes arrays, maps, strings and embedded items.
+
+ghost use Rattle.std.specs.Prelude.{◌≡◌, ◌≤◌, ◌<◌, length, IfSome, OnSome, IsTrue, IsUtf8};
+ghost use Rattle.cborn_lex.specs.declared.classes.Class.{Class};
+ghost use Rattle.cborn_lex.specs.declared.classes.Class.TheVariants as classes;
+ghost use Rattle.cborn_lex.specs.Forms.{start_of, single};
+ghost use Rattle.cborn_edn.specs.declared.strings.Kind.TheVariants as kinds;
+ghost use Rattle.cborn_spell.specs.Descent.{TokenAt, Ends, Opens, Closes, ClosesFixed, ClosesString, ClosesChunks, major_of};
+
+use crate::heads::{set_head, set_wide_head};
+use crate::leaves::{holds, is_text};
+use crate::scans::{behind, skip};
+use cborn_edn::Kind;
+use cborn_lex::{Class, Mark, Profile, token_from};
+use std::alloc::Global;
+
+/// A byte in the place of the head, or the head of an indefinite length.
+#[inline(always)]
+pub(crate) fn open(major: u8, mark: Mark, out: &mut Vec<u8>) -> Option<()>
+    requires { major < 8 }
+    ensures { OnSome result (Opens major mark out.old.items out.new.items) }
+{
+    match mark {
+        Mark::Absent | Mark::Wide(_) => out.push(0).ok(),
+        Mark::Endless => out.push(32 * major + 31).ok(),
+    }
+}
+
+/// The head in the place of the byte at `start`, or the break.
+#[inline(always)]
+pub(crate) fn close(
+    alloc: Global,
+    major: u8,
+    mark: Mark,
+    count: u64,
+    start: usize,
+    out: &mut Vec<u8>,
+) -> Option<()>
+    requires { major < 8 }
+    ensures { OnSome result (Closes major mark count start out.old.items out.new.items) }
+{
+    match mark {
+        Mark::Absent => set_head(alloc, major, count, start, out),
+        Mark::Endless => out.push(255).ok(),
+        Mark::Wide(_) => close_fixed(alloc, major, mark, count, start, out),
+    }
+}
+
+/// The head with the argument `n` under an indicator, in the place of the byte at `start`.
+pub(crate) fn close_fixed(
+    alloc: Global,
+    major: u8,
+    mark: Mark,
+    n: u64,
+    start: usize,
+    out: &mut Vec<u8>,
+) -> Option<()>
+    requires { major < 8 }
+    ensures { OnSome result (ClosesFixed major mark n start out.old.items out.new.items) }
+{
+    match mark {
+        Mark::Absent => set_head(alloc, major, n, start, out),
+        Mark::Endless => None,
+        Mark::Wide(width) => {
+            if !holds(width, n) {
+                return None;
+            }
+            set_wide_head(alloc, major, width, n, start, out)
+        }
+    }
+}
+
+/// The head of a string in the place of the byte at `start`, behind which its bytes stand.
+pub(crate) fn close_string(
+    alloc: Global,
+    kind: Kind,
+    mark: Mark,
+    start: usize,
+    out: &mut Vec<u8>,
+) -> Option<()>
+    ensures { OnSome result (ClosesString kind mark start out.old.items out.new.items) }
+{
+    if start >= out.len() {
+        return None;
+    }
+    let content = &out[start + 1..];
+    if !is_good(kind, content) {
+        return None;
+    }
+    let len = len_of(content);
+    close_fixed(alloc, major_of(kind), mark, len, start, out)?;
+    Some(())
+}
+
+fn len_of(content: &[u8]) -> u64
+    ensures { result ≡ length content.now }
+{
+    content.len() as u64
+}
+
+/// Whether the bytes can be those of a string of this kind.
+fn is_good(kind: Kind, content: &[u8]) -> bool
+    ensures { IsTrue result → kind ≡ kinds.Text → IsUtf8 content.now }
+{
+    match kind {
+        Kind::Bytes => true,
+        Kind::Text => is_text(content),
+    }
+}
+
+/// The head of a string in chunks in the place of the byte at `start`, and the break.
+pub(crate) fn close_chunks(kind: Kind, start: usize, out: &mut Vec<u8>) -> Option<()>
+    ensures { OnSome result (ClosesChunks kind start out.old.items out.new.items) }
+{
+    if start >= out.len() {
+        return None;
+    }
+    out[start] = 32 * major_of(kind) + 31;
+    out.push(255).ok()?;
+    Some(())
+}
+
+fn major_of(kind: Kind) -> u8
+    ensures is { result ≡ major_of kind }
+    ensures small { result < 8 }
+{
+    match kind {
+        Kind::Bytes => 2,
+        Kind::Text => 3,
+    }
+}
+
+/// The end of the closing bracket, behind one comma in the second profile.
+#[inline(always)]
+pub(crate) fn ending(c: u8, profile: Profile, text: &str, at: usize) -> Option<usize>
+    requires { at ≤ length text.now }
+    ensures within { IfSome result (λ end. end ≤ length text.now) }
+    ensures ends { IfSome result (λ end. (k : Class) → start_of c ≡ single k → Ends profile text.now at end k) }
+{
+    match behind(c, profile, text, at) {
+        Some(end) => Some(end),
+        None => ending_behind_comma(c, profile, text, at),
+    }
+}
+
+#[inline(never)]
+fn ending_behind_comma(c: u8, profile: Profile, text: &str, at: usize) -> Option<usize>
+    requires { at ≤ length text.now }
+    ensures within { IfSome result (λ end. end ≤ length text.now) }
+    ensures ends { IfSome result (λ end. (k : Class) → start_of c ≡ single k → Ends profile text.now at end k) }
+{
+    let middle = behind(b',', profile, text, at)?;
+    let end = behind(c, profile, text, middle)?;
+    match profile {
+        Profile::One => None,
+        Profile::Two => Some(end),
+    }
+}
+
+/// Whether a closing bracket stands behind a comma, where one may. Nothing is promised: it is read again.
+#[inline(always)]
+pub(crate) fn is_last(profile: Profile, text: &str, at: usize) -> bool
+    requires { at ≤ length text.now }
+{
+    match profile {
+        Profile::One => false,
+        Profile::Two => is_closing(profile, text, at),
+    }
+}
+
+fn is_closing(profile: Profile, text: &str, at: usize) -> bool
+    requires { at ≤ length text.now }
+{
+    match skip(profile, text, at) {
+        Some(place) => place < text.len() && matches!(text.as_bytes()[place], b']' | b'}' | b'>'),
+        None => false,
+    }
+}
+
+/// The end of `>>`, and its indicator.
+pub(crate) fn embed_end(
+    alloc: Global,
+    profile: Profile,
+    text: &str,
+    at: usize,
+) -> Option<(usize, Mark)>
+    requires { at ≤ length text.now }
+    ensures within { IfSome result (λ r. r.0 ≤ length text.now) }
+    ensures token { IfSome result (λ r. TokenAt profile text.now at r.0 (classes.EmbedClose r.1)) }
+{
+    let Ok(Some(token)) = token_from(alloc, profile, text, at as u64) else {
+        return None;
+    };
+    let end = token.stop as usize;
+    if end > text.len() {
+        return None;
+    }
+    match token.class {
+        Class::EmbedClose(mark) => Some((end, mark)),
+        _ => None,
+    }
+}
+
+/// The same, behind one comma in the second profile.
+pub(crate) fn embed_ending(
+    alloc: Global,
+    profile: Profile,
+    text: &str,
+    at: usize,
+) -> Option<(usize, Mark)>
+    requires { at ≤ length text.now }
+    ensures within { IfSome result (λ r. r.0 ≤ length text.now) }
+    ensures ends { IfSome result (λ r. Ends profile text.now at r.0 (classes.EmbedClose r.1)) }
+{
+    match behind(b',', profile, text, at) {
+        None => embed_end(alloc, profile, text, at),
+        Some(_) => embed_end_behind_comma(alloc, profile, text, at),
+    }
+}
+
+fn embed_end_behind_comma(
+    alloc: Global,
+    profile: Profile,
+    text: &str,
+    at: usize,
+) -> Option<(usize, Mark)>
+    requires { at ≤ length text.now }
+    ensures within { IfSome result (λ r. r.0 ≤ length text.now) }
+    ensures ends { IfSome result (λ r. Ends profile text.now at r.0 (classes.EmbedClose r.1)) }
+{
+    let middle = behind(b',', profile, text, at)?;
+    let (end, mark) = embed_end(alloc, profile, text, middle)?;
+    match profile {
+        Profile::One => None,
+        Profile::Two => Some((end, mark)),
+    }
+}

@@ -1,0 +1,108 @@
+//! Heads at the end of a buffer.
+
+ghost use Rattle.std.specs.Prelude.{◌≡◌, ◌<◌, ◌++◌, ◌∷◌, length, OnSome};
+ghost use Rattle.std.specs.Int.{w16, w32, w64, to_be_bytes};
+ghost use Rattle.cborn_model.specs.Heads.{Holds, least};
+ghost use Rattle.cborn_spell.specs.Descent.{AddsHead, SetsHead};
+
+use cborn_model::Width;
+use cborn_wire::push_head;
+use std::alloc::Global;
+
+/// Appends the shortest head of the major type with the argument `n`.
+#[inline]
+pub(crate) fn put_head(major: u8, n: u64, out: &mut Vec<u8>) -> Option<()>
+    requires { major < 8 }
+    ensures { OnSome result (AddsHead major n out.old.items out.new.items) }
+{
+    let first = 32 * major;
+    if n < 24 {
+        out.push(first + n as u8).ok()
+    } else if n < 256 {
+        out.extend_from_slice(&[first + 24, n as u8]).ok()
+    } else if n < 65536 {
+        put_two(first + 25, n as u16, out)
+    } else if n < 4294967296 {
+        put_four(first + 26, n as u32, out)
+    } else {
+        put_eight(first + 27, n, out)
+    }
+}
+
+#[inline]
+fn put_two(first: u8, n: u16, out: &mut Vec<u8>) -> Option<()>
+    ensures { OnSome result (out.new.items ≡ out.old.items ++ first ∷ to_be_bytes w16 n) }
+{
+    let [a, b] = n.to_be_bytes();
+    out.extend_from_slice(&[first, a, b]).ok()
+}
+
+#[inline]
+fn put_four(first: u8, n: u32, out: &mut Vec<u8>) -> Option<()>
+    ensures { OnSome result (out.new.items ≡ out.old.items ++ first ∷ to_be_bytes w32 n) }
+{
+    let [a, b, c, d] = n.to_be_bytes();
+    out.extend_from_slice(&[first, a, b, c, d]).ok()
+}
+
+#[inline]
+fn put_eight(first: u8, n: u64, out: &mut Vec<u8>) -> Option<()>
+    ensures { OnSome result (out.new.items ≡ out.old.items ++ first ∷ to_be_bytes w64 n) }
+{
+    let [a, b, c, d, e, f, g, h] = n.to_be_bytes();
+    out.extend_from_slice(&[first, a, b, c, d, e, f, g, h]).ok()
+}
+
+/// Puts the shortest head of the major type with the argument `n` in the place of the byte at `start`.
+pub(crate) fn set_head(
+    alloc: Global,
+    major: u8,
+    n: u64,
+    start: usize,
+    out: &mut Vec<u8>,
+) -> Option<()>
+    requires major { major < 8 }
+    ensures { OnSome result ((start < length out.old.items) × SetsHead major (least n) n start out.old.items out.new.items) }
+{
+    if start >= out.len() {
+        return None;
+    }
+    if n < 24 {
+        out[start] = 32 * major + n as u8;
+        return Some(());
+    }
+    widen_head(alloc, major, n, start, out)
+}
+
+fn widen_head(alloc: Global, major: u8, n: u64, start: usize, out: &mut Vec<u8>) -> Option<()>
+    requires major { major < 8 }
+    requires inside { start < length out.old.items }
+    ensures { OnSome result ((start < length out.old.items) × SetsHead major (least n) n start out.old.items out.new.items) }
+{
+    let content = Vec::from_slice(alloc, &out[start + 1..]).ok()?;
+    out.truncate(start);
+    put_head(major, n, out)?;
+    out.extend_from_slice(&content).ok()
+}
+
+/// Puts the head of the major type with the argument `n`, which fits the width, in the place of the byte at `start`.
+pub(crate) fn set_wide_head(
+    alloc: Global,
+    major: u8,
+    width: Width,
+    n: u64,
+    start: usize,
+    out: &mut Vec<u8>,
+) -> Option<()>
+    requires major { major < 8 }
+    requires fits { Holds width n }
+    ensures { OnSome result ((start < length out.old.items) × SetsHead major width n start out.old.items out.new.items) }
+{
+    if start >= out.len() {
+        return None;
+    }
+    let content = Vec::from_slice(alloc, &out[start + 1..]).ok()?;
+    out.truncate(start);
+    push_head(out, major, width, n).ok()?;
+    out.extend_from_slice(&content).ok()
+}

@@ -1,0 +1,162 @@
+//! Items without children, of tokens that were read.
+
+ghost use Rattle.std.specs.Prelude.{◌≡◌, ◌⊎◌, ◌<◌, ◌≤◌, ◌++◌, ◌∷◌, ◌+◌, ◌*◌, ◌^◌, ℕ, [], Some, length, true, false, IfSome, OnSome, IsTrue, IsUtf8, if◌then◌else◌};
+ghost use Rattle.cborn_model.specs.declared.heads.Width.{Width};
+ghost use Rattle.cborn_model.specs.Heads.{head_bytes};
+ghost use Rattle.cborn_lex.specs.declared.classes.Class.TheVariants as classes;
+ghost use Rattle.cborn_edn.specs.Meaning.{width_for, holds, is_simple, is_absent};
+ghost use Rattle.cborn_spell.specs.Descent.{AddsMarked, AddsString, AddsEmpty, AddsSimple, TokenAt, ItemTaken, suits};
+
+use crate::heads::put_head;
+use crate::numerals::decimal;
+use crate::scans::{behind, skip};
+use cborn_edn::Kind;
+use cborn_lex::{Mark, Profile};
+use cborn_model::Width;
+use cborn_wire::push_head;
+
+/// Appends the head that the indicator asks for.
+pub(crate) fn put_marked(major: u8, mark: Mark, n: u64, out: &mut Vec<u8>) -> Option<()>
+    requires { major < 8 }
+    ensures { OnSome result (AddsMarked major mark n out.old.items out.new.items) }
+{
+    match mark {
+        Mark::Absent => put_head(major, n, out),
+        Mark::Endless => None,
+        Mark::Wide(width) => {
+            if !holds(width, n) {
+                return None;
+            }
+            push_head(out, major, width, n).ok()
+        }
+    }
+}
+
+/// Whether a head of this width has room for the argument.
+pub(crate) fn holds(width: Width, n: u64) -> bool
+    ensures { result ≡ holds width n }
+{
+    match width {
+        Width::Direct => n < 24,
+        Width::One => n < 256,
+        Width::Two => n < 65536,
+        Width::Four => n < 4294967296,
+        Width::Eight => true,
+    }
+}
+
+/// Appends a string of one piece. One without chunks is a lone `''` or `""`, so `quoted`.
+pub(crate) fn put_string(
+    major: u8,
+    quoted: bool,
+    mark: Mark,
+    content: &[u8],
+    out: &mut Vec<u8>,
+) -> Option<()>
+    requires { major < 8 }
+    ensures string { OnSome result (AddsString major mark content.now out.old.items out.new.items ⊎ AddsEmpty major quoted mark content.now out.old.items out.new.items) }
+    ensures text { OnSome result (major ≡ 3 → IsUtf8 content.now) }
+{
+    if major == 3 && !is_text(content) {
+        return None;
+    }
+    if let Mark::Endless = mark {
+        put_empty(major, quoted, content, out)?;
+        return Some(());
+    }
+    put_marked(major, mark, content.len() as u64, out)?;
+    out.extend_from_slice(content).ok()?;
+    Some(())
+}
+
+/// Appends a string without chunks.
+fn put_empty(major: u8, quoted: bool, content: &[u8], out: &mut Vec<u8>) -> Option<()>
+    requires { major < 8 }
+    ensures quoted { OnSome result (quoted ≡ true) }
+    ensures empty { OnSome result (content.now ≡ []) }
+    ensures written { OnSome result (out.new.items ≡ out.old.items ++ (32 * major + 31) ∷ 255 ∷ []) }
+{
+    if !quoted || !is_empty(content) {
+        return None;
+    }
+    out.extend_from_slice(&[32 * major + 31, 255]).ok()?;
+    Some(())
+}
+
+fn is_empty(content: &[u8]) -> bool
+    ensures { IsTrue result → content.now ≡ [] }
+{
+    match content {
+        [] => true,
+        _ => false,
+    }
+}
+
+/// Whether the bytes are UTF-8.
+#[inline]
+pub(crate) fn is_text(bytes: &[u8]) -> bool
+    ensures { IsTrue result → IsUtf8 bytes.now }
+{
+    bytes.is_ascii() || simdutf8::is_utf8(bytes)
+}
+
+/// Appends a simple value.
+pub(crate) fn put_simple(n: u64, out: &mut Vec<u8>) -> Option<()>
+    ensures { OnSome result (AddsSimple n out.old.items out.new.items) }
+{
+    if n < 24 {
+        out.push(224 + n as u8).ok()
+    } else if 32 <= n && n < 256 {
+        out.extend_from_slice(&[248, n as u8]).ok()
+    } else {
+        None
+    }
+}
+
+/// A simple value, behind `simple(`.
+pub(crate) fn put_simple_item(
+    profile: Profile,
+    text: &str,
+    at: usize,
+    out: &mut Vec<u8>,
+) -> Option<usize>
+    requires at { at ≤ length text.now }
+    ensures within { IfSome result (λ end. end ≤ length text.now) }
+    ensures taken { IfSome result (λ end. (n room : ℕ) → TokenAt profile text.now n at classes.SimpleOpen → ItemTaken profile text.now n end room out.old.items out.new.items) }
+{
+    let place = skip(profile, text, at)?;
+    let (n, last) = decimal(text, place)?;
+    put_simple(n, out)?;
+    behind(b')', profile, text, last)
+}
+
+/// Whether there is no indicator.
+pub(crate) fn is_bare(mark: Mark) -> bool
+    ensures { result ≡ is_absent mark }
+{
+    match mark {
+        Mark::Absent => true,
+        Mark::Endless => false,
+        Mark::Wide(_) => false,
+    }
+}
+
+/// Whether a piece of the kind `other` may stand in a string of the kind `kind`.
+pub(crate) fn fits_kind(kind: Kind, other: Kind) -> bool
+    ensures { result ≡ suits kind other }
+{
+    match kind {
+        Kind::Text => true,
+        Kind::Bytes => other == Kind::Bytes,
+    }
+}
+
+/// Whether two chunks are of one kind.
+pub(crate) fn is_same(kind: Kind, other: Kind) -> bool
+    ensures { IsTrue result → other ≡ kind }
+{
+    match kind {
+        Kind::Text => other == Kind::Text,
+        Kind::Bytes => other == Kind::Bytes,
+    }
+}
