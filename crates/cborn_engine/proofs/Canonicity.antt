@@ -15,8 +15,7 @@ use Rattle.cborn_engine.specs.declared.kinds.Kind.{Kind}
 use Rattle.cborn_engine.specs.declared.kinds.Kind.TheVariants as kind
 use Rattle.cborn_engine.specs.Holding.{Spells, Holds, Canon, IsWrittenAs}
 use Rattle.cborn_engine.specs.Refusing.{IsRead}
-use Rattle.cborn_engine.specs.Loading.{Reads}
-use Rattle.cborn_engine.specs.Encoding.{Encodes}
+use Rattle.cborn_engine.specs.Encoding.{IsEncoded, Encodes}
 use Rattle.cborn_engine.specs.Writing.{Writes, WriteAnswers}
 use Rattle.cborn_engine.specs.Canonical.{IsCanonical, NormaliseAnswers, Normalises}
 use Rattle.cborn_engine.proofs.Notated.{fits}
@@ -102,6 +101,28 @@ held_sound order k limit input vs x short h d =
     let f = spelled_fits k limit input h.nodes short h.spelled in
     record { proper = sequence_proper order h.nodes vs x f.0 h.meant d; shallow = sequence_shallow limit h.nodes vs f.0 f.1 h.meant }
 
+-- the bytes hold items of which they are the encodings, the same as these
+pub record OwnEncoding (order : List ℕ → List ℕ → Ordering) (limit : ℕ) (bytes : List ℕ) (items : List Value) : Type 0 where
+  pub own : IsEncoded order kind.Wire limit bytes bytes
+  pub same : AllZip Same own.items items
+
+-- what was encoded of what was read is its own encoding
+pub own_encoding : (order : List ℕ → List ℕ → Ordering) (laws : IsKeyOrder order) (k : Kind) (limit most : ℕ) (before after : Option (List ℕ)) (bytes : Vec ℕ Global) → most ≤ 2 ^ 30 → (h : Encodes order k limit most before after (Ok bytes)) → OwnEncoding order limit bytes.items h.answer.1.items
+own_encoding order laws k limit most before after bytes bounded h =
+    let e = h.answer.1 in
+    let sound : AreSound limit e.items = held_sound order k limit h.input e.items bytes.items (omega (arith, h.answer.0, bounded)) e.held e.encoded in
+    let back = sequence_back order laws limit 0 e.items bytes.items sound.proper sound.shallow e.encoded in
+    let small : length bytes.items < 2 ^ 64 = omega (arith, bytes.small) in
+    let again : AreSound limit back.items = nodes_sound limit back.nodes back.items back.fits back.shallow (subst (λ (y : List ℕ). length y < 2 ^ 64) (sym back.spells) small) back.mean in
+    record {
+      own = record {
+        items = back.items;
+        held = holds_back kind.Wire limit e.items bytes.items bytes.items back refl;
+        encoded = same_encoded order laws e.items back.items bytes.items sound.proper again.proper e.encoded (all_turned back.items e.items back.same);
+      };
+      same = back.same;
+    }
+
 -- what was encoded of what was read holds items
 pub encoded_held : (order : List ℕ → List ℕ → Ordering) (laws : IsKeyOrder order) (k : Kind) (limit most : ℕ) (before after : Option (List ℕ)) (bytes : Vec ℕ Global) → most ≤ 2 ^ 30 → Encodes order k limit most before after (Ok bytes) → (vs : List Value) × Holds kind.Wire limit bytes.items vs
 encoded_held order laws k limit most before after bytes bounded h =
@@ -132,19 +153,3 @@ normalised order laws k out limit most before after sent sent_after bytes zs ys 
 -- there was no memory to answer
 pub no_answer : (order : List ℕ → List ℕ → Ordering) (k out : Kind) (limit most : ℕ) (before after sent : Option (List ℕ)) (bytes : Vec ℕ Global) → Encodes order k limit most before after (Ok bytes) → Normalises order k out limit most before after sent sent (Err fault.OutOfMemory)
 no_answer order k out limit most before after sent bytes h = record { input = h.input; output = []; taken = h.taken; given = nothing_written sent; answer = (h.answer.0, refl); to_end = tt }
-
--- ---- what was read, and then encoded
-
-pub encoded_all : (order : List ℕ → List ℕ → Ordering) (k : Kind) (limit most : ℕ) (before after : Option (List ℕ)) (items : Vec Value Global) (xs : List Value) (bytes : Vec ℕ Global) → Reads k limit most before after (Ok items) → xs ≡ items.items → DetSeq order xs bytes.items → Encodes order k limit most before after (Ok bytes)
-encoded_all order k limit most before after items xs bytes h e d = record {
-  input = h.input;
-  taken = h.taken;
-  answer = (h.answer.0, record { items = items.items; held = h.answer.1; encoded = subst (λ (us : List Value). DetSeq order us bytes.items) e d });
-  to_end = h.to_end;
-}
-
-pub not_encoded : (order : List ℕ → List ℕ → Ordering) (k : Kind) (limit most : ℕ) (before after : Option (List ℕ)) (why : EngineFault) → Reads k limit most before after (Err why) → Encodes order k limit most before after (Err why)
-not_encoded order k limit most before after why h = record { input = h.input; taken = h.taken; answer = h.answer; to_end = h.to_end }
-
-pub encoding_short : (order : List ℕ → List ℕ → Ordering) (k : Kind) (limit most : ℕ) (before after : Option (List ℕ)) (items : Vec Value Global) → Reads k limit most before after (Ok items) → Encodes order k limit most before after (Err fault.OutOfMemory)
-encoding_short order k limit most before after items h = record { input = h.input; taken = h.taken; answer = h.answer.0; to_end = tt }

@@ -1,5 +1,5 @@
 -- What a walk over the nodes of an input finds is the verdict on the input.
-use Rattle.std.proofs.Common.{◌≡◌, ◌≤◌, ◌<◌, ◌+◌, ◌^◌, ℕ, ◌⊎◌, inl, inr, List, [], ◌∷◌, ◌++◌, length, get_or, take, Option, None, Some, Ok, Vec, Global, Ordering, refl, sym, ◌∙◌, ap, subst, arith}
+use Rattle.std.proofs.Common.{◌≡◌, ◌≤◌, ◌<◌, ◌+◌, ◌^◌, ℕ, ◌⊎◌, inl, inr, List, [], ◌∷◌, ◌++◌, length, get_or, take, Option, None, Some, Ordering, refl, sym, ◌∙◌, ap, subst, arith}
 use Rattle.std.specs.Option.{option_or}
 use Rattle.std.specs.List.{AllZip, AllByRecursion}
 use Rattle.std.proofs.lemmas.List.{take_more}
@@ -21,9 +21,8 @@ use Rattle.cborn_judge.proofs.Placing.{defect_within}
 use Rattle.cborn_judge.proofs.Sequences.{refused_at}
 use Rattle.cborn_engine.specs.declared.kinds.Kind.TheVariants as kind
 use Rattle.cborn_engine.specs.Holding.{Holds}
-use Rattle.cborn_engine.specs.Loading.{Loads}
 use Rattle.cborn_engine.specs.Defects.{AreChecked, Finds}
-use Rattle.cborn_engine.specs.Checking.{Verdict, Checks}
+use Rattle.cborn_engine.specs.Checking.{Verdict}
 use Rattle.cborn_engine.proofs.Meant.{all_mean, held_is_sound, AreSound}
 
 are_proper : (vs : List Value) → AllByRecursion IsProper vs → AreProper (values_of vs)
@@ -137,27 +136,20 @@ module _ (order : List ℕ → List ℕ → Ordering) where
 
 -- ---- the verdict
 
-module _ (order : List ℕ → List ℕ → Ordering) (laws : IsKeyOrder order) where
-  verdict : (limit : ℕ) (input : List ℕ) (items : List Value) (held : Holds kind.Wire limit input items) (o : Option Found) → length input < 2 ^ 64 → Finds order held.nodes o → Verdict order limit input items held o
-  verdict limit input items held None l h =
+module _ (order : List ℕ → List ℕ → Ordering) (laws : IsKeyOrder order) (limit : ℕ) (input : List ℕ) (items : List Value) (held : Holds kind.Wire limit input items) where
+  pub without_defect : ((p : ℕ) (r : DefectReason) → SequenceDefect order (trees held.nodes) p r → ⊥) → Verdict order limit input items held None
+  without_defect none =
       seq_of_values order items input
-      (subst (DetValues order (values_of items)) held.spelled.0.spells (check_sequence_sound order laws (trees held.nodes) (values_of items) held.spelled.0.fit (all_mean held.nodes items held.meant) (none_found order held.nodes h)))
-  verdict limit input items held (Some d) l h =
-      let first = first_found order 0 held.nodes d held.spelled.1 h in
+      (subst (DetValues order (values_of items)) held.spelled.0.spells (check_sequence_sound order laws (trees held.nodes) (values_of items) held.spelled.0.fit (all_mean held.nodes items held.meant) none))
+
+  pub with_defect : (d : Found) → length input < 2 ^ 64 → IsFirstOfSequence order (trees held.nodes) d.place d.reason → Verdict order limit input items held (Some d)
+  with_defect d l first =
       let sound : AreSound limit items = held_is_sound limit input items l held in (
         λ c. check_sequence_whole order laws (trees held.nodes) (values_of items) held.spelled.0.fit (are_proper items sound.proper) (all_mean held.nodes items held.meant)
             (subst (DetValues order (values_of items)) (sym held.spelled.0.spells) (values_of_seq order items input c)) d.place d.reason first.is,
         first,
       )
 
-  pub checked : (limit most : ℕ) (before after : Option (List ℕ)) (nodes : Vec Tree Global) (xs : List Tree) (o : Option Found) → most ≤ 2 ^ 30 → Loads kind.Wire limit most before after (Ok nodes) → xs ≡ nodes.items → Finds order xs o → Checks order limit most before after (Ok o)
-  checked limit most before after nodes xs o bounded h e f =
-      let found : Finds order nodes.items o = subst (λ (ns : List Tree). Finds order ns o) e f in
-      let meant = mean_found order nodes.items o found in
-      let held : Holds kind.Wire limit h.input meant.0 = record { nodes = nodes.items; spelled = h.answer.1; meant = meant.1 } in
-      record {
-        input = h.input;
-        taken = h.taken;
-        answer = (h.answer.0, record { items = meant.0; held = held; verdict = verdict limit h.input meant.0 held o (omega (arith, h.answer.0, bounded)) found });
-        to_end = h.to_end;
-      }
+  pub verdict : (o : Option Found) → length input < 2 ^ 64 → Finds order held.nodes o → Verdict order limit input items held o
+  verdict None l h = without_defect (none_found order held.nodes h)
+  verdict (Some d) l h = with_defect d l (first_found order 0 held.nodes d held.spelled.1 h)

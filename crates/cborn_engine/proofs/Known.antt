@@ -41,7 +41,7 @@ pub holds_more : (k : Kind) (limit most : ℕ) (x : List ℕ) (vs : List Value) 
 holds_more k limit most x vs l h = record { nodes = h.nodes; spelled = spells_more k limit most x h.nodes l h.spelled; meant = h.meant }
 
 -- nodes that mean items have no flaw
-flawless : (ns : List Tree) (vs : List Value) (p : ℕ) (r : InvalidReason) → AllZip Means ns vs → IsRefusalOfAll ns (invalid.Refused p r) → ⊥
+pub flawless : (ns : List Tree) (vs : List Value) (p : ℕ) (r : InvalidReason) → AllZip Means ns vs → IsRefusalOfAll ns (invalid.Refused p r) → ⊥
 flawless [] vs p r m h = cc
 flawless (n ∷ ns) [] p r m h = absurd m
 flawless (n ∷ ns) (v ∷ vs) p r m (inl h) = no_flaw n v m.0 p r h.is

@@ -16,5 +16,8 @@ pub mod Proper
 pub mod Notated
 pub mod Unfailing
 pub mod Headline
-pub mod Streamed
-pub mod Following
+pub mod Whole
+pub mod Telling
+pub mod Noted
+pub mod Apart
+pub mod Compared

@@ -3,14 +3,13 @@ use Rattle.std.specs.Prelude.{ℕ, ◌≤◌, List, length, Option, Result, Ok, 
 use Rattle.std.specs.Global.{Global}
 use Rattle.std.specs.Io.KnownBytes.{Consumes}
 use Rattle.cborn_model.specs.Tree.{Tree}
-use Rattle.cborn_model.specs.Value.{Value}
 use Rattle.cborn_engine.specs.declared.faults.EngineFault.{EngineFault}
 use Rattle.cborn_engine.specs.declared.faults.EngineFault.TheVariants as fault
 use Rattle.cborn_engine.specs.declared.kinds.Kind.{Kind}
 use Rattle.cborn_lex.specs.declared.classes.Profile.{Profile}
 use Rattle.cborn_lex.specs.declared.classes.Profile.TheVariants as profile
 use Rattle.cborn_engine.specs.declared.kinds.Kind.TheVariants as kind
-use Rattle.cborn_engine.specs.Holding.{Spells, Holds}
+use Rattle.cborn_engine.specs.Holding.{Spells}
 use Rattle.cborn_engine.specs.Refusing.{IsRefused, IsRead}
 
 -- the kind of input that is notation of this profile
@@ -33,15 +32,4 @@ pub record Loads (k : Kind) (limit most : ℕ) (before after : Option (List ℕ)
   pub input : List ℕ
   pub taken : Consumes before after input
   pub answer : LoadAnswers k limit most input result
-  pub to_end : IsRead result after
-
--- what reading and judging this input answers: the items that it holds, or why it holds none
-abbrev pub ReadAnswers : Kind → ℕ → ℕ → List ℕ → Result (Vec Value Global) EngineFault → Type 0
-ReadAnswers k limit most input (Ok items) = (length input ≤ most) × Holds k limit input items.items
-ReadAnswers k limit most input (Err why) = IsRefused k limit most input why
-
-pub record Reads (k : Kind) (limit most : ℕ) (before after : Option (List ℕ)) (result : Result (Vec Value Global) EngineFault) : Type 0 where
-  pub input : List ℕ
-  pub taken : Consumes before after input
-  pub answer : ReadAnswers k limit most input result
   pub to_end : IsRead result after

@@ -1,5 +1,6 @@
 -- What showing an input answers.
-use Rattle.std.specs.Prelude.{◌≡◌, ℕ, ◌≤◌, List, [], length, Option, Result, Ok, Err, ⊤}
+use Rattle.std.specs.Prelude.{◌≡◌, ℕ, ◌≤◌, List, [], length, Option, Result, Ok, Err, ⊤, Vec}
+use Rattle.std.specs.Global.{Global}
 use Rattle.std.specs.Io.KnownBytes.{Consumes, Appends}
 use Rattle.cborn_model.specs.Tree.{Tree, trees}
 use Rattle.cborn_model.specs.Spelled.{spelled_all}
@@ -48,6 +49,19 @@ pub record IsShown (k out : Kind) (limit : ℕ) (input output : List ℕ) : Type
   pub nodes : List Tree
   pub spelled : Spells k limit input nodes
   pub shown : IsSpelledAs out nodes output
+
+-- what telling this input in another form answers: the output, or why there is none
+abbrev pub TellAnswers : Kind → Kind → ℕ → ℕ → List ℕ → Result (Vec ℕ Global) EngineFault → Type 0
+TellAnswers k out limit most input (Ok bytes) = (length input ≤ most) × IsShown k out limit input bytes.items
+TellAnswers k out limit most input (Err (fault.Show why)) = (length input ≤ most) × IsUnshowable k out limit input why
+TellAnswers k out limit most input (Err why) = IsRefused k limit most input why × IsNoFlaw why
+
+-- some input was taken from the reader, and this is answered for it
+pub record Tells (k out : Kind) (limit most : ℕ) (before after : Option (List ℕ)) (result : Result (Vec ℕ Global) EngineFault) : Type 0 where
+  pub input : List ℕ
+  pub taken : Consumes before after input
+  pub answer : TellAnswers k out limit most input result
+  pub to_end : IsRead result after
 
 -- the whole answer went out; or the writer failed, and a front of it went out; or the input is refused, or its nodes have no notation, and nothing went out
 abbrev pub ShowAnswers : Kind → Kind → ℕ → ℕ → List ℕ → List ℕ → Result Unit EngineFault → Type 0

@@ -1,16 +1,19 @@
 //! Whether bytes are deterministic.
-ghost use Rattle.std.specs.Prelude.{◌≡◌, ◌≤◌, ◌+◌, ◌^◌, IfOk, IfErr};
+ghost use Rattle.std.specs.Prelude.{◌≡◌, ◌≤◌, ◌+◌, ◌^◌, ℕ, length, IfSome, IfOk, IfErr};
 ghost use Rattle.cborn_judge.specs.Flaws.{IsRefusalOfAll};
-ghost use Rattle.cborn_engine.specs.Checking.{Checks};
+ghost use Rattle.cborn_engine.specs.Checking.{Checks, CheckAnswers};
 ghost use Rattle.cborn_engine.specs.Defects.{Finds};
 ghost use Rattle.cborn_engine.specs.Reading.{read_failures};
 
 use crate::faults::EngineFault;
-use crate::inputs::load;
-use crate::kinds::Kind;
+use crate::inputs::MOST;
 use crate::sources::Source;
+use crate::texts::read_bytes;
 use cborn_judge::{Defect, Invalid, first_defect};
 use cborn_model::{KeyOrder, Limit, Spelled};
+use cborn_search::first_flaw;
+use cborn_transcode::is_deterministic;
+use cborn_wire::{WireFault, read_all, scan};
 use std::alloc::Global;
 
 /// The first defect of nodes, each of which means an item; or the first flaw of the first node that doesn't.
@@ -39,7 +42,62 @@ pub fn check<O: KeyOrder, R: Source>(
     ensures failures { R.failed reader.new ≡ read_failures result (R.failed reader.old) }
     ensures calls { R.asked reader.new ≤ R.asked reader.old + 2 ^ 30 + 1 }
 {
-    let nodes = load(alloc, limit, Kind::Wire, reader)?;
+    let input = read_bytes(alloc, MOST, reader)?;
+    check_input::<O>(alloc, limit, &input)
+}
+
+/// The first defect of these bytes, or the fault of their content. No fault is the reader's.
+fn check_input<O: KeyOrder>(
+    alloc: Global,
+    limit: Limit,
+    input: &[u8],
+) -> Result<Option<Defect>, EngineFault>
+    ensures answers { length input.now ≤ 2 ^ 30 → CheckAnswers O.order limit (2 ^ 30) input.now result }
+    ensures failures { (n : ℕ) → read_failures result n ≡ n }
+{
+    if is_deterministic::<O>(limit, input) {
+        return Ok(None);
+    }
+    if let Some((place, reason)) = scan(limit, input) {
+        return Err(EngineFault::Wire(WireFault::Refused { place, reason }));
+    }
+    match search::<O>(alloc, limit, input) {
+        Some(answer) => answer,
+        None => check_trees::<O>(alloc, limit, input),
+    }
+}
+
+/// What `check_input` answers, where searches that keep no tree tell it.
+fn search<O: KeyOrder>(
+    alloc: Global,
+    limit: Limit,
+    input: &[u8],
+) -> Option<Result<Option<Defect>, EngineFault>>
+    ensures answers { IfSome result (λ answer. length input.now ≤ 2 ^ 30 → CheckAnswers O.order limit (2 ^ 30) input.now answer) }
+    ensures failures { IfSome result (λ answer. (n : ℕ) → read_failures answer n ≡ n) }
+{
+    let flaw = first_flaw(alloc, limit, input)?;
+    match flaw {
+        Some((place, reason)) => {
+            Some(Err(EngineFault::Invalid(Invalid::Refused { place, reason })))
+        }
+        None => {
+            let defect = cborn_search::first_defect::<O>(alloc, limit, input)?;
+            Some(Ok(defect))
+        }
+    }
+}
+
+/// What `check_input` answers, by trees.
+fn check_trees<O: KeyOrder>(
+    alloc: Global,
+    limit: Limit,
+    input: &[u8],
+) -> Result<Option<Defect>, EngineFault>
+    ensures answers { length input.now ≤ 2 ^ 30 → CheckAnswers O.order limit (2 ^ 30) input.now result }
+    ensures failures { (n : ℕ) → read_failures result n ≡ n }
+{
+    let nodes = read_all(alloc, limit, input)?;
     let defect = defect_of::<O>(alloc, &nodes)?;
     Ok(defect)
 }

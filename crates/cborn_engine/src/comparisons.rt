@@ -1,15 +1,15 @@
-//! Whether two inputs hold the same items.
-ghost use Rattle.std.specs.Prelude.{◌≡◌, ◌≤◌, ◌+◌, ◌^◌, IfOk, IfErr};
-ghost use Rattle.cborn_engine.specs.Comparing.{Compares, Difference, IsFirst, first_failures, second_failures};
+//! Whether two inputs hold the same items. Each is read whole and encoded, the first before a byte of the second is read; the encodings are equal exactly if the items are the same.
+ghost use Rattle.std.specs.Prelude.{◌≡◌, ◌≤◌, ◌+◌, ◌^◌, IfErr};
+ghost use Rattle.cborn_engine.specs.Comparing.{Compares, IsFirst, first_failures, second_failures};
 ghost use Rattle.cborn_engine.specs.Faults.{of_first, of_second};
 
+use crate::differences::difference;
+use crate::encodings::read_encoded;
 use crate::faults::{CompareFault, EngineFault};
-use crate::inputs::read_items;
 use crate::kinds::Kind;
 use crate::sources::Source;
-use cborn_det::equal_bytes;
-use cborn_model::{KeyOrder, Limit, Valid};
-use std::alloc::{AllocError, Global};
+use cborn_model::{KeyOrder, Limit};
+use std::alloc::Global;
 
 impl CompareFault {
     fn of_first(why: EngineFault) -> Self
@@ -28,27 +28,6 @@ impl CompareFault {
             EngineFault::OutOfMemory => CompareFault::OutOfMemory,
             why => CompareFault::Second(why),
         }
-    }
-}
-
-/// The least index at which two sequences differ, or at which only one has an item.
-fn first_difference<O: KeyOrder>(
-    alloc: Global,
-    ours: &[Valid],
-    theirs: &[Valid],
-) -> Result<Option<u64>, AllocError>
-    ensures { IfOk result (Difference ours.now theirs.now) }
-{
-    let common = ours.len().min(theirs.len());
-    for index in 0..common {
-        if !equal_bytes::<O>(alloc, &ours[index], &theirs[index])? {
-            return Ok(Some(index as u64));
-        }
-    }
-    if ours.len() == theirs.len() {
-        Ok(None)
-    } else {
-        Ok(Some(common as u64))
     }
 }
 
@@ -72,13 +51,13 @@ pub fn compare<O: KeyOrder, R: Source, Q: Source>(
     ensures first_calls { R.asked first.new ≤ R.asked first.old + 2 ^ 30 + 1 }
     ensures second_calls { Q.asked second.new ≤ Q.asked second.old + 2 ^ 30 + 1 }
 {
-    let ours = match read_items(alloc, limit, kind_a, first) {
-        Ok(items) => items,
+    let ours = match read_encoded::<O, R>(alloc, limit, kind_a, first) {
+        Ok(bytes) => bytes,
         Err(why) => return Err(CompareFault::of_first(why)),
     };
-    let theirs = match read_items(alloc, limit, kind_b, second) {
-        Ok(items) => items,
+    let theirs = match read_encoded::<O, Q>(alloc, limit, kind_b, second) {
+        Ok(bytes) => bytes,
         Err(why) => return Err(CompareFault::of_second(why)),
     };
-    Ok(first_difference::<O>(alloc, &ours, &theirs)?)
+    Ok(difference::<O>(alloc, limit, &ours, &theirs)?)
 }

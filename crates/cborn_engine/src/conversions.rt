@@ -1,25 +1,24 @@
 //! From a reader to a writer.
-ghost use Rattle.std.specs.Prelude.{◌≡◌, ◌≤◌, ◌+◌, ◌^◌, List, IfOk, IfErr};
-ghost use Rattle.cborn_model.specs.Tree.{trees};
+ghost use Rattle.std.specs.Prelude.{◌≡◌, ◌≤◌, ◌+◌, ◌^◌, List, IfOk};
 ghost use Rattle.cborn_model.specs.Value.{Value};
-ghost use Rattle.cborn_edn.specs.Shown.{Shown};
 ghost use Rattle.cborn_engine.specs.declared.kinds.Kind.TheVariants as kinds;
 ghost use Rattle.cborn_engine.specs.Canonical.{Normalises};
 ghost use Rattle.cborn_engine.specs.Reading.{read_failures};
 ghost use Rattle.cborn_engine.specs.Holding.{Holds, IsFixedText, IsWrittenAs};
-ghost use Rattle.cborn_engine.specs.Showing.{Shows, IsSpelledAs, IsUnspelledAs};
+ghost use Rattle.cborn_engine.specs.Showing.{Shows};
 ghost use Rattle.cborn_engine.specs.Writing.{write_failures};
 
 use crate::encodings::read_encoded;
 use crate::faults::EngineFault;
-use crate::inputs::load;
 use crate::kinds::Kind;
+use crate::nodes::held_nodes;
 use crate::outputs::write_answer;
+use crate::showings::read_shown;
 use crate::sinks::Sink;
 use crate::sources::Source;
 use cborn_edn::{ShowFault, show};
-use cborn_model::{KeyOrder, Limit, Spelled};
-use cborn_wire::{WireFault, read_all, spell_all};
+use cborn_model::{KeyOrder, Limit};
+use cborn_show::show_bytes;
 use std::alloc::{AllocError, Global};
 
 /// Writes the canonical form of the items that the input holds: their deterministic encodings one after another, the keys of maps in the order `O` (RFC 8949 section 4.2), or the fixed notation of these. The input has at most 2^30 bytes.
@@ -62,28 +61,8 @@ pub fn show_all<R: Source, W: Sink>(
     ensures write_failures { W.failed writer.new ≡ write_failures result (W.failed writer.old) }
     ensures calls { R.asked reader.new ≤ R.asked reader.old + 2 ^ 30 + 1 }
 {
-    let nodes = load(alloc, limit, in_kind, reader)?;
-    let answer = spelled(alloc, out_kind, &nodes)?;
+    let answer = read_shown(alloc, limit, in_kind, out_kind, reader)?;
     write_answer(writer, &answer)
-}
-
-/// Nodes as they are spelled, or their fixed notation. `Show` where a text string of theirs isn't UTF-8.
-fn spelled(alloc: Global, kind: Kind, nodes: &[Spelled]) -> Result<Vec<u8>, EngineFault>
-    ensures spelled { IfOk result (λ answer. IsSpelledAs kind nodes.now answer.items) }
-    ensures unspelled { IfErr result (IsUnspelledAs kind nodes.now) }
-{
-    match kind {
-        Kind::Wire => Ok(spell_all(alloc, nodes)?),
-        Kind::Notation => notation(alloc, nodes),
-        Kind::Notation2 => notation(alloc, nodes),
-    }
-}
-
-fn notation(alloc: Global, nodes: &[Spelled]) -> Result<Vec<u8>, EngineFault>
-    ensures shown { IfOk result (λ answer. Shown (trees nodes.now) answer.items) }
-    ensures unshown { IfErr result (IsUnspelledAs kinds.Notation nodes.now) }
-{
-    Ok(show(alloc, nodes)?.into_bytes())
 }
 
 /// Bytes that hold items, none deeper than `limit`; or their fixed notation.
@@ -98,16 +77,23 @@ fn written(alloc: Global, limit: Limit, kind: Kind, bytes: Vec<u8>) -> Result<Ve
     }
 }
 
-/// Bytes that hold items are well-formed, and their text strings are UTF-8.
+/// Bytes that hold items, in notation: in one pass that keeps no tree, or else by trees.
 fn fixed_text(alloc: Global, limit: Limit, bytes: &[u8]) -> Result<Vec<u8>, AllocError>
     requires { (items : List Value) × Holds kinds.Wire limit bytes.now items }
     ensures { IfOk result (λ text. IsFixedText bytes.now text.items) }
 {
-    let nodes = match read_all(alloc, limit, bytes) {
-        Ok(nodes) => nodes,
-        Err(WireFault::OutOfMemory) => return Err(AllocError),
-        Err(WireFault::Refused { .. }) => unreachable!(),
-    };
+    match show_bytes(alloc, limit, bytes) {
+        Some(text) => Ok(text),
+        None => fixed_trees(alloc, limit, bytes),
+    }
+}
+
+/// Bytes that hold items are well-formed, and their text strings are UTF-8.
+fn fixed_trees(alloc: Global, limit: Limit, bytes: &[u8]) -> Result<Vec<u8>, AllocError>
+    requires { (items : List Value) × Holds kinds.Wire limit bytes.now items }
+    ensures { IfOk result (λ text. IsFixedText bytes.now text.items) }
+{
+    let nodes = held_nodes(alloc, limit, bytes)?;
     match show(alloc, &nodes) {
         Ok(text) => Ok(text.into_bytes()),
         Err(ShowFault::OutOfMemory) => Err(AllocError),

@@ -1,21 +1,27 @@
-//! Reading a whole input, and encoding what it holds. Of bytes an item is encoded once it is complete, and is not kept.
-ghost use Rattle.std.specs.Prelude.{◌≡◌, ◌≤◌, ◌+◌, ◌^◌, ℕ, List, [], None, IfOk};
+//! Reading a whole input, and encoding what it holds. Bytes are first taken in one pass that keeps no tree. Where that answers nothing, a scan tells whether they are well-formed, and only those that are become nodes, which are judged.
+ghost use Rattle.std.specs.Prelude.{◌≡◌, ◌≤◌, ◌+◌, ◌^◌, ℕ, length, IfSome};
 ghost use Rattle.cborn_engine.specs.declared.kinds.Kind.TheVariants as kinds;
-ghost use Rattle.cborn_engine.specs.Encoding.{Encodes, Adds, IsStreamed};
+ghost use Rattle.cborn_engine.specs.Encoding.{Encodes, EncodeAnswers, IsEncoded};
+ghost use Rattle.cborn_engine.specs.Loading.{kind_of};
 ghost use Rattle.cborn_engine.specs.Reading.{read_failures};
 
 use crate::faults::EngineFault;
-use crate::inputs::{MOST, read_items};
+use crate::inputs::MOST;
 use crate::kinds::Kind;
-use crate::pieces::read_piece;
+use crate::nodes::unjudged_nodes;
 use crate::sources::Source;
-use cborn_det::{encode_all, push_encoding};
-use cborn_judge::{Invalid, judge_owned};
-use cborn_model::{KeyOrder, Limit, Spelled};
-use cborn_wire::Feeder;
-use std::alloc::{AllocError, Global};
+use crate::texts::read_bytes;
+use cborn_det::encode_all;
+use cborn_edn::read_notation;
+use cborn_judge::judge_all_owned;
+use cborn_lex::Profile;
+use cborn_model::{KeyOrder, Limit};
+use cborn_spell::spell_text;
+use cborn_transcode::{is_deterministic, transcode};
+use simdutf8::compat::from_utf8;
+use std::alloc::Global;
 
-/// The deterministic encodings of what the whole input holds, one after another. The faults are those of `read_items`.
+/// The deterministic encodings of what the whole input holds, one after another. The faults are those of `load_within`, and `Invalid`.
 pub fn read_encoded<O: KeyOrder, R: Source>(
     alloc: Global,
     limit: Limit,
@@ -28,14 +34,48 @@ pub fn read_encoded<O: KeyOrder, R: Source>(
 {
     match kind {
         Kind::Wire => encode_bytes::<O, R>(alloc, limit, reader),
-        kind => {
-            let items = read_items(alloc, limit, kind, reader)?;
-            Ok(encode_all::<O>(alloc, &items)?)
-        }
+        Kind::Notation => encode_text::<O, R>(alloc, limit, Profile::One, reader),
+        Kind::Notation2 => encode_text::<O, R>(alloc, limit, Profile::Two, reader),
     }
 }
 
-/// After a fault of the content it reads on, so that a failed read, a byte too many and a later fault of the bytes are told in its place.
+/// The same of notation.
+fn encode_text<O: KeyOrder, R: Source>(
+    alloc: Global,
+    limit: Limit,
+    profile: Profile,
+    reader: &mut R,
+) -> Result<Vec<u8>, EngineFault>
+    ensures encodes { Encodes O.order (kind_of profile) limit (2 ^ 30) (R.remaining reader.old) (R.remaining reader.new) result }
+    ensures failures { R.failed reader.new ≡ read_failures result (R.failed reader.old) }
+    ensures calls { R.asked reader.new ≤ R.asked reader.old + 2 ^ 30 + 1 }
+{
+    let bytes = read_bytes(alloc, MOST, reader)?;
+    let text = match from_utf8(&bytes) {
+        Ok(text) => text,
+        Err(why) => return Err(EngineFault::TextInput(why.valid_up_to() as u64)),
+    };
+    if let Some(answer) = text_at_once::<O>(alloc, limit, profile, text) {
+        return Ok(answer);
+    }
+    let nodes = read_notation(alloc, limit, profile, text)?;
+    let items = judge_all_owned(alloc, nodes)?;
+    Ok(encode_all::<O>(alloc, &items)?)
+}
+
+/// What one pass over a text gives, and one over the bytes that it notates. None promises nothing.
+fn text_at_once<O: KeyOrder>(
+    alloc: Global,
+    limit: Limit,
+    profile: Profile,
+    text: &str,
+) -> Option<Vec<u8>>
+    ensures { IfSome result (λ answer. length text.now ≤ 2 ^ 30 → IsEncoded O.order (kind_of profile) limit text.now answer.items) }
+{
+    let bytes = spell_text(alloc, limit, profile, text)?;
+    transcode::<O>(alloc, limit, &bytes)
+}
+
 fn encode_bytes<O: KeyOrder, R: Source>(
     alloc: Global,
     limit: Limit,
@@ -45,65 +85,50 @@ fn encode_bytes<O: KeyOrder, R: Source>(
     ensures failures { R.failed reader.new ≡ read_failures result (R.failed reader.old) }
     ensures calls { R.asked reader.new ≤ R.asked reader.old + 2 ^ 30 + 1 }
 {
-    let mut feeder = Feeder::new(alloc, limit);
-    let mut buf = [0; 4096];
-    let mut left = MOST;
-    let mut is_refused = false;
-    let mut flaw = None;
-    let mut bytes = Vec::new(alloc);
-    'pieces: loop {
-        let count = read_piece(reader, &mut buf, left)?;
-        if count == 0 {
-            break;
-        }
-        left -= count as u64;
-        if !is_refused {
-            is_refused = feeder.feed(&buf[..count]).is_err();
-            if !is_refused {
-                encode_ready::<O>(alloc, &mut feeder, &mut flaw, &mut bytes)?;
-            }
-        }
+    let input = read_bytes(alloc, MOST, reader)?;
+    encode_held::<O>(alloc, limit, input)
+}
+
+/// The same of bytes that are given up: where they are deterministic, they are the answer. No fault is the reader's.
+fn encode_held<O: KeyOrder>(
+    alloc: Global,
+    limit: Limit,
+    input: Vec<u8>,
+) -> Result<Vec<u8>, EngineFault>
+    ensures answers { length input.items ≤ 2 ^ 30 → EncodeAnswers O.order kinds.Wire limit (2 ^ 30) input.items result }
+    ensures failures { (n : ℕ) → read_failures result n ≡ n }
+{
+    if is_deterministic::<O>(limit, &input) {
+        return Ok(input);
     }
-    feeder.finish()?;
-    match flaw {
-        Some(why) => Err(why.into()),
-        None => Ok(bytes),
+    encode_input::<O>(alloc, limit, &input)
+}
+
+/// The deterministic encodings of what these bytes hold, or the fault of their content. No fault is the reader's.
+fn encode_input<O: KeyOrder>(
+    alloc: Global,
+    limit: Limit,
+    input: &[u8],
+) -> Result<Vec<u8>, EngineFault>
+    ensures answers { length input.now ≤ 2 ^ 30 → EncodeAnswers O.order kinds.Wire limit (2 ^ 30) input.now result }
+    ensures failures { (n : ℕ) → read_failures result n ≡ n }
+{
+    match transcode::<O>(alloc, limit, input) {
+        Some(bytes) => Ok(bytes),
+        None => encode_trees::<O>(alloc, limit, input),
     }
 }
 
-/// Takes each item that is complete, and appends its encoding to `bytes`; from the first flaw on it only takes them.
-fn encode_ready<O: KeyOrder>(
+/// What `encode_input` answers, by trees.
+fn encode_trees<O: KeyOrder>(
     alloc: Global,
-    feeder: &mut Feeder,
-    flaw: &mut Option<Invalid>,
-    bytes: &mut Vec<u8>,
-) -> Result<(), AllocError>
-    ensures { (limit : ℕ) (input : List ℕ) → IsStreamed O.order limit input feeder.old flaw.old bytes.old.items → IfOk result (λ _. (feeder.new.items ≡ []) × IsStreamed O.order limit input feeder.new flaw.new bytes.new.items) }
+    limit: Limit,
+    input: &[u8],
+) -> Result<Vec<u8>, EngineFault>
+    ensures answers { length input.now ≤ 2 ^ 30 → EncodeAnswers O.order kinds.Wire limit (2 ^ 30) input.now result }
+    ensures failures { (n : ℕ) → read_failures result n ≡ n }
 {
-    'items: while let Some(node) = feeder.take() {
-        add::<O>(alloc, node, flaw, bytes)?;
-    }
-    Ok(())
-}
-
-/// Appends the encoding of what the node means to `bytes`, or keeps its first flaw, if there was no flaw before.
-fn add<O: KeyOrder>(
-    alloc: Global,
-    node: Spelled,
-    flaw: &mut Option<Invalid>,
-    bytes: &mut Vec<u8>,
-) -> Result<(), AllocError>
-    ensures { IfOk result (λ _. Adds O.order node flaw.old bytes.old.items flaw.new bytes.new.items) }
-{
-    if flaw.is_some() {
-        return Ok(());
-    }
-    match judge_owned(alloc, node) {
-        Ok(valid) => push_encoding::<O>(alloc, valid.item(), bytes),
-        Err(Invalid::OutOfMemory) => Err(AllocError),
-        Err(why) => {
-            *flaw = Some(why);
-            Ok(())
-        }
-    }
+    let nodes = unjudged_nodes(alloc, limit, input)?;
+    let items = judge_all_owned(alloc, nodes)?;
+    Ok(encode_all::<O>(alloc, &items)?)
 }

@@ -1,7 +1,7 @@
 //! Reading a whole input.
 ghost use Rattle.std.specs.Prelude.{◌≡◌, ◌≤◌, ◌+◌, ◌^◌};
 ghost use Rattle.cborn_engine.specs.declared.kinds.Kind.TheVariants as kinds;
-ghost use Rattle.cborn_engine.specs.Loading.{Loads, Reads};
+ghost use Rattle.cborn_engine.specs.Loading.{Loads};
 ghost use Rattle.cborn_engine.specs.Reading.{read_failures};
 
 use crate::faults::EngineFault;
@@ -9,9 +9,8 @@ use crate::kinds::Kind;
 use crate::pieces::read_piece;
 use crate::sources::Source;
 use crate::texts::load_text;
-use cborn_judge::judge_all_owned;
 use cborn_lex::Profile;
-use cborn_model::{Limit, Spelled, Valid};
+use cborn_model::{Limit, Spelled};
 use cborn_wire::Feeder;
 use std::alloc::Global;
 
@@ -82,19 +81,4 @@ fn load_bytes<R: Source>(
         }
     }
     Ok(feeder.finish()?)
-}
-
-/// What the whole input holds. The faults are those of `load_within`, and `Invalid`.
-pub fn read_items<R: Source>(
-    alloc: Global,
-    limit: Limit,
-    kind: Kind,
-    reader: &mut R,
-) -> Result<Vec<Valid>, EngineFault>
-    ensures reads { Reads kind limit (2 ^ 30) (R.remaining reader.old) (R.remaining reader.new) result }
-    ensures failures { R.failed reader.new ≡ read_failures result (R.failed reader.old) }
-    ensures calls { R.asked reader.new ≤ R.asked reader.old + 2 ^ 30 + 1 }
-{
-    let nodes = load(alloc, limit, kind, reader)?;
-    Ok(judge_all_owned(alloc, nodes)?)
 }

@@ -2,20 +2,23 @@
 //!
 //! [`load`] reads a whole input, bytes or notation ([`Kind`]), and gives its items as they are spelled. [`normalise`] and [`show_all`] go on to a writer; [`compare`] and [`check`] answer. What is read from is a [`Source`], what is written to a [`Sink`]; [`Counted`] makes them of the readers and writers of std.
 //!
-//! A reader of the definitions starts at `specs/Holding.antt` (what an input holds, and its canonical form) and `specs/Canonical.antt` (the headline). `Refusing` says why an input is refused; `Loading`, `Showing`, `Comparing` and `Checking` say what the other calls answer. [`laws`] has the headline in one place. In the code `pieces`, `texts` and `inputs` read, `encodings` encodes bytes item by item as they are read, and `outputs` writes.
+//! A reader of the definitions starts at `specs/Holding.antt` (what an input holds, and its canonical form) and `specs/Canonical.antt` (the headline). `Refusing` says why an input is refused; `Loading`, `Showing`, `Comparing` and `Checking` say what the other calls answer. [`laws`] has the headline in one place. In the code `pieces`, `texts` and `inputs` read. `encodings` encodes a whole input, `showings` tells it in another form and `checks` judges it: each tries a pass that keeps no tree first (`cborn_transcode`, `cborn_spell`, `cborn_show`), and where that answers nothing goes by `nodes`. `outputs` writes.
 #![tactic(auto)]
 
 mod checks;
 mod comparisons;
 mod conversions;
 mod counters;
+mod differences;
 mod encodings;
 mod faults;
 mod inputs;
 mod kinds;
 pub mod laws;
+mod nodes;
 mod outputs;
 mod pieces;
+mod showings;
 mod sinks;
 mod sources;
 mod texts;

@@ -1,8 +1,9 @@
-//! Reading a piece of an input.
-ghost use Rattle.std.specs.Prelude.{◌≡◌, ◌≤◌, ◌<◌, ◌+◌, ◌^◌, length};
+//! Reading a piece of an input, and room for the next.
+ghost use Rattle.std.specs.Prelude.{◌≡◌, ◌≤◌, ◌<◌, ◌+◌, ◌^◌, length, take, drop, OnOk};
 ghost use Rattle.cborn_engine.specs.Reading.{PieceAnswers, piece_failures};
 
 use crate::sources::Source;
+use std::alloc::AllocError;
 
 /// Why an input was not read to its end.
 #[derive(Clone, Copy, Debug)]
@@ -30,4 +31,55 @@ pub fn read_piece<R: Source>(reader: &mut R, buf: &mut [u8], left: u64) -> Resul
         return Err(Stop::TooLong);
     }
     Ok(count)
+}
+
+/// The first room of a buffer, in bytes: a small input costs no more.
+const FIRST_ROOM: usize = 512;
+
+/// The most room that a buffer grows by, in bytes.
+const MOST_ROOM: usize = 1 << 18;
+
+/// Makes room for a piece behind the first `filled` bytes, which stay. A buffer that is full is doubled while it is small.
+pub fn make_room(bytes: &mut Vec<u8>, filled: usize) -> Result<(), AllocError>
+    requires { filled ≤ length bytes.old.items }
+    ensures front { OnOk result (take filled bytes.new.items ≡ take filled bytes.old.items) }
+    ensures room { OnOk result (filled < length bytes.new.items) }
+{
+    if filled < bytes.len() {
+        return Ok(());
+    }
+    bytes.resize(filled + filled.max(FIRST_ROOM).min(MOST_ROOM), 0)
+}
+
+/// What `read_piece` does, behind the first `filled` bytes, which stay.
+pub fn read_behind<R: Source>(
+    reader: &mut R,
+    bytes: &mut Vec<u8>,
+    filled: usize,
+    left: u64,
+) -> Result<usize, Stop>
+    requires room { filled < length bytes.old.items }
+    requires bounded { left ≤ 2 ^ 30 }
+    ensures front { take filled bytes.new.items ≡ take filled bytes.old.items }
+    ensures piece { PieceAnswers (R.remaining reader.old) (R.remaining reader.new) left (drop filled bytes.new.items) result }
+    ensures failures { R.failed reader.new ≡ piece_failures result (R.failed reader.old) }
+    ensures calls { R.asked reader.new ≤ R.asked reader.old + 1 }
+{
+    read_at(reader, bytes.as_mut_slice(), filled, left)
+}
+
+fn read_at<R: Source>(
+    reader: &mut R,
+    buf: &mut [u8],
+    filled: usize,
+    left: u64,
+) -> Result<usize, Stop>
+    requires room { filled < length buf.old }
+    requires bounded { left ≤ 2 ^ 30 }
+    ensures front { take filled buf.new ≡ take filled buf.old }
+    ensures piece { PieceAnswers (R.remaining reader.old) (R.remaining reader.new) left (drop filled buf.new) result }
+    ensures failures { R.failed reader.new ≡ piece_failures result (R.failed reader.old) }
+    ensures calls { R.asked reader.new ≤ R.asked reader.old + 1 }
+{
+    read_piece(reader, &mut buf[filled..], left)
 }

@@ -4,7 +4,7 @@ ghost use Rattle.cborn_engine.specs.Loading.{Loads, kind_of};
 ghost use Rattle.cborn_engine.specs.Reading.{Collects, read_failures};
 
 use crate::faults::EngineFault;
-use crate::pieces::read_piece;
+use crate::pieces::{make_room, read_behind};
 use crate::sources::Source;
 use cborn_edn::read_notation;
 use cborn_lex::Profile;
@@ -12,7 +12,7 @@ use cborn_model::{Limit, Spelled};
 use simdutf8::compat::from_utf8;
 use std::alloc::Global;
 
-/// All the bytes of an input, of which at most `most` are allowed. It answers `ReadFault`, `TooLong` or `OutOfMemory`, and no other fault.
+/// All the bytes of an input, of which at most `most` are allowed. They are read to where they stay, in a buffer that grows with them. It answers `ReadFault`, `TooLong` or `OutOfMemory`, and no other fault.
 pub fn read_bytes<R: Source>(
     alloc: Global,
     most: u64,
@@ -24,15 +24,17 @@ pub fn read_bytes<R: Source>(
     ensures calls { R.asked reader.new ≤ R.asked reader.old + most + 1 }
 {
     let mut bytes = Vec::new(alloc);
-    let mut buf = [0; 4096];
+    let mut filled = 0;
     let mut left = most;
     'pieces: loop {
-        let count = read_piece(reader, &mut buf, left)?;
+        make_room(&mut bytes, filled)?;
+        let count = read_behind(reader, &mut bytes, filled, left)?;
         if count == 0 {
+            bytes.truncate(filled);
             return Ok(bytes);
         }
         left -= count as u64;
-        bytes.extend_from_slice(&buf[..count])?;
+        filled += count;
     }
 }
 

@@ -1,14 +1,24 @@
+use Rattle.std.proofs.Common.{◌≤◌, ◌+◌, ◌-◌, ◌≡◌, length, drop, arith, length-drop}
 use Rattle.cborn_engine.specs.Reading.{Collects}
-use Rattle.cborn_engine.proofs.Collecting.{stopped, no_room}
+use Rattle.cborn_engine.proofs.Collecting.{kept, stopped, more}
 use Rattle.cborn_engine.proofs.Told.{told}
 use Rattle.cborn_engine.proofs.texts.read_bytes.Goals as goal
 
 pub returns-in_err-count-clause-collects : goal.returns-in_err-count-clause-collects
 returns-in_err-count-clause-collects g c =
-    told (Collects c.args.most _ _) _ _ c.from_residual.ensures.1
-    (stopped c.args.most c.pieces.left _ (g.R.Source.remaining c.pieces.reader) _ c.pieces.bytes.items c.read_piece.new.buf c.in_err-count.field-0.0 c.pieces.invariant.taken c.pieces.invariant.count c.in_err-count.ensures.piece)
+    told (Collects c.args.most _ _) _ _ c.from_residual-in_err-count.ensures.1
+    (stopped c.args.most c.pieces.left c.pieces.filled _ (g.R.Source.remaining c.pieces.reader) _ c.pieces.bytes.items (drop c.pieces.filled c.read_behind.new.bytes.items) c.in_err-count.field-0.0 c.pieces.invariant.filled c.in_err-count.ensures.piece)
 
-pub returns-in_err-extend_from_slice-clause-collects : goal.returns-in_err-extend_from_slice-clause-collects
-returns-in_err-extend_from_slice-clause-collects g c =
-    told (Collects c.args.most _ _) _ _ c.from_residual-in_err-extend_from_slice.ensures.1
-    (no_room c.args.most c.pieces.left c.in_ok-count.count _ (g.R.Source.remaining c.pieces.reader) _ c.pieces.bytes.items c.read_piece.new.buf c.pieces.invariant.taken c.pieces.invariant.count c.in_ok-count.ensures.piece)
+pub pieces-preserved : goal.pieces-preserved
+pieces-preserved g c =
+    let p = c.in_ok-count.ensures.piece in
+    let left : c.pieces.left - c.in_ok-count.count + c.in_ok-count.count ≡ c.pieces.left = omega (arith, p.0) in
+    let within : c.pieces.filled + c.in_ok-count.count ≤ length c.read_behind.new.bytes.items = omega (arith, p.1, length-drop c.pieces.filled c.read_behind.new.bytes.items, c.if-count-eq0.false) in
+    let room : c.pieces.filled ≤ length c.make_room.new.bytes.items = omega (arith, c.in_ok-make_room.ensures.room) in
+    record {
+      filled = more c.args.most c.pieces.left c.pieces.filled c.in_ok-count.count _ (g.R.Source.remaining c.pieces.reader) _ c.make_room.new.bytes.items c.read_behind.new.bytes.items
+          (kept c.args.most c.pieces.left c.pieces.filled _ _ c.pieces.bytes.items c.make_room.new.bytes.items c.pieces.invariant.filled c.in_ok-make_room.ensures.front room)
+          c.in_ok-count.ensures.front p _ left within;
+      failures = cc (c.in_ok-count.ensures.failures);
+      calls = omega (arith, c.pieces.invariant.calls, c.in_ok-count.ensures.calls, p.0, c.if-count-eq0.false);
+    }

@@ -1,11 +1,10 @@
-use Rattle.std.proofs.Common.{◌≡◌, ◌≤◌, ◌+◌, length}
-use Rattle.std.specs.Io.KnownBytes.{Consumes}
+use Rattle.std.proofs.Common.{◌≡◌, ◌≤◌, ◌+◌}
+use Rattle.cborn_engine.proofs.Collecting.{Filled}
 use Rattle.cborn_engine.proofs.texts.read_bytes.Given as goal
 
 abbrev pub invariant-pieces : goal.invariant-pieces
 invariant-pieces g l = record {
-  taken : Consumes (g.R.Source.remaining l.initial.reader) (g.R.Source.remaining l.reader) l.bytes.items;
-  count : length l.bytes.items + l.left ≡ l.most;
+  filled : Filled l.most l.left l.filled (g.R.Source.remaining l.initial.reader) (g.R.Source.remaining l.reader) l.bytes.items;
   failures : g.R.Source.failed l.reader ≡ g.R.Source.failed l.initial.reader;
   calls : g.R.Source.asked l.reader + l.left ≤ g.R.Source.asked l.initial.reader + l.most;
 }

@@ -1,7 +1,7 @@
 use Rattle.std.proofs.Common.{arith, refl}
 use Rattle.cborn_model.proofs.Deciding.{passed}
 use Rattle.cborn_engine.proofs.Differing.{alike_on, all_alike, one_longer}
-use Rattle.cborn_engine.proofs.comparisons.first_difference.Goals as goal
+use Rattle.cborn_engine.proofs.differences.first_difference.Goals as goal
 
 pub loop-index-preserved : goal.loop-index-preserved
 loop-index-preserved g c =
