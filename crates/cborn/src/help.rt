@@ -129,7 +129,8 @@ pub const FROM: &str =
 pub const FROM_A: &str =
     "What FILE_A is: bytes, diagnostic notation, or that with # comments and trailing commas";
 
-pub const FROM_B: &str = "What FILE_B is: the same";
+pub const FROM_B: &str =
+    "What FILE_B is: bytes, diagnostic notation, or that with # comments and trailing commas";
 
 pub const TO: &str = "What to write: bytes, or diagnostic notation";
 
