@@ -1,0 +1,78 @@
+# The library for programs in C and other languages, from the archive that the proved crate cborn_c gives.
+VERSION := 0.1.0
+SONAME := libcborn.so.0
+# the kit's folder, which has the three functions by which a library takes memory
+KIT = $(dir $(shell rt doc))
+DIST = cborn-$(VERSION)-linux-x86_64
+WHEEL = cborn-$(VERSION)-py3-none-manylinux_2_17_x86_64.whl
+ARCHIVE := crates/cborn_c/out/libcborn_c.a
+LIBRARY := build/libcborn.a build/libcborn.so build/cborn.pc
+
+.PHONY: library library-tests library-bench install-library dist
+
+library: prove-library
+	$(MAKE) $(LIBRARY)
+
+.PHONY: prove-library
+prove-library:
+	cd crates/cborn_c && rt lib
+
+# One object, whose only global names are cborn_*: two libraries that are written in Rattle can stand in one program.
+build/cborn.o: $(ARCHIVE)
+	rm -rf build/parts && mkdir -p build/parts
+	cd build/parts && ar x $(CURDIR)/$(ARCHIVE) && ar x $(KIT)c/liblibc_c.a heap.pic.o
+	ld -r -o $@ build/parts/*.o
+	objcopy --wildcard --keep-global-symbol='cborn_*' $@
+	rm -rf build/parts
+
+build/libcborn.a: build/cborn.o
+	rm -f $@
+	ar rcsD $@ build/cborn.o
+
+build/libcborn.so: build/cborn.o
+	$(CC) -shared -nostartfiles -Wl,-soname,$(SONAME) -Wl,-z,defs -Wl,-z,relro,-z,now -Wl,--build-id=none -s -o build/$(SONAME) build/cborn.o
+	ln -sf $(SONAME) $@
+
+build/cborn.pc: bindings/cborn.pc.in bindings/library.mk
+	mkdir -p build
+	sed 's|@VERSION@|$(VERSION)|' bindings/cborn.pc.in > $@
+
+library-tests: build library
+	python3 tests/library.py $(PROGRAM) build
+	cd bindings/python && CBORN_LIBRARY=$(CURDIR)/build/$(SONAME) python3 -m unittest -q test_cborn
+	if command -v cargo > /dev/null; then cd bindings/rust && \
+		CBORN_LIBRARY_FOLDER=$(CURDIR)/build cargo test --offline --quiet --target-dir $(CURDIR)/build/rust; \
+	else echo 'cargo is not there: the Rust crate is not tested'; fi
+
+# what a call costs, from C, Rust and Python
+library-bench: library
+	python3 bench/calls.py build
+
+install: install-library
+
+install-library: library
+	$(MAKE) put-library
+
+# what is built is put below DESTDIR and PREFIX
+.PHONY: put-library
+put-library:
+	install -D -m 644 build/libcborn.a $(DESTDIR)$(PREFIX)/lib/libcborn.a
+	install -D -m 755 build/$(SONAME) $(DESTDIR)$(PREFIX)/lib/$(SONAME)
+	ln -sf $(SONAME) $(DESTDIR)$(PREFIX)/lib/libcborn.so
+	install -D -m 644 include/cborn.h $(DESTDIR)$(PREFIX)/include/cborn.h
+	install -D -m 644 build/cborn.pc $(DESTDIR)$(PREFIX)/lib/pkgconfig/cborn.pc
+
+# Program, library, wheel and crate for whoever has no kit; the same bytes each time.
+dist: build library
+	rm -rf build/$(DIST)
+	install -D $(PROGRAM) build/$(DIST)/bin/cborn
+	install -D -m 644 man/cborn.1 build/$(DIST)/share/man/man1/cborn.1
+	$(MAKE) put-library DESTDIR=build/$(DIST) PREFIX=
+	mkdir -p build/$(DIST)/doc build/$(DIST)/python build/$(DIST)/rust/lib
+	cp README.md docs/LIBRARY.md docs/FORMATS.md build/$(DIST)/doc
+	cp -r $(addprefix bindings/rust/,Cargo.toml Cargo.lock build.rs src tests) build/$(DIST)/rust
+	cp build/libcborn.a build/$(DIST)/rust/lib
+	python3 bindings/python/make_wheel.py $(VERSION) build/$(SONAME) build/$(DIST)/python/$(WHEEL)
+	rt version > build/$(DIST)/PROVED-WITH
+	cd build && tar --sort=name --format=ustar --owner=0 --group=0 --numeric-owner --mode=u=rwX,go=rX --mtime=@0 -cf - $(DIST) | gzip -9n > $(DIST).tar.gz
+	sha256sum build/$(DIST).tar.gz

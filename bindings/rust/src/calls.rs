@@ -1,0 +1,58 @@
+//! The calls of `cborn.h`.
+//!
+//! What they ask for, a safe caller has: the pointer of a slice is never null, and its length is at most `isize::MAX`;
+//! `&` and `&mut` don't overlap, and nobody writes to what they lend; stack is what `Depth::stack` tells.
+
+use crate::faults::Fault;
+
+/// What a call tells beside the number that it answers.
+#[repr(C)]
+pub struct Told {
+    /// The offset of a fault.
+    pub place: u64,
+    /// How many bytes the answer takes.
+    pub length: u64,
+}
+
+extern "C" {
+    pub fn cborn_version() -> u32;
+    pub fn cborn_normalise(
+        from: u32, to: u32, order: u32, depth: u64, input: *const u8, input_len: usize,
+        out: *mut u8, out_len: usize, told: *mut Told,
+    ) -> u32;
+    pub fn cborn_show(
+        from: u32, to: u32, depth: u64, input: *const u8, input_len: usize,
+        out: *mut u8, out_len: usize, told: *mut Told,
+    ) -> u32;
+    pub fn cborn_check(order: u32, depth: u64, input: *const u8, input_len: usize, place: *mut u64) -> u32;
+    pub fn cborn_compare(
+        from_a: u32, from_b: u32, depth: u64, first: *const u8, first_len: usize,
+        second: *const u8, second_len: usize, place: *mut u64,
+    ) -> u32;
+}
+
+/// `CBORN_STACK`.
+pub fn stack(depth: usize) -> usize {
+    81920 + 1536 * depth
+}
+
+/// The answer of a call that writes one, into so much room or, if that is too little, into what the call then asks for.
+pub fn filled(room: usize, call: impl Fn(*mut u8, usize, &mut Told) -> u32) -> Result<Vec<u8>, Fault> {
+    let mut out = Vec::new();
+    let mut room = room;
+    loop {
+        if out.try_reserve_exact(room).is_err() {
+            return Err(Fault::OutOfMemory);
+        }
+        let mut told = Told { place: 0, length: 0 };
+        match call(out.as_mut_ptr(), out.capacity(), &mut told) {
+            0 => {
+                // SAFETY: the call wrote so many bytes to the front of `out`, whose capacity it was handed
+                unsafe { out.set_len(told.length as usize) };
+                return Ok(out);
+            }
+            1 => room = told.length as usize,
+            code => return Err(Fault::new(code, told.place)),
+        }
+    }
+}

@@ -1,0 +1,94 @@
+//! What the tables of cborn's tests don't reach of this crate. Expected values come from RFC 8949 and docs/FORMATS.md.
+
+use cborn::{check, compare, normalise, show, version, CompareFault, Depth, Fault, Kind, Options, Order};
+
+const LOOSE: [u8; 7] = [0x98, 2, 0x18, 1, 0x58, 1, 0x61];
+const TIGHT: [u8; 4] = [0x82, 1, 0x41, 0x61];
+const TWICE: [u8; 7] = [0xa2, 1, 0, 0xc2, 0x41, 1, 0];
+
+#[test]
+fn normalises_with_each_option() {
+    assert_eq!(normalise(&LOOSE, Options::default()).unwrap(), TIGHT);
+    let notation = b"{'b': 1, -1: 2, } # two";
+    let options = Options { from: Kind::Notation2, order: Order::LengthFirst, ..Options::default() };
+    let wire = normalise(notation, options).unwrap();
+    assert_eq!(wire, [0xa2, 0x20, 2, 0x41, 0x62, 1]);
+    let options = Options { to: Kind::Notation, ..Options::default() };
+    assert_eq!(normalise(&wire, options).unwrap(), b"{-1: 2, h'62': 1}\n");
+    let options = Options { depth: Depth::new(1).unwrap(), ..Options::default() };
+    assert!(normalise(&[0x81, 0x80], options).is_err());
+    assert_eq!(normalise(&[], Options::default()).unwrap(), []);
+}
+
+#[test]
+fn an_answer_may_be_longer_than_its_input() {
+    let mut long = vec![0x9f];
+    long.resize(70_001, 0);
+    long.push(0xff);
+    let answer = normalise(&long, Options::default()).unwrap();
+    assert_eq!(answer[..5], [0x9a, 0, 1, 0x11, 0x70]);
+    assert_eq!(answer.len(), 70_005);
+    let text = show(&[0x41, 0].repeat(5000), Kind::Wire, Kind::Notation, Depth::default()).unwrap();
+    assert_eq!(text.len(), 5000 * "h'00',\n".len() - 1);
+}
+
+#[test]
+fn shows_there_and_back() {
+    let text = show(&LOOSE, Kind::Wire, Kind::Notation, Depth::default()).unwrap();
+    assert_eq!(text, b"[_0 1_0, h'61'_0]\n");
+    assert_eq!(show(&text, Kind::Notation, Kind::Wire, Depth::default()).unwrap(), LOOSE);
+}
+
+#[test]
+fn checks() {
+    assert_eq!(check(&TIGHT, Order::Bytewise, Depth::default()), Ok(None));
+    let defect = check(&[1, 0x18, 1], Order::Bytewise, Depth::default()).unwrap().unwrap();
+    assert_eq!((defect.place, defect.reason.words()), (1, "long head"));
+    assert_eq!(defect.to_string(), "offset 1: long head");
+}
+
+#[test]
+fn compares() {
+    let compared = |a: &[u8], b: &[u8]| compare(a, Kind::Wire, b, Kind::Wire, Depth::default());
+    assert_eq!(compared(&LOOSE, &TIGHT), Ok(None));
+    assert_eq!(compared(&[1, 2], &[1, 3]), Ok(Some(1)));
+    let why = compared(&TIGHT, &TWICE).unwrap_err();
+    assert!(matches!(why, CompareFault::Second(Fault::Refused { place: 3, .. })));
+    assert_eq!(why.to_string(), "second: offset 3: duplicate key");
+    assert!(matches!(compared(&TWICE, &[0xff]), Err(CompareFault::First(Fault::Refused { place: 3, .. }))));
+    let notation = compare(b"[1, 'a']", Kind::Notation, &LOOSE, Kind::Wire, Depth::default());
+    assert_eq!(notation, Ok(None));
+}
+
+#[test]
+fn a_fault_has_a_reason_and_a_place() {
+    match normalise(&TWICE, Options::default()) {
+        Err(Fault::Refused { reason, place }) => {
+            assert_eq!((reason.number(), reason.words(), place), (0x503, "duplicate key", 3));
+        }
+        other => panic!("{other:?}"),
+    }
+}
+
+#[test]
+fn limits_are_from_1_to_1024() {
+    assert!(Depth::new(0).is_none() && Depth::new(1025).is_none());
+    assert!(Depth::new(1).unwrap().stack() < Depth::new(1024).unwrap().stack());
+    assert_eq!(version(), (0, 1, 0));
+}
+
+#[test]
+fn threads_with_the_stack_that_is_asked_for_answer_alike() {
+    let depth = Depth::default();
+    let nest: Vec<u8> = [0xa1, 0].repeat(128).into_iter().chain([0]).collect();
+    let threads: Vec<_> = (0..8)
+        .map(|_| {
+            let nest = nest.clone();
+            std::thread::Builder::new()
+                .stack_size(depth.stack() + 64 * 1024)
+                .spawn(move || normalise(&nest, Options::default()).unwrap() == nest)
+                .unwrap()
+        })
+        .collect();
+    assert!(threads.into_iter().all(|thread| thread.join().unwrap()));
+}

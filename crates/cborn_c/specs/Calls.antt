@@ -1,0 +1,95 @@
+-- What a call from C answers.
+use Rattle.std.specs.Prelude.{◌≡◌, ℕ, ◌<◌, ◌≤◌, ◌⊎◌, ◌+◌, ◌++◌, List, length, drop, Option, None, Some, Result, Ok, Err, Vec}
+use Rattle.std.specs.Global.{Global}
+use Rattle.std.specs.declared.cmp.Ordering.{Ordering}
+use Rattle.cborn_judge.specs.declared.defects.Defect.{Defect}
+use Rattle.cborn_engine.specs.declared.faults.CompareFault.{CompareFault}
+use Rattle.cborn_engine.specs.declared.faults.CompareFault.TheVariants as compared
+use Rattle.cborn_engine.specs.declared.faults.EngineFault.{EngineFault}
+use Rattle.cborn_engine.specs.declared.kinds.Kind.{Kind}
+use Rattle.cborn_c.specs.declared.numbers.KeyOrdering.{KeyOrdering}
+use Rattle.cborn_c.specs.declared.answers.CbornTold.{CbornTold}
+use Rattle.cborn_c.specs.Numbers.{order_of, fault_number, fault_place, defect_number}
+use Rattle.cborn_c.specs.Answers.{Normalised, Shown, Checked, Compared}
+
+-- the buffer begins with the answer, and is as it was behind that; or it is too small for the answer, and is as it was
+abbrev pub IsPut : List ℕ → List ℕ → List ℕ → ℕ → Type 0
+IsPut answer before after code =
+    ((code ≡ 0) × (length answer ≤ length before) × (after ≡ answer ++ drop (length answer) before)) ⊎ ((code ≡ 1) × (length before < length answer) × (after ≡ before))
+
+-- an answer was put into the buffer and its length told, or the fault was told and the buffer is as it was
+abbrev pub Told : Result (Vec ℕ Global) EngineFault → List ℕ → List ℕ → CbornTold → ℕ → Type 0
+Told (Ok answer) before after told code = IsPut answer.items before after code × (told.length ≡ length answer.items) × (told.place ≡ 0)
+Told (Err why) before after told code = (code ≡ fault_number why) × (told.place ≡ fault_place why) × (told.length ≡ 0) × (after ≡ before)
+
+-- a number that was handed in stands for nothing: the buffer, and what is told beside the number, are as they were
+abbrev pub IsBad : List ℕ → List ℕ → CbornTold → CbornTold → ℕ → Type 0
+IsBad before after untold told code = (code ≡ 2) × (after ≡ before) × (told ≡ untold)
+
+abbrev pub IsBadPlaced : ℕ → ℕ → ℕ → Type 0
+IsBadPlaced unplaced place code = (code ≡ 2) × (place ≡ unplaced)
+
+abbrev pub IsDepth : ℕ → Type 0
+IsDepth limit = (1 ≤ limit) × (limit ≤ 1024)
+
+pub record NormalisesInto (order : List ℕ → List ℕ → Ordering) (k out : Kind) (limit : ℕ) (x before after : List ℕ) (told : CbornTold) (code : ℕ) : Type 0 where
+  pub answer : Result (Vec ℕ Global) EngineFault
+  pub normalised : Normalised order k out limit x answer
+  pub put : Told answer before after told code
+
+abbrev pub NormaliseCall : Option Kind → Option Kind → Option KeyOrdering → ℕ → List ℕ → List ℕ → List ℕ → CbornTold → CbornTold → ℕ → Type 0
+NormaliseCall (Some k) (Some out) (Some order) limit x before after untold told code =
+    (IsDepth limit → NormalisesInto (order_of order) k out limit x before after told code) × ((IsDepth limit → ⊥) → IsBad before after untold told code)
+NormaliseCall (Some k) (Some out) None limit x before after untold told code = IsBad before after untold told code
+NormaliseCall (Some k) None order limit x before after untold told code = IsBad before after untold told code
+NormaliseCall None out order limit x before after untold told code = IsBad before after untold told code
+
+pub record ShowsInto (k out : Kind) (limit : ℕ) (x before after : List ℕ) (told : CbornTold) (code : ℕ) : Type 0 where
+  pub answer : Result (Vec ℕ Global) EngineFault
+  pub shown : Shown k out limit x answer
+  pub put : Told answer before after told code
+
+abbrev pub ShowCall : Option Kind → Option Kind → ℕ → List ℕ → List ℕ → List ℕ → CbornTold → CbornTold → ℕ → Type 0
+ShowCall (Some k) (Some out) limit x before after untold told code =
+    (IsDepth limit → ShowsInto k out limit x before after told code) × ((IsDepth limit → ⊥) → IsBad before after untold told code)
+ShowCall (Some k) None limit x before after untold told code = IsBad before after untold told code
+ShowCall None out limit x before after untold told code = IsBad before after untold told code
+
+-- no defect, or this one
+abbrev pub DefectTold : Option Defect → ℕ → ℕ → Type 0
+DefectTold None place code = (code ≡ 0) × (place ≡ 0)
+DefectTold (Some d) place code = (code ≡ defect_number d.reason) × (place ≡ d.place)
+
+abbrev pub CheckTold : Result (Option Defect) EngineFault → ℕ → ℕ → Type 0
+CheckTold (Ok defect) place code = DefectTold defect place code
+CheckTold (Err why) place code = (code ≡ fault_number why) × (place ≡ fault_place why)
+
+pub record ChecksInto (order : List ℕ → List ℕ → Ordering) (limit : ℕ) (x : List ℕ) (place code : ℕ) : Type 0 where
+  pub answer : Result (Option Defect) EngineFault
+  pub checked : Checked order limit x answer
+  pub told : CheckTold answer place code
+
+abbrev pub CheckCall : Option KeyOrdering → ℕ → List ℕ → ℕ → ℕ → ℕ → Type 0
+CheckCall (Some order) limit x unplaced place code = (IsDepth limit → ChecksInto (order_of order) limit x place code) × ((IsDepth limit → ⊥) → IsBadPlaced unplaced place code)
+CheckCall None limit x unplaced place code = IsBadPlaced unplaced place code
+
+-- the same; different at this index, which is told as the place; or a fault of the first input, or of the second, which has 65,536 more
+abbrev pub DifferenceTold : Option ℕ → ℕ → ℕ → Type 0
+DifferenceTold None place code = (code ≡ 0) × (place ≡ 0)
+DifferenceTold (Some i) place code = (code ≡ 5) × (place ≡ i)
+
+abbrev pub CompareTold : Result (Option ℕ) CompareFault → ℕ → ℕ → Type 0
+CompareTold (Ok difference) place code = DifferenceTold difference place code
+CompareTold (Err (compared.First why)) place code = (code ≡ fault_number why) × (place ≡ fault_place why)
+CompareTold (Err (compared.Second why)) place code = (code ≡ fault_number why + 65536) × (place ≡ fault_place why)
+CompareTold (Err compared.OutOfMemory) place code = (code ≡ 3) × (place ≡ 0)
+
+pub record ComparesInto (k l : Kind) (limit : ℕ) (x y : List ℕ) (place code : ℕ) : Type 0 where
+  pub answer : Result (Option ℕ) CompareFault
+  pub compared : Compared k l limit x y answer
+  pub told : CompareTold answer place code
+
+abbrev pub CompareCall : Option Kind → Option Kind → ℕ → List ℕ → List ℕ → ℕ → ℕ → ℕ → Type 0
+CompareCall (Some k) (Some l) limit x y unplaced place code = (IsDepth limit → ComparesInto k l limit x y place code) × ((IsDepth limit → ⊥) → IsBadPlaced unplaced place code)
+CompareCall (Some k) None limit x y unplaced place code = IsBadPlaced unplaced place code
+CompareCall None l limit x y unplaced place code = IsBadPlaced unplaced place code

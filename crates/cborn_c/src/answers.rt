@@ -1,0 +1,94 @@
+//! How an answer is told to C.
+ghost use Rattle.std.specs.Prelude.{◌≡◌};
+ghost use Rattle.cborn_c.specs.Calls.{Told, CheckTold, CompareTold};
+
+use crate::numbers::{
+    DIFFERENT, OF_SECOND, OK, OUT_OF_MEMORY, TOO_SMALL, number_defect, number_fault, place_of,
+};
+use cborn_engine::{CompareFault, EngineFault};
+use cborn_judge::Defect;
+
+/// What a call tells beside the number that it answers.
+#[repr(C)]
+#[derive(Drop)]
+pub struct CbornTold {
+    /// The offset of a fault, in bytes from the start of the input, else 0.
+    pub place: u64,
+    /// How many bytes the answer takes, also where it didn't fit; 0 at a fault.
+    pub length: u64,
+}
+
+/// Puts an answer to the front of `out`, or tells why there is none. Where `out` is too small, it is as it was.
+pub fn put(answer: Result<Vec<u8>, EngineFault>, out: &mut [u8], told: &mut CbornTold) -> u32
+    ensures { Told answer out.old out.new told.new result }
+{
+    match answer {
+        Ok(bytes) => {
+            let length = bytes.len();
+            *told = CbornTold {
+                place: 0,
+                length: length as u64,
+            };
+            if length > out.len() {
+                return TOO_SMALL;
+            }
+            out[..length].copy_from_slice(&bytes);
+            OK
+        }
+        Err(why) => {
+            *told = CbornTold {
+                place: place_of(why),
+                length: 0,
+            };
+            number_fault(why)
+        }
+    }
+}
+
+/// Tells a defect, or why none was looked for.
+pub fn defect_told(answer: Result<Option<Defect>, EngineFault>, place: &mut u64) -> u32
+    ensures { CheckTold answer place.new result }
+{
+    match answer {
+        Ok(None) => {
+            *place = 0;
+            OK
+        }
+        Ok(Some(defect)) => {
+            *place = defect.place;
+            number_defect(defect.reason)
+        }
+        Err(why) => {
+            *place = place_of(why);
+            number_fault(why)
+        }
+    }
+}
+
+/// Tells a difference, or why none was looked for.
+pub fn difference_told(answer: Result<Option<u64>, CompareFault>, place: &mut u64) -> u32
+    ensures { CompareTold answer place.new result }
+{
+    match answer {
+        Ok(None) => {
+            *place = 0;
+            OK
+        }
+        Ok(Some(index)) => {
+            *place = index;
+            DIFFERENT
+        }
+        Err(CompareFault::First(why)) => {
+            *place = place_of(why);
+            number_fault(why)
+        }
+        Err(CompareFault::Second(why)) => {
+            *place = place_of(why);
+            number_fault(why) + OF_SECOND
+        }
+        Err(CompareFault::OutOfMemory) => {
+            *place = 0;
+            OUT_OF_MEMORY
+        }
+    }
+}

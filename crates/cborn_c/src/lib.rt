@@ -1,0 +1,145 @@
+//! The calls of `cborn_engine` for C, as `include/cborn.h` declares them: numbers and slices in, a number and a filled buffer out.
+//!
+//! C passes a slice as a pointer and then a length, and a `Global` as nothing. An answer goes to a buffer of the caller's; where that is too small nothing is written, and the call tells the length that the answer takes. No call keeps anything. `specs/Calls.antt` says what each call answers, `specs/Numbers.antt` what the numbers stand for.
+#![tactic(auto)]
+
+mod answers;
+mod inputs;
+mod numbers;
+
+ghost use Rattle.std.specs.Prelude.{◌≡◌};
+ghost use Rattle.cborn_c.specs.Numbers.{numbered_kind, numbered_order};
+ghost use Rattle.cborn_c.specs.Calls.{NormaliseCall, ShowCall, CheckCall, CompareCall};
+
+use answers::{CbornTold, defect_told, difference_told, put};
+use cborn_model::{Bytewise, LengthFirst, Limit};
+use inputs::{checked, compared, normalised, shown};
+use numbers::{BAD_ARGUMENT, KeyOrdering, kind_at, order_at};
+use std::alloc::Global;
+
+/// Writes the canonical form of the items that `input` holds to the front of `out`: their deterministic encodings (RFC 8949 section 4.2), or the fixed notation of these. `depth` is how many arrays, maps and tags may stand in one another, from 1 to 1,024. `told` gets the place of a fault, in bytes from the start of `input`, and the length of the answer in bytes.
+///
+/// # Errors
+/// `TOO_SMALL` where the answer is longer than `out`, and its length is told. `BAD_ARGUMENT` where a number stands for nothing; then `told` is as it was. Else the number of the fault of `input`. At each of these `out` is as it was.
+#[unsafe(no_mangle)]
+pub extern "C" fn cborn_normalise(
+    alloc: Global,
+    from: u32,
+    to: u32,
+    order: u32,
+    depth: u64,
+    input: &[u8],
+    out: &mut [u8],
+    told: &mut CbornTold,
+) -> u32
+    ensures { NormaliseCall (numbered_kind from) (numbered_kind to) (numbered_order order) depth input.now out.old out.new told.old told.new result }
+{
+    let Some(from) = kind_at(from) else {
+        return BAD_ARGUMENT;
+    };
+    let Some(to) = kind_at(to) else {
+        return BAD_ARGUMENT;
+    };
+    let Some(order) = order_at(order) else {
+        return BAD_ARGUMENT;
+    };
+    let Some(limit) = Limit::new(depth) else {
+        return BAD_ARGUMENT;
+    };
+    let answer = match order {
+        KeyOrdering::Bytewise => normalised::<Bytewise>(alloc, limit, from, to, input),
+        KeyOrdering::LengthFirst => normalised::<LengthFirst>(alloc, limit, from, to, input),
+    };
+    put(answer, out, told)
+}
+
+/// Writes the items of `input` as they are spelled to the front of `out`: as bytes (RFC 8949 section 3), or in the fixed notation (section 8). The arguments and the errors are those of `cborn_normalise`, but no item is refused for what it means; a text string that isn't UTF-8 is refused where the output is notation.
+#[unsafe(no_mangle)]
+pub extern "C" fn cborn_show(
+    alloc: Global,
+    from: u32,
+    to: u32,
+    depth: u64,
+    input: &[u8],
+    out: &mut [u8],
+    told: &mut CbornTold,
+) -> u32
+    ensures { ShowCall (numbered_kind from) (numbered_kind to) depth input.now out.old out.new told.old told.new result }
+{
+    let Some(from) = kind_at(from) else {
+        return BAD_ARGUMENT;
+    };
+    let Some(to) = kind_at(to) else {
+        return BAD_ARGUMENT;
+    };
+    let Some(limit) = Limit::new(depth) else {
+        return BAD_ARGUMENT;
+    };
+    put(shown(alloc, limit, from, to, input), out, told)
+}
+
+/// Tells whether the bytes of `input` are the deterministic encodings of the items that they hold (RFC 8949 section 4.2), else the number of the first defect. `place` gets its offset in bytes from the start of `input`.
+///
+/// # Errors
+/// `BAD_ARGUMENT` where a number stands for nothing; then `place` is as it was. Else the number of the fault of `input`, whose offset `place` gets.
+#[unsafe(no_mangle)]
+pub extern "C" fn cborn_check(
+    alloc: Global,
+    order: u32,
+    depth: u64,
+    input: &[u8],
+    place: &mut u64,
+) -> u32
+    ensures { CheckCall (numbered_order order) depth input.now place.old place.new result }
+{
+    let Some(order) = order_at(order) else {
+        return BAD_ARGUMENT;
+    };
+    let Some(limit) = Limit::new(depth) else {
+        return BAD_ARGUMENT;
+    };
+    let answer = match order {
+        KeyOrdering::Bytewise => checked::<Bytewise>(alloc, limit, input),
+        KeyOrdering::LengthFirst => checked::<LengthFirst>(alloc, limit, input),
+    };
+    defect_told(answer, place)
+}
+
+/// Tells whether two inputs hold the same items (RFC 8949 section 2), else `DIFFERENT`, and `place` gets the least index, from 0, at which they differ.
+///
+/// # Errors
+/// `BAD_ARGUMENT` where a number stands for nothing; then `place` is as it was. Else the number of the fault of `first`, or that of the fault of `second` and `OF_SECOND` more; `place` gets its offset in bytes from the start of that input.
+#[unsafe(no_mangle)]
+pub extern "C" fn cborn_compare(
+    alloc: Global,
+    from_a: u32,
+    from_b: u32,
+    depth: u64,
+    first: &[u8],
+    second: &[u8],
+    place: &mut u64,
+) -> u32
+    ensures { CompareCall (numbered_kind from_a) (numbered_kind from_b) depth first.now second.now place.old place.new result }
+{
+    let Some(from_a) = kind_at(from_a) else {
+        return BAD_ARGUMENT;
+    };
+    let Some(from_b) = kind_at(from_b) else {
+        return BAD_ARGUMENT;
+    };
+    let Some(limit) = Limit::new(depth) else {
+        return BAD_ARGUMENT;
+    };
+    difference_told(compared(alloc, limit, from_a, first, from_b, second), place)
+}
+
+/// The version of the library, 65,536 for each major one, 256 for each minor one, and the patch: 0.1.0.
+#[unsafe(no_mangle)]
+pub extern "C" fn cborn_version() -> u32
+    ensures { result ≡ 256 }
+{
+    0x000100
+}
+
+#[cfg(test)]
+mod tests;

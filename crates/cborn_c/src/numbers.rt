@@ -1,0 +1,181 @@
+//! The numbers by which C names a kind, an order and a fault. That of a fault has its class in the high byte and its reason in the low one; no number ever changes what it stands for.
+ghost use Rattle.std.specs.Prelude.{◌≡◌, ◌<◌};
+ghost use Rattle.cborn_c.specs.Numbers.{numbered_kind, numbered_order, wire_number, lex_number, edn_number, invalid_number, defect_number, fault_number, fault_place};
+
+use cborn_edn::{EdnFault, EdnReason, ShowFault};
+use cborn_engine::{EngineFault, Kind};
+use cborn_judge::{DefectReason, Invalid, InvalidReason};
+use cborn_lex::{LexFault, LexReason};
+use cborn_wire::{WireFault, WireReason};
+
+/// The answer was written.
+pub const OK: u32 = 0;
+/// The buffer is too small.
+pub const TOO_SMALL: u32 = 1;
+/// A number stands for nothing.
+pub const BAD_ARGUMENT: u32 = 2;
+/// Memory was refused.
+pub const OUT_OF_MEMORY: u32 = 3;
+/// The input has more than 2^30 bytes.
+pub const TOO_LONG: u32 = 4;
+/// Two inputs hold different items.
+pub const DIFFERENT: u32 = 5;
+/// What is added to the number of a fault of the second of two inputs.
+pub const OF_SECOND: u32 = 0x10000;
+
+/// How the keys of maps rise (RFC 8949 sections 4.2.1 and 4.2.3).
+#[derive(Clone, Copy, PartialEq, Eq, Debug)]
+pub enum KeyOrdering {
+    Bytewise,
+    LengthFirst,
+}
+
+/// The kind that a number stands for.
+pub fn kind_at(number: u32) -> Option<Kind>
+    ensures { result ≡ numbered_kind number }
+{
+    match number {
+        0 => Some(Kind::Wire),
+        1 => Some(Kind::Notation),
+        2 => Some(Kind::Notation2),
+        _ => None,
+    }
+}
+
+/// The order that a number stands for.
+pub fn order_at(number: u32) -> Option<KeyOrdering>
+    ensures { result ≡ numbered_order number }
+{
+    match number {
+        0 => Some(KeyOrdering::Bytewise),
+        1 => Some(KeyOrdering::LengthFirst),
+        _ => None,
+    }
+}
+
+/// Why bytes aren't well-formed.
+fn number_wire(reason: WireReason) -> u32
+    ensures number { result ≡ wire_number reason }
+    ensures small { result < 65536 }
+{
+    match reason {
+        WireReason::ReservedInfo => 0x101,
+        WireReason::EndlessNotAllowed => 0x102,
+        WireReason::BadChunk => 0x103,
+        WireReason::UnexpectedBreak => 0x104,
+        WireReason::FloatLeftOut => 0x105,
+        WireReason::BadSimple => 0x106,
+        WireReason::TooDeep => 0x107,
+        WireReason::Truncated => 0x108,
+    }
+}
+
+/// Why a text has no tokens.
+fn number_lex(reason: LexReason) -> u32
+    ensures number { result ≡ lex_number reason }
+    ensures small { result < 65536 }
+{
+    match reason {
+        LexReason::UnexpectedCharacter => 0x201,
+        LexReason::UnclosedString => 0x202,
+        LexReason::UnclosedComment => 0x203,
+        LexReason::BadEscape => 0x204,
+        LexReason::BadHex => 0x205,
+        LexReason::BadBase64 => 0x206,
+        LexReason::UnknownPrefix => 0x207,
+        LexReason::BadNumber => 0x208,
+        LexReason::NumberTooLarge => 0x209,
+        LexReason::BadIndicator => 0x20a,
+        LexReason::FloatLeftOut => 0x20b,
+    }
+}
+
+/// Why tokens notate no items.
+fn number_edn(reason: EdnReason) -> u32
+    ensures number { result ≡ edn_number reason }
+    ensures small { result < 65536 }
+{
+    match reason {
+        EdnReason::UnexpectedToken => 0x301,
+        EdnReason::UnexpectedEnd => 0x302,
+        EdnReason::TooDeep => 0x303,
+        EdnReason::IndicatorTooNarrow => 0x304,
+        EdnReason::IndicatorNotAllowed => 0x305,
+        EdnReason::MixedString => 0x306,
+        EdnReason::MixedChunks => 0x307,
+        EdnReason::TextNotUtf8 => 0x308,
+        EdnReason::BadSimple => 0x309,
+        EdnReason::TagTooLarge => 0x30a,
+    }
+}
+
+/// Why an item isn't valid.
+fn number_invalid(reason: InvalidReason) -> u32
+    ensures number { result ≡ invalid_number reason }
+    ensures small { result < 65536 }
+{
+    match reason {
+        InvalidReason::NotUtf8 => 0x501,
+        InvalidReason::BadBignum => 0x502,
+        InvalidReason::DuplicateKey => 0x503,
+    }
+}
+
+/// Why bytes aren't deterministic.
+pub fn number_defect(reason: DefectReason) -> u32
+    ensures { result ≡ defect_number reason }
+{
+    match reason {
+        DefectReason::LongHead => 0x601,
+        DefectReason::EndlessLength => 0x602,
+        DefectReason::LooseBignum => 0x603,
+        DefectReason::KeyOrder => 0x604,
+    }
+}
+
+/// Why there is no answer. A slice that is read never fails, and a vector that is written fails for want of memory alone.
+pub fn number_fault(why: EngineFault) -> u32
+    ensures number { result ≡ fault_number why }
+    ensures small { result < 65536 }
+{
+    match why {
+        EngineFault::Wire(WireFault::Refused { reason, .. }) => number_wire(reason),
+        EngineFault::Wire(WireFault::OutOfMemory) => OUT_OF_MEMORY,
+        EngineFault::Edn(EdnFault::Lex(LexFault::Refused { reason, .. })) => number_lex(reason),
+        EngineFault::Edn(EdnFault::Lex(LexFault::OutOfMemory)) => OUT_OF_MEMORY,
+        EngineFault::Edn(EdnFault::Refused { reason, .. }) => number_edn(reason),
+        EngineFault::Edn(EdnFault::OutOfMemory) => OUT_OF_MEMORY,
+        EngineFault::TextInput(_) => 0x401,
+        EngineFault::Invalid(Invalid::Refused { reason, .. }) => number_invalid(reason),
+        EngineFault::Invalid(Invalid::OutOfMemory) => OUT_OF_MEMORY,
+        EngineFault::Show(ShowFault::NotUtf8 { .. }) => 0x402,
+        EngineFault::Show(ShowFault::OutOfMemory) => OUT_OF_MEMORY,
+        EngineFault::TooLong => TOO_LONG,
+        EngineFault::ReadFault => OUT_OF_MEMORY,
+        EngineFault::WriteFault => OUT_OF_MEMORY,
+        EngineFault::OutOfMemory => OUT_OF_MEMORY,
+    }
+}
+
+/// Where a fault is, in bytes from the start of the input; 0 where it is none of the input's content.
+pub fn place_of(why: EngineFault) -> u64
+    ensures { result ≡ fault_place why }
+{
+    match why {
+        EngineFault::Wire(WireFault::Refused { place, .. }) => place,
+        EngineFault::Wire(WireFault::OutOfMemory) => 0,
+        EngineFault::Edn(EdnFault::Lex(LexFault::Refused { place, .. })) => place,
+        EngineFault::Edn(EdnFault::Lex(LexFault::OutOfMemory)) => 0,
+        EngineFault::Edn(EdnFault::Refused { place, .. }) => place,
+        EngineFault::Edn(EdnFault::OutOfMemory) => 0,
+        EngineFault::TextInput(place) => place,
+        EngineFault::Invalid(Invalid::Refused { place, .. }) => place,
+        EngineFault::Invalid(Invalid::OutOfMemory) => 0,
+        EngineFault::Show(ShowFault::NotUtf8 { place }) => place,
+        EngineFault::Show(ShowFault::OutOfMemory) => 0,
+        EngineFault::TooLong => 0,
+        EngineFault::ReadFault => 0,
+        EngineFault::WriteFault => 0,
+        EngineFault::OutOfMemory => 0,
+    }
+}

@@ -1,0 +1,143 @@
+//! Each call with ample memory, since one that only answers want of memory would be proved too. Expected values come from RFC 8949 and docs/FORMATS.md.
+
+use crate::answers::CbornTold;
+use crate::{cborn_check, cborn_compare, cborn_normalise, cborn_show, cborn_version};
+
+/// An array of two whose heads, and those in it, are longer than needed.
+const LOOSE: [u8; 7] = [0x98, 2, 0x18, 1, 0x58, 1, 0x61];
+/// A map that has the key 1 twice, once as a bignum at offset 3.
+const TWICE: [u8; 7] = [0xa2, 1, 0, 0xc2, 0x41, 1, 0];
+
+fn untold() -> CbornTold {
+    CbornTold {
+        place: 99,
+        length: 99,
+    }
+}
+
+#[test]
+fn normalises_to_the_front_of_the_buffer(rt: HostRuntime) {
+    let mut told = untold();
+    let mut out = [0xee; 8];
+    let code = cborn_normalise(rt.alloc(), 0, 0, 0, 128, &LOOSE, &mut out, &mut told);
+    assert_eq!(rt; code, 0);
+    assert_eq!(rt; told.place, 0);
+    assert_eq!(rt; told.length, 4);
+    assert!(rt; out == [0x82, 1, 0x41, 0x61, 0xee, 0xee, 0xee, 0xee]);
+}
+
+#[test]
+fn normalises_in_both_orders(rt: HostRuntime) {
+    // the keys -1 (20) and 100 (1864)
+    let map = [0xa2, 0x20, 0, 0x18, 0x64, 0];
+    let mut told = untold();
+    let mut out = [0; 6];
+    let code = cborn_normalise(rt.alloc(), 0, 0, 0, 128, &map, &mut out, &mut told);
+    assert_eq!(rt; code, 0);
+    assert!(rt; out == [0xa2, 0x18, 0x64, 0, 0x20, 0]);
+    let code = cborn_normalise(rt.alloc(), 0, 0, 1, 128, &map, &mut out, &mut told);
+    assert_eq!(rt; code, 0);
+    assert!(rt; out == map);
+}
+
+#[test]
+fn tells_the_length_that_a_small_buffer_lacks(rt: HostRuntime) {
+    let mut told = untold();
+    let mut out = [0xee; 3];
+    let code = cborn_normalise(rt.alloc(), 0, 0, 0, 128, &LOOSE, &mut out, &mut told);
+    assert_eq!(rt; code, 1);
+    assert_eq!(rt; told.length, 4);
+    assert!(rt; out == [0xee; 3]);
+}
+
+#[test]
+fn tells_a_fault_and_its_place(rt: HostRuntime) {
+    let mut told = untold();
+    let mut out = [0xee; 8];
+    let code = cborn_normalise(rt.alloc(), 0, 0, 0, 128, &TWICE, &mut out, &mut told);
+    assert_eq!(rt; code, 0x503);
+    assert_eq!(rt; told.place, 3);
+    assert_eq!(rt; told.length, 0);
+    assert!(rt; out == [0xee; 8]);
+}
+
+#[test]
+fn refuses_numbers_that_stand_for_nothing(rt: HostRuntime) {
+    let mut told = untold();
+    let mut out = [0xee; 8];
+    let code = cborn_normalise(rt.alloc(), 3, 0, 0, 128, &LOOSE, &mut out, &mut told);
+    assert_eq!(rt; code, 2);
+    let code = cborn_normalise(rt.alloc(), 0, 3, 0, 128, &LOOSE, &mut out, &mut told);
+    assert_eq!(rt; code, 2);
+    let code = cborn_normalise(rt.alloc(), 0, 0, 2, 128, &LOOSE, &mut out, &mut told);
+    assert_eq!(rt; code, 2);
+    let code = cborn_normalise(rt.alloc(), 0, 0, 0, 0, &LOOSE, &mut out, &mut told);
+    assert_eq!(rt; code, 2);
+    let code = cborn_show(rt.alloc(), 0, 0, 1025, &LOOSE, &mut out, &mut told);
+    assert_eq!(rt; code, 2);
+    assert_eq!(rt; told.place, 99);
+    assert!(rt; out == [0xee; 8]);
+}
+
+#[test]
+fn shows(rt: HostRuntime) {
+    let mut told = untold();
+    let mut out = [0; 18];
+    let code = cborn_show(rt.alloc(), 0, 1, 128, &LOOSE, &mut out, &mut told);
+    assert_eq!(rt; code, 0);
+    assert!(rt; &out == b"[_0 1_0, h'61'_0]\n");
+    let mut out = [0; 7];
+    let code = cborn_show(
+        rt.alloc(),
+        1,
+        0,
+        128,
+        b"[_0 1_0, h'61'_0]",
+        &mut out,
+        &mut told,
+    );
+    assert_eq!(rt; code, 0);
+    assert!(rt; out == LOOSE);
+    // a text string of the byte ff is well-formed, and has no notation
+    let code = cborn_show(rt.alloc(), 0, 1, 128, &[1, 0x61, 0xff], &mut out, &mut told);
+    assert_eq!(rt; code, 0x402);
+    assert_eq!(rt; told.place, 1);
+}
+
+#[test]
+fn checks(rt: HostRuntime) {
+    let mut place = 99;
+    let code = cborn_check(rt.alloc(), 0, 128, &[0x82, 1, 0x41, 0x61], &mut place);
+    assert_eq!(rt; code, 0);
+    assert_eq!(rt; place, 0);
+    let code = cborn_check(rt.alloc(), 0, 128, &[1, 0x18, 1], &mut place);
+    assert_eq!(rt; code, 0x601);
+    assert_eq!(rt; place, 1);
+    let code = cborn_check(rt.alloc(), 0, 1, &[0x81, 0x80], &mut place);
+    assert_eq!(rt; code, 0x107);
+    assert_eq!(rt; place, 1);
+}
+
+#[test]
+fn compares(rt: HostRuntime) {
+    let mut place = 99;
+    let code = cborn_compare(rt.alloc(), 1, 0, 128, b"[1, 'a']", &LOOSE, &mut place);
+    assert_eq!(rt; code, 0);
+    assert_eq!(rt; place, 0);
+    let code = cborn_compare(rt.alloc(), 1, 0, 128, b"[1, 'a'], 2", &LOOSE, &mut place);
+    assert_eq!(rt; code, 5);
+    assert_eq!(rt; place, 1);
+    let code = cborn_compare(rt.alloc(), 0, 0, 128, &TWICE, &TWICE, &mut place);
+    assert_eq!(rt; code, 0x503);
+    let code = cborn_compare(rt.alloc(), 2, 0, 128, b"1, # one", &TWICE, &mut place);
+    assert_eq!(rt; code, 0x302);
+    assert_eq!(rt; place, 8);
+    let code = cborn_compare(rt.alloc(), 2, 0, 128, b"1 # one", &TWICE, &mut place);
+    assert_eq!(rt; code, 0x10503);
+    assert_eq!(rt; place, 3);
+}
+
+#[test]
+fn tells_its_version(rt: HostRuntime) {
+    assert_eq!(rt; cborn_version(), 0x000100);
+}

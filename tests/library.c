@@ -1,0 +1,382 @@
+/* Answers calls of the library, one a line of standard input, and tests beside each answer what no proof reaches:
+
+       normalise FROM TO ORDER DEPTH FILE
+       show FROM TO DEPTH FILE
+       check ORDER DEPTH FILE
+       compare FROM_A FROM_B DEPTH FILE FILE
+
+   Each gets a line 'CODE PLACE LENGTH', and then LENGTH bytes. What is tested: inputs and buffers end where memory
+   ends, so that one byte too far ends the program; a buffer one byte too small, and NULL with length 0, are told the
+   length and written nothing; a longer buffer is as it was behind the answer; memory that was taken is given back;
+   each growth refused in turn (of a long input's some) gives the same answer or want of memory; the stack is no more than CBORN_STACK(depth);
+   and at the end all short calls once more, from eight threads at once, answer the same. Linked with --wrap for malloc,
+   realloc and free. The first wrong thing ends the program with a line on standard error and status 1. */
+#define _GNU_SOURCE
+#include "cborn.h"
+#include <fcntl.h>
+#include <pthread.h>
+#include <stdbool.h>
+#include <stdio.h>
+#include <stdlib.h>
+#include <string.h>
+#include <sys/mman.h>
+#include <sys/stat.h>
+#include <unistd.h>
+
+enum { NAME_SIZE = 4096, THREADS = 8, ROUNDS = 4, LONG = 1 << 20, SHORT = 512, MOST_REFUSED = 400, MOST_OF_LONGER = 10, FILL = 0xee, PAINT = 0xa5 };
+
+typedef struct {
+    uint8_t *bytes;
+    size_t length;
+} input;
+
+typedef struct {
+    char name[16];
+    unsigned from, to, order;
+    unsigned long depth;
+    input first, second;
+} call;
+
+typedef struct {
+    uint32_t code;
+    cborn_told told;
+} answer;
+
+static void fail(const char *what, const call *asked, long number)
+{
+    fprintf(stderr, "%s: %s (%ld)\n", asked ? asked->name : "library", what, number);
+    exit(1);
+}
+
+/* Memory: taken and given back, counted by thread; and one request that is refused. */
+void *__real_malloc(size_t size);
+void *__real_realloc(void *old, size_t size);
+void __real_free(void *old);
+
+static _Thread_local long held, requests, to_refuse;
+static _Thread_local bool was_refused;
+
+static bool is_refused(void)
+{
+    requests++;
+    return to_refuse > 0 && --to_refuse == 0 && (was_refused = true);
+}
+
+void *__wrap_malloc(size_t size)
+{
+    void *made = is_refused() ? NULL : __real_malloc(size);
+    held += made != NULL;
+    return made;
+}
+
+void *__wrap_realloc(void *old, size_t size)
+{
+    void *made = is_refused() ? NULL : __real_realloc(old, size);
+    held += old == NULL && made != NULL;
+    return made;
+}
+
+void __wrap_free(void *old)
+{
+    held -= old != NULL;
+    __real_free(old);
+}
+
+/* So many bytes, right in front of a page that can't be touched. */
+static uint8_t *guarded(size_t length)
+{
+    size_t page = (size_t)sysconf(_SC_PAGESIZE), room = (length + page - 1) / page * page;
+    uint8_t *start = mmap(NULL, room + page, PROT_READ | PROT_WRITE, MAP_PRIVATE | MAP_ANONYMOUS, -1, 0);
+    if (start == MAP_FAILED || mprotect(start + room, page, PROT_NONE) != 0)
+        fail("no memory to test with", NULL, (long)length);
+    return start + room - length;
+}
+
+static void unguard(uint8_t *bytes, size_t length)
+{
+    size_t page = (size_t)sysconf(_SC_PAGESIZE), room = (length + page - 1) / page * page;
+    munmap(bytes + length - room, room + page);
+}
+
+/* A file's bytes. An empty one is NULL. */
+static input opened(const char *name)
+{
+    int file = open(name, O_RDONLY);
+    struct stat about;
+    if (file < 0 || fstat(file, &about) != 0)
+        fail(name, NULL, file);
+    input it = {NULL, (size_t)about.st_size};
+    if (it.length > LONG) {
+        it.bytes = mmap(NULL, it.length, PROT_READ, MAP_PRIVATE, file, 0);
+    } else if (it.length != 0) {
+        it.bytes = guarded(it.length);
+        if (read(file, it.bytes, it.length) != (ssize_t)it.length)
+            fail(name, NULL, (long)it.length);
+    }
+    close(file);
+    return it;
+}
+
+static bool is_called(const call *asked, const char *name) { return strcmp(asked->name, name) == 0; }
+static bool has_output(const call *asked) { return is_called(asked, "normalise") || is_called(asked, "show"); }
+
+static answer answered(const call *asked, uint8_t *out, size_t room)
+{
+    answer it = {0, {99, 99}};
+    const input a = asked->first, b = asked->second;
+    if (is_called(asked, "normalise"))
+        it.code = cborn_normalise(asked->from, asked->to, asked->order, asked->depth, a.bytes, a.length, out, room, &it.told);
+    else if (is_called(asked, "show"))
+        it.code = cborn_show(asked->from, asked->to, asked->depth, a.bytes, a.length, out, room, &it.told);
+    else if (is_called(asked, "check"))
+        it.code = cborn_check(asked->order, asked->depth, a.bytes, a.length, &it.told.place);
+    else
+        it.code = cborn_compare(asked->from, asked->to, asked->depth, a.bytes, a.length, b.bytes, b.length, &it.told.place);
+    if (it.code == CBORN_BAD_ARGUMENT && it.told.place != 99)
+        fail("a bad argument is told a place", asked, (long)it.told.place);
+    if (it.code == CBORN_BAD_ARGUMENT)
+        it.told.place = 0;
+    if (it.code == CBORN_BAD_ARGUMENT || !has_output(asked))
+        it.told.length = 0;
+    if (held != 0)
+        fail("memory was not given back", asked, held);
+    return it;
+}
+
+static bool is_filled(const uint8_t *bytes, size_t length, int with)
+{
+    for (size_t i = 0; i < length; i++)
+        if (bytes[i] != with)
+            return false;
+    return true;
+}
+
+static bool are_same(answer a, answer b)
+{
+    return a.code == b.code && a.told.place == b.told.place && a.told.length == b.told.length;
+}
+
+/* Whether from bytes to bytes so much room is enough as docs/LIBRARY.md says. */
+static bool is_bounded(const call *asked, size_t length)
+{
+    size_t given = asked->first.length;
+    bool is_of_bytes = is_called(asked, "normalise") && asked->from == CBORN_WIRE && asked->to == CBORN_WIRE;
+    return !is_of_bytes || length <= given + given / 256 + 8;
+}
+
+/* The answer, and its bytes in a buffer that they fill. */
+static answer filled(const call *asked, uint8_t **out)
+{
+    answer told = answered(asked, NULL, 0);
+    *out = NULL;
+    if (told.code != CBORN_TOO_SMALL)
+        return told;
+    size_t length = told.told.length;
+    if (!is_bounded(asked, length))
+        fail("an answer is longer than its bound", asked, (long)length);
+    *out = guarded(length);
+    memset(*out, FILL, length);
+    answer small = answered(asked, *out, length - 1);
+    if (!are_same(small, told) || !is_filled(*out, length, FILL))
+        fail("a buffer too small by one isn't told so, or written", asked, (long)length);
+    told = answered(asked, *out, length);
+    if (told.code != CBORN_OK || told.told.length != length)
+        fail("a buffer that fits is refused", asked, told.code);
+    return told;
+}
+
+static void test_longer_buffer(const call *asked, answer told, const uint8_t *out)
+{
+    size_t length = told.told.length, room = length + 9;
+    uint8_t *longer = guarded(room);
+    memset(longer, FILL, room);
+    if (!are_same(answered(asked, longer, room), told))
+        fail("a longer buffer has another answer", asked, (long)length);
+    if ((length != 0 && memcmp(longer, out, length) != 0) || !is_filled(longer + length, room - length, FILL))
+        fail("a longer buffer isn't the answer and what was there", asked, (long)length);
+    unguard(longer, room);
+}
+
+/* What a call answers with one growth refused. */
+static void test_refused(const call *asked, answer told, const uint8_t *out, uint8_t *again, long nth)
+{
+    size_t length = told.told.length;
+    memset(again, FILL, length + 1);
+    to_refuse = nth, was_refused = false;
+    answer got = answered(asked, again, length);
+    to_refuse = 0;
+    bool is_want = got.code == CBORN_OUT_OF_MEMORY && got.told.place == 0 && got.told.length == 0;
+    bool is_same = are_same(got, told) && (length == 0 || memcmp(again, out, length) == 0);
+    if (!was_refused || again[length] != FILL)
+        fail("a growth isn't refused, or the buffer isn't kept to", asked, nth);
+    if (is_want ? !is_filled(again, length, FILL) : !is_same)
+        fail("a growth that is refused gives neither the answer nor want of memory", asked, nth);
+}
+
+/* Each growth refused in turn, or so many of them, spread over all; how many they were. */
+static long test_growths(const call *asked, answer told, const uint8_t *out)
+{
+    size_t length = told.told.length;
+    uint8_t *again = guarded(length + 1);
+    requests = 0;
+    answered(asked, again, length);
+    long all = requests, tried = 0, most = asked->first.length <= SHORT ? MOST_REFUSED : MOST_OF_LONGER;
+    for (long nth = 1; nth <= all; nth += 1 + all / most, tried++)
+        test_refused(asked, told, out, again, nth);
+    unguard(again, length + 1);
+    return tried;
+}
+
+/* The stack of one call, on a thread whose stack is painted. */
+typedef struct {
+    const call *asked;
+    answer told;
+} run;
+
+static void *answered_on_thread(void *given)
+{
+    run *it = given;
+    uint8_t *out = it->told.told.length ? __real_malloc(it->told.told.length) : NULL;
+    answer got = answered(it->asked, out, it->told.told.length);
+    if (!are_same(got, it->told))
+        fail("another thread has another answer", it->asked, got.code);
+    __real_free(out);
+    return NULL;
+}
+
+static void *nothing_on_thread(void *given)
+{
+    return given;
+}
+
+static size_t stack_of(void *(*body)(void *), run *given)
+{
+    static uint8_t *stack;
+    const size_t size = 4 << 20;
+    if (stack == NULL)
+        stack = mmap(NULL, size, PROT_READ | PROT_WRITE, MAP_PRIVATE | MAP_ANONYMOUS, -1, 0);
+    /* the lowest word that the last thread wrote: all from there on is painted over */
+    static size_t lowest;
+    memset(stack + lowest, PAINT, size - lowest);
+    uint64_t painted;
+    memcpy(&painted, stack, sizeof painted);
+    pthread_attr_t how;
+    pthread_t thread;
+    pthread_attr_init(&how);
+    pthread_attr_setstack(&how, stack, size);
+    if (pthread_create(&thread, &how, body, given) != 0)
+        fail("no thread", given->asked, 0);
+    pthread_join(thread, NULL);
+    pthread_attr_destroy(&how);
+    lowest = 0;
+    while (lowest < size && *(const uint64_t *)(const void *)(stack + lowest) == painted)
+        lowest += sizeof painted;
+    return size - lowest;
+}
+
+static size_t most_stack[CBORN_MOST_DEPTH + 1];
+
+static void test_stack(const call *asked, answer told)
+{
+    static size_t bare;
+    run it = {asked, told};
+    if (bare == 0)
+        bare = stack_of(nothing_on_thread, &it);
+    size_t used = stack_of(answered_on_thread, &it) - bare;
+    if (asked->depth <= CBORN_MOST_DEPTH && used > most_stack[asked->depth])
+        most_stack[asked->depth] = used;
+    if (told.code != CBORN_BAD_ARGUMENT && used > CBORN_STACK(asked->depth))
+        fail("more stack than CBORN_STACK", asked, (long)used);
+}
+
+static call *calls;
+static answer *answers;
+static size_t count;
+
+static void keep(call asked, answer told)
+{
+    calls = __real_realloc(calls, (count + 1) * sizeof *calls);
+    answers = __real_realloc(answers, (count + 1) * sizeof *answers);
+    if (calls == NULL || answers == NULL)
+        fail("no memory to test with", NULL, (long)count);
+    calls[count] = asked;
+    answers[count++] = told;
+}
+
+static void *all_on_thread(void *given)
+{
+    for (int round = 0; round < ROUNDS; round++)
+        for (size_t i = 0; i < count; i++) {
+            /* each thread begins elsewhere, so that different calls meet */
+            size_t at = (i + (size_t)given * count / THREADS) % count;
+            run it = {&calls[at], answers[at]};
+            answered_on_thread(&it);
+        }
+    return NULL;
+}
+
+static void test_threads(void)
+{
+    pthread_t threads[THREADS];
+    for (size_t i = 0; i < THREADS; i++)
+        if (pthread_create(&threads[i], NULL, all_on_thread, (void *)i) != 0)
+            fail("no thread", NULL, (long)i);
+    for (size_t i = 0; i < THREADS; i++)
+        pthread_join(threads[i], NULL);
+}
+
+static bool parsed(const char *line, call *asked, char *first, char *second)
+{
+    memset(asked, 0, sizeof *asked);
+    *first = *second = 0;
+    sscanf(line, "%15s", asked->name);
+    if (is_called(asked, "normalise"))
+        return sscanf(line, "%*s %u %u %u %lu %4095s", &asked->from, &asked->to, &asked->order, &asked->depth, first) == 5;
+    if (is_called(asked, "show"))
+        return sscanf(line, "%*s %u %u %lu %4095s", &asked->from, &asked->to, &asked->depth, first) == 4;
+    if (is_called(asked, "check"))
+        return sscanf(line, "%*s %u %lu %4095s", &asked->order, &asked->depth, first) == 3;
+    return is_called(asked, "compare") &&
+           sscanf(line, "%*s %u %u %lu %4095s %4095s", &asked->from, &asked->to, &asked->depth, first, second) == 5;
+}
+
+int main(void)
+{
+    char line[3 * NAME_SIZE], first[NAME_SIZE], second[NAME_SIZE];
+    long growths = 0;
+    if (cborn_version() != CBORN_VERSION)
+        fail("library and header have different versions", NULL, (long)cborn_version());
+    while (fgets(line, sizeof line, stdin)) {
+        call asked;
+        uint8_t *out;
+        if (!parsed(line, &asked, first, second))
+            fail(line, NULL, 0);
+        asked.first = opened(first);
+        if (*second)
+            asked.second = opened(second);
+        answer told = filled(&asked, &out);
+        printf("%u %llu %llu\n", told.code, (unsigned long long)told.told.place, (unsigned long long)told.told.length);
+        if (out)
+            fwrite(out, 1, told.told.length, stdout);
+        fflush(stdout);
+        if (asked.first.length > LONG) {
+            munmap(asked.first.bytes, asked.first.length);
+            continue;
+        }
+        if (told.code == CBORN_OK && has_output(&asked))
+            test_longer_buffer(&asked, told, out);
+        growths += test_growths(&asked, told, out);
+        test_stack(&asked, told);
+        if (asked.first.length <= SHORT)
+            keep(asked, told);
+        if (out)
+            unguard(out, told.told.length);
+    }
+    test_threads();
+    printf("%ld growths refused in turn; %zu calls again from %d threads; stack", growths, count, THREADS);
+    for (size_t depth = 0; depth <= CBORN_MOST_DEPTH; depth++)
+        if (most_stack[depth] != 0)
+            printf(", %zu bytes at depth %zu", most_stack[depth], depth);
+    printf("\n");
+    return 0;
+}

@@ -1,0 +1,291 @@
+#!/usr/bin/env python3
+"""Put each command line of the tables of this folder that is a call through the library, from C and from Python.
+
+    library.py PROGRAM FOLDER
+
+FOLDER has libcborn.a and libcborn.so. What the library answers is written as the program would print it, and compared
+with what the table says and with what the program prints. Which number a fault has is held against the program's
+words, through those of include/cborn.h, docs/LIBRARY.md and the bindings; each number has to occur. Nests of arrays,
+maps and tags under the least, the usual and the largest limit are put through besides. library.c, which is compiled
+by $CC or cc, says what else is tested. Command lines that are no call (of files that fail, or of help) are counted.
+"""
+import argparse
+import ast
+import mmap
+import os
+import pathlib
+import re
+import subprocess
+import sys
+import tempfile
+
+from run import Case, Outcome, cases
+
+HERE = pathlib.Path(__file__).resolve().parent
+TOP = HERE.parent
+KINDS = {"wire": 0, "notation": 1, "notation-2": 2}
+ORDERS = {"bytewise": 0, "length-first": 1}
+BAD_ARGUMENT, OUT_OF_MEMORY, TOO_LONG, DIFFERENT = 2, 3, 4, 5
+OF_SECOND = 0x10000
+WRAPPED = "-Wl,--wrap=malloc,--wrap=realloc,--wrap=free"
+
+
+def words_of_header():
+    """The words of each number of a fault in the header: the comment behind it."""
+    text = (TOP / "include/cborn.h").read_text()
+    return {int(n, 16): words for n, words in re.findall(r"= (0x[0-9a-f]{3}),\s*/\* (.*?) \*/", text)}
+
+
+def words_of_page():
+    """Those in the documents: | `0x101` | .. | words |."""
+    text = (TOP / "docs/LIBRARY.md").read_text()
+    return {int(n, 16): words for n, words in re.findall(r"^\| `(0x[0-9a-f]{3})` \|.*\| ([^|]*) \|$", text, re.MULTILINE)}
+
+
+def words_of_python():
+    text = (TOP / "bindings/python/cborn/__init__.py").read_text()
+    return ast.literal_eval(re.search(r"^REASONS.*?= (\{.*?^\})", text, re.MULTILINE | re.DOTALL)[1])
+
+
+def words_of_rust():
+    text = (TOP / "bindings/rust/src/faults.rs").read_text()
+    return {int(n, 16): words for n, words in re.findall(r'\((0x[0-9a-f]{3}), "(.*?)"\)', text)}
+
+
+def stack_of(path):
+    """The figures of the stack in a file."""
+    return re.findall(r"\d+ \+ \d+ \* \(?depth\)?", path.read_text())
+
+
+class Options(argparse.ArgumentParser):
+    def error(self, message):
+        raise ValueError(message)
+
+
+def parser():
+    words = Options(add_help=False)
+    words.add_argument("command", choices=("normalise", "show", "check", "compare"))
+    words.add_argument("--from", dest="source", choices=KINDS, default="wire")
+    words.add_argument("--from-a", choices=KINDS, default="wire")
+    words.add_argument("--from-b", choices=KINDS, default="wire")
+    words.add_argument("--to", choices=("wire", "notation"))
+    words.add_argument("--order", choices=ORDERS, default="bytewise")
+    words.add_argument("--depth", type=int, default=128)
+    words.add_argument("files", nargs="*")
+    return words
+
+
+def parsed(case):
+    """What a command line asks for, with its files, or None where it is no call."""
+    if case.is_failing or case.output is not None:
+        return None
+    try:
+        asked = parser().parse_args(case.words)
+    except ValueError:
+        return None
+    if case.status == 3 and 1 <= asked.depth <= 1024:
+        return None
+    if asked.command == "compare":
+        if len(asked.files) != 2:
+            return None
+    elif not asked.files:
+        pathlib.Path(case.folder, "standard-input").write_bytes(case.stdin)
+        asked.files = ["standard-input"]
+    asked.files = [pathlib.Path(case.folder, name) for name in asked.files]
+    is_call = len(asked.files) == (2 if asked.command == "compare" else 1) and all(path.is_file() for path in asked.files)
+    return asked if is_call else None
+
+
+def line_of(asked):
+    """The call for library.c."""
+    kinds = {
+        "normalise": lambda: (KINDS[asked.source], KINDS[asked.to or "wire"], ORDERS[asked.order]),
+        "show": lambda: (KINDS[asked.source], KINDS[asked.to or "notation"]),
+        "check": lambda: (ORDERS[asked.order],),
+        "compare": lambda: (KINDS[asked.from_a], KINDS[asked.from_b]),
+    }
+    return " ".join(map(str, (asked.command, *kinds[asked.command](), asked.depth, *asked.files)))
+
+
+def mapped(path):
+    """A file's bytes, where they lie."""
+    with path.open("rb") as file:
+        return mmap.mmap(file.fileno(), 0, access=mmap.ACCESS_READ) if path.stat().st_size else b""
+
+
+class InC:
+    """The library, called by library.c."""
+
+    def __init__(self, folder, build):
+        self.program = f"{folder}/library"
+        compiler = os.environ.get("CC", "cc")
+        flags = ["-std=c11", "-O2", "-Wall", "-Wextra", "-Werror", "-pthread", f"-I{TOP}/include", WRAPPED]
+        sources = [str(HERE / "library.c"), f"{build}/libcborn.a"]
+        subprocess.run([compiler, *flags, "-o", self.program, *sources], check=True)
+        self.child = subprocess.Popen([self.program], stdin=subprocess.PIPE, stdout=subprocess.PIPE)
+
+    def answer(self, asked):
+        try:
+            self.child.stdin.write(line_of(asked).encode() + b"\n")
+            self.child.stdin.flush()
+            told = self.child.stdout.readline().split()
+        except BrokenPipeError:
+            told = []
+        if len(told) != 3:
+            sys.exit(f"library.c ended at this line, or at the one before: {line_of(asked)}")
+        code, place, length = map(int, told)
+        return code, place, self.child.stdout.read(length)
+
+    def end(self):
+        self.child.stdin.close()
+        told = self.child.stdout.read().decode().strip()
+        return told if self.child.wait() == 0 else sys.exit("library.c failed")
+
+
+class InPython:
+    """The library, called by the Python binding: the answer in the same form."""
+
+    def __init__(self, build):
+        os.environ["CBORN_LIBRARY"] = f"{build}/libcborn.so"
+        sys.path.insert(0, str(TOP / "bindings/python"))
+        import cborn
+
+        self.cborn = cborn
+
+    def called(self, asked, inputs):
+        cborn, source, order = self.cborn, KINDS[asked.source], ORDERS[asked.order]
+        if asked.command == "normalise":
+            return cborn.normalise(inputs[0], source, KINDS[asked.to or "wire"], order, asked.depth)
+        if asked.command == "show":
+            if asked.to == "wire":
+                return cborn.spell(inputs[0], source, asked.depth)
+            return cborn.show(inputs[0], source, asked.depth).encode()
+        if asked.command == "check":
+            return cborn.check(inputs[0], order, asked.depth)
+        return cborn.compare(*inputs, KINDS[asked.from_a], KINDS[asked.from_b], asked.depth)
+
+    def answer(self, asked):
+        inputs = [mapped(path) for path in asked.files]
+        numbers = {words: number for number, words in self.cborn.REASONS.items() if number >> 8 == 6}
+        try:
+            told = self.called(asked, inputs)
+        except self.cborn.CbornError as why:
+            return why.number + OF_SECOND * why.input, why.place or 0, b""
+        except ValueError:
+            return BAD_ARGUMENT, 99, b""
+        if asked.command == "check":
+            return (0, 0, b"") if told is None else (numbers[told.reason], told.place, b"")
+        if asked.command == "compare":
+            return (0, 0, b"") if told is None else (DIFFERENT, told, b"")
+        return 0, 0, told
+
+
+def printed(asked, answer, words):
+    """What the program would print and answer."""
+    code, place, out = answer
+    if code == 0:
+        lines = {"check": b"deterministic\n", "compare": b"same\n"}
+        return Outcome(lines.get(asked.command, out), b"", 0)
+    if code == DIFFERENT:
+        return Outcome(f"different at item {place}\n".encode(), b"", 1)
+    if code >> 8 == 6:
+        return Outcome(f"offset {place}: {words[code]}\n".encode(), b"", 1)
+    side = "" if asked.command != "compare" else "second: " if code >= OF_SECOND else "first: "
+    code %= OF_SECOND
+    why = "input too long" if code == TOO_LONG else f"offset {place}: {words[code]}"
+    return Outcome(b"", f"cborn: {side}{why}\n".encode(), 2)
+
+
+def differences(case, asked, answer, words, program):
+    """What is wrong with an answer to a command line."""
+    if answer[0] == BAD_ARGUMENT:
+        if case.status != 3:
+            yield "a number stands for nothing"
+        return
+    outcome = printed(asked, answer, words)
+    yield from case.differences(outcome)
+    if outcome != program:
+        yield f"the program does otherwise: {program}"
+
+
+def nests():
+    """Command lines of nests: of arrays, of maps, of maps in keys, of tags and so on; and of an array that gets longer."""
+    for depth in (1, 128, 1024):
+        forms = {
+            "arrays": b"\x81" * depth + b"\x00",
+            "maps": b"\xa1\x00" * depth + b"\x00",
+            "keys": b"\xa1" * depth + b"\x00" * (depth + 1),
+            "tags": b"\xc6" * depth + b"\x00",
+            "wide-arrays": b"\x9f" * depth + b"\xff" * depth,
+            "wide-maps": b"\xbf\x00" * depth + b"\x00" + b"\xff" * depth,
+            "turned-maps": b"\xa2\x01\x00\x00" * depth + b"\x00",
+            "long-array": b"\x9f" + b"\x00" * (65 * depth) + b"\xff",
+            "array-notation": b"[" * depth + b"]" * depth,
+            "map-notation": b"{1:0, 0:" * depth + b"0" + b"}" * depth,
+            "embedded-notation": b"<<" * depth + b">>" * depth,
+        }
+        for name, data in forms.items():
+            kind = "notation" if name.endswith("notation") else "wire"
+            file = ("file", f"nest hex {data.hex()}")
+            for line in ("normalise nest --from KIND", "normalise nest --from KIND --to notation",
+                         "show nest --from KIND", "show nest --from KIND --to wire", "check nest",
+                         "compare nest nest --from-a KIND --from-b KIND"):
+                if kind == "wire" or not line.startswith("check"):
+                    run = ("run", f"{line.replace('KIND', kind)} --depth {depth}")
+                    yield f"{name} of {depth}", [("case", name), file, run]
+
+
+def tables_of_words(met):
+    """What is wrong with the tables of numbers."""
+    tables = {"header": words_of_header(), "page": words_of_page(), "python": words_of_python(), "rust": words_of_rust()}
+    for name, words in tables.items():
+        for number in sorted({*words, *tables["header"]}):
+            if words.get(number) != tables["header"].get(number):
+                yield f"{number:#x} is {words.get(number)!r} in the table of {name}, {tables['header'].get(number)!r} in the header"
+    for number in sorted(set(tables["header"]) - met):
+        yield f"no command line has the fault {number:#x}"
+    figures = {tuple(stack_of(TOP / name)) for name in ("include/cborn.h", "bindings/rust/src/calls.rs", "bindings/python/cborn/__init__.py")}
+    if len({tuple(it.replace("(", "").replace(")", "") for it in figure) for figure in figures}) != 1:
+        yield f"the stack has several figures: {figures}"
+
+
+def all_cases(folder):
+    yield from ((table, case) for table, case in cases([]))
+    for name, lines in nests():
+        with tempfile.TemporaryDirectory(dir=folder) as place:
+            case = Case(lines, place)
+            case.is_nest = True
+            yield name, case
+
+
+def main():
+    program, build = (str(pathlib.Path(word).resolve()) for word in sys.argv[1:])
+    words, met, wrong = words_of_header(), set(), []
+    with tempfile.TemporaryDirectory() as folder:
+        callers = {"C": InC(folder, build), "Python": InPython(build)}
+        passed = others = 0
+        for table, case in all_cases(folder):
+            asked = parsed(case)
+            if asked is None:
+                others += 1
+                continue
+            done = case.run(program)
+            if hasattr(case, "is_nest"):
+                case.wanted, case.status = {"stdout": [(False, done.stdout)], "stderr": [(False, done.stderr)]}, done.status
+            before = len(wrong)
+            for name, caller in callers.items():
+                answer = caller.answer(asked)
+                met.add(answer[0] % OF_SECOND)
+                wrong += [f"{table}: {case.name}: from {name}: {line}" for line in differences(case, asked, answer, words, done)]
+            passed += len(wrong) == before
+        told = callers["C"].end()
+    wrong += tables_of_words(met)
+    for line in wrong:
+        print(line)
+    print(f"{passed} command lines passed through the library, {others} are no call; {told}")
+    print(f"{len(wrong)} failed")
+    return 1 if wrong or not passed else 0
+
+
+if __name__ == "__main__":
+    sys.exit(main())
