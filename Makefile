@@ -1,18 +1,30 @@
 # cborn: a proved deterministic normaliser for CBOR.
 PREFIX ?= /usr/local
 PROGRAM := crates/cborn/out/cborn
-LIBRARIES := cborn_model cborn_wire cborn_det cborn_judge cborn_lex cborn_edn cborn_engine
+LIBRARIES := cborn_model cborn_wire cborn_det cborn_judge cborn_transcode cborn_search cborn_lex cborn_edn cborn_show cborn_spell cborn_engine
 
-.PHONY: help build test tables growths library-growths bench install clean
+# The least stack, in KB, with which each command has to answer at 1,024 levels.
+STACK ?= 8192
+
+.PHONY: help build test tables vectors growths failures stack library-growths bench install clean
 
 help:
 	@echo 'make build      prove every crate and build the program, $(PROGRAM)'
-	@echo 'make test       the merge gate from nothing, then make tables and make growths'
+	@echo 'make test       the merge gate from nothing, then make tables, vectors, growths and failures'
 	@echo 'make tables     the built program on the tables of tests/, and the examples of the documents'
+	@echo 'make vectors    the built program on each front of each worked input'
 	@echo 'make growths    the built program on those tables, each growth refused in turn'
+	@echo 'make failures   the built program on those tables, with trouble at each opening, read and write in turn'
+	@echo 'make stack      the least stack that each command needs at 1,024 levels, at most STACK KB (STACK is $(STACK))'
 	@echo 'make library-growths   the tests of the libraries, proved and built first, each growth refused in turn'
-	@echo 'make bench      time the commands on a corpus of 80 MB, made under bench/corpus'
+	@echo 'make bench      time the commands on a corpus of 130 MB, made under bench/corpus'
+	@echo 'make bench-peers    the program beside its peers, whose drivers it builds (Debian packages; it says which): some ten minutes'
+	@echo 'make bench-growth   time and memory from 1 MB to 1 GB, beside two peers: some 20 minutes, 5 GB of disk'
+	@echo 'make bench-cost     what hostile bytes cost: memory beside input and output, and time at two sizes'
 	@echo 'make install    put the program and its man page under PREFIX (PREFIX is $(PREFIX))'
+	@echo 'make library    the library for C, build/libcborn.a and build/libcborn.so, and cborn.pc'
+	@echo 'make library-tests   the command lines of tests/ through the library, from C, Python and Rust'
+	@echo 'make dist       one archive of program, library, wheel and crate for whoever has no kit'
 	@echo 'make clean      drop what was built'
 
 build:
@@ -20,7 +32,7 @@ build:
 
 test:
 	rt ci
-	$(MAKE) tables growths
+	$(MAKE) tables vectors growths failures
 
 tables: build
 	python3 tests/run.py $(PROGRAM)
@@ -29,23 +41,50 @@ tables: build
 growths: build
 	python3 tests/growths.py $(PROGRAM)
 
+failures: build
+	python3 tests/failures.py $(PROGRAM)
+
+vectors: build
+	python3 tests/vectors.py $(PROGRAM)
+
+stack: build
+	python3 tests/stack.py $(PROGRAM) $(STACK)
+
 library-growths: $(LIBRARIES:%=growths-of-%)
 
 # Where words are given, only the tests whose names have one: the others don't tell what a call answered.
-WORDS_cborn_edn := reads_numbers reads_nests reads_back
 WORDS_cborn_engine := growths within_a_bound
 
 growths-of-%:
 	cd crates/$* && rt test
 	python3 tests/growths.py --tests crates/$*/out/$*_tests $(WORDS_$*)
 
-bench: build
+.PHONY: bench-peers bench-growth bench-cost
+
+# the last file that corpus.py writes
+CORPUS := bench/corpus/small-10000.cbor
+
+$(CORPUS): bench/corpus.py
 	python3 bench/corpus.py bench/corpus
+
+bench: build $(CORPUS)
 	python3 bench/run.py $(PROGRAM) bench/corpus
+
+# BENCH may hold options: BENCH=--cpu on a machine that is shared, BENCH='--into docs/PERFORMANCE.md' to put the tables there.
+bench-peers: build $(CORPUS)
+	python3 bench/tables.py $(PROGRAM) bench/corpus $(BENCH)
+
+bench-growth: build $(CORPUS)
+	python3 bench/tables.py $(PROGRAM) bench/corpus --only growth --best 1 $(BENCH)
+
+bench-cost: build
+	python3 bench/cost.py $(PROGRAM) $(BENCH)
 
 install: build
 	install -D $(PROGRAM) $(DESTDIR)$(PREFIX)/bin/cborn
 	install -D -m 644 man/cborn.1 $(DESTDIR)$(PREFIX)/share/man/man1/cborn.1
 
 clean:
-	rm -rf crates/*/out bench/corpus
+	rm -rf crates/*/out bench/corpus bench/build build
+
+include bindings/library.mk

@@ -1,5 +1,6 @@
 #!/usr/bin/env python3
-"""Run each line '$ COMMAND' of the README and the guide, and compare what it prints with the lines below it.
+"""Run each line '$ COMMAND' of the README, the guide and the man page, and compare what it prints with the lines below it.
+Then see whether each function, file and clause that docs/PROMISES.md names is in the source.
 
     documents.py PROGRAM
 
@@ -7,17 +8,27 @@ The commands run in bash, with the program's folder in front of PATH; those of o
 """
 import os
 import pathlib
+import re
 import subprocess
 import sys
 import tempfile
 
-DOCUMENTS = ("README.md", "docs/GUIDE.md")
+DOCUMENTS = ("README.md", "docs/GUIDE.md", "man/cborn.1")
+
+
+def lines_of(path):
+    """The lines of a document; of a man page those of its examples, as code."""
+    text = path.read_text()
+    if path.suffix != ".1":
+        return text.splitlines()
+    shown = text.partition(".nf\n")[2].partition(".fi\n")[0].replace("\\(rs", "\\").replace("\\-", "-")
+    return ["    " + line if line else line for line in shown.splitlines()]
 
 
 def examples(path):
     """The commands of a document, each with what it is to print."""
     command, printed = None, []
-    for line in [*path.read_text().splitlines(), ""]:
+    for line in [*lines_of(path), ""]:
         is_code = line.startswith("    ")
         if command is not None and (not is_code or line.startswith("    $ ")):
             yield command, "".join(printed)
@@ -26,6 +37,23 @@ def examples(path):
             command, printed = line[6:], []
         elif is_code and command is not None:
             printed.append(line[4:] + "\n")
+
+
+def lacking(root):
+    """The names in docs/PROMISES.md that the source of their crate lacks: `Function` is a column of functions, `Where` of files and clauses."""
+    source = None
+    for line in (root / "docs/PROMISES.md").read_text().splitlines():
+        cells = line.strip("| ").split(" | ")
+        if line.startswith("## `"):
+            source = root / "crates" / line.strip("#` ") / "src"
+        elif source and len(cells) == 3 and not line.startswith(("|---", "| Function")):
+            functions, names = (re.findall(r"`([\w.]+)`", cells[column]) for column in (0, 2))
+            files = [source / name for name in names if name.endswith(".rt")] or sorted(source.glob("*.rt"))
+            text = "".join(file.read_text() if file.exists() else "" for file in files)
+            yield from (str(file) for file in files if not file.exists())
+            kinds = [(name, "fn|struct|trait") for name in functions if name != "laws"]
+            kinds += [(name, "fn|trait|ensures") for name in names if not name.endswith(".rt")]
+            yield from (f"{source}: {name}" for name, kind in kinds if not re.search(rf"\b({kind}) {name}\b", text))
 
 
 def main():
@@ -49,6 +77,9 @@ def main():
                 passed, failed = passed + is_same, failed + (not is_same)
                 if not is_same:
                     print(f"{name}: {command}: {done.stdout!r}, not {printed!r}")
+    for name in lacking(root):
+        failed += 1
+        print(f"docs/PROMISES.md: there is no {name}")
     print(f"{passed} examples passed, {failed} failed")
     return 1 if failed or not passed else 0
 

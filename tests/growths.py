@@ -7,8 +7,8 @@
                                     whose name has one of the words
 
 A command line has to answer as it does with ample memory, or to answer want of memory: status 4, nothing on
-standard output, and one line on standard error. A test has to pass, or to fail by want of memory: by the error
-that a call answered, and not by an answer that differs. refuse.c, which is compiled by $CC or cc, refuses.
+standard output, and one line on standard error. A test has to pass with ample memory; with a growth refused it
+has to pass too, or to fail by want of memory: by the error that a call answered, and not by an answer that differs. refuse.c, which is compiled by $CC or cc, refuses.
 """
 import concurrent.futures
 import itertools
@@ -47,7 +47,7 @@ def wants_of_memory(words):
     yield Outcome(b"", b"cborn: out of memory\n", 4)
     for which in ("first: ", "second: ") if words[:1] == ["compare"] else ("",):
         for word in words[1:]:
-            yield Outcome(b"", f"cborn: {which}cannot read {word}\n".encode(), 4)
+            yield Outcome(b"", os.fsencode(f"cborn: {which}cannot read {word}\n"), 4)
 
 
 def command_lines(library, program, tables, share):
@@ -72,8 +72,9 @@ def built_tests(library, tests, words, share):
     listed = subprocess.run([tests, "--list"], capture_output=True, text=True, check=True).stdout
     names = re.findall(r"^(.*): test$", listed, re.MULTILINE)
     for name in share(name for name in names if not words or any(word in name for word in words)):
+        ample = run_test(tests, name)
         outcomes = refused_in_turn(library, lambda **how: run_test(tests, name, **how))
-        yield name, list(outcomes), passes_or_wants
+        yield name, list(outcomes), passes_or_wants if ample.status == 0 else lambda _: False
 
 
 def tried(find, library, program, words, first, shares):

@@ -15,6 +15,7 @@ A table is a list of cases, each a paragraph of lines 'WORD REST':
     output WHERE         standard output goes to 'closed', a pipe whose reader has gone, to 'first N', a file
                          that fails behind N bytes, or to a file that is named, as /dev/full
     run ARGUMENTS        the program's arguments, quoted as in a shell
+    argument hex BYTES   one more of them, of any bytes
     stdout hex BYTES     what it must write to standard output, which is else nothing;
                          'stdout holds TEXT' asks only that the text occurs
     stderr TEXT          what it must write to standard error, with the newline at its end, which is else
@@ -22,7 +23,7 @@ A table is a list of cases, each a paragraph of lines 'WORD REST':
     status N             the exit status, which is else 0
 
 In BYTES 'X * N' repeats X, 'X * A..B' puts each number from A to B (up or down) in place of its {..}, formatted
-as Python does, and '+' stands between parts. The last four words tell of a run: several runs may stand
+as Python does, and '+' stands between parts. The last five words tell of a run: several runs may stand
 in one case, on the same files and input, and where one stands right behind another they must do the same.
 'stdout holds' and 'stderr holds' may stand more than once. A line that begins with '#' is a comment.
 """
@@ -40,7 +41,7 @@ import sys
 import tempfile
 
 Outcome = collections.namedtuple("Outcome", "stdout stderr status")
-OF_A_RUN = ("run", "stdout", "stderr", "status")
+OF_A_RUN = ("run", "argument", "stdout", "stderr", "status")
 
 
 class Case:
@@ -75,6 +76,8 @@ class Case:
             self.room = int(room) if room else None
         elif word == "run":
             self.name, self.words = f"{self.name}: {rest}", shlex.split(rest)
+        elif word == "argument":
+            self.words.append(os.fsdecode(given_bytes(rest)))
         elif word in self.wanted:
             is_part = rest.startswith("holds ")
             whole = given_bytes if word == "stdout" else lambda it: text_bytes(it) + b"\n"

@@ -1,0 +1,109 @@
+/* Makes trouble for one call of open, read or write: the tests load it before the C library (glibc).
+
+   The NTH of these calls, from 1, has the trouble KIND: 'fail' and 'interrupt' answer an error, 'short' moves
+   one byte at most, and 'nothing' takes no byte of a write. A line goes to the file descriptor TELL then: the
+   call's name, its descriptor (of an opening 0), how many files the program had opened, and how many bytes it
+   had written to that descriptor. With NTH 0 the line is 'calls N', when the program ends. */
+#include <errno.h>
+#include <stdarg.h>
+#include <stdio.h>
+#include <stdlib.h>
+#include <string.h>
+#include <sys/syscall.h>
+#include <unistd.h>
+#include <fcntl.h>
+
+#define DESCRIPTORS 16
+
+static long nth, calls, opened, written[DESCRIPTORS];
+static int tell = -1;
+static const char *kind = "";
+
+__attribute__((constructor)) static void begin(void)
+{
+    const char *to = getenv("TROUBLE_TELL");
+    const char *which = getenv("TROUBLE_NTH");
+    if (!to || !which || !getenv("TROUBLE_KIND"))
+        return;
+    kind = getenv("TROUBLE_KIND");
+    nth = atol(which);
+    tell = atoi(to);
+}
+
+static void say(const char *line, int length)
+{
+    if (tell >= 0 && syscall(SYS_write, tell, line, (size_t)length) != length)
+        _exit(99);
+}
+
+__attribute__((destructor)) static void end(void)
+{
+    char line[64];
+    if (nth == 0)
+        say(line, snprintf(line, sizeof line, "calls %ld\n", calls));
+}
+
+static int is_kind(const char *word)
+{
+    return strcmp(kind, word) == 0;
+}
+
+/* Whether this call is the one, which it then tells. */
+static int is_troubled(const char *name, int fd)
+{
+    char line[128];
+    if (++calls != nth)
+        return 0;
+    long before = fd >= 0 && fd < DESCRIPTORS ? written[fd] : 0;
+    say(line, snprintf(line, sizeof line, "%s %d %ld %ld\n", name, fd, opened, before));
+    return 1;
+}
+
+/* Sets errno and answers 1 where the kind of trouble is an error. */
+static int is_error(int code)
+{
+    if (!is_kind("fail") && !is_kind("interrupt"))
+        return 0;
+    errno = is_kind("fail") ? code : EINTR;
+    return 1;
+}
+
+int open(const char *path, int flags, ...)
+{
+    va_list rest;
+    va_start(rest, flags);
+    int mode = flags & O_CREAT ? va_arg(rest, int) : 0;
+    va_end(rest);
+    if (is_troubled("open", 0) && is_error(EMFILE))
+        return -1;
+    int fd = (int)syscall(SYS_openat, AT_FDCWD, path, flags, mode);
+    opened += fd >= 0;
+    return fd;
+}
+
+ssize_t read(int fd, void *buffer, size_t size)
+{
+    if (is_troubled("read", fd)) {
+        if (is_error(EIO))
+            return -1;
+        if (is_kind("short") && size > 1)
+            size = 1;
+    }
+    return syscall(SYS_read, fd, buffer, size);
+}
+
+ssize_t write(int fd, const void *bytes, size_t size)
+{
+    if (is_troubled("write", fd)) {
+        if (is_error(ENOSPC))
+            return -1;
+        if (is_kind("nothing"))
+            size = 0;
+        if (is_kind("short") && size > 1)
+            size = 1;
+    }
+    ssize_t count = size ? syscall(SYS_write, fd, bytes, size) : 0;
+    if (count > 0 && fd >= 0 && fd < DESCRIPTORS)
+        written[fd] += count;
+    return count;
+}
