@@ -3,16 +3,27 @@
 
     corpus.py FOLDER [--scale F]
 
-The bytes depend on the scale alone. At scale 1:
+What they hold depends on the scale alone. Bytes, at scale 1:
 
-    integers.cbor   16 MB  a sequence of integers of mixed widths, some wider than needed
+    integers.cbor   16 MB  one array of integers of mixed widths, a tenth of them wider than needed
     records.cbor    16 MB  one array of records with 20 short text keys in random order
     strings.cbor    32 MB  one array of long strings, some in chunks
     nests.cbor       8 MB  one array of nests of 97 levels, about half of them of indefinite length
     keys.cbor        2 MB  one map of 200,000 shuffled keys
     tagged.cbor      6 MB  a sequence of 200,000 small tagged items
+
+Texts that are both JSON and diagnostic notation, 10 MB each:
+
+    integers.json          one array of integers of 1 to 15 digits
+    short.json             one array of items of one to five characters
+    records.json           one array of records with some 20 short text keys in random order
+    nests.json             one array of nests of 20 to 90 arrays
+    strings.json           one array of strings of 8,000 characters, a fifth of which have to be escaped
+
+Small inputs, of 7, 100 and 10,000 bytes: small-7.cbor, small-100.cbor, small-10000.cbor.
 """
 import argparse
+import json
 import pathlib
 import random
 
@@ -46,59 +57,47 @@ def fill(size, make):
     return pieces
 
 
-def integers(rng, size):
-    def make():
-        n = rng.getrandbits(rng.choice((4, 8, 8, 14, 24, 32, 50, 64)))
-        return head(rng.choice((0, 0, 1)), n, rng.randrange(5) if rng.random() < 0.1 else 0)
-
-    return b"".join(fill(size, make))
+def array(pieces):
+    return head(4, len(pieces)) + b"".join(pieces)
 
 
-def records(rng, size):
+def integer(rng):
+    n = rng.getrandbits(rng.choice((4, 8, 8, 14, 24, 32, 50, 64)))
+    return head(rng.choice((0, 0, 1)), n, rng.randrange(5) if rng.random() < 0.1 else 0)
+
+
+def record(rng):
     names = [f"{word}{n}" for n, word in enumerate(("id", "name", "kind", "count", "place") * 4)]
     words = ("amber", "birch", "cedar", "délta", "elm", "fir", "größe", "hazel")
-
-    def make():
-        pairs = [(text(name), head(0, rng.getrandbits(20)) if n % 2 else text(rng.choice(words))) for n, name in enumerate(names)]
-        rng.shuffle(pairs)
-        return head(5, len(pairs)) + b"".join(key + value for key, value in pairs)
-
-    made = fill(size, make)
-    return head(4, len(made)) + b"".join(made)
+    pairs = [(text(name), head(0, rng.getrandbits(20)) if n % 2 else text(rng.choice(words))) for n, name in enumerate(names)]
+    rng.shuffle(pairs)
+    return head(5, len(pairs)) + b"".join(key + value for key, value in pairs)
 
 
-def strings(rng, size):
-    def make():
-        data = rng.randbytes(rng.randrange(2_000, 60_000))
-        if rng.random() < 0.5:
-            return head(2, len(data)) + data
-        words = data.hex().encode()
-        if rng.random() < 0.25:
-            parts = [words[i : i + 4_000] for i in range(0, len(words), 4_000)]
-            return b"\x7f" + b"".join(head(3, len(part)) + part for part in parts) + b"\xff"
-        return head(3, len(words)) + words
-
-    made = fill(size, make)
-    return head(4, len(made)) + b"".join(made)
+def string(rng):
+    data = rng.randbytes(rng.randrange(2_000, 60_000))
+    if rng.random() < 0.5:
+        return head(2, len(data)) + data
+    words = data.hex().encode()
+    if rng.random() < 0.25:
+        parts = [words[i : i + 4_000] for i in range(0, len(words), 4_000)]
+        return b"\x7f" + b"".join(head(3, len(part)) + part for part in parts) + b"\xff"
+    return head(3, len(words)) + words
 
 
-def nests(rng, size):
-    def make():
-        inner = head(0, rng.getrandbits(16))
-        for _ in range(97):
-            kind = rng.randrange(4)
-            if kind == 0:
-                inner = b"\x82" + inner + b"\x01"
-            elif kind == 1:
-                inner = b"\x9f" + inner + b"\xff"
-            elif kind == 2:
-                inner = b"\xa1\x01" + inner
-            else:
-                inner = b"\xbf\x61a" + inner + b"\xff"
-        return inner
-
-    made = fill(size, make)
-    return head(4, len(made)) + b"".join(made)
+def nest(rng):
+    inner = head(0, rng.getrandbits(16))
+    for _ in range(97):
+        kind = rng.randrange(4)
+        if kind == 0:
+            inner = b"\x82" + inner + b"\x01"
+        elif kind == 1:
+            inner = b"\x9f" + inner + b"\xff"
+        elif kind == 2:
+            inner = b"\xa1\x01" + inner
+        else:
+            inner = b"\xbf\x61a" + inner + b"\xff"
+    return inner
 
 
 def keys(rng, count):
@@ -116,23 +115,80 @@ def tagged(rng, count):
     return b"".join(make(n) for n in range(count))
 
 
+def row(rng, size, make):
+    """An array of texts until they are of this size together."""
+    return ("[" + "".join(fill(size, lambda: make(rng) + ","))[:-1] + "]").encode()
+
+
+def written_integer(rng):
+    return str(rng.choice((1, 1, 1, -1)) * rng.randrange(1 << rng.randrange(1, 50)))
+
+
+def written_item(rng):
+    return rng.choice(("1", "22", '"a"', '"bcd"', "true", "[]", "{}", "[7]", "null"))
+
+
+def written_record(rng):
+    word = lambda: "".join(rng.choices("abcdefghijklmnopqrstuvwxyz", k=rng.randint(3, 9)))
+    names = list(dict.fromkeys(word() for _ in range(20)))
+    return "{" + ",".join(f'"{name}":{rng.randrange(1 << rng.randrange(1, 40))}' for name in names) + "}"
+
+
+def written_nest(rng):
+    depth = rng.randint(20, 90)
+    return "[" * depth + str(rng.randrange(1000)) + "]" * depth
+
+
+def written_string(rng):
+    return json.dumps("".join(rng.choices('abc def,ghi"\\\n', k=400)) * 20)
+
+
+def small(rng, size):
+    """A record like those of `records`, filled up by a byte string."""
+    if size == 7:
+        return bytes.fromhex("98021801580161")
+    made = fill(size - 200, lambda: record(rng)) if size > 1000 else []
+    last = head(5, 3) + text("id") + head(0, 70_000) + text("alg") + head(1, 6) + text("key")
+    front = head(4, len(made) + 1) + b"".join(made) + last
+    rest = size - len(front)
+    width = 1 if rest < 26 else 2 if rest < 258 else 3
+    return front + head(2, rest - width) + rng.randbytes(rest - width)
+
+
+def bytes_made(rng, name, scale):
+    sized = lambda size: int(size * scale)
+    if name == "keys":
+        return keys(rng, sized(200_000))
+    if name == "tagged":
+        return tagged(rng, sized(200_000))
+    make, size = {"integers": (integer, 16), "records": (record, 16), "strings": (string, 32), "nests": (nest, 8)}[name]
+    return array(fill(sized(size * MB), lambda: make(rng)))
+
+
+BYTES = ("integers", "records", "strings", "nests", "keys", "tagged")
+TEXTS = {
+    "integers": written_integer,
+    "short": written_item,
+    "records": written_record,
+    "nests": written_nest,
+    "strings": written_string,
+}
+SMALL = (7, 100, 10_000)
+
+
 def main():
     words = argparse.ArgumentParser(description=__doc__, formatter_class=argparse.RawDescriptionHelpFormatter)
     words.add_argument("folder", type=pathlib.Path)
     words.add_argument("--scale", type=float, default=1)
     given = words.parse_args()
     given.folder.mkdir(parents=True, exist_ok=True)
-    sized = lambda size: int(size * given.scale)
-    files = {
-        "integers": (integers, sized(16 * MB)),
-        "records": (records, sized(16 * MB)),
-        "strings": (strings, sized(32 * MB)),
-        "nests": (nests, sized(8 * MB)),
-        "keys": (keys, sized(200_000)),
-        "tagged": (tagged, sized(200_000)),
-    }
-    for name, (make, size) in files.items():
-        (given.folder / f"{name}.cbor").write_bytes(make(random.Random(f"{SEED}{name}"), size))
+    seeded = lambda name: random.Random(f"{SEED}{name}")
+    for name in BYTES:
+        (given.folder / f"{name}.cbor").write_bytes(bytes_made(seeded(name), name, given.scale))
+    for name, make in TEXTS.items():
+        (given.folder / f"{name}.json").write_bytes(row(seeded(f"{name}.json"), int(10 * MB * given.scale), make))
+    for size in SMALL:
+        (given.folder / f"small-{size}.cbor").write_bytes(small(seeded(size), size))
 
 
 if __name__ == "__main__":

@@ -1,0 +1,96 @@
+#!/usr/bin/env python3
+"""What hostile bytes cost: peak memory over input and output, and time at two sizes.
+
+    cost.py PROGRAM [--mb N] [--most RATIO] [--only WORDS] [--cpu]
+
+Each shape is made at a quarter and at the whole of N MB (16). For each command: the peak memory, less 3 MB that the
+process itself has, as a multiple of input and output together; MB of input a second; and the status. Ends with status 1
+where a multiple is above RATIO (2.5; 6 for one great map of tiny pairs, whose keys have to be sorted), where time grows
+by more than 1.6 times as much as the input, or where a run was ended.
+"""
+import argparse
+import pathlib
+import sys
+import tempfile
+
+import measuring
+from corpus import head
+
+MB = 1_000_000
+OWN = 3_000_000
+GREAT_MAPS = ("map of integers", "map, repeated key last")
+COMMANDS = {
+    "normalise": ["normalise"],
+    "check": ["check"],
+    "show": ["show"],
+    "to notation": ["normalise", "--to", "notation"],
+}
+
+
+def shapes(n):
+    """Inputs of about n bytes, each by its name."""
+    keys = list(dict.fromkeys(head(0, i * 2654435761 % (1 << 32)) for i in range(n // 6)))
+    pairs = b"".join(key + b"\x00" for key in keys)
+    return {
+        "flat integers": head(4, n) + b"\x01" * n,
+        "flat, bad text last": head(4, n) + b"\x01" * (n - 1) + b"\x61\xff",
+        "sequence of integers": b"\x01" * n,
+        "empty arrays": head(4, n) + b"\x80" * n,
+        "short strings": head(4, n // 4) + b"\x63abc" * (n // 4),
+        "chunks of one byte": b"\x5f" + b"\x41a" * (n // 2) + b"\xff",
+        "cut array": head(4, n + 1) + b"\x01" * n,
+        "map of integers": head(5, len(keys)) + pairs,
+        "map, repeated key last": head(5, len(keys) + 1) + pairs + keys[0] + b"\x00",
+        "nests": (b"\x81" * 100 + b"\x00") * (n // 101),
+    }
+
+
+def cost(run, size):
+    return max(0, run.peak - OWN) / (size + run.size)
+
+
+def excess(name, command, small, great, given):
+    """What is too much in two runs, each with its input's size."""
+    (first, quarter), (last, whole) = small, great
+    most = max(6, given.most) if name in GREAT_MAPS else given.most
+    if last.status not in (0, 1, 2):
+        yield f"{name}: {command} ended with status {last.status}"
+    if cost(last, whole) > most:
+        yield f"{name}: {command} takes {cost(last, whole):.1f} times input and output"
+    grows = last.seconds(given.cpu) / first.seconds(given.cpu)
+    if last.seconds(given.cpu) > 0.2 and grows > 1.6 * whole / quarter:
+        yield f"{name}: {command} grows {grows:.1f} times for {whole / quarter:.1f} times the input"
+
+
+def main():
+    words = argparse.ArgumentParser(description=__doc__, formatter_class=argparse.RawDescriptionHelpFormatter)
+    words.add_argument("program", type=pathlib.Path)
+    words.add_argument("--mb", type=float, default=16)
+    words.add_argument("--most", type=float, default=2.5)
+    words.add_argument("--only", default="")
+    words.add_argument("--cpu", action="store_true")
+    given = words.parse_args()
+    program = str(given.program.resolve())
+    if measuring.needs_time():
+        sys.exit(measuring.needs_time())
+    bad = []
+    with tempfile.TemporaryDirectory() as folder:
+        source, sink = pathlib.Path(folder, "in"), pathlib.Path(folder, "out")
+        small, great = shapes(int(given.mb * MB / 4)), shapes(int(given.mb * MB))
+        for name in (name for name in great if given.only in name):
+            cells = []
+            for command, call in COMMANDS.items():
+                runs = []
+                for data in (small[name], great[name]):
+                    source.write_bytes(data)
+                    runs.append((measuring.once([program, *call], source, sink), len(data)))
+                run, size = runs[1]
+                cells.append(f"{command} {cost(run, size):5.1f}x {size / MB / run.seconds(given.cpu):6.1f} MB/s s{run.status}")
+                bad += excess(name, command, *runs, given)
+            print(f"{name:24}| " + " | ".join(cells), flush=True)
+    print("\n".join([f"{len(bad)} too much", *bad]) if bad else "all within")
+    sys.exit(1 if bad else 0)
+
+
+if __name__ == "__main__":
+    main()
