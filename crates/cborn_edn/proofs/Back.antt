@@ -17,7 +17,8 @@ use Rattle.cborn_edn.specs.Syntax.{Item, word, simple, string, Pieces, strings, 
 use Rattle.cborn_edn.specs.Meaning.{and_then, when, holds, width_for, size_for, snoc, snoc_entry, is_simple, kind, place, is_good, string_node, chunked_node, marked_string, means_chunk, kind_of_strings, kind_after, same_kind, means, joined, means_strings, means_strings_before, means_row, means_row_before, means_content, means_pairs, means_pairs_before, means_fields, Says}
 use Rattle.cborn_edn.specs.declared.strings.Kind.{Kind}
 use Rattle.cborn_edn.specs.declared.strings.Kind.TheVariants.{Bytes as OfBytes, Text as OfText}
-use Rattle.cborn_edn.specs.Shown.{nowhere, same_width, mark_for, mark_for_size, one_piece, chunk_pieces, chunk_row, chunk_item, simple_item, notated, notated_content, notated_row, notated_fields, notated_pairs, notated_input, AreTexts, IsShowable, AreShowable, ArePairsShowable, unplaced_chunks, unplaced, unplaced_all, unplaced_entries}
+use Rattle.cborn_edn.specs.ReadingBack.{nowhere, one_piece, chunk_pieces, chunk_row, chunk_item, simple_item, notated, notated_content, notated_row, notated_fields, notated_pairs, notated_input, unplaced_chunks, unplaced, unplaced_all, unplaced_entries}
+use Rattle.cborn_edn.specs.Shown.{same_width, mark_for, mark_for_size, AreTexts, IsShowable, AreShowable, ArePairsShowable}
 
 pub holds_true : (w : Width) (n : ℕ) → Holds w n → holds w n ≡ true
 holds_true Direct n h = lt-ltb n 24 h

@@ -9,7 +9,7 @@ use Rattle.cborn_lex.specs.Forms.{Reads}
 use Rattle.cborn_lex.specs.Lex.{Piece, gap, token as lexed, slice, front_of, spelled, AreRead, tokens, Lex}
 use Rattle.cborn_lex.proofs.Chains.{both_profiles}
 use Rattle.cborn_edn.specs.Syntax.{token}
-use Rattle.cborn_edn.specs.Shown.{nowhere, bare}
+use Rattle.cborn_edn.specs.ReadingBack.{nowhere, bare}
 
 -- the tokens among pieces, places aside
 abbrev pub bare_tokens : List Piece → List Token

@@ -18,7 +18,8 @@ use Rattle.cborn_lex.specs.Numbers.{are_digits, number, within, has_prefix, inte
 use Rattle.cborn_lex.specs.Forms.{Start, white, slash, hash, less, greater, paren, letter, minus, digit, other, single, opening, quote, start_of, ReadsFrom, ReadsNumber}
 use Rattle.cborn_model.specs.declared.heads.Width.TheVariants.{Direct, One, Two, Four, Eight}
 use Rattle.cborn_edn.specs.Syntax.{token}
-use Rattle.cborn_edn.specs.Shown.{nowhere, indicator}
+use Rattle.cborn_edn.specs.ReadingBack.{nowhere}
+use Rattle.cborn_edn.specs.Shown.{indicator}
 use Rattle.cborn_edn.proofs.Tables.{passes, passes-at}
 use Rattle.cborn_edn.proofs.Chained.{Chained, one_token}
 use Rattle.cborn_lex.proofs.Spelling.{IsMark}

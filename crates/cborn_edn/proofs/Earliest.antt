@@ -6,7 +6,7 @@ use Rattle.cborn_edn.specs.declared.faults.EdnReason.{EdnReason}
 use Rattle.cborn_edn.specs.declared.faults.EdnReason.TheVariants.{UnexpectedToken, UnexpectedEnd, TooDeep, IndicatorTooNarrow, IndicatorNotAllowed, MixedString, MixedChunks, TextNotUtf8, BadSimple, TagTooLarge}
 use Rattle.cborn_edn.specs.declared.slips.Slip.{Slip}
 use Rattle.cborn_edn.specs.Meaning.{number_of, unless, IsAmong}
-use Rattle.cborn_edn.specs.Draft.{no_later, earlier, first_slip, slip_unless}
+use Rattle.cborn_edn.specs.devices.Draft.{no_later, earlier, first_slip, slip_unless}
 use Rattle.cborn_edn.proofs.First.{one_number, passes, IsFirstOf}
 
 low_number : (r : EdnReason) → number_of r < 64

@@ -3,7 +3,8 @@ use Rattle.std.proofs.Common.{◌≡◌, sym, ap, ◌∙◌, ℕ, ◌+◌, ◌-�
 use Rattle.std.specs.List.{flat_map}
 use Rattle.std.proofs.lemmas.List.{take_more, get_or-drop, length-drop}
 use Rattle.std.proofs.lemmas.Grind.{flat_map-append}
-use Rattle.cborn_edn.specs.Shown.{escaped, is_escaped}
+use Rattle.cborn_edn.specs.Shown.{escaped}
+use Rattle.cborn_edn.specs.devices.Escaping.{is_escaped}
 
 pub plain : (b : ℕ) → is_escaped b ≡ false → escaped b ≡ b ∷ []
 plain b h = grind (arith, h)

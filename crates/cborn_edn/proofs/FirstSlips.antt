@@ -8,7 +8,7 @@ use Rattle.cborn_edn.specs.declared.strings.Kind.{Kind}
 use Rattle.cborn_edn.specs.declared.strings.Pieces.{Pieces as Kept}
 use Rattle.cborn_edn.specs.Syntax.{Item, number, word, tag, simple, string, chunked, array, map, Piece, text, bytes, embedded, Pieces, piece, also, Strings, strings, StringsBefore, no_string, after_strings, Row, row, RowBefore, no_item, after_row, Content, loose, tight, Pairs, pairs, PairsBefore, no_pair, after_pairs, Fields, loose_fields, tight_fields}
 use Rattle.cborn_edn.specs.Meaning.{is_absent, is_simple, is_good, same_kind, kind_of, start_of, mark_of, mark_place, kind, place, last_piece, fits_kind, is_empty_quote, kind_after, joined, unless, size_slips, tag_slips, bare_slips, bare_slips_before, kind_slips, mark_slips, text_slips, string_slips, content_length, fields_length, slips, piece_slips, inner_slips, strings_slips, strings_slips_before, row_slips, row_slips_before, content_slips, pairs_slips, pairs_slips_before, fields_slips}
-use Rattle.cborn_edn.specs.Draft.{earlier, first_slip, slip_unless, slip_before, mark_slip, text_slip, string_slip, kind_or, chunk_slip}
+use Rattle.cborn_edn.specs.devices.Draft.{earlier, first_slip, slip_unless, slip_before, mark_slip, text_slip, string_slip, kind_or, chunk_slip}
 use Rattle.cborn_edn.proofs.Earliest.{earlier-none, earlier-assoc, earlier-swap, first-append, first-unless}
 use Rattle.cborn_edn.proofs.Kept.{kept_piece, kept_pieces, kept_strings_before, kept_content, kept_fields, slip_in, slip_in_piece, slip_in_pieces, slip_in_strings, slip_in_strings_before, slip_in_row, slip_in_row_before, slip_in_content, slip_in_pairs, slip_in_pairs_before, slip_in_fields}
 use Rattle.cborn_edn.proofs.Agreeing.{Same, admits-fits, kind_before, agree_piece, agree_pieces, agree_content, agree_fields}

@@ -12,7 +12,8 @@ use Rattle.cborn_lex.specs.declared.classes.Class.TheVariants.{Bytes}
 use Rattle.cborn_lex.specs.Tokens.{is_not, marked}
 use Rattle.cborn_lex.specs.Strings.{digit, mote, is_mote, digits, IsHex}
 use Rattle.cborn_edn.specs.Syntax.{token}
-use Rattle.cborn_edn.specs.Shown.{nowhere, indicator}
+use Rattle.cborn_edn.specs.ReadingBack.{nowhere}
+use Rattle.cborn_edn.specs.Shown.{indicator}
 use Rattle.cborn_edn.proofs.Tables.{passes-at}
 use Rattle.cborn_edn.proofs.Chained.{Chained, one_token}
 use Rattle.cborn_lex.proofs.Spelling.{IsMark}

@@ -3,8 +3,8 @@ use Rattle.std.proofs.Common.{◌≡◌, refl, sym, ap, ◌∙◌, ◌≤◌, �
 use mathlib.Core.List.{reverse}
 use Rattle.std.proofs.lemmas.List.{reverse-append, length-reverse, take_all, take_more, set_split, drop_all}
 use Rattle.cborn_edn.specs.declared.frames.Frame.{Frame}
-use Rattle.cborn_edn.specs.Levels.{is_level, levels_in}
-use Rattle.cborn_edn.specs.Draft.{with_innermost}
+use Rattle.cborn_edn.specs.devices.Levels.{is_level, levels_in}
+use Rattle.cborn_edn.specs.devices.Draft.{with_innermost}
 
 pub reverse-push : (fs : List Frame) (f : Frame) → reverse (fs ++ f ∷ []) ≡ f ∷ reverse fs
 reverse-push fs f = reverse-append fs (f ∷ [])

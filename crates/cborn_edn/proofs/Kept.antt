@@ -13,7 +13,7 @@ use Rattle.cborn_edn.specs.declared.states.Phase.TheVariants.{Wants, Has, Builds
 use Rattle.cborn_edn.specs.declared.states.State.{State as KeptState}
 use Rattle.cborn_edn.specs.Syntax.{Item, number, word, tag, simple, string, chunked, array, map, Piece, text, bytes, embedded, Pieces, piece, also, Strings, strings, StringsBefore, no_string, after_strings, Row, row, RowBefore, no_item, after_row, Content, loose, tight, Pairs, pairs, PairsBefore, no_pair, after_pairs, Fields, loose_fields, tight_fields}
 use Rattle.cborn_edn.specs.Meaning.{when, means_number, is_simple, is_absent, number_slips, tag_slips, size_slips}
-use Rattle.cborn_edn.specs.Draft.{earlier, first_slip, text_piece, byte_piece, embedded_piece, slip_before, with_next, string_slip, string_item, array_node, no_sequence, sequence_with, sequence_bytes, no_fields, fields_with, map_node, no_chunks, chunks_with, chunk_slip, chunked_item, tag_head, tag_node, simple_slip, keep}
+use Rattle.cborn_edn.specs.devices.Draft.{earlier, first_slip, text_piece, byte_piece, embedded_piece, slip_before, with_next, string_slip, string_item, array_node, no_sequence, sequence_with, sequence_bytes, no_fields, fields_with, map_node, no_chunks, chunks_with, chunk_slip, chunked_item, tag_head, tag_node, simple_slip, keep}
 use Rattle.cborn_edn.proofs.Machine.{Stack, in_row, in_key, in_value, in_tag, Nest, at_top, in_array, in_embed, Home, as_item, as_chunk, State, wants, has, builds, wants_chunk, wants_number, has_number}
 
 abbrev pub row_of : Sequence → KeptRow

@@ -18,6 +18,7 @@ pub mod Takes
 pub mod Held
 pub mod Grows
 pub mod Closes
+pub mod Trailing
 pub mod OneTree
 pub mod Agree
 pub mod Parser

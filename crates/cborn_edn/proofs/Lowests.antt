@@ -5,7 +5,7 @@ use Rattle.std.proofs.lemmas.Str.{is_utf8-from_IsUtf8, IsUtf8-from_is_utf8}
 use Rattle.std.proofs.lemmas.List.{take_more}
 use Rattle.cborn_model.specs.declared.nodes.Chunk.{Chunk}
 use Rattle.cborn_model.specs.Tree.{Tree, Uint, Nint, Bytes as ByteNode, Text as TextNode, ByteChunks, TextChunks, Items, Pairs as PairNode, Tagged, Simple, Trees, no_item as no_node, more, Entries, no_entry, entry, trees, entries}
-use Rattle.cborn_edn.specs.Lowest.{lower, bad_bytes, bad_chunk, bad_text, bad_item, bad_pair}
+use Rattle.cborn_edn.specs.devices.Lowest.{lower, bad_bytes, bad_chunk, bad_text, bad_item, bad_pair}
 use Rattle.cborn_edn.specs.Shown.{AreTexts, IsShowable, AreShowable, ArePairsShowable, IsBadChunk, IsBadText, IsBadAmong, IsBadInPairs, LowestBadText}
 
 lower-none : (a : Option ℕ) → lower a None ≡ a

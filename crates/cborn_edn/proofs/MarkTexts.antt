@@ -16,7 +16,8 @@ use Rattle.cborn_lex.specs.Tokens.{Read, begins, is_word, is_numeral, mark_of, m
 use Rattle.cborn_lex.specs.Forms.{IsIndicator, Reads}
 use Rattle.cborn_lex.proofs.Spelling.{IsMark}
 use Rattle.cborn_edn.specs.Syntax.{token}
-use Rattle.cborn_edn.specs.Shown.{nowhere, same_width, mark_for, mark_for_size, indicator, opened}
+use Rattle.cborn_edn.specs.ReadingBack.{nowhere}
+use Rattle.cborn_edn.specs.Shown.{same_width, mark_for, mark_for_size, indicator, opened}
 use Rattle.cborn_edn.proofs.Chained.{Chained, one_token, one_gap, both}
 
 -- what stands behind an item neither goes on its last token nor gives it an indicator

@@ -14,7 +14,8 @@ use Rattle.cborn_lex.specs.Tokens.{begins}
 use Rattle.cborn_edn.specs.Syntax.{no_string, no_item, no_pair, token, tokens_of, tokens_of_pieces, tokens_of_strings, tokens_of_content, tokens_of_fields, tokens_of_input}
 use Rattle.cborn_edn.specs.declared.strings.Kind.{Kind}
 use Rattle.cborn_edn.specs.declared.strings.Kind.TheVariants.{Bytes as OfBytes, Text as OfText}
-use Rattle.cborn_edn.specs.Shown.{nowhere, mark_for, mark_for_size, chunk_pieces, chunk_row, chunk_item, notated, notated_content, notated_fields, notated_input, indicator, opened, shown_string, shown_chunks, shown_more_chunks, shown, shown_all, shown_more, shown_entries, shown_more_entries, shown_lines, shown_more_lines}
+use Rattle.cborn_edn.specs.ReadingBack.{nowhere, chunk_pieces, chunk_row, chunk_item, notated, notated_content, notated_fields, notated_input}
+use Rattle.cborn_edn.specs.Shown.{mark_for, mark_for_size, indicator, opened, shown_string, shown_chunks, shown_more_chunks, shown, shown_all, shown_more, shown_entries, shown_more_entries, shown_lines, shown_more_lines}
 use Rattle.cborn_edn.proofs.Back.{below, simple_below}
 use Rattle.cborn_edn.proofs.Chained.{Chained, no_text, both, retell}
 use Rattle.cborn_edn.proofs.Joined.{more_tokens, more_pair_tokens, more_chunk_tokens, row_tokens, chunk_tokens, pair_tokens}

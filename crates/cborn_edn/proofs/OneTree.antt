@@ -3,15 +3,17 @@ use Rattle.std.specs.Prelude.{max}
 use Rattle.cborn_lex.specs.declared.classes.Token.{Token}
 use Rattle.cborn_lex.specs.declared.classes.Profile.{Profile}
 use Rattle.cborn_lex.specs.declared.classes.Profile.TheVariants.{One as ProfileOne, Two as ProfileTwo}
-use Rattle.cborn_edn.specs.Syntax.{token, span, Item, number, word, tag, simple, string, chunked, array, map, row, no_item, Input, nothing, items, tokens_of_input, depth, depth_of_input, commas, commas_of_input}
+use Rattle.cborn_edn.specs.Syntax.{token, span, Item, number, word, tag, simple, string, chunked, array, map, row, no_item, Input, nothing, items, tokens_of_input, depth, depth_of_input}
+use Rattle.cborn_edn.specs.devices.Commas.{commas, commas_of_input, AllowsCount}
 use Rattle.cborn_edn.proofs.Machine.{Stack, in_row, at_top, as_item, State, wants, has, builds, start, step, run, run-append, run-none}
 use Rattle.cborn_edn.specs.declared.faults.EdnReason.{EdnReason}
 use Rattle.cborn_edn.specs.declared.faults.EdnReason.TheVariants.{UnexpectedToken, UnexpectedEnd, TooDeep, IndicatorTooNarrow, IndicatorNotAllowed, MixedString, MixedChunks, TextNotUtf8, BadSimple, TagTooLarge}
-use Rattle.cborn_edn.specs.Parse.{Allows, Parse, HasTree, GoesOn, GoesOnAtAnyDepth, StopsAt, Jam}
+use Rattle.cborn_edn.specs.Parse.{Parse, HasTree, GoesOn, GoesOnAtAnyDepth, StopsAt, Jam}
 use Rattle.cborn_edn.proofs.Takes.{landed, then, whole, takes_input, finish, finish-whole}
 use Rattle.cborn_edn.proofs.Held.{held, open_levels, deep_stack, deep, commas_stack, commas_held, levels, reach, comma_at, After, Grows}
 use Rattle.cborn_edn.proofs.Grows.{grows}
 use Rattle.cborn_edn.proofs.Closes.{closes}
+use Rattle.cborn_edn.proofs.Trailing.{parse_of, allowed_count}
 use Rattle.std.proofs.lemmas.Option.{same_Some}
 
 -- what the tokens lead to
@@ -78,7 +80,7 @@ ran (t ∷ y) s u e = go (step s t) (grows s t.class (span t)) e (λ v. ran y v 
 pub held_by : (ts : List Token) (s : State) → Leads ts s → held s ≡ ts
 held_by ts s e = (ran ts start s e).held
 
-allows_less : (p : Profile) (m n : ℕ) → m ≤ n → Allows p n → Allows p m
+allows_less : (p : Profile) (m n : ℕ) → m ≤ n → AllowsCount p n → AllowsCount p m
 allows_less ProfileOne m n h a = omega (arith, a)
 allows_less ProfileTwo m n h a = tt
 
@@ -86,7 +88,7 @@ allows_less ProfileTwo m n h a = tt
 pub record Good (p : Profile) (limit : ℕ) (ts : List Token) : Type 0 where
   pub state : State
   pub leads : Leads ts state
-  pub allowed : Allows p (commas_held state)
+  pub allowed : AllowsCount p (commas_held state)
   pub shallow : deep state ≤ limit
 
 pub good : (p : Profile) (limit : ℕ) (ts : List Token) → GoesOn p limit ts → Good p limit ts
@@ -96,12 +98,12 @@ good p limit ts (more, (tree, parse, low)) = go (run ts (Some start)) refl (sym 
     go None e f = no_some (sym (run-none more) ∙ f)
     go (Some s) e f =
         let r = ran more s (whole tree) f in
-        record { state = s; leads = e; allowed = allows_less p _ (commas_of_input tree) (omega (arith, r.commas, commas-whole tree)) parse.allowed; shallow = omega (arith, r.deeper, deep-whole tree, low) }
+        record { state = s; leads = e; allowed = allows_less p _ (commas_of_input tree) (omega (arith, r.commas, commas-whole tree)) (allowed_count p _ tree parse); shallow = omega (arith, r.deeper, deep-whole tree, low) }
 
 pub goes_on : (p : Profile) (limit : ℕ) (ts : List Token) → Good p limit ts → GoesOn p limit ts
 goes_on p limit ts g =
     let c = closes g.state in
-    (c.more, (c.tree, record { is = c.is ∙ ap (λ l. l ++ c.more) (held_by ts g.state g.leads); allowed = allows_less p _ _ c.few g.allowed }, omega (arith, c.shallow, g.shallow)))
+    (c.more, (c.tree, parse_of p _ c.tree (c.is ∙ ap (λ l. l ++ c.more) (held_by ts g.state g.leads)) (allows_less p _ _ c.few g.allowed), omega (arith, c.shallow, g.shallow)))
 
 pub record Ended (s : State) (t : Input) : Type 0 where
   pub is : tokens_of_input t ≡ held s
@@ -119,7 +121,7 @@ ends_tree (builds (as_item (in_row at_top b)) ps) = record { is = refl; depth = 
 ends_tree _ = tt
 
 has_goes : (p : Profile) (limit : ℕ) (ts : List Token) → HasTree p limit ts → GoesOn p limit ts
-has_goes p limit ts (tree, parse, low) = ([], (tree, record { is = parse.is ∙ sym (append-nil ts); allowed = parse.allowed }, low))
+has_goes p limit ts (tree, parse, low) = ([], (tree, parse_of p _ tree (parse.is ∙ sym (append-nil ts)) (allowed_count p ts tree parse), low))
 
 pub no_tree : (p : Profile) (limit : ℕ) (ts : List Token) (s : State) → Leads ts s → finish s ≡ None → HasTree p limit ts → ⊥
 no_tree p limit ts s e f (tree, parse, low) =
@@ -139,7 +141,7 @@ pub same_end : (ts : List Token) (s u : State) → Leads ts s → Leads ts u →
 same_end ts s u e f = same_Some _ _ (sym e ∙ f)
 
 -- whether the profile allows so many
-allows : (p : Profile) (n : ℕ) → Allows p n ⊎ (Allows p n → ⊥)
+allows : (p : Profile) (n : ℕ) → AllowsCount p n ⊎ (AllowsCount p n → ⊥)
 allows ProfileOne zero = inl refl
 allows ProfileOne (suc n) = inr (λ e. omega arith)
 allows ProfileTwo n = inl tt
@@ -152,28 +154,28 @@ abbrev pub Answered : Profile → ℕ → ℕ → List Token → Type 0
 Answered p limit end ts = HasTree p limit ts ⊎ ((q : ℕ) × (r : EdnReason) × Jam p limit end ts q r)
 
 module _ (p : Profile) (limit end : ℕ) where
-  pub stops : (f y : List Token) (t : Token) (s : State) → Leads f s → Allows p (commas_held s) → deep s ≤ limit → (GoesOn p limit (f ++ (t ∷ [])) → ⊥) → StopsAt p limit (f ++ (t ∷ y)) f t
+  pub stops : (f y : List Token) (t : Token) (s : State) → Leads f s → AllowsCount p (commas_held s) → deep s ≤ limit → (GoesOn p limit (f ++ (t ∷ [])) → ⊥) → StopsAt p limit (f ++ (t ∷ y)) f t
   stops f y t s e a d never = record { y = y; split = refl; before = goes_on p limit f (record { state = s; leads = e; allowed = a; shallow = d }); here = never }
 
-  search_on : (y f : List Token) (s : State) → Leads f s → Allows p (commas_held s) → deep s ≤ limit → Answered p limit end (f ++ y)
+  search_on : (y f : List Token) (s : State) → Leads f s → AllowsCount p (commas_held s) → deep s ≤ limit → Answered p limit end (f ++ y)
   search_on [] f s e a d = go (finish s) refl (ends_tree s)
     where
       go : (o : Option Input) → finish s ≡ o → IfTree o (Ended s) → Answered p limit end (f ++ [])
       go None none h = inr (end, UnexpectedEnd, (refl, rw append-nil (goes_on p limit f (record { state = s; leads = e; allowed = a; shallow = d })), rw append-nil (no_tree p limit f s e none)))
-      go (Some t) some h = inl (t, record { is = h.is ∙ held_by f s e ∙ sym (append-nil f); allowed = rw h.commas a }, omega (arith, h.depth))
+      go (Some t) some h = inl (t, parse_of p _ t (h.is ∙ held_by f s e ∙ sym (append-nil f)) (rw h.commas a), omega (arith, h.depth))
   search_on (t ∷ y) f s e a d = go (step s t) refl (λ u next b c. rw append_assoc at (search_on y (f ++ (t ∷ [])) u (leads_on f t s u e next) b c))
     where
-      go : (o : Option State) → step s t ≡ o → ((u : State) → step s t ≡ Some u → Allows p (commas_held u) → deep u ≤ limit → Answered p limit end (f ++ (t ∷ y))) → Answered p limit end (f ++ (t ∷ y))
+      go : (o : Option State) → step s t ≡ o → ((u : State) → step s t ≡ Some u → AllowsCount p (commas_held u) → deep u ≤ limit → Answered p limit end (f ++ (t ∷ y))) → Answered p limit end (f ++ (t ∷ y))
       go None none rest = inr (t.start, UnexpectedToken, (f, t, stops f y t s e a d (nothing_goes p limit f t s e none), refl, λ g. nothing_goes p g.0 f t s e none g.1))
       go (Some u) next rest = choose (allows p (commas_held u)) (low (deep u) limit)
         where
-          deeper : (m : ℕ) → GoesOn p m (f ++ (t ∷ [])) → Allows p (commas_held u) × (deep u ≤ m)
+          deeper : (m : ℕ) → GoesOn p m (f ++ (t ∷ [])) → AllowsCount p (commas_held u) × (deep u ≤ m)
           deeper m g =
               let h = good p m (f ++ (t ∷ [])) g in
               let same : h.state ≡ u = same_end (f ++ (t ∷ [])) h.state u h.leads (leads_on f t s u e next) in
-              (subst (λ v. Allows p (commas_held v)) same h.allowed, omega (arith, ap deep same, h.shallow))
+              (subst (λ v. AllowsCount p (commas_held v)) same h.allowed, omega (arith, ap deep same, h.shallow))
 
-          choose : Allows p (commas_held u) ⊎ (Allows p (commas_held u) → ⊥) → (deep u ≤ limit) ⊎ (limit < deep u) → Answered p limit end (f ++ (t ∷ y))
+          choose : AllowsCount p (commas_held u) ⊎ (AllowsCount p (commas_held u) → ⊥) → (deep u ≤ limit) ⊎ (limit < deep u) → Answered p limit end (f ++ (t ∷ y))
           choose (inl b) (inl c) = rest u next b c
           choose (inr never) _ = inr (t.start, UnexpectedToken, (f, t, stops f y t s e a d (λ g. never (deeper limit g).0), refl, λ g. never (deeper g.0 g.1).0))
           choose (inl b) (inr c) = inr (t.start, TooDeep, (f, t, stops f y t s e a d (λ g. omega (arith, (deeper limit g).1)), refl, (deep u, goes_on p (deep u) (f ++ (t ∷ [])) (record { state = u; leads = leads_on f t s u e next; allowed = b; shallow = omega arith }))))
@@ -181,7 +183,7 @@ module _ (p : Profile) (limit end : ℕ) where
   pub answered : (ts : List Token) → Answered p limit end ts
   answered ts = search_on ts [] start refl (none p) (omega arith)
     where
-      none : (p : Profile) → Allows p (commas_held start)
+      none : (p : Profile) → AllowsCount p (commas_held start)
       none ProfileOne = omega arith
       none ProfileTwo = tt
 

@@ -13,7 +13,8 @@ use Rattle.cborn_lex.specs.Tokens.{marked}
 use Rattle.cborn_lex.specs.Strings.{is_content, Letter, raw, escaped as behind_slash, unit, written, is_letter, meant, IsText}
 use Rattle.cborn_lex.proofs.Ends.{content_then}
 use Rattle.cborn_edn.specs.Syntax.{token}
-use Rattle.cborn_edn.specs.Shown.{nowhere, indicator, escaped}
+use Rattle.cborn_edn.specs.ReadingBack.{nowhere}
+use Rattle.cborn_edn.specs.Shown.{indicator, escaped}
 use Rattle.cborn_edn.proofs.Tables.{passes, passes-at}
 use Rattle.cborn_edn.proofs.Chained.{Chained, one_token}
 use Rattle.cborn_lex.proofs.Spelling.{IsMark}

@@ -10,9 +10,10 @@ use Rattle.cborn_lex.proofs.Weights.{IsModest}
 use Rattle.cborn_edn.specs.declared.slips.Slip.{Slip}
 use Rattle.cborn_edn.specs.declared.states.State.{State as KeptState}
 use Rattle.cborn_edn.specs.Syntax.{Span, span, token, Item, string, Piece, embedded, Pieces, StringsBefore, row, RowBefore, no_item, Content, loose, tight, pairs, loose_fields, tight_fields, Input, tokens_of, tokens_of_pieces, tokens_of_row_before, tokens_of_pairs_before, depth}
-use Rattle.cborn_edn.specs.Meaning.{means_input, input_slips, joined, content_length, IsShort, Counted, CountedPieces, CountedStringsBefore, CountedRowBefore, CountedContent, CountedPairsBefore, CountedInput, CountedPiece}
-use Rattle.cborn_edn.specs.Ready.{MaySpell, HaveRoom, MayEnd, IsReady, IsHeld, IsTold}
-use Rattle.cborn_edn.specs.Draft.{draft_step, finished, first_state, first_slip, earlier, reach as kept_reach}
+use Rattle.cborn_edn.specs.Meaning.{means_input, input_slips, joined, content_length}
+use Rattle.cborn_edn.specs.Counted.{IsShort, Counted, CountedPieces, CountedStringsBefore, CountedRowBefore, CountedContent, CountedPairsBefore, CountedInput, CountedPiece}
+use Rattle.cborn_edn.specs.devices.Ready.{MaySpell, HaveRoom, MayEnd, IsReady, IsHeld, IsTold}
+use Rattle.cborn_edn.specs.devices.Draft.{draft_step, finished, first_state, first_slip, earlier, reach as kept_reach}
 use Rattle.cborn_edn.proofs.Machine.{Stack, in_row, in_key, in_value, in_tag, Nest, at_top, in_array, in_embed, Home, as_item, as_chunk, State, wants, has, builds, wants_chunk, wants_number, has_number, start, with_piece, ends, ends_loose, begin, after, after_string, more_string, begin_chunk, begin_number, after_number, step_by, step}
 use Rattle.cborn_edn.proofs.Takes.{finish}
 use Rattle.cborn_edn.proofs.Held.{held_stack, held_nest, held_home, held, open_levels, deep, commas_held, reach, comma_at, After, Grows}

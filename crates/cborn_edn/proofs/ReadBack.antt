@@ -10,7 +10,8 @@ use Rattle.cborn_lex.proofs.Chains.{one_list, both_profiles as both_lexed}
 use Rattle.cborn_edn.specs.Syntax.{Input, tokens_of_input}
 use Rattle.cborn_edn.specs.Parse.{Parse}
 use Rattle.cborn_edn.specs.Meaning.{Says, means_input}
-use Rattle.cborn_edn.specs.Shown.{bare, notated_input, Shown, shown_lines, unplaced_all}
+use Rattle.cborn_edn.specs.ReadingBack.{bare, notated_input, unplaced_all}
+use Rattle.cborn_edn.specs.Shown.{Shown, shown_lines}
 use Rattle.cborn_edn.specs.Notates.{Notates}
 use Rattle.cborn_edn.proofs.Chained.{HasBare, whole_text}
 use Rattle.cborn_edn.proofs.NodeTexts.{lines_text}

@@ -14,7 +14,7 @@ use Rattle.cborn_edn.specs.Syntax.{Input, depth_of_input}
 use Rattle.cborn_edn.specs.Parse.{Parse}
 use Rattle.cborn_edn.specs.Meaning.{means_input, input_slips}
 use Rattle.cborn_edn.specs.Notates.{Notates, IsRefused}
-use Rattle.cborn_edn.specs.Draft.{IsFirstSlip, Run, Done, Stuck, draft_run, first_state, IsStuck, is_one, is_behind_comma, reach as kept_reach, finished, first_slip}
+use Rattle.cborn_edn.specs.devices.Draft.{IsFirstSlip, Run, Done, Stuck, draft_run, first_state, IsStuck, is_one, is_behind_comma, reach as kept_reach, finished, first_slip}
 use Rattle.cborn_edn.proofs.Machine.{State, start, step}
 use Rattle.cborn_edn.proofs.Takes.{finish}
 use Rattle.cborn_edn.proofs.Held.{open_levels, reach, comma_at}

@@ -8,12 +8,14 @@ use Rattle.cborn_lex.specs.declared.classes.Mark.TheVariants.{Absent}
 use Rattle.cborn_lex.specs.declared.classes.Token.{Token}
 use Rattle.cborn_lex.specs.declared.classes.Profile.{Profile}
 use Rattle.cborn_lex.specs.declared.classes.Profile.TheVariants.{One as ProfileOne, Two as ProfileTwo}
-use Rattle.cborn_edn.specs.Syntax.{Item, word, simple, strings, StringsBefore, no_string, after_strings, row, RowBefore, no_item, after_row, pairs, PairsBefore, no_pair, after_pairs, tokens_of_input, commas, commas_of_strings, commas_of_strings_before, commas_of_row, commas_of_row_before, commas_of_content, commas_of_pairs, commas_of_pairs_before, commas_of_fields, depth_of_input, commas_of_input}
+use Rattle.cborn_edn.specs.Syntax.{Item, word, simple, strings, StringsBefore, no_string, after_strings, row, RowBefore, no_item, after_row, pairs, PairsBefore, no_pair, after_pairs, tokens_of_input, depth_of_input}
+use Rattle.cborn_edn.specs.devices.Commas.{commas, commas_of_strings, commas_of_strings_before, commas_of_row, commas_of_row_before, commas_of_content, commas_of_pairs, commas_of_pairs_before, commas_of_fields, commas_of_input, AllowsCount}
 use Rattle.cborn_edn.specs.Meaning.{means_input}
 use Rattle.cborn_edn.specs.declared.strings.Kind.{Kind}
 use Rattle.cborn_edn.specs.declared.strings.Kind.TheVariants.{Bytes as OfBytes, Text as OfText}
-use Rattle.cborn_edn.specs.Shown.{bare, ReadsBack, nowhere, chunk_pieces, chunk_row, chunk_item, simple_item, notated, notated_content, notated_row, notated_fields, notated_pairs, notated_input, AreShowable, unplaced_all}
-use Rattle.cborn_edn.specs.Parse.{Allows}
+use Rattle.cborn_edn.specs.ReadingBack.{bare, ReadsBack, nowhere, chunk_pieces, chunk_row, chunk_item, simple_item, notated, notated_content, notated_row, notated_fields, notated_pairs, notated_input, unplaced_all}
+use Rattle.cborn_edn.specs.Shown.{AreShowable}
+use Rattle.cborn_edn.proofs.Trailing.{parse_of}
 use Rattle.cborn_edn.proofs.Back.{says_back, as_deep, spelled_all-unplaced}
 use Rattle.std.proofs.lemmas.Option.{same_Some}
 use Rattle.cborn_edn.proofs.Erase.{opt_map, clash, retold, Retold}
@@ -72,7 +74,7 @@ none_input : (ts : Trees) → commas_of_input (notated_input ts) ≡ 0
 none_input no_node = refl
 none_input (more t ts) = omega (arith, none_row ts no_item (notated t), none t)
 
-no_allowed : (p : Profile) (n : ℕ) → n ≡ 0 → Allows p n
+no_allowed : (p : Profile) (n : ℕ) → n ≡ 0 → AllowsCount p n
 no_allowed ProfileOne n e = e
 no_allowed ProfileTwo n e = tt
 
@@ -87,7 +89,7 @@ reads_same p limit nodes ts fits show low e =
     go r (Some us) f g = (
       record {
         tree = r.tree;
-        parse = record { is = r.is; allowed = no_allowed p _ (sym (commas-erased_input r.tree) ∙ ap commas_of_input r.same ∙ none_input nodes) };
+        parse = parse_of p ts r.tree r.is (no_allowed p _ (sym (commas-erased_input r.tree) ∙ ap commas_of_input r.same ∙ none_input nodes));
         shallow = omega (arith, depth-erased_input r.tree, ap depth_of_input r.same, as_deep nodes fits);
         says = us;
         said = f;

@@ -5,7 +5,8 @@ use Rattle.cborn_model.specs.declared.nodes.Chunk.{Chunk}
 use Rattle.cborn_model.specs.Tree.{Tree, Uint, Nint, Bytes, Text, ByteChunks, TextChunks, Items, Pairs, Tagged, Simple, Trees, no_item, more, Entries, no_entry, entry}
 use Rattle.cborn_edn.specs.declared.strings.Kind.{Kind}
 use Rattle.cborn_edn.specs.declared.strings.Kind.TheVariants.{Bytes as OfBytes, Text as OfText}
-use Rattle.cborn_edn.specs.Shown.{AreTexts, IsShowable, AreShowable, ArePairsShowable, Shown, mark_for, mark_for_size, indicator, opened, shown_string, shown_more_chunks, shown_chunks, shown, shown_all, shown_more, shown_entries, shown_more_entries, shown_lines, shown_more_lines, unplaced_chunks, unplaced, unplaced_all, unplaced_entries}
+use Rattle.cborn_edn.specs.Shown.{AreTexts, IsShowable, AreShowable, ArePairsShowable, Shown, mark_for, mark_for_size, indicator, opened, shown_string, shown_more_chunks, shown_chunks, shown, shown_all, shown_more, shown_entries, shown_more_entries, shown_lines, shown_more_lines}
+use Rattle.cborn_edn.specs.ReadingBack.{unplaced_chunks, unplaced, unplaced_all, unplaced_entries}
 use Rattle.cborn_edn.proofs.Back.{count-unplaced, count-unplaced_entries}
 
 more_chunks : (k : Kind) (cs : List Chunk) → shown_more_chunks k (unplaced_chunks cs) ≡ shown_more_chunks k cs

@@ -8,8 +8,8 @@ use Rattle.cborn_lex.specs.declared.classes.Class.TheVariants.{ArrayOpen, MapOpe
 use Rattle.cborn_edn.specs.declared.frames.Frame.{Frame}
 use Rattle.cborn_edn.specs.Syntax.{is_small, string, row, no_item, after_row, pairs, no_pair, after_pairs, Input}
 use Rattle.cborn_edn.specs.Meaning.{means_input, input_slips}
-use Rattle.cborn_edn.specs.Levels.{levels_in}
-use Rattle.cborn_edn.specs.Draft.{is_one, is_behind_comma, reach as kept_reach, finished, first_slip}
+use Rattle.cborn_edn.specs.devices.Levels.{levels_in}
+use Rattle.cborn_edn.specs.devices.Draft.{is_one, is_behind_comma, reach as kept_reach, finished, first_slip}
 use Rattle.cborn_edn.proofs.Machine.{Stack, in_row, in_key, in_value, in_tag, at_top, in_array, in_embed, Home, as_item, as_chunk, State, wants, has, builds, wants_chunk, wants_number, has_number}
 use Rattle.cborn_edn.proofs.Takes.{finish}
 use Rattle.cborn_edn.proofs.Held.{levels, levels_home, open_levels, reach, comma_at}

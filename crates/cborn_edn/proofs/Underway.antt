@@ -15,8 +15,8 @@ use Rattle.cborn_edn.specs.declared.faults.EdnReason.{EdnReason}
 use Rattle.cborn_edn.specs.declared.faults.EdnFault.{EdnFault}
 use Rattle.cborn_edn.specs.declared.faults.EdnFault.TheVariants.{Refused}
 use Rattle.cborn_edn.specs.Notates.{IsRefused}
-use Rattle.cborn_edn.specs.Ready.{IsReady, IsHeld, IsTold, Steps}
-use Rattle.cborn_edn.specs.Draft.{Done, draft_run, finished, first_state, lexical}
+use Rattle.cborn_edn.specs.devices.Ready.{IsReady, IsHeld, IsTold, Steps}
+use Rattle.cborn_edn.specs.devices.Draft.{Done, draft_run, finished, first_state, lexical}
 use Rattle.cborn_edn.proofs.Reached.{Reached, first_reached, next_reached, ready, told}
 use Rattle.cborn_edn.proofs.Reading.{jam_told}
 

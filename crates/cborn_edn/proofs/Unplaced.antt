@@ -9,7 +9,7 @@ use Rattle.cborn_model.specs.Spelled.{ChunksFit, Fits, FitsAll, FitsEntries, spe
 use Rattle.cborn_model.specs.Value.{Value, Values, Couples, bytes, text, array, dict, tagged, no_values, value, no_pairs, pair}
 use Rattle.cborn_model.specs.Valid.{HasNewKeys}
 use Rattle.cborn_model.specs.Meaning.{joined_chunks, IsNumber, IsByteString, ChunksAreText, Means, AllMean, EntriesMean}
-use Rattle.cborn_edn.specs.Shown.{unplaced_chunks, unplaced, unplaced_all, unplaced_entries}
+use Rattle.cborn_edn.specs.ReadingBack.{unplaced_chunks, unplaced, unplaced_all, unplaced_entries}
 use Rattle.cborn_edn.proofs.Back.{count-unplaced, count-unplaced_entries, flat-unplaced, spelled_all-unplaced}
 
 -- Each is an equation of what is said with places and without.

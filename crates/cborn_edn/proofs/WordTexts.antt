@@ -6,7 +6,8 @@ use Rattle.cborn_lex.specs.declared.classes.Mark.TheVariants.{Absent}
 use Rattle.cborn_lex.specs.declared.classes.Class.TheVariants.{Number, Word, SimpleOpen, ParenClose}
 use Rattle.cborn_lex.specs.Tokens.{begins}
 use Rattle.cborn_edn.specs.Syntax.{Item, simple, token, tokens_of}
-use Rattle.cborn_edn.specs.Shown.{nowhere, simple_item, shown_simple}
+use Rattle.cborn_edn.specs.ReadingBack.{nowhere, simple_item}
+use Rattle.cborn_edn.specs.Shown.{shown_simple}
 use Rattle.cborn_edn.proofs.Chained.{Chained, one_token, both}
 use Rattle.cborn_edn.proofs.MarkTexts.{Closes, paren_closes, paren_close}
 use Rattle.cborn_edn.proofs.DecimalTexts.{number_text}

@@ -3,9 +3,6 @@ pub mod Parse
 pub mod Notates
 pub mod Meaning
 pub mod Shown
-pub mod TreesCode
-pub mod Draft
-pub mod Lowest
-pub mod Between
-pub mod Levels
-pub mod Ready
+pub mod Counted
+pub mod ReadingBack
+pub mod devices

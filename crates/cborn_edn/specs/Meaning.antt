@@ -1,5 +1,5 @@
 -- What a tree says: the nodes, and the faults of what says nothing.
-use Rattle.std.specs.Prelude.{◌≡◌, ◌⊎◌, ℕ, suc, ◌^◌, ◌<◌, List, [], ◌∷◌, ◌++◌, length, Bool, true, false, ◌&&◌, ◌||◌, not, nat_lt, nat_le, if◌then◌else◌, Option, Some, None}
+use Rattle.std.specs.Prelude.{◌≡◌, ◌⊎◌, ℕ, suc, ◌^◌, List, [], ◌∷◌, ◌++◌, length, Bool, true, false, ◌&&◌, ◌||◌, not, nat_lt, nat_le, if◌then◌else◌, Option, Some, None}
 use Rattle.cborn_edn.specs.declared.faults.EdnReason.{EdnReason}
 use Rattle.cborn_edn.specs.declared.faults.EdnReason.TheVariants.{UnexpectedToken, UnexpectedEnd, TooDeep, IndicatorTooNarrow, IndicatorNotAllowed, MixedString, MixedChunks, TextNotUtf8, BadSimple, TagTooLarge}
 use Rattle.cborn_edn.specs.declared.slips.Slip.{Slip}
@@ -13,7 +13,6 @@ use Rattle.cborn_model.specs.declared.heads.Size.{Size}
 use Rattle.cborn_model.specs.declared.heads.Size.TheVariants.{Fixed, Endless as Unending}
 use Rattle.cborn_model.specs.declared.nodes.Chunk.{Chunk}
 use Rattle.cborn_model.specs.Tree.{Tree, Uint, Nint, Bytes as ByteNode, Text as TextNode, ByteChunks, TextChunks, Items, Pairs as PairNode, Tagged, Simple, Trees, no_item as no_node, more, Entries, no_entry, entry, count, count_entries}
-use Rattle.cborn_model.specs.Bytes.{AreBytes}
 use Rattle.cborn_model.specs.Heads.{least}
 use Rattle.cborn_model.specs.First.{IsFirst}
 use Rattle.cborn_model.specs.Spelled.{spelled_all}
@@ -371,64 +370,6 @@ abbrev mutual
 abbrev pub input_slips : Input → List Slip
 input_slips nothing = []
 input_slips (items r) = row_slips r
-
--- What a tree of the grammar may still hold without bound is bounded: the lengths of strings, of bignums and of what is joined, and the counts of arrays and maps, are below 2^64; each string is bytes; each word is a simple value below 24. The tree of each text of fewer than 2^56 bytes is so, as a law says.
-abbrev pub IsShort : Option (List ℕ) → Type 0
-IsShort None = Unit {0}
-IsShort (Some x) = length x < 2 ^ 64
-
-abbrev mutual
-  pub Counted : Item → Type 0
-  Counted (number at n v m) = length (digits_of 256 (argument_of n v)) < 2 ^ 64
-  Counted (word at n) = n < 24
-  Counted (tag at n m i end) = Counted i
-  Counted (simple at b n v m end) = Unit {0}
-  Counted (string ps) = IsShort (joined ps) × CountedPieces ps
-  Counted (chunked at ss end) = CountedStrings ss
-  Counted (array at m c end) = (content_length c < 2 ^ 64) × CountedContent c
-  Counted (map at m f end) = (fields_length f < 2 ^ 64) × CountedFields f
-
-  pub CountedPiece : Piece → Type 0
-  CountedPiece (text at x m) = AreBytes x
-  CountedPiece (bytes at q x m) = AreBytes x
-  CountedPiece (embedded at c end m) = CountedContent c
-
-  pub CountedPieces : Pieces → Type 0
-  CountedPieces (piece p) = CountedPiece p
-  CountedPieces (also ps p) = CountedPieces ps × CountedPiece p
-
-  pub CountedStrings : Strings → Type 0
-  CountedStrings (strings b ps) = CountedStringsBefore b × IsShort (joined ps) × CountedPieces ps
-
-  pub CountedStringsBefore : StringsBefore → Type 0
-  CountedStringsBefore no_string = Unit {0}
-  CountedStringsBefore (after_strings ss c) = CountedStrings ss
-
-  pub CountedRow : Row → Type 0
-  CountedRow (row b i) = CountedRowBefore b × Counted i
-
-  pub CountedRowBefore : RowBefore → Type 0
-  CountedRowBefore no_item = Unit {0}
-  CountedRowBefore (after_row r c) = CountedRow r
-
-  pub CountedContent : Content → Type 0
-  CountedContent (loose b) = CountedRowBefore b
-  CountedContent (tight r) = CountedRow r
-
-  pub CountedPairs : Pairs → Type 0
-  CountedPairs (pairs b k c v) = CountedPairsBefore b × Counted k × Counted v
-
-  pub CountedPairsBefore : PairsBefore → Type 0
-  CountedPairsBefore no_pair = Unit {0}
-  CountedPairsBefore (after_pairs ps c) = CountedPairs ps
-
-  pub CountedFields : Fields → Type 0
-  CountedFields (loose_fields b) = CountedPairsBefore b
-  CountedFields (tight_fields ps) = CountedPairs ps
-
-abbrev pub CountedInput : Input → Type 0
-CountedInput nothing = Unit {0}
-CountedInput (items r) = CountedRow r
 
 -- A slip of the tree, and the one that is told: the least place, then the least number.
 abbrev pub number_of : EdnReason → ℕ

@@ -1,20 +1,29 @@
 -- Which tokens are a text of the grammar, and the first token with which no such text goes on.
-use Rattle.std.specs.Prelude.{◌≡◌, ℕ, ◌≤◌, List, [], ◌∷◌, ◌++◌}
+use Rattle.std.specs.Prelude.{◌≡◌, ℕ, ◌≤◌, List, [], ◌∷◌, ◌++◌, Bool, true, false}
 use Rattle.cborn_lex.specs.declared.classes.Profile.{Profile}
 use Rattle.cborn_lex.specs.declared.classes.Profile.TheVariants.{One as ProfileOne, Two as ProfileTwo}
 use Rattle.cborn_edn.specs.declared.faults.EdnReason.{EdnReason}
 use Rattle.cborn_edn.specs.declared.faults.EdnReason.TheVariants.{UnexpectedToken, UnexpectedEnd, TooDeep, IndicatorTooNarrow, IndicatorNotAllowed, MixedString, MixedChunks, TextNotUtf8, BadSimple, TagTooLarge}
+use Rattle.cborn_lex.specs.declared.classes.Class.{Class}
+use Rattle.cborn_lex.specs.declared.classes.Class.TheVariants.{ArrayClose, MapClose, EmbedClose, Comma}
 use Rattle.cborn_lex.specs.declared.classes.Token.{Token}
-use Rattle.cborn_edn.specs.Syntax.{Input, tokens_of_input, depth_of_input, commas_of_input}
+use Rattle.cborn_edn.specs.Syntax.{Span, token, Input, tokens_of_input, depth_of_input}
 
--- Profile 1 has no comma before a closing bracket.
-abbrev pub Allows : Profile → ℕ → Type 0
-Allows ProfileOne n = n ≡ 0
-Allows ProfileTwo n = Unit {0}
+-- ], } or >>
+abbrev pub is_closing : Class → Bool
+is_closing ArrayClose = true
+is_closing MapClose = true
+is_closing (EmbedClose m) = true
+is_closing _ = false
+
+-- In profile 1 no comma stands right before one of them.
+abbrev pub Allows : Profile → List Token → Type 0
+Allows ProfileOne tokens = (x y : List Token) (at : Span) (t : Token) → tokens ≡ x ++ token at Comma ∷ t ∷ y → is_closing t.class ≡ false
+Allows ProfileTwo tokens = Unit {0}
 
 pub record Parse (profile : Profile) (tokens : List Token) (tree : Input) : Type 0 where
   pub is : tokens_of_input tree ≡ tokens
-  pub allowed : Allows profile (commas_of_input tree)
+  pub allowed : Allows profile tokens
 
 abbrev pub HasTree : Profile → ℕ → List Token → Type 0
 HasTree profile limit tokens = (tree : Input) × Parse profile tokens tree × (depth_of_input tree ≤ limit)

@@ -1,5 +1,5 @@
 -- The trees of the grammar of the notation, with the place of each token.
-use Rattle.std.specs.Prelude.{ℕ, zero, suc, ◌+◌, List, [], ◌∷◌, ◌++◌, Bool, true, false, nat_lt, max, ◌^◌, if◌then◌else◌}
+use Rattle.std.specs.Prelude.{ℕ, zero, suc, List, [], ◌∷◌, ◌++◌, Bool, true, false, nat_lt, max, ◌^◌, if◌then◌else◌}
 use Rattle.cborn_lex.specs.declared.classes.Mark.{Mark}
 use Rattle.cborn_lex.specs.declared.classes.Class.{Class}
 use Rattle.cborn_lex.specs.declared.classes.Class.TheVariants.{ArrayOpen, MapOpen, ArrayClose, MapClose, ParenClose, Comma, Colon, EmbedOpen, EmbedClose, ChunkOpen, Number, TagOpen, Word, SimpleOpen, Text, Bytes}
@@ -208,65 +208,3 @@ abbrev mutual
 abbrev pub depth_of_input : Input → ℕ
 depth_of_input nothing = 0
 depth_of_input (items r) = depth_of_row r
-
-abbrev pub last_comma : RowBefore → ℕ
-last_comma no_item = 0
-last_comma (after_row r c) = 1
-
-abbrev pub last_pair_comma : PairsBefore → ℕ
-last_pair_comma no_pair = 0
-last_pair_comma (after_pairs ps c) = 1
-
--- How many commas stand before a closing bracket.
-abbrev mutual
-  pub commas : Item → ℕ
-  commas (number at n v m) = 0
-  commas (word at n) = 0
-  commas (tag at n m i end) = commas i
-  commas (simple at b n v m end) = 0
-  commas (string ps) = commas_of_pieces ps
-  commas (chunked at ss end) = commas_of_strings ss
-  commas (array at m c end) = commas_of_content c
-  commas (map at m f end) = commas_of_fields f
-
-  pub commas_of_piece : Piece → ℕ
-  commas_of_piece (text at x m) = 0
-  commas_of_piece (bytes at q x m) = 0
-  commas_of_piece (embedded at c end m) = commas_of_content c
-
-  pub commas_of_pieces : Pieces → ℕ
-  commas_of_pieces (piece p) = commas_of_piece p
-  commas_of_pieces (also ps p) = commas_of_pieces ps + commas_of_piece p
-
-  pub commas_of_strings : Strings → ℕ
-  commas_of_strings (strings b ps) = commas_of_strings_before b + commas_of_pieces ps
-
-  pub commas_of_strings_before : StringsBefore → ℕ
-  commas_of_strings_before no_string = 0
-  commas_of_strings_before (after_strings ss c) = commas_of_strings ss
-
-  pub commas_of_row : Row → ℕ
-  commas_of_row (row b i) = commas_of_row_before b + commas i
-
-  pub commas_of_row_before : RowBefore → ℕ
-  commas_of_row_before no_item = 0
-  commas_of_row_before (after_row r c) = commas_of_row r
-
-  pub commas_of_content : Content → ℕ
-  commas_of_content (loose b) = commas_of_row_before b + last_comma b
-  commas_of_content (tight r) = commas_of_row r
-
-  pub commas_of_pairs : Pairs → ℕ
-  commas_of_pairs (pairs b k c v) = commas_of_pairs_before b + commas k + commas v
-
-  pub commas_of_pairs_before : PairsBefore → ℕ
-  commas_of_pairs_before no_pair = 0
-  commas_of_pairs_before (after_pairs ps c) = commas_of_pairs ps
-
-  pub commas_of_fields : Fields → ℕ
-  commas_of_fields (loose_fields b) = commas_of_pairs_before b + last_pair_comma b
-  commas_of_fields (tight_fields ps) = commas_of_pairs ps
-
-abbrev pub commas_of_input : Input → ℕ
-commas_of_input nothing = 0
-commas_of_input (items r) = commas_of_row r

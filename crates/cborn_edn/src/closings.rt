@@ -2,9 +2,9 @@
 
 ghost use Rattle.std.specs.Prelude.{◌≡◌, ℕ, true, Some, None, IfOk, if◌then◌else◌};
 ghost use Rattle.cborn_lex.specs.declared.classes.Class.TheVariants.{ArrayClose, EmbedClose, MapClose, ParenClose};
-ghost use Rattle.cborn_edn.specs.Draft as pure;
+ghost use Rattle.cborn_edn.specs.devices.Draft as pure;
 ghost use Rattle.cborn_edn.specs.declared.states.Phase.TheVariants.{Wants};
-ghost use Rattle.cborn_edn.specs.Ready.{MaySpell, HaveRoom};
+ghost use Rattle.cborn_edn.specs.devices.Ready.{MaySpell, HaveRoom};
 
 use crate::contents::Chunks;
 use crate::frames::Frame;

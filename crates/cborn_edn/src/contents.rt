@@ -1,9 +1,9 @@
 //! What stands complete inside an open bracket: the nodes, unless there is a slip among them, and their number.
 
 ghost use Rattle.std.specs.Prelude.{◌≡◌, suc, ◌^◌, ◌<◌, [], ◌∷◌, ◌++◌, Some, IfOk, OnOk};
-ghost use Rattle.cborn_edn.specs.Draft as pure;
+ghost use Rattle.cborn_edn.specs.devices.Draft as pure;
 ghost use Rattle.cborn_edn.specs.Meaning.{and_then, when, same_kind, size_slips};
-ghost use Rattle.cborn_edn.specs.Ready.{MaySpell};
+ghost use Rattle.cborn_edn.specs.devices.Ready.{MaySpell};
 
 use crate::EdnReason;
 use crate::lists::{ChunkList, NodeList, PairList, SpelledList, discard};

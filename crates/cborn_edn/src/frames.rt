@@ -52,9 +52,9 @@ pub(crate) enum Frame {
 impl Frame {
     ghost use Rattle.std.specs.Prelude.{◌≡◌, IfOk, Some, None, if◌then◌else◌};
     ghost use Rattle.cborn_edn.specs.declared.frames.Frame.TheVariants.{Tagged};
-    ghost use Rattle.cborn_edn.specs.Levels.{is_level, has_items, has_pairs};
-    ghost use Rattle.cborn_edn.specs.Draft as pure;
-    ghost use Rattle.cborn_edn.specs.Ready.{MaySpell, HasRoom};
+    ghost use Rattle.cborn_edn.specs.devices.Levels.{is_level, has_items, has_pairs};
+    ghost use Rattle.cborn_edn.specs.devices.Draft as pure;
+    ghost use Rattle.cborn_edn.specs.devices.Ready.{MaySpell, HasRoom};
 
     /// Takes the item in, where the bracket may end behind it or a comma may follow. Whether that is so.
     pub(crate) fn settle(&mut self, item: Option<Node>) -> Result<bool, AllocError>
@@ -187,7 +187,7 @@ impl Model for Frames {
 
     ghost use Rattle.std.specs.Prelude.{◌≡◌};
     ghost use mathlib.Core.List as lists;
-    ghost use Rattle.cborn_edn.specs.Levels.{levels_in};
+    ghost use Rattle.cborn_edn.specs.devices.Levels.{levels_in};
 
     ghost view = { λ f. lists.reverse f.frames.items };
 
@@ -196,9 +196,9 @@ impl Model for Frames {
 
 impl Frames {
     ghost use Rattle.std.specs.Prelude.{◌≡◌, ◌<◌, ◌^◌, [], ◌∷◌, OnOk, IfOk, Some, None, MatchOption, if◌then◌else◌};
-    ghost use Rattle.cborn_edn.specs.Levels.{levels_in, filled};
-    ghost use Rattle.cborn_edn.specs.Draft as pure;
-    ghost use Rattle.cborn_edn.specs.Ready.{MaySpell, HaveRoom};
+    ghost use Rattle.cborn_edn.specs.devices.Levels.{levels_in, filled};
+    ghost use Rattle.cborn_edn.specs.devices.Draft as pure;
+    ghost use Rattle.cborn_edn.specs.devices.Ready.{MaySpell, HaveRoom};
 
     pub(crate) fn new(alloc: Global) -> Frames
         ensures { result ≡ [] }

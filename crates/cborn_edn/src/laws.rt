@@ -15,8 +15,10 @@ ghost use Rattle.cborn_lex.specs.Lex.{Lex, Stop};
 ghost use Rattle.cborn_edn.specs.declared.faults.EdnReason.{EdnReason};
 ghost use Rattle.cborn_edn.specs.Syntax.{Input, depth_of_input, tokens_of_input};
 ghost use Rattle.cborn_edn.specs.Parse.{Parse, HasTree, Jam};
-ghost use Rattle.cborn_edn.specs.Meaning.{Says, CountedInput, HasSlip, FirstSlip};
-ghost use Rattle.cborn_edn.specs.Shown.{bare, notated_input, AreShowable, ReadsBack, Shown, unplaced_all};
+ghost use Rattle.cborn_edn.specs.Meaning.{Says, HasSlip, FirstSlip};
+ghost use Rattle.cborn_edn.specs.Counted.{CountedInput};
+ghost use Rattle.cborn_edn.specs.ReadingBack.{bare, notated_input, ReadsBack, unplaced_all};
+ghost use Rattle.cborn_edn.specs.Shown.{AreShowable, Shown};
 ghost use Rattle.cborn_edn.specs.Notates.{Notates, Slips, Jams};
 
 /// Tokens have at most one tree, whatever the profiles.

@@ -14,7 +14,7 @@ pub(crate) struct NodeList {
 
 impl Model for NodeList {
     ghost use Rattle.cborn_model.specs.Tree.{Trees, trees};
-    ghost use Rattle.cborn_edn.specs.TreesCode.{trees_code};
+    ghost use Rattle.cborn_edn.specs.devices.TreesCode.{trees_code};
 
     ghost Value = { Trees };
 
@@ -58,7 +58,7 @@ pub(crate) struct SpelledList {
 
 impl Model for SpelledList {
     ghost use Rattle.cborn_model.specs.Tree.{Trees, trees};
-    ghost use Rattle.cborn_edn.specs.TreesCode.{trees_code};
+    ghost use Rattle.cborn_edn.specs.devices.TreesCode.{trees_code};
 
     ghost Value = { Trees };
 
@@ -108,7 +108,7 @@ pub(crate) struct PairList {
 
 impl Model for PairList {
     ghost use Rattle.cborn_model.specs.Tree.{Entries, entries};
-    ghost use Rattle.cborn_edn.specs.TreesCode.{entries_code};
+    ghost use Rattle.cborn_edn.specs.devices.TreesCode.{entries_code};
 
     ghost Value = { Entries };
 

@@ -8,7 +8,7 @@ ghost use Rattle.cborn_model.specs.Tree as tree;
 ghost use Rattle.cborn_model.specs.declared.heads.Width.TheVariants.{Direct};
 ghost use Rattle.cborn_edn.specs.Syntax as syntax;
 ghost use Rattle.cborn_edn.specs.Meaning as pure;
-ghost use Rattle.cborn_edn.specs.Draft.{slip_at, simple_slip, first_slip, tag_head};
+ghost use Rattle.cborn_edn.specs.devices.Draft.{slip_at, simple_slip, first_slip, tag_head};
 
 use crate::EdnReason;
 use crate::slips::{Slip, earlier, slip_unless};

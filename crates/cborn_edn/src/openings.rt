@@ -1,7 +1,7 @@
 //! What may begin where an item, a chunk or a number is wanted.
 
 ghost use Rattle.std.specs.Prelude.{◌≡◌, ◌∷◌, Some, None, IfOk, OnOk, if◌then◌else◌};
-ghost use Rattle.cborn_edn.specs.Draft as pure;
+ghost use Rattle.cborn_edn.specs.devices.Draft as pure;
 ghost use Rattle.cborn_edn.specs.declared.frames.Frame.TheVariants.{Array, Chunked, Embedded, Key, Tagged};
 ghost use Rattle.cborn_edn.specs.declared.states.Phase.TheVariants.{Wants, WantsChunk};
 ghost use Rattle.cborn_edn.specs.Meaning.{tag_slips};

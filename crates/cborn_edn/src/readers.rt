@@ -7,8 +7,8 @@ ghost use Rattle.cborn_lex.specs.declared.faults.LexFault.{LexFault as LexStop};
 ghost use Rattle.cborn_edn.specs.Notates.{Notates, IsRefused};
 ghost use Rattle.cborn_edn.specs.declared.faults.EdnFault.TheVariants.{Refused};
 ghost use Rattle.cborn_edn.specs.declared.slips.Slip.{Slip as FoundSlip};
-ghost use Rattle.cborn_edn.specs.Draft.{IsFirstSlip, Done, draft_run, first_state, finished, is_one, lexical};
-ghost use Rattle.cborn_edn.specs.Ready.{IsReady, IsTold, Steps};
+ghost use Rattle.cborn_edn.specs.devices.Draft.{IsFirstSlip, Done, draft_run, first_state, finished, is_one, lexical};
+ghost use Rattle.cborn_edn.specs.devices.Ready.{IsReady, IsTold, Steps};
 
 use crate::lists::SpelledList;
 use crate::slips::Slip;

@@ -1,7 +1,7 @@
 //! Faults of meaning, of which the first is told.
 
 ghost use Rattle.std.specs.Prelude.{◌≡◌};
-ghost use Rattle.cborn_edn.specs.Draft as pure;
+ghost use Rattle.cborn_edn.specs.devices.Draft as pure;
 
 use crate::EdnReason;
 

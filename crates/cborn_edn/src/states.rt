@@ -1,8 +1,8 @@
 //! The reader of tokens: what is open, and what stands right before the next token.
 
 ghost use Rattle.std.specs.Prelude.{◌≡◌, suc, ◌^◌, ◌<◌, [], ◌∷◌, Some, None, IfOk, OnOk, if◌then◌else◌};
-ghost use Rattle.cborn_edn.specs.Draft as pure;
-ghost use Rattle.cborn_edn.specs.Ready.{IsReady, IsHeld, MayEnd};
+ghost use Rattle.cborn_edn.specs.devices.Draft as pure;
+ghost use Rattle.cborn_edn.specs.devices.Ready.{IsReady, IsHeld, MayEnd};
 ghost use Rattle.cborn_edn.specs.declared.frames.Frame.TheVariants.{Top};
 ghost use Rattle.cborn_edn.specs.declared.states.Phase.TheVariants.{Wants, Has};
 

@@ -1,8 +1,9 @@
 //! Strings of the notation, piece by piece.
 
 ghost use Rattle.std.specs.Prelude.{◌≡◌, false, [], length, Some, IfOk};
-ghost use Rattle.cborn_edn.specs.Draft as pure;
-ghost use Rattle.cborn_edn.specs.Meaning.{is_good, and_then, width_for, chunked_node, IsShort};
+ghost use Rattle.cborn_edn.specs.devices.Draft as pure;
+ghost use Rattle.cborn_edn.specs.Meaning.{is_good, and_then, width_for, chunked_node};
+ghost use Rattle.cborn_edn.specs.Counted.{IsShort};
 
 use crate::EdnReason;
 use crate::numbers::width_for;

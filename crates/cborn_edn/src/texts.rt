@@ -2,7 +2,7 @@
 
 ghost use Rattle.std.specs.Prelude.{◌≡◌};
 ghost use Rattle.cborn_model.specs.Tree.{trees, entries};
-ghost use Rattle.cborn_edn.specs.Lowest as pure;
+ghost use Rattle.cborn_edn.specs.devices.Lowest as pure;
 
 use cborn_model::{ByteString, Chunk, Form, Node, Spelled};
 

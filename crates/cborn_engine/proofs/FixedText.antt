@@ -9,8 +9,8 @@ use Rattle.cborn_model.specs.Meaning.{Means, AllMean}
 use Rattle.cborn_lex.specs.declared.classes.Profile.{Profile}
 use Rattle.cborn_lex.specs.declared.classes.Profile.TheVariants as profile
 use Rattle.cborn_edn.specs.Notates.{Notates}
-use Rattle.cborn_edn.specs.Shown.{unplaced_all}
-use Rattle.cborn_edn.specs.TreesCode.{listed_trees, trees-listed}
+use Rattle.cborn_edn.specs.ReadingBack.{unplaced_all}
+use Rattle.cborn_edn.specs.devices.TreesCode.{listed_trees, trees-listed}
 use Rattle.cborn_edn.proofs.Characters.{lines_text}
 use Rattle.cborn_edn.proofs.ReadBack.{shown_back, shown_only}
 use Rattle.cborn_edn.proofs.SameText.{same_text}

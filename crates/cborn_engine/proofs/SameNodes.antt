@@ -6,7 +6,7 @@ use Rattle.cborn_model.specs.Tree.{Tree, Uint, Nint, Bytes, Text, ByteChunks, Te
 use Rattle.cborn_model.specs.Spelled.{chunk_bytes, spelled, spelled_all, FitsAll}
 use Rattle.cborn_wire.specs.Places.{chunks_from, placed_from, all_from, entries_from}
 use Rattle.cborn_wire.proofs.OneReading.{one_spelling}
-use Rattle.cborn_edn.specs.Shown.{unplaced_chunks, unplaced, unplaced_all, unplaced_entries}
+use Rattle.cborn_edn.specs.ReadingBack.{unplaced_chunks, unplaced, unplaced_all, unplaced_entries}
 
 -- Nodes that are placed anew are what they were, places aside.
 

@@ -6,8 +6,9 @@ use Rattle.cborn_model.specs.Heads.{Major, ByteString, TextString, Array, Map, T
 use Rattle.cborn_model.specs.Tree.{Tree, Uint, Nint, Bytes, Text, ByteChunks, TextChunks, Items, Pairs, Tagged, Simple, Trees, no_item, more, Entries, no_entry, entry, trees, count, count_entries}
 use Rattle.cborn_model.specs.Spelled.{chunk_bytes, spelled, spelled_all, Wellformed}
 use Rattle.cborn_model.specs.Placed.{PlacedAll}
-use Rattle.cborn_edn.specs.Shown.{Shown, shown, shown_lines, unplaced_chunks, unplaced, unplaced_all, unplaced_entries}
-use Rattle.cborn_edn.specs.Between.{separated}
+use Rattle.cborn_edn.specs.Shown.{Shown, shown, shown_lines}
+use Rattle.cborn_edn.specs.ReadingBack.{unplaced_chunks, unplaced, unplaced_all, unplaced_entries}
+use Rattle.cborn_edn.specs.devices.Between.{separated}
 use Rattle.cborn_edn.proofs.Separated.{lines-separated}
 use Rattle.cborn_edn.proofs.SameText.{same_notation}
 use Rattle.cborn_wire.specs.Places.{chunks_from, placed_from, all_from, entries_from}

@@ -14,7 +14,7 @@ use Rattle.cborn_model.specs.Tree.{Tree, trees, entries, depth, depth_all, depth
 use Rattle.hex.specs.Hex.{encode_lower}
 use Rattle.cborn_edn.specs.declared.strings.Kind.{Kind}
 use Rattle.cborn_edn.specs.declared.strings.Kind.TheVariants.{Bytes as OfBytes, Text as OfText}
-use Rattle.cborn_edn.specs.Between.{separated}
+use Rattle.cborn_edn.specs.devices.Between.{separated}
 use Rattle.cborn_edn.specs.Shown.{Shown, IsShowable, AreShowable, ArePairsShowable, AreTexts, shown, shown_string, shown_more_chunks, shown_chunks, shown_simple, escaped}
 use Rattle.cborn_wire.specs.declared.heads.Argument.{Argument}
 use Rattle.cborn_wire.specs.declared.heads.Argument.TheVariants as arguments

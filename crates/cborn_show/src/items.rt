@@ -2,7 +2,7 @@
 
 ghost use Rattle.std.specs.Prelude.{◌≡◌, ◌≢◌, ◌≤◌, ◌++◌, false, codes, OnSome, IfSome};
 ghost use Rattle.cborn_model.specs.Heads.{Array, Map, Tag, Given, Unbounded, head, Holds};
-ghost use Rattle.cborn_edn.specs.Between.{between};
+ghost use Rattle.cborn_edn.specs.devices.Between.{between};
 ghost use Rattle.cborn_edn.specs.Shown.{mark_for, opened};
 ghost use Rattle.cborn_show.specs.Passed.{NodeShown, NodesShown, PairShown, PairsShown};
 

@@ -11,7 +11,6 @@ use Rattle.cborn_model.specs.Tree.{Tree, Uint, Nint, Bytes as ByteNode, Items, P
 use Rattle.cborn_model.specs.Spelled.{spelled, spelled_all, spelled_entries}
 use Rattle.cborn_lex.specs.declared.classes.Profile.{Profile}
 use Rattle.cborn_lex.specs.declared.classes.Profile.TheVariants.{One, Two}
-use Rattle.cborn_edn.specs.Parse.{Allows}
 use Rattle.cborn_wire.proofs.TreeLists.{tree_list, trees-tree_list}
 use Rattle.cborn_lex.specs.declared.classes.Mark.{Mark}
 use Rattle.cborn_lex.specs.declared.classes.Mark.TheVariants.{Absent, Endless, Wide}
@@ -20,7 +19,9 @@ use Rattle.cborn_lex.specs.declared.classes.Class.TheVariants.{ArrayOpen, MapOpe
 use Rattle.cborn_lex.specs.Lex.{Between}
 use Rattle.cborn_lex.proofs.Progress.{nothing, joins, whole_text}
 use Rattle.cborn_edn.proofs.Agree.{count-snoc, count-snoc_entry}
-use Rattle.cborn_edn.specs.Syntax.{Span, depth_of_number, tokens_of_content, commas_of_content, depth_of_content, tokens_of_fields, commas_of_fields, depth_of_fields, tokens_of_pairs, Item, number, word, tag, simple, array, map, tokens_of, depth, commas, Row, row, RowBefore, no_item, after_row, Content, loose, tight, tokens_of_row, Pairs, pairs, PairsBefore, no_pair, after_pairs, Fields, loose_fields, tight_fields, Input, nothing as nothing_there, items, commas_of_row, is_small, is_below, argument_of}
+use Rattle.cborn_edn.proofs.Trailing.{parse_of}
+use Rattle.cborn_edn.specs.Syntax.{Span, depth_of_number, tokens_of_content, depth_of_content, tokens_of_fields, depth_of_fields, tokens_of_pairs, Item, number, word, tag, simple, array, map, tokens_of, depth, Row, row, RowBefore, no_item, after_row, Content, loose, tight, tokens_of_row, Pairs, pairs, PairsBefore, no_pair, after_pairs, Fields, loose_fields, tight_fields, Input, nothing as nothing_there, items, is_small, is_below, argument_of}
+use Rattle.cborn_edn.specs.devices.Commas.{commas_of_content, commas_of_fields, commas, commas_of_row, AllowsCount}
 use Rattle.std.specs.Prelude.{nat_lt}
 use Rattle.cborn_edn.specs.Meaning.{integer, bignum, is_absent, holds, means_content, means_fields, and_then, when, means, snoc, snoc_entry, width_for, size_for}
 use Rattle.cborn_spell.specs.Descent.{AddsHead, SetsHead, AddsMarked, AddsNumber, AddsBignum, AddsSimple, Opens, Closes, Writes, TokenAt, Ends, ItemTaken, RowTaken, BeforeTaken, PairsTaken, PairsBeforeTaken, IsSpelling}
@@ -177,7 +178,7 @@ module _ (profile : Profile) (text : List ℕ) where
   pub record Inner (n m room k : ℕ) (old new : List ℕ) : Type 0 where
     pub content : Content
     pub lexed : Between profile text n m (tokens_of_content content)
-    pub allowed : Allows profile (commas_of_content content)
+    pub allowed : AllowsCount profile (commas_of_content content)
     pub shallow : depth_of_content content ≤ room
     pub nodes : Trees
     pub says : means_content content ≡ Some nodes
@@ -274,7 +275,7 @@ module _ (profile : Profile) (text : List ℕ) where
   record InnerPairs (n m room k : ℕ) (old new : List ℕ) : Type 0 where
     pub content : Fields
     pub lexed : Between profile text n m (tokens_of_fields content)
-    pub allowed : Allows profile (commas_of_fields content)
+    pub allowed : AllowsCount profile (commas_of_fields content)
     pub shallow : depth_of_fields content ≤ room
     pub nodes : Entries
     pub says : means_fields content ≡ Some nodes
@@ -360,7 +361,7 @@ module _ (profile : Profile) (text : List ℕ) where
           tokens = tokens_of_row r.row ++ [];
           lex = whole_text profile text _ (subst (λ (m : ℕ). Between profile text 0 m (tokens_of_row r.row ++ [])) e lexed);
           tree = items r.row;
-          parse = record { is = sym (append-nil (tokens_of_row r.row)); allowed = r.allowed };
+          parse = parse_of profile _ (items r.row) (sym (append-nil (tokens_of_row r.row))) r.allowed;
           shallow = r.shallow;
           says = r.says ∙ ap Some (sym (trees-tree_list r.nodes));
         };
@@ -374,7 +375,7 @@ module _ (profile : Profile) (text : List ℕ) where
       tokens = [];
       lex = whole_text profile text [] (subst (λ (m : ℕ). Between profile text 0 m []) e g);
       tree = nothing_there;
-      parse = record { is = refl; allowed = allows_none profile };
+      parse = parse_of profile [] nothing_there refl (allows_none profile);
       shallow = omega arith;
       says = refl;
     };

@@ -22,8 +22,8 @@ use Rattle.cborn_lex.specs.declared.classes.Profile.TheVariants.{Two}
 use Rattle.cborn_lex.specs.declared.classes.Class.TheVariants.{Comma}
 use Rattle.cborn_lex.specs.declared.classes.Class.{Class}
 use Rattle.cborn_lex.specs.Lex.{Between}
-use Rattle.cborn_edn.specs.Syntax.{Piece, tokens_of_piece, commas_of_piece, depth_of_piece, Pieces, tokens_of_pieces, commas_of_pieces, depth_of_pieces, Strings, tokens_of_strings, commas_of_strings, depth_of_strings, is_small, is_below, argument_of, Item, tokens_of, depth, commas, Row, RowBefore, tokens_of_row, tokens_of_row_before, depth_of_row, depth_of_row_before, commas_of_row, commas_of_row_before, Pairs, PairsBefore, tokens_of_pairs, tokens_of_pairs_before, depth_of_pairs, depth_of_pairs_before, commas_of_pairs, commas_of_pairs_before}
-use Rattle.cborn_edn.specs.Parse.{Allows}
+use Rattle.cborn_edn.specs.Syntax.{Piece, tokens_of_piece, depth_of_piece, Pieces, tokens_of_pieces, depth_of_pieces, Strings, tokens_of_strings, depth_of_strings, is_small, is_below, argument_of, Item, tokens_of, depth, Row, RowBefore, tokens_of_row, tokens_of_row_before, depth_of_row, depth_of_row_before, Pairs, PairsBefore, tokens_of_pairs, tokens_of_pairs_before, depth_of_pairs, depth_of_pairs_before}
+use Rattle.cborn_edn.specs.devices.Commas.{commas_of_piece, commas_of_pieces, commas_of_strings, commas, commas_of_row, commas_of_row_before, commas_of_pairs, commas_of_pairs_before, AllowsCount}
 use Rattle.cborn_edn.specs.Meaning.{width_for, is_simple, is_absent, same_kind, kind_of, mark_of, kind, last_piece, is_bare_before, is_of_kind, is_string, kind_of_strings, joined_piece, joined, means, means_strings, means_row, means_row_before, means_pairs, means_pairs_before}
 use Rattle.cborn_edn.specs.declared.strings.Kind.{Kind}
 use Rattle.cborn_edn.specs.declared.strings.Kind.TheVariants.{Bytes as OfBytes, Text as OfText}
@@ -160,7 +160,7 @@ module _ (profile : Profile) (text : List ℕ) (n m : ℕ) where
   pub record ItemTaken (room : ℕ) (old new : List ℕ) : Type 0 where
     pub item : Item
     pub lexed : Between profile text n m (tokens_of item)
-    pub allowed : Allows profile (commas item)
+    pub allowed : AllowsCount profile (commas item)
     pub shallow : depth item ≤ room
     pub written : Writes (means item) old new
 
@@ -168,7 +168,7 @@ module _ (profile : Profile) (text : List ℕ) (n m : ℕ) where
   pub record RowTaken (room k : ℕ) (old new : List ℕ) : Type 0 where
     pub row : Row
     pub lexed : Between profile text n m (tokens_of_row row)
-    pub allowed : Allows profile (commas_of_row row)
+    pub allowed : AllowsCount profile (commas_of_row row)
     pub shallow : depth_of_row row ≤ room
     pub nodes : Trees
     pub says : means_row row ≡ Some nodes
@@ -179,7 +179,7 @@ module _ (profile : Profile) (text : List ℕ) (n m : ℕ) where
   pub record BeforeTaken (room k : ℕ) (old new : List ℕ) : Type 0 where
     pub row : RowBefore
     pub lexed : Between profile text n m (tokens_of_row_before row)
-    pub allowed : Allows profile (commas_of_row_before row)
+    pub allowed : AllowsCount profile (commas_of_row_before row)
     pub shallow : depth_of_row_before row ≤ room
     pub nodes : Trees
     pub says : means_row_before row ≡ Some nodes
@@ -190,7 +190,7 @@ module _ (profile : Profile) (text : List ℕ) (n m : ℕ) where
   pub record PairsTaken (room k : ℕ) (old new : List ℕ) : Type 0 where
     pub pairs : Pairs
     pub lexed : Between profile text n m (tokens_of_pairs pairs)
-    pub allowed : Allows profile (commas_of_pairs pairs)
+    pub allowed : AllowsCount profile (commas_of_pairs pairs)
     pub shallow : depth_of_pairs pairs ≤ room
     pub nodes : Entries
     pub says : means_pairs pairs ≡ Some nodes
@@ -201,7 +201,7 @@ module _ (profile : Profile) (text : List ℕ) (n m : ℕ) where
   pub record PairsBeforeTaken (room k : ℕ) (old new : List ℕ) : Type 0 where
     pub pairs : PairsBefore
     pub lexed : Between profile text n m (tokens_of_pairs_before pairs)
-    pub allowed : Allows profile (commas_of_pairs_before pairs)
+    pub allowed : AllowsCount profile (commas_of_pairs_before pairs)
     pub shallow : depth_of_pairs_before pairs ≤ room
     pub nodes : Entries
     pub says : means_pairs_before pairs ≡ Some nodes
@@ -212,7 +212,7 @@ module _ (profile : Profile) (text : List ℕ) (n m : ℕ) where
   pub record PieceTaken (room : ℕ) (k : Kind) (mark : Mark) (old new : List ℕ) : Type 0 where
     pub piece : Piece
     pub lexed : Between profile text n m (tokens_of_piece piece)
-    pub allowed : Allows profile (commas_of_piece piece)
+    pub allowed : AllowsCount profile (commas_of_piece piece)
     pub shallow : depth_of_piece piece ≤ room
     pub of_kind : kind_of piece ≡ k
     pub marked : mark_of piece ≡ mark
@@ -224,7 +224,7 @@ module _ (profile : Profile) (text : List ℕ) (n m : ℕ) where
   pub record PiecesTaken (room : ℕ) (k : Kind) (mark : Mark) (old new : List ℕ) : Type 0 where
     pub pieces : Pieces
     pub lexed : Between profile text n m (tokens_of_pieces pieces)
-    pub allowed : Allows profile (commas_of_pieces pieces)
+    pub allowed : AllowsCount profile (commas_of_pieces pieces)
     pub shallow : depth_of_pieces pieces ≤ room
     pub of_kind : kind pieces ≡ k
     pub marked : mark_of (last_piece pieces) ≡ mark
@@ -238,7 +238,7 @@ module _ (profile : Profile) (text : List ℕ) (n m : ℕ) where
   pub record StringTaken (room : ℕ) (k : Kind) (old new : List ℕ) : Type 0 where
     pub pieces : Pieces
     pub lexed : Between profile text n m (tokens_of_pieces pieces)
-    pub allowed : Allows profile (commas_of_pieces pieces)
+    pub allowed : AllowsCount profile (commas_of_pieces pieces)
     pub shallow : depth_of_pieces pieces ≤ room
     pub of_kind : kind pieces ≡ k
     pub bytes : List ℕ
@@ -252,7 +252,7 @@ module _ (profile : Profile) (text : List ℕ) (n m : ℕ) where
   pub record ChunksTaken (room : ℕ) (k : Kind) (old new : List ℕ) : Type 0 where
     pub strings : Strings
     pub lexed : Between profile text n m (tokens_of_strings strings)
-    pub allowed : Allows profile (commas_of_strings strings)
+    pub allowed : AllowsCount profile (commas_of_strings strings)
     pub shallow : depth_of_strings strings ≤ room
     pub of_kind : kind_of_strings strings ≡ k
     pub chunks : List Chunk

@@ -1,6 +1,6 @@
 use Rattle.std.proofs.Common.{◌≡◌, ◌+◌, ◌*◌, take}
 use Rattle.cborn_model.specs.Tree.{trees, entries, depth, depth_all, depth_entries}
-use Rattle.cborn_edn.specs.Lowest as pure
+use Rattle.cborn_edn.specs.devices.Lowest as pure
 use Rattle.cborn_edn.proofs.texts.+bad_text.Given as goal
 
 abbrev pub invariant-bad_item-loop-item : goal.invariant-bad_item-loop-item

@@ -1,5 +1,5 @@
 use Rattle.std.proofs.Common.{◌≡◌, take}
-use Rattle.cborn_edn.specs.Lowest as pure
+use Rattle.cborn_edn.specs.devices.Lowest as pure
 use Rattle.cborn_edn.proofs.texts.bad_chunk.Given as goal
 
 abbrev pub invariant-loop-chunk : goal.invariant-loop-chunk

@@ -1,7 +1,7 @@
-use Rattle.std.proofs.Common.{rules, ◌≡◌, sym, ap, ◌∙◌, ◌<◌, ◌-◌, ◌∷◌, Some, None, if◌then◌else◌, length, take, slice_set}
+use Rattle.std.proofs.Common.{rules, ◌≡◌, sym, ap, ◌∙◌, ◌<◌, ◌-◌, ◌∷◌, length, take}
 use mathlib.Core.List.{reverse}
 use Rattle.std.specs.Vec.{vec_len}
-use Rattle.cborn_edn.specs.Draft.{keyed, keyed_in}
+use Rattle.cborn_edn.specs.devices.Draft.{keyed, keyed_in}
 use Rattle.cborn_edn.proofs.Innermost.{last_is, levels_set, innermost_set}
 use Rattle.cborn_edn.proofs.frames.Frames.key.Goals as goal
 

@@ -1,7 +1,7 @@
 use Rattle.std.proofs.Common.{rules, ◌≡◌, sym, ap, ◌∙◌, ◌<◌, ◌-◌, ◌∷◌, Some, None, if◌then◌else◌, length, take, slice_set}
 use mathlib.Core.List.{reverse}
 use Rattle.std.specs.Vec.{vec_len}
-use Rattle.cborn_edn.specs.Draft.{settled, settled_in}
+use Rattle.cborn_edn.specs.devices.Draft.{settled, settled_in}
 use Rattle.cborn_edn.proofs.Innermost.{last_is, levels_set, innermost_set, if_ok}
 use Rattle.cborn_edn.proofs.frames.Frames.settle.Goals as goal
 

@@ -11,8 +11,8 @@ use Rattle.cborn_edn.specs.declared.frames.Frame.TheVariants.{Top, Array, Embedd
 use Rattle.cborn_edn.specs.declared.states.Phase.{Phase}
 use Rattle.cborn_edn.specs.declared.states.Phase.TheVariants.{Has, Builds}
 use Rattle.cborn_edn.specs.declared.states.State.{State}
-use Rattle.cborn_edn.specs.Meaning.{IsShort}
-use Rattle.cborn_edn.specs.Draft.{string_item, draft_step, draft_run, reach, Stuck}
+use Rattle.cborn_edn.specs.Counted.{IsShort}
+use Rattle.cborn_edn.specs.devices.Draft.{string_item, draft_step, draft_run, reach, Stuck}
 
 -- an item that a sequence can keep, if there is one
 abbrev pub MaySpell : Option Tree → Type 0

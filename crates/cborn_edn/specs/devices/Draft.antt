@@ -31,7 +31,7 @@ use Rattle.cborn_edn.specs.declared.states.Phase.{Phase}
 use Rattle.cborn_edn.specs.declared.states.Phase.TheVariants.{Wants, Has, Builds, WantsChunk, WantsNumber, HasNumber}
 use Rattle.cborn_edn.specs.declared.states.State.{State}
 use Rattle.cborn_edn.specs.Syntax.{is_small}
-use Rattle.cborn_edn.specs.Levels.{levels_in, filled}
+use Rattle.cborn_edn.specs.devices.Levels.{levels_in, filled}
 use Rattle.cborn_edn.specs.Meaning.{number_of, and_then, when, width_for, size_for, is_absent, snoc, snoc_entry, means_number, is_simple, same_kind, is_good, string_node, chunked_node, width_slips, size_slips, number_slips, tag_slips}
 
 abbrev pub no_later : Slip → Slip → Bool
