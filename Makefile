@@ -6,7 +6,7 @@ LIBRARIES := cborn_model cborn_wire cborn_det cborn_judge cborn_transcode cborn_
 # The least stack, in KB, with which each command has to answer at 1,024 levels.
 STACK ?= 8192
 
-.PHONY: help build test tables vectors growths failures stack library-growths bench install clean
+.PHONY: help build test tables vectors growths failures believed stack library-growths bench install clean
 
 help:
 	@echo 'make build      prove every crate and build the program, $(PROGRAM)'
@@ -15,6 +15,7 @@ help:
 	@echo 'make vectors    the built program on each front of each worked input'
 	@echo 'make growths    the built program on those tables, each growth refused in turn'
 	@echo 'make failures   the built program on those tables, with trouble at each opening, read and write in turn'
+	@echo 'make believed   the lines of definitions that a reader has to believe, and that the documents say so'
 	@echo 'make stack      the least stack that each command needs at 1,024 levels, at most STACK KB (STACK is $(STACK))'
 	@echo 'make library-growths   the tests of the libraries, proved and built first, each growth refused in turn'
 	@echo 'make bench      time the commands on a corpus of 130 MB, made under bench/corpus'
@@ -46,6 +47,9 @@ failures: build
 
 vectors: build
 	python3 tests/vectors.py $(PROGRAM)
+
+believed:
+	python3 tests/believed.py
 
 stack: build
 	python3 tests/stack.py $(PROGRAM) $(STACK)

@@ -1,5 +1,5 @@
 -- What is encoded of what an input holds is canonical.
-use Rattle.std.proofs.Common.{◌≡◌, ◌≤◌, ◌<◌, ◌^◌, ℕ, List, [], length, refl, sym, ◌∙◌, subst, arith, Ordering, Option, Result, Ok, Err, Vec, Global}
+use Rattle.std.proofs.Common.{◌≡◌, ◌≤◌, ◌^◌, ◌↔◌, ℕ, List, [], length, refl, sym, ◌∙◌, subst, arith, Ordering, Option, Result, Ok, Err, Vec, Global}
 use Rattle.std.specs.List.{AllZip, AllByRecursion}
 use Rattle.cborn_model.specs.Value.{Value, Same}
 use Rattle.cborn_model.specs.Tree.{Tree, trees, depth_all}
@@ -13,14 +13,14 @@ use Rattle.cborn_engine.specs.declared.faults.EngineFault.{EngineFault}
 use Rattle.cborn_engine.specs.declared.faults.EngineFault.TheVariants as fault
 use Rattle.cborn_engine.specs.declared.kinds.Kind.{Kind}
 use Rattle.cborn_engine.specs.declared.kinds.Kind.TheVariants as kind
-use Rattle.cborn_engine.specs.Holding.{Spells, Holds, Canon, IsWrittenAs}
+use Rattle.cborn_engine.specs.Holding.{Spells, Holds, Canon}
+use Rattle.cborn_engine.specs.Encoding.{IsWrittenAs, IsEncoded, Encodes}
 use Rattle.cborn_engine.specs.Refusing.{IsRead}
-use Rattle.cborn_engine.specs.Encoding.{IsEncoded, Encodes}
-use Rattle.cborn_engine.specs.Writing.{Writes, WriteAnswers}
+use Rattle.cborn_engine.specs.Sending.{Writes, WriteAnswers}
 use Rattle.cborn_engine.specs.Canonical.{IsCanonical, NormaliseAnswers, Normalises}
 use Rattle.cborn_engine.proofs.Notated.{fits}
 use Rattle.cborn_engine.proofs.Proper.{sequence_proper, sequence_shallow}
-use Rattle.cborn_engine.proofs.Meant.{holds_once, nodes_sound, all_same, all_turned, AreSound}
+use Rattle.cborn_engine.proofs.Meant.{holds_once, all_same, all_turned, AreSound}
 use Rattle.cborn_engine.proofs.FixedText.{text_once, bytes_once, text_back}
 use Rattle.cborn_engine.proofs.ReadsBack.{SequenceReadsBack, sequence_back}
 use Rattle.cborn_engine.proofs.Unanswered.{nothing_written}
@@ -54,6 +54,14 @@ encoding_once kind.Wire x y w h k = sym h ∙ k
 encoding_once kind.Notation x y w h k = bytes_once x y w h k
 encoding_once kind.Notation2 x y w h k = bytes_once x y w h k
 
+-- valid items have one canonical form
+one_form : (order : List ℕ → List ℕ → Ordering) (laws : IsKeyOrder order) (out : Kind) (vs : List Value) (v w : List ℕ) → AllByRecursion IsProper vs → Canon order out vs v → Canon order out vs w → v ≡ w
+one_form order laws out vs v w p c d =
+    let f = canon_is order out vs v c in
+    let g = canon_is order out vs w d in
+    let same : f.0 ≡ g.0 = one_of_seq order laws vs vs f.0 g.0 p p (all_same vs) f.1 g.1 in
+    output_once out g.0 v w (subst (λ (y : List ℕ). IsWrittenAs out y v) same f.2) g.2
+
 -- the output holds what its bytes do
 holds_back : (out : Kind) (limit : ℕ) (vs : List Value) (x w : List ℕ) (back : SequenceReadsBack limit 0 vs x) → IsWrittenAs out x w → Holds out limit w back.items
 holds_back kind.Wire limit vs x w back e =
@@ -63,31 +71,6 @@ holds_back kind.Notation limit vs x w back e =
     let t = text_back profile.One limit x w back.nodes back.items back.fits back.shallow back.spells back.mean e in record { nodes = t.nodes; spelled = t.notated; meant = t.mean }
 holds_back kind.Notation2 limit vs x w back e =
     let t = text_back profile.Two limit x w back.nodes back.items back.fits back.shallow back.spells back.mean e in record { nodes = t.nodes; spelled = t.notated; meant = t.mean }
-
--- ---- it is canonical
-
-canonical : (order : List ℕ → List ℕ → Ordering) (laws : IsKeyOrder order) (k out : Kind) (limit : ℕ) (input : List ℕ) (vs : List Value) (x w : List ℕ) → AreSound limit vs → length x < 2 ^ 64 → Holds k limit input vs → DetSeq order vs x → IsWrittenAs out x w → IsCanonical order k out limit input w
-canonical order laws k out limit input vs x w sound small h d e =
-    let back = sequence_back order laws limit 0 vs x sound.proper sound.shallow d in
-    let again : AreSound limit back.items = nodes_sound limit back.nodes back.items back.fits back.shallow (subst (λ (y : List ℕ). length y < 2 ^ 64) (sym back.spells) small) back.mean in
-    let held : Holds out limit w back.items = holds_back out limit vs x w back e in
-    let settled : Canon order out back.items w = canon_of order out back.items x w (same_encoded order laws vs back.items x sound.proper again.proper d (all_turned back.items vs back.same)) e in
-    record {
-      items = vs;
-      held = h;
-      proper = sound.proper;
-      written = canon_of order out vs x w d e;
-      reads_back = record { others = back.items; held = held; same = back.same };
-      alone = λ v c. let f = canon_is order out vs v c in
-          let same : f.0 ≡ x = one_of_seq order laws vs vs f.0 x sound.proper sound.proper (all_same vs) f.1 d in
-          output_once out x v w (subst (λ (y : List ℕ). IsWrittenAs out y v) same f.2) e;
-      one_for_same = λ others proper. (
-        λ c. let f = canon_is order out others w c in
-            seq_of_one order laws vs others x sound.proper proper d (subst (DetSeq order others) (encoding_once out f.0 x w f.2 e) f.1),
-        λ s. canon_of order out others x w (same_encoded order laws vs others x sound.proper proper d s) e,
-      );
-      settled = λ others other. subst (λ (us : List Value). Canon order out us w) (holds_once out limit w back.items others held other) settled;
-    }
 
 -- ---- what was read is sound
 
@@ -101,6 +84,51 @@ held_sound order k limit input vs x short h d =
     let f = spelled_fits k limit input h.nodes short h.spelled in
     record { proper = sequence_proper order h.nodes vs x f.0 h.meant d; shallow = sequence_shallow limit h.nodes vs f.0 f.1 h.meant }
 
+-- ---- what follows for the canonical form of what an input holds
+
+module _ (order : List ℕ → List ℕ → Ordering) (laws : IsKeyOrder order) (k out : Kind) (limit : ℕ) (x w : List ℕ) (short : length x ≤ 2 ^ 30) (c : IsCanonical order k out limit x w) where
+  -- the encoding that the output is, or tells
+  encoded : (e : List ℕ) × DetSeq order c.items e × IsWrittenAs out e w
+  encoded = canon_is order out c.items w c.written
+
+  sound : AreSound limit c.items
+  sound = held_sound order k limit x c.items encoded.0 short c.held encoded.1
+
+  back : SequenceReadsBack limit 0 c.items encoded.0
+  back = sequence_back order laws limit 0 c.items encoded.0 sound.proper sound.shallow encoded.1
+
+  held_again : Holds out limit w back.items
+  held_again = holds_back out limit c.items encoded.0 w back encoded.2
+
+  pub valid : AllByRecursion IsProper c.items
+  valid = sound.proper
+
+  pub reads_back : (others : List Value) × Holds out limit w others × AllZip Same others c.items
+  reads_back = (back.items, held_again, back.same)
+
+  pub alone : (v : List ℕ) → Canon order out c.items v → v ≡ w
+  alone v d = one_form order laws out c.items v w valid d c.written
+
+  pub one_for_same : (others : List Value) → AllByRecursion IsProper others → Canon order out others w ↔ AllZip Same c.items others
+  one_for_same others proper = (
+    λ d. let f = canon_is order out others w d in
+        seq_of_one order laws c.items others encoded.0 valid proper encoded.1 (subst (DetSeq order others) (encoding_once out f.0 encoded.0 w f.2 encoded.2) f.1),
+    λ s. canon_of order out others encoded.0 w (same_encoded order laws c.items others encoded.0 valid proper encoded.1 s) encoded.2,
+  )
+
+  pub settled : (others : List Value) → Holds out limit w others → Canon order out others w
+  settled others other =
+      let same = same_encoded order laws c.items back.items encoded.0 valid back.proper encoded.1 (all_turned back.items c.items back.same) in
+      subst (λ (us : List Value). Canon order out us w) (holds_once out limit w back.items others held_again other) (canon_of order out back.items encoded.0 w same encoded.2)
+
+  -- the canonical form of the output is the output
+  pub again : (v : List ℕ) → IsCanonical order out out limit w v → v ≡ w
+  again v b =
+      let proper = subst (AllByRecursion IsProper) (holds_once out limit w back.items b.items held_again b.held) back.proper in
+      one_form order laws out b.items v w proper b.written (settled b.items b.held)
+
+-- ---- what was encoded
+
 -- the bytes hold items of which they are the encodings, the same as these
 pub record OwnEncoding (order : List ℕ → List ℕ → Ordering) (limit : ℕ) (bytes : List ℕ) (items : List Value) : Type 0 where
   pub own : IsEncoded order kind.Wire limit bytes bytes
@@ -112,13 +140,11 @@ own_encoding order laws k limit most before after bytes bounded h =
     let e = h.answer.1 in
     let sound : AreSound limit e.items = held_sound order k limit h.input e.items bytes.items (omega (arith, h.answer.0, bounded)) e.held e.encoded in
     let back = sequence_back order laws limit 0 e.items bytes.items sound.proper sound.shallow e.encoded in
-    let small : length bytes.items < 2 ^ 64 = omega (arith, bytes.small) in
-    let again : AreSound limit back.items = nodes_sound limit back.nodes back.items back.fits back.shallow (subst (λ (y : List ℕ). length y < 2 ^ 64) (sym back.spells) small) back.mean in
     record {
       own = record {
         items = back.items;
         held = holds_back kind.Wire limit e.items bytes.items bytes.items back refl;
-        encoded = same_encoded order laws e.items back.items bytes.items sound.proper again.proper e.encoded (all_turned back.items e.items back.same);
+        encoded = same_encoded order laws e.items back.items bytes.items sound.proper back.proper e.encoded (all_turned back.items e.items back.same);
       };
       same = back.same;
     }
@@ -132,12 +158,11 @@ encoded_held order laws k limit most before after bytes bounded h =
     (back.items, holds_back kind.Wire limit e.items bytes.items bytes.items back refl)
 
 -- what was encoded of what was read, written out
-pub normalised : (order : List ℕ → List ℕ → Ordering) (laws : IsKeyOrder order) (k out : Kind) (limit most : ℕ) (before after sent sent_after : Option (List ℕ)) (bytes : Vec ℕ Global) (zs ys : List ℕ) (r : Result Unit EngineFault) → most ≤ 2 ^ 30 → length bytes.items < 2 ^ 64 → Encodes order k limit most before after (Ok bytes) → IsWrittenAs out bytes.items zs → ys ≡ zs → Writes sent sent_after ys r → Normalises order k out limit most before after sent sent_after r
-normalised order laws k out limit most before after sent sent_after bytes zs ys r bounded small h t f w =
+pub normalised : (order : List ℕ → List ℕ → Ordering) (k out : Kind) (limit most : ℕ) (before after sent sent_after : Option (List ℕ)) (bytes : Vec ℕ Global) (zs ys : List ℕ) (r : Result Unit EngineFault) → Encodes order k limit most before after (Ok bytes) → IsWrittenAs out bytes.items zs → ys ≡ zs → Writes sent sent_after ys r → Normalises order k out limit most before after sent sent_after r
+normalised order k out limit most before after sent sent_after bytes zs ys r h t f w =
     let e = h.answer.1 in
     let told : IsWrittenAs out bytes.items ys = subst (IsWrittenAs out bytes.items) (sym f) t in
-    let sound : AreSound limit e.items = held_sound order k limit h.input e.items bytes.items (omega (arith, h.answer.0, bounded)) e.held e.encoded in
-    let all : IsCanonical order k out limit h.input ys = canonical order laws k out limit h.input e.items bytes.items ys sound small e.held e.encoded told in
+    let all : IsCanonical order k out limit h.input ys = record { items = e.items; held = e.held; written = canon_of order out e.items bytes.items ys e.encoded told } in
     record { input = h.input; output = w.output; taken = h.taken; given = w.written; answer = answer r w.answer all; to_end = ended r w.answer }
   where
     answer : (r : Result Unit EngineFault) → WriteAnswers ys w.output r → IsCanonical order k out limit h.input ys → NormaliseAnswers order k out limit most h.input w.output r

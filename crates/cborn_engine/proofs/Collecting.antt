@@ -7,8 +7,8 @@ use Rattle.std.proofs.Math.Seq.{take-add}
 use Rattle.cborn_engine.specs.declared.pieces.Stop.{Stop}
 use Rattle.cborn_engine.specs.declared.pieces.Stop.TheVariants as stop
 use Rattle.cborn_engine.specs.declared.faults.EngineFault.TheVariants as fault
-use Rattle.cborn_engine.specs.Faults.{of_stop}
-use Rattle.cborn_engine.specs.Reading.{PieceAnswers, Collects}
+use Rattle.cborn_engine.specs.Stopping.{of_stop}
+use Rattle.cborn_engine.specs.Pieces.{PieceAnswers, Collects}
 
 -- the first bytes of a buffer are what was read
 pub record Filled (most left filled : ℕ) (before after : Option (List ℕ)) (x : List ℕ) : Type 0 where

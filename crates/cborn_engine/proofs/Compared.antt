@@ -11,7 +11,7 @@ use Rattle.cborn_judge.specs.declared.faults.Invalid.TheVariants as invalid
 use Rattle.cborn_judge.specs.Flaws.{IsRefusalOfAll}
 use Rattle.cborn_engine.specs.declared.kinds.Kind.{Kind}
 use Rattle.cborn_engine.specs.declared.kinds.Kind.TheVariants as kind
-use Rattle.cborn_engine.specs.Comparing.{AreCompared, Compares}
+use Rattle.cborn_engine.specs.Comparing.{AreCompared, IsHeldWhole, Compares}
 use Rattle.cborn_engine.specs.Encoding.{IsEncoded, Encodes}
 use Rattle.cborn_engine.specs.Holding.{Holds}
 use Rattle.cborn_engine.proofs.Apart.{difference_too}
@@ -23,6 +23,10 @@ use Rattle.cborn_engine.proofs.Meant.{holds_once, spells_once}
 pub no_flaw_held : (limit : ℕ) (bytes : List ℕ) (nodes : List Tree) (p : ℕ) (r : InvalidReason) → (items : List Value) × Holds kind.Wire limit bytes items → Wellformed limit (trees nodes) bytes × PlacedAll 0 (trees nodes) → IsRefusalOfAll nodes (invalid.Refused p r) → ⊥
 no_flaw_held limit bytes nodes p r h w f =
     flawless h.1.nodes h.0 p r h.1.meant (subst (λ (ns : List Tree). IsRefusalOfAll ns (invalid.Refused p r)) (spells_once kind.Wire limit bytes nodes h.1.nodes w h.1.spelled) f)
+
+-- what was encoded was held
+pub held_whole : (order : List ℕ → List ℕ → Ordering) (k : Kind) (limit most : ℕ) (before after : Option (List ℕ)) (bytes : Vec ℕ Global) → Encodes order k limit most before after (Ok bytes) → IsHeldWhole k limit before after
+held_whole order k limit most before after bytes h = record { input = h.input; items = h.answer.1.items; taken = h.taken; held = h.answer.1.held; at_end = h.to_end }
 
 module _ (order : List ℕ → List ℕ → Ordering) (laws : IsKeyOrder order) where
   pub encodes_itself : (k : Kind) (limit most : ℕ) (before after : Option (List ℕ)) (bytes : Vec ℕ Global) (x : List ℕ) → most ≤ 2 ^ 30 → Encodes order k limit most before after (Ok bytes) → x ≡ bytes.items → IsEncoded order kind.Wire limit x x

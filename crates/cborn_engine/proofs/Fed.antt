@@ -17,9 +17,10 @@ use Rattle.cborn_wire.proofs.FaultLaws.{refused_stays}
 use Rattle.cborn_engine.specs.declared.pieces.Stop.{Stop}
 use Rattle.cborn_engine.specs.declared.pieces.Stop.TheVariants as stop
 use Rattle.cborn_engine.specs.declared.kinds.Kind.TheVariants as kind
-use Rattle.cborn_engine.specs.Faults.{of_stop, of_wire}
+use Rattle.cborn_engine.specs.Faults.{of_wire}
+use Rattle.cborn_engine.specs.Stopping.{of_stop}
 use Rattle.cborn_engine.specs.Loading.{Loads}
-use Rattle.cborn_engine.specs.Reading.{PieceAnswers}
+use Rattle.cborn_engine.specs.Pieces.{PieceAnswers}
 
 abbrev pub StaysRefused : ℕ → List ℕ → WireFault → Type 0
 StaysRefused limit x (wire.Refused p r) = Refused limit x p r

@@ -16,9 +16,9 @@ use Rattle.cborn_transcode.proofs.Lists.{all_mean}
 use Rattle.cborn_spell.specs.Descent.{IsSpelling}
 use Rattle.cborn_engine.specs.declared.faults.EngineFault.{EngineFault}
 use Rattle.cborn_engine.specs.declared.kinds.Kind.{Kind}
-use Rattle.cborn_engine.specs.Loading.{kind_of, Loads}
+use Rattle.cborn_engine.specs.Loading.{Loads}
+use Rattle.cborn_engine.specs.Encoding.{kind_of, IsEncoded, Encodes}
 use Rattle.cborn_engine.specs.Holding.{Spells, IsNotation}
-use Rattle.cborn_engine.specs.Encoding.{IsEncoded, Encodes}
 use Rattle.cborn_engine.proofs.SameNodes.{same_nodes}
 
 zip_mean : (ts : List Tree) (vs : List Value) → AllMean (trees ts) (values_of vs) → AllZip Means ts vs

@@ -1,5 +1,5 @@
 -- What is written deterministically reads back as the same items, no deeper than they are.
-use Rattle.std.proofs.Common.{◌≡◌, ◌≤◌, ℕ, suc, ◌+◌, ◌^◌, inl, inr, Bool, true, false, ltb, List, [], ◌∷◌, ◌++◌, length, refl, sym, ap, ◌∙◌, subst, arith, Ordering, append-nil}
+use Rattle.std.proofs.Common.{◌≡◌, ◌≤◌, ◌<◌, ℕ, suc, ◌+◌, ◌^◌, inl, inr, Bool, true, false, ltb, List, [], ◌∷◌, ◌++◌, length, refl, sym, ap, ◌∙◌, subst, arith, Ordering, append-nil}
 use Rattle.std.specs.declared.cmp.Ordering.TheVariants.{Less}
 use Rattle.std.specs.List.{AllZip, AllByRecursion}
 use Rattle.std.proofs.lemmas.Bool.{lt-ltb, le-ltb}
@@ -20,7 +20,7 @@ use Rattle.cborn_det.specs.Det.{Entry, IsInteger, IsSimple, Det, DetValues, DetP
 use Rattle.cborn_det.proofs.Canon.{one_of_seq}
 use Rattle.cborn_lex.proofs.Weights.{utf8_bytes}
 
--- the bytes spell a node at p that means the same as the item, and is no deeper
+-- the bytes spell a node at p that means the same as the item, valid, and is no deeper
 pub record ReadsBack (p : ℕ) (v : Value) (x : List ℕ) : Type 0 where
   pub node : Tree
   pub item : Value
@@ -29,6 +29,7 @@ pub record ReadsBack (p : ℕ) (v : Value) (x : List ℕ) : Type 0 where
   pub placed : Placed p node
   pub means : Means node item
   pub same : Same item v
+  pub proper : IsProper item
   pub shallow : depth node ≤ value_depth v
 
 pub record AllReadBack (p : ℕ) (vs : Values) (x : List ℕ) : Type 0 where
@@ -40,6 +41,8 @@ pub record AllReadBack (p : ℕ) (vs : Values) (x : List ℕ) : Type 0 where
   pub placed : PlacedAll p nodes
   pub mean : AllMean nodes items
   pub same : SameValues items vs
+  pub proper : AreProper items
+  pub as_many : value_count items ≡ value_count vs
   pub shallow : depth_all nodes ≤ values_depth vs
 
 -- an entry at p: what its key and its value spell is no deeper than this
@@ -58,6 +61,8 @@ pub record EntriesReadBack (deep p : ℕ) (rs : List (Value × Value)) (es : Lis
   pub placed : PlacedEntries p nodes
   pub mean : EntriesMean nodes couples
   pub same : SamePairs couples rs
+  pub proper : HasProperPairs couples
+  pub as_many : pair_count couples ≡ length rs
   pub shallow : depth_entries nodes ≤ deep
 
 -- ---- leaves
@@ -74,6 +79,7 @@ integer_back p false m x h (inl d) = record {
   placed = refl;
   means = (m, h.0, h.1, refl, refl);
   same = refl;
+  proper = h;
   shallow = omega arith;
 }
 integer_back p true m x h (inl d) = record {
@@ -84,6 +90,7 @@ integer_back p true m x h (inl d) = record {
   placed = refl;
   means = (m, h.0, h.1, refl, refl);
   same = refl;
+  proper = h;
   shallow = omega arith;
 }
 integer_back p false m x h (inr d) = record {
@@ -94,6 +101,7 @@ integer_back p false m x h (inr d) = record {
   placed = (refl, refl);
   means = inl (refl, (m, refl, (m, h.0, h.1, refl, refl)));
   same = refl;
+  proper = h;
   shallow = deep_integer false m d.0;
 }
 integer_back p true m x h (inr d) = record {
@@ -104,16 +112,17 @@ integer_back p true m x h (inr d) = record {
   placed = (refl, refl);
   means = inr (inl (refl, (m, refl, (m, h.0, h.1, refl, refl))));
   same = refl;
+  proper = h;
   shallow = deep_integer true m d.0;
 }
 
 simple_back : (p n : ℕ) (x : List ℕ) → IsSimple n x → ReadsBack p (simple n) x
 simple_back p n x (inl d) =
     let e : ltb n 24 ≡ true = lt-ltb n 24 d.0 in
-    record { node = Simple p n; item = simple n; spells = rw e (sym d.1.1); fits = inl d.0; placed = refl; means = refl; same = refl; shallow = omega arith }
+    record { node = Simple p n; item = simple n; spells = rw e (sym d.1.1); fits = inl d.0; placed = refl; means = refl; same = refl; proper = inl d.0; shallow = omega arith }
 simple_back p n x (inr d) =
     let e : ltb n 24 ≡ false = le-ltb n 24 (omega (arith, d.0)) in
-    record { node = Simple p n; item = simple n; spells = rw e (sym d.2.1); fits = inr (d.0, d.1); placed = refl; means = refl; same = refl; shallow = omega arith }
+    record { node = Simple p n; item = simple n; spells = rw e (sym d.2.1); fits = inr (d.0, d.1); placed = refl; means = refl; same = refl; proper = inr (d.0, d.1); shallow = omega arith }
 
 module _ (order : List ℕ → List ℕ → Ordering) (laws : IsKeyOrder order) where
   -- ---- maps
@@ -124,7 +133,7 @@ module _ (order : List ℕ → List ℕ → Ordering) (laws : IsKeyOrder order) 
 
   -- entries one after another
   entries_back : (deep p : ℕ) (rs : List (Value × Value)) (es : List Entry) → AllZip (Backed deep) rs es → EntriesReadBack deep p rs es
-  entries_back deep p [] [] h = record { nodes = no_entry; couples = no_pairs; spells = refl; counted = refl; fits = tt; placed = tt; mean = tt; same = tt; shallow = omega arith }
+  entries_back deep p [] [] h = record { nodes = no_entry; couples = no_pairs; spells = refl; counted = refl; fits = tt; placed = tt; mean = tt; same = tt; proper = tt; as_many = refl; shallow = omega arith }
   entries_back deep p [] (e ∷ es) h = absurd h
   entries_back deep p (r ∷ rs) [] h = absurd h
   entries_back deep p (r ∷ rs) (e ∷ es) h =
@@ -145,6 +154,8 @@ module _ (order : List ℕ → List ℕ → Ordering) (laws : IsKeyOrder order) 
         );
         mean = (one.key.means, one.val.means, more.mean);
         same = (one.key.same, one.val.same, more.same);
+        proper = (one.key.proper, one.val.proper, more.proper);
+        as_many = ap suc more.as_many;
         shallow = omega (arith, one.key.shallow, one.val.shallow, one.key_shallow, one.value_shallow, more.shallow);
       }
 
@@ -183,20 +194,23 @@ module _ (order : List ℕ → List ℕ → Ordering) (laws : IsKeyOrder order) 
   length-listed no_pairs = refl
   length-listed (pair k v ps) = ap suc (length-listed ps)
 
-  map_back : (p : ℕ) (ps : Couples) (x : List ℕ) → Det order (dict ps) x → ((es : List Entry) → DetPairs order ps es → AllZip (Backed (pairs_depth ps)) (listed ps) es) → ReadsBack p (dict ps) x
-  map_back p ps x d back =
+  map_back : (p : ℕ) (ps : Couples) (x : List ℕ) → pair_count ps < 2 ^ 64 → Det order (dict ps) x → ((es : List Entry) → DetPairs order ps es → AllZip (Backed (pairs_depth ps)) (listed ps) es) → ReadsBack p (dict ps) x
+  map_back p ps x few d back =
       let n : ℕ = pair_count ps in
       let moved = carried (Backed (pairs_depth ps)) (listed ps) d.1 d.2 (back d.1 d.4) d.5 in
       let all = entries_back (pairs_depth ps) (p + length (head Map (Given (least n) n))) moved.0 d.2 moved.2 in
-      let counted : count_entries all.nodes ≡ n = all.counted ∙ length_permutation (listed ps) moved.0 moved.1 ∙ length-listed ps in
+      let kept : length moved.0 ≡ n = length_permutation (listed ps) moved.0 moved.1 ∙ length-listed ps in
+      let counted : count_entries all.nodes ≡ n = all.counted ∙ kept in
+      let new = new_keys (pairs_depth ps) all.couples moved.0 d.2 all.same moved.2 d.6 in
       record {
         node = Pairs p (Fixed (least n)) all.nodes;
         item = dict all.couples;
         spells = append-nil (head Map (Given (least n) (count_entries all.nodes)) ++ spelled_entries all.nodes) ∙ (λ i. head Map (Given (least n) (counted i)) ++ all.spells i) ∙ ap (λ l. l ++ joined d.2) (sym d.3.1) ∙ sym d.7;
         fits = (subst (Holds (least n)) (sym counted) d.3.0, all.fits);
         placed = (refl, subst (λ (k : ℕ). PlacedEntries (p + length (head Map (Given (least n) k))) all.nodes) (sym counted) all.placed);
-        means = (all.couples, all.mean, new_keys (pairs_depth ps) all.couples moved.0 d.2 all.same moved.2 d.6, refl);
+        means = (all.couples, all.mean, new, refl);
         same = (moved.0, moved.1, all.same);
+        proper = (all.proper, new, subst (λ (k : ℕ). k < 2 ^ 64) (sym (all.as_many ∙ kept)) few);
         shallow = omega (arith, all.shallow);
       }
 
@@ -205,8 +219,8 @@ module _ (order : List ℕ → List ℕ → Ordering) (laws : IsKeyOrder order) 
   mutual
     pub reads_back : (p : ℕ) (v : Value) (x : List ℕ) → IsProper v → Det order v x → ReadsBack p v x
     reads_back p (integer s m) x h d = integer_back p s m x h d
-    reads_back p (bytes b) x h d = record { node = Bytes p (least (length b)) b; item = bytes b; spells = ap (λ l. l ++ b) (sym d.1.1) ∙ sym d.2; fits = (d.1.0, h.0); placed = refl; means = refl; same = refl; shallow = omega arith }
-    reads_back p (text b) x h d = record { node = Text p (least (length b)) b; item = text b; spells = ap (λ l. l ++ b) (sym d.1.1) ∙ sym d.2; fits = (d.1.0, utf8_bytes b h.0); placed = refl; means = (h.0, refl); same = refl; shallow = omega arith }
+    reads_back p (bytes b) x h d = record { node = Bytes p (least (length b)) b; item = bytes b; spells = ap (λ l. l ++ b) (sym d.1.1) ∙ sym d.2; fits = (d.1.0, h.0); placed = refl; means = refl; same = refl; proper = h; shallow = omega arith }
+    reads_back p (text b) x h d = record { node = Text p (least (length b)) b; item = text b; spells = ap (λ l. l ++ b) (sym d.1.1) ∙ sym d.2; fits = (d.1.0, utf8_bytes b h.0); placed = refl; means = (h.0, refl); same = refl; proper = h; shallow = omega arith }
     reads_back p (array vs) x h d =
         let n : ℕ = value_count vs in
         let all = all_read_back (p + length (head Array (Given (least n) n))) vs d.1 h.0 d.3 in
@@ -218,9 +232,10 @@ module _ (order : List ℕ → List ℕ → Ordering) (laws : IsKeyOrder order) 
           placed = (refl, subst (λ (k : ℕ). PlacedAll (p + length (head Array (Given (least n) k))) all.nodes) (sym all.counted) all.placed);
           means = (all.items, all.mean, refl);
           same = all.same;
+          proper = (all.proper, subst (λ (k : ℕ). k < 2 ^ 64) (sym all.as_many) h.1);
           shallow = omega (arith, all.shallow);
         }
-    reads_back p (dict ps) x h d = map_back p ps x d (λ es e. pairs_read_back (pairs_depth ps) ps es h.0 (omega arith) e)
+    reads_back p (dict ps) x h d = map_back p ps x h.2 d (λ es e. pairs_read_back (pairs_depth ps) ps es h.0 (omega arith) e)
     reads_back p (tagged t v) x h d =
         let inner = reads_back (p + length (head Tag (Given (least t) t))) v d.1 h.3 d.3 in
         record {
@@ -231,12 +246,13 @@ module _ (order : List ℕ → List ℕ → Ordering) (laws : IsKeyOrder order) 
           placed = (refl, inner.placed);
           means = inr (inr (h.0, h.1, inner.item, inner.means, refl));
           same = (refl, inner.same);
+          proper = (h.0, h.1, h.2, inner.proper);
           shallow = omega (arith, inner.shallow);
         }
     reads_back p (simple n) x h d = simple_back p n x d
 
     pub all_read_back : (p : ℕ) (vs : Values) (x : List ℕ) → AreProper vs → DetValues order vs x → AllReadBack p vs x
-    all_read_back p no_values x h d = record { nodes = no_item; items = no_values; spells = sym d; counted = refl; fits = tt; placed = tt; mean = tt; same = tt; shallow = omega arith }
+    all_read_back p no_values x h d = record { nodes = no_item; items = no_values; spells = sym d; counted = refl; fits = tt; placed = tt; mean = tt; same = tt; proper = tt; as_many = refl; shallow = omega arith }
     all_read_back p (value v vs) x h d =
         let one = reads_back p v d.0 h.0 d.2 in
         let rest = all_read_back (p + length d.0) vs d.1 h.1 d.3 in
@@ -249,6 +265,8 @@ module _ (order : List ℕ → List ℕ → Ordering) (laws : IsKeyOrder order) 
           placed = (one.placed, subst (λ (n : ℕ). PlacedAll (p + n) rest.nodes) (sym (ap length one.spells)) rest.placed);
           mean = (one.means, rest.mean);
           same = (one.same, rest.same);
+          proper = (one.proper, rest.proper);
+          as_many = ap suc rest.as_many;
           shallow = omega (arith, one.shallow, rest.shallow);
         }
 
@@ -270,6 +288,7 @@ pub record SequenceReadsBack (deep p : ℕ) (vs : List Value) (x : List ℕ) : T
   pub placed : PlacedAll p (trees nodes)
   pub mean : AllZip Means nodes items
   pub same : AllZip Same items vs
+  pub proper : AllByRecursion IsProper items
   pub shallow : depth_all (trees nodes) ≤ deep
 
 -- no item of a sequence is deeper than this
@@ -277,7 +296,7 @@ abbrev pub AreShallow : ℕ → List Value → Type 0
 AreShallow deep = AllByRecursion (λ v. value_depth v ≤ deep)
 
 pub sequence_back : (order : List ℕ → List ℕ → Ordering) (laws : IsKeyOrder order) (deep p : ℕ) (vs : List Value) (x : List ℕ) → AllByRecursion IsProper vs → AreShallow deep vs → DetSeq order vs x → SequenceReadsBack deep p vs x
-sequence_back order laws deep p [] x h l d = record { nodes = []; items = []; spells = sym d; fits = tt; placed = tt; mean = tt; same = tt; shallow = omega arith }
+sequence_back order laws deep p [] x h l d = record { nodes = []; items = []; spells = sym d; fits = tt; placed = tt; mean = tt; same = tt; proper = tt; shallow = omega arith }
 sequence_back order laws deep p (v ∷ vs) x h l d =
     let one = reads_back order laws p v d.0 h.0 d.2 in
     let rest = sequence_back order laws deep (p + length d.0) vs d.1 h.1 l.1 d.3 in
@@ -289,5 +308,6 @@ sequence_back order laws deep p (v ∷ vs) x h l d =
       placed = (one.placed, subst (λ (n : ℕ). PlacedAll (p + n) (trees rest.nodes)) (sym (ap length one.spells)) rest.placed);
       mean = (one.means, rest.mean);
       same = (one.same, rest.same);
+      proper = (one.proper, rest.proper);
       shallow = omega (arith, one.shallow, rest.shallow, l.0);
     }

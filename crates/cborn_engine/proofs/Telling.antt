@@ -17,10 +17,10 @@ use Rattle.cborn_engine.specs.declared.kinds.Kind.TheVariants as kind
 use Rattle.cborn_engine.specs.Faults.{of_wire}
 use Rattle.cborn_engine.specs.Holding.{IsFixedText, Spells}
 use Rattle.cborn_engine.specs.Loading.{Loads, IsNoFlaw}
-use Rattle.cborn_engine.specs.Reading.{Collects, CollectAnswers}
+use Rattle.cborn_engine.specs.Pieces.{Collects, CollectAnswers}
 use Rattle.cborn_engine.specs.Refusing.{IsRefused, IsRead}
 use Rattle.cborn_engine.specs.Showing.{ShowAnswers, Shows, IsShown, IsSpelledAs, IsUnshownAs, IsUnspelledAs, TellAnswers, Tells}
-use Rattle.cborn_engine.specs.Writing.{Writes, WriteAnswers}
+use Rattle.cborn_engine.specs.Sending.{Writes, WriteAnswers}
 use Rattle.cborn_engine.proofs.Unanswered.{nothing_written}
 use Rattle.cborn_engine.proofs.Whole.{uncollected, read_ended, unspelled}
 

@@ -10,8 +10,9 @@ use Rattle.cborn_edn.specs.declared.faults.EdnFault.TheVariants as edn
 use Rattle.cborn_edn.specs.Notates.{IsRefused as IsNoNotation}
 use Rattle.cborn_engine.specs.declared.faults.EngineFault.TheVariants as fault
 use Rattle.cborn_engine.specs.Faults.{of_edn}
-use Rattle.cborn_engine.specs.Loading.{Loads, kind_of}
-use Rattle.cborn_engine.specs.Reading.{Collects}
+use Rattle.cborn_engine.specs.Loading.{Loads}
+use Rattle.cborn_engine.specs.Encoding.{kind_of}
+use Rattle.cborn_engine.specs.Pieces.{Collects}
 
 module _ (limit most : ℕ) (before after : Option (List ℕ)) (bytes : Vec ℕ Global) (now : List ℕ) where
   -- it isn't UTF-8

@@ -25,7 +25,7 @@ use Rattle.cborn_engine.specs.declared.kinds.Kind.TheVariants as kind
 use Rattle.cborn_engine.specs.Holding.{Holds}
 use Rattle.cborn_engine.specs.Refusing.{IsRefused, IsReadBefore, IsRead}
 use Rattle.cborn_engine.specs.Faults.{of_wire, of_invalid}
-use Rattle.cborn_engine.specs.Reading.{Collects, CollectAnswers}
+use Rattle.cborn_engine.specs.Pieces.{Collects, CollectAnswers}
 use Rattle.cborn_engine.specs.Encoding.{EncodeAnswers, Encodes}
 use Rattle.cborn_engine.specs.Checking.{CheckAnswers, Checks, Verdict}
 use Rattle.cborn_engine.specs.Defects.{Finds}

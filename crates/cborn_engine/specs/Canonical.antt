@@ -1,10 +1,8 @@
--- What makes the answer of a normalisation canonical.
-use Rattle.std.specs.Prelude.{◌≡◌, ℕ, ◌≤◌, List, [], length, Option, Result, Ok, Err, ◌↔◌}
+-- What normalising an input answers.
+use Rattle.std.specs.Prelude.{◌≡◌, ℕ, ◌≤◌, List, [], length, Option, Result, Ok, Err}
 use Rattle.std.specs.declared.cmp.Ordering.{Ordering}
 use Rattle.std.specs.Io.KnownBytes.{Consumes, Appends}
-use Rattle.std.specs.List.{AllZip, AllByRecursion}
-use Rattle.cborn_model.specs.Value.{Value, Same}
-use Rattle.cborn_model.specs.Valid.{IsProper}
+use Rattle.cborn_model.specs.Value.{Value}
 use Rattle.cborn_engine.specs.declared.faults.EngineFault.{EngineFault}
 use Rattle.cborn_engine.specs.declared.faults.EngineFault.TheVariants as fault
 use Rattle.cborn_engine.specs.declared.kinds.Kind.{Kind}
@@ -12,22 +10,11 @@ use Rattle.cborn_engine.specs.Holding.{Holds, Canon}
 use Rattle.cborn_engine.specs.Refusing.{IsRefused, IsRead}
 use Rattle.cborn_engine.specs.Writing.{IsFront}
 
--- the input holds items that are the same as these
-pub record HoldsSame (k : Kind) (limit : ℕ) (input : List ℕ) (items : List Value) : Type 0 where
-  pub others : List Value
-  pub held : Holds k limit input others
-  pub same : AllZip Same others items
-
--- The output is the canonical form of what the input holds, and holds the same. No other output is its canonical form. It is the canonical form of valid items, of any depth, exactly if they are the same as these; and so of what it holds itself.
+-- the input holds items, and the output is their canonical form
 pub record IsCanonical (order : List ℕ → List ℕ → Ordering) (k out : Kind) (limit : ℕ) (input output : List ℕ) : Type 0 where
   pub items : List Value
   pub held : Holds k limit input items
-  pub proper : AllByRecursion IsProper items
   pub written : Canon order out items output
-  pub reads_back : HoldsSame out limit output items
-  pub alone : (v : List ℕ) → Canon order out items v → v ≡ output
-  pub one_for_same : (others : List Value) → AllByRecursion IsProper others → Canon order out others output ↔ AllZip Same items others
-  pub settled : (others : List Value) → Holds out limit output others → Canon order out others output
 
 -- the whole answer went out; or the writer failed, and a front of it went out; or the input is refused, and nothing went out
 abbrev pub NormaliseAnswers : (List ℕ → List ℕ → Ordering) → Kind → Kind → ℕ → ℕ → List ℕ → List ℕ → Result Unit EngineFault → Type 0

@@ -62,6 +62,14 @@ AreRead (Err (compared.First why)) rest rest2 = IsReadBefore why rest
 AreRead (Err (compared.Second why)) rest rest2 = IsAtEnd rest × IsReadBefore why rest2
 AreRead (Err compared.OutOfMemory) rest rest2 = ⊤
 
+-- an input that holds items was taken from the reader, to its end
+pub record IsHeldWhole (k : Kind) (limit : ℕ) (before after : Option (List ℕ)) : Type 0 where
+  pub input : List ℕ
+  pub items : List Value
+  pub taken : Consumes before after input
+  pub held : Holds k limit input items
+  pub at_end : IsAtEnd after
+
 -- an input was taken from each reader, and this is answered for them
 pub record Compares (k l : Kind) (limit most : ℕ) (before after before2 after2 : Option (List ℕ)) (result : Result (Option ℕ) CompareFault) : Type 0 where
   pub first : List ℕ
@@ -74,13 +82,11 @@ pub record Compares (k l : Kind) (limit most : ℕ) (before after before2 after2
 -- the first input was refused
 abbrev pub IsFirst : CompareFault → Type 0
 IsFirst (compared.First why) = ⊤
-IsFirst (compared.Second why) = ⊥
-IsFirst compared.OutOfMemory = ⊥
+IsFirst _ = ⊥
 
 abbrev pub first_failures_at : CompareFault → ℕ → ℕ
 first_failures_at (compared.First why) n = read_failures_at why n
-first_failures_at (compared.Second why) n = n
-first_failures_at compared.OutOfMemory n = n
+first_failures_at _ n = n
 
 -- the count of failures of the first reader, and of the second, after this answer: one more exactly at `ReadFault` of its input
 abbrev pub first_failures : {A : Type 0} → Result A CompareFault → ℕ → ℕ
@@ -88,9 +94,8 @@ first_failures (Ok a) n = n
 first_failures (Err why) n = first_failures_at why n
 
 abbrev pub second_failures_at : CompareFault → ℕ → ℕ
-second_failures_at (compared.First why) n = n
 second_failures_at (compared.Second why) n = read_failures_at why n
-second_failures_at compared.OutOfMemory n = n
+second_failures_at _ n = n
 
 abbrev pub second_failures : {A : Type 0} → Result A CompareFault → ℕ → ℕ
 second_failures (Ok a) n = n

@@ -1,14 +1,28 @@
--- What reading an input and encoding what it holds answers. No public contract cites it.
-use Rattle.std.specs.Prelude.{ℕ, ◌≤◌, List, length, Option, Result, Ok, Err, Vec}
+-- Devices: what reading an input, encoding what it holds and writing that out answers. No public contract cites them.
+use Rattle.std.specs.Prelude.{◌≡◌, ℕ, ◌≤◌, List, length, Option, Result, Ok, Err, Vec}
 use Rattle.std.specs.Global.{Global}
 use Rattle.std.specs.declared.cmp.Ordering.{Ordering}
 use Rattle.std.specs.Io.KnownBytes.{Consumes}
 use Rattle.cborn_model.specs.Value.{Value}
 use Rattle.cborn_det.specs.Det.{DetSeq}
 use Rattle.cborn_engine.specs.declared.faults.EngineFault.{EngineFault}
+use Rattle.cborn_lex.specs.declared.classes.Profile.{Profile}
+use Rattle.cborn_lex.specs.declared.classes.Profile.TheVariants as profile
 use Rattle.cborn_engine.specs.declared.kinds.Kind.{Kind}
-use Rattle.cborn_engine.specs.Holding.{Holds}
+use Rattle.cborn_engine.specs.declared.kinds.Kind.TheVariants as kind
+use Rattle.cborn_engine.specs.Holding.{Holds, IsFixedText}
 use Rattle.cborn_engine.specs.Refusing.{IsRefused, IsRead}
+
+-- the kind of input that is notation of this profile
+abbrev pub kind_of : Profile → Kind
+kind_of profile.One = kind.Notation
+kind_of profile.Two = kind.Notation2
+
+-- bytes as an output of a kind: themselves, or in the fixed notation
+abbrev pub IsWrittenAs : Kind → List ℕ → List ℕ → Type 0
+IsWrittenAs kind.Wire bytes output = output ≡ bytes
+IsWrittenAs kind.Notation bytes output = IsFixedText bytes output
+IsWrittenAs kind.Notation2 bytes output = IsFixedText bytes output
 
 -- the bytes are the deterministic encodings of the items that the input holds
 pub record IsEncoded (order : List ℕ → List ℕ → Ordering) (k : Kind) (limit : ℕ) (input bytes : List ℕ) : Type 0 where

@@ -38,12 +38,6 @@ pub record IsFixedText (bytes text : List ℕ) : Type 0 where
   pub spelled : spelled_all (trees nodes) ≡ bytes
   pub shown : Shown (trees nodes) text
 
--- bytes as an output of a kind: themselves, or in the fixed notation
-abbrev pub IsWrittenAs : Kind → List ℕ → List ℕ → Type 0
-IsWrittenAs kind.Wire bytes output = output ≡ bytes
-IsWrittenAs kind.Notation bytes output = IsFixedText bytes output
-IsWrittenAs kind.Notation2 bytes output = IsFixedText bytes output
-
 -- the canonical form of items under an order of keys: their deterministic encodings, one after another (RFC 8949 section 4.2), or the fixed notation of these
 abbrev pub Canon : (List ℕ → List ℕ → Ordering) → Kind → List Value → List ℕ → Type 0
 Canon order kind.Wire items w = DetSeq order items w

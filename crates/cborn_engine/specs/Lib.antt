@@ -11,3 +11,6 @@ pub mod Comparing
 pub mod Checking
 pub mod Defects
 pub mod Encoding
+pub mod Pieces
+pub mod Sending
+pub mod Stopping

@@ -6,16 +6,8 @@ use Rattle.cborn_model.specs.Tree.{Tree}
 use Rattle.cborn_engine.specs.declared.faults.EngineFault.{EngineFault}
 use Rattle.cborn_engine.specs.declared.faults.EngineFault.TheVariants as fault
 use Rattle.cborn_engine.specs.declared.kinds.Kind.{Kind}
-use Rattle.cborn_lex.specs.declared.classes.Profile.{Profile}
-use Rattle.cborn_lex.specs.declared.classes.Profile.TheVariants as profile
-use Rattle.cborn_engine.specs.declared.kinds.Kind.TheVariants as kind
 use Rattle.cborn_engine.specs.Holding.{Spells}
 use Rattle.cborn_engine.specs.Refusing.{IsRefused, IsRead}
-
--- the kind of input that is notation of this profile
-abbrev pub kind_of : Profile → Kind
-kind_of profile.One = kind.Notation
-kind_of profile.Two = kind.Notation2
 
 -- a load refuses no node for what it means
 abbrev pub IsNoFlaw : EngineFault → Type 0

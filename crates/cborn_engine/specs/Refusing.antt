@@ -74,15 +74,10 @@ IsRefused k limit most input fault.WriteFault = ⊥
 
 -- the reader was read to its end before this fault was told
 abbrev pub IsReadBefore : EngineFault → Option (List ℕ) → Type 0
-IsReadBefore (fault.Wire why) rest = IsAtEnd rest
-IsReadBefore (fault.Invalid why) rest = IsAtEnd rest
-IsReadBefore (fault.Edn why) rest = IsAtEnd rest
-IsReadBefore (fault.Show why) rest = IsAtEnd rest
-IsReadBefore (fault.TextInput p) rest = IsAtEnd rest
-IsReadBefore fault.WriteFault rest = IsAtEnd rest
 IsReadBefore fault.TooLong rest = ⊤
 IsReadBefore fault.ReadFault rest = ⊤
 IsReadBefore fault.OutOfMemory rest = ⊤
+IsReadBefore _ rest = IsAtEnd rest
 
 abbrev pub IsRead : {A : Type 0} → Result A EngineFault → Option (List ℕ) → Type 0
 IsRead (Ok a) rest = IsAtEnd rest
@@ -90,12 +85,13 @@ IsRead (Err why) rest = IsReadBefore why rest
 
 -- no fault of the input
 abbrev pub IsNoRefusal : EngineFault → Type 0
-IsNoRefusal (fault.Wire why) = ⊥
-IsNoRefusal (fault.Invalid why) = ⊥
-IsNoRefusal (fault.Edn why) = ⊥
-IsNoRefusal (fault.Show why) = ⊥
-IsNoRefusal (fault.TextInput p) = ⊥
-IsNoRefusal fault.TooLong = ⊥
-IsNoRefusal fault.WriteFault = ⊥
 IsNoRefusal fault.ReadFault = ⊤
 IsNoRefusal fault.OutOfMemory = ⊤
+IsNoRefusal _ = ⊥
+
+-- the reader, the writer or memory failed
+abbrev pub IsTrouble : EngineFault → Type 0
+IsTrouble fault.ReadFault = ⊤
+IsTrouble fault.WriteFault = ⊤
+IsTrouble fault.OutOfMemory = ⊤
+IsTrouble _ = ⊥

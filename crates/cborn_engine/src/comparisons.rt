@@ -1,7 +1,7 @@
 //! Whether two inputs hold the same items. Each is read whole and encoded, the first before a byte of the second is read; the encodings are equal exactly if the items are the same.
-ghost use Rattle.std.specs.Prelude.{◌≡◌, ◌≤◌, ◌+◌, ◌^◌, IfErr};
-ghost use Rattle.cborn_engine.specs.Comparing.{Compares, IsFirst, first_failures, second_failures};
-ghost use Rattle.cborn_engine.specs.Faults.{of_first, of_second};
+ghost use Rattle.std.specs.Prelude.{◌≡◌, ◌≤◌, ◌⊎◌, ◌+◌, ◌^◌, IfErr};
+ghost use Rattle.cborn_engine.specs.Comparing.{Compares, IsFirst, IsHeldWhole, first_failures, second_failures};
+ghost use Rattle.cborn_engine.specs.Stopping.{of_first, of_second};
 
 use crate::differences::difference;
 use crate::encodings::read_encoded;
@@ -34,7 +34,7 @@ impl CompareFault {
 /// Compares what two inputs hold. None: they hold the same items. Else the least index, from 0, at which the items differ or only one input has an item. The answer doesn't depend on `O`. Each input has at most 2^30 bytes.
 ///
 /// # Errors
-/// `First`, where the first input gave no items, by `ReadFault`, `TooLong` or the fault of its content as `normalise` tells it, at its offset in bytes from the start of that input; then not a byte of the second was read. `Second`, likewise, where the first input gave items and the second gave none. `OutOfMemory` may come at any time, and is never inside of `First` or `Second`.
+/// `First`, where the first input gave no items, by `ReadFault`, `TooLong` or the fault of its content as `normalise` tells it, at its offset in bytes from the start of that input; then not a byte of the second was read. `Second`, likewise, where the first input gave items and the second gave none. `OutOfMemory` may come at any time, before a byte of the second was read or once the first is known to hold items, and is never inside of `First` or `Second`.
 #[tactic(auto, using(crate::proofs::Unanswered::not_compared))]
 pub fn compare<O: KeyOrder, R: Source, Q: Source>(
     alloc: Global,
@@ -46,6 +46,7 @@ pub fn compare<O: KeyOrder, R: Source, Q: Source>(
 ) -> Result<Option<u64>, CompareFault>
     ensures compares { Compares kind_a kind_b limit (2 ^ 30) (R.remaining first.old) (R.remaining first.new) (Q.remaining second.old) (Q.remaining second.new) result }
     ensures unread { IfErr result (λ why. IsFirst why → second.new ≡ second.old) }
+    ensures first_held { (second.new ≡ second.old) ⊎ IsHeldWhole kind_a limit (R.remaining first.old) (R.remaining first.new) }
     ensures first_failures { R.failed first.new ≡ first_failures result (R.failed first.old) }
     ensures second_failures { Q.failed second.new ≡ second_failures result (Q.failed second.old) }
     ensures first_calls { R.asked first.new ≤ R.asked first.old + 2 ^ 30 + 1 }

@@ -1,10 +1,12 @@
 //! From a reader to a writer.
-ghost use Rattle.std.specs.Prelude.{◌≡◌, ◌≤◌, ◌+◌, ◌^◌, List, IfOk};
+ghost use Rattle.std.specs.Prelude.{◌≡◌, ◌≢◌, ◌≤◌, ◌+◌, ◌^◌, List, IfOk, IfErr, OnOk};
 ghost use Rattle.cborn_model.specs.Value.{Value};
+ghost use Rattle.cborn_engine.specs.declared.faults.EngineFault.TheVariants as fault;
 ghost use Rattle.cborn_engine.specs.declared.kinds.Kind.TheVariants as kinds;
 ghost use Rattle.cborn_engine.specs.Canonical.{Normalises};
 ghost use Rattle.cborn_engine.specs.Reading.{read_failures};
-ghost use Rattle.cborn_engine.specs.Holding.{Holds, IsFixedText, IsWrittenAs};
+ghost use Rattle.cborn_engine.specs.Holding.{Holds, IsFixedText};
+ghost use Rattle.cborn_engine.specs.Encoding.{IsWrittenAs};
 ghost use Rattle.cborn_engine.specs.Showing.{Shows};
 ghost use Rattle.cborn_engine.specs.Writing.{write_failures};
 
@@ -21,10 +23,10 @@ use cborn_model::{KeyOrder, Limit};
 use cborn_show::show_bytes;
 use std::alloc::{AllocError, Global};
 
-/// Writes the canonical form of the items that the input holds: their deterministic encodings one after another, the keys of maps in the order `O` (RFC 8949 section 4.2), or the fixed notation of these. The input has at most 2^30 bytes.
+/// Writes the canonical form of the items that the input holds: their deterministic encodings one after another, the keys of maps in the order `O` (RFC 8949 section 4.2), or the fixed notation of these. The writer is flushed behind the answer, also where that is empty. The input has at most 2^30 bytes.
 ///
 /// # Errors
-/// Those of `load_within`, and `Invalid`: the first flaw of the first item that isn't valid, at its offset in bytes from the start of the input. At these nothing was written. `WriteFault` where the writer failed; then a front of the answer went out.
+/// Those of `load_within`, and `Invalid`: the first flaw of the first item that isn't valid, at its offset in bytes from the start of the input. At these the writer is as it was. `WriteFault` where the writer failed; then a front of the answer went out.
 #[tactic(auto, using(crate::proofs::Unanswered::not_normalised, crate::proofs::Canonicity::no_answer))]
 pub fn normalise<O: KeyOrder, R: Source, W: Sink>(
     alloc: Global,
@@ -37,6 +39,8 @@ pub fn normalise<O: KeyOrder, R: Source, W: Sink>(
     ensures normalises { Normalises O.order in_kind out_kind limit (2 ^ 30) (R.remaining reader.old) (R.remaining reader.new) (W.contents writer.old) (W.contents writer.new) result }
     ensures read_failures { R.failed reader.new ≡ read_failures result (R.failed reader.old) }
     ensures write_failures { W.failed writer.new ≡ write_failures result (W.failed writer.old) }
+    ensures untouched { IfErr result (λ why. why ≢ fault.WriteFault → writer.new ≡ writer.old) }
+    ensures flushed { OnOk result (W.unflushed writer.new ≡ 0) }
     ensures calls { R.asked reader.new ≤ R.asked reader.old + 2 ^ 30 + 1 }
 {
     let bytes = read_encoded::<O, R>(alloc, limit, in_kind, reader)?;
@@ -44,10 +48,10 @@ pub fn normalise<O: KeyOrder, R: Source, W: Sink>(
     write_answer(writer, &answer)
 }
 
-/// Writes the items of the input as they are spelled: as bytes (RFC 8949 section 3), or in the fixed notation (section 8). The input has at most 2^30 bytes.
+/// Writes the items of the input as they are spelled: as bytes (RFC 8949 section 3), or in the fixed notation (section 8). The writer is flushed behind the answer, also where that is empty. The input has at most 2^30 bytes.
 ///
 /// # Errors
-/// Those of `load_within`, and `Show` where the output is notation and a text string in it isn't UTF-8, at the lowest place of one. At these nothing was written. `WriteFault` where the writer failed; then a front of the answer went out.
+/// Those of `load_within`, and `Show` where the output is notation and a text string in it isn't UTF-8, at the lowest place of one. At these the writer is as it was. `WriteFault` where the writer failed; then a front of the answer went out.
 pub fn show_all<R: Source, W: Sink>(
     alloc: Global,
     limit: Limit,
@@ -59,6 +63,8 @@ pub fn show_all<R: Source, W: Sink>(
     ensures shows { Shows in_kind out_kind limit (2 ^ 30) (R.remaining reader.old) (R.remaining reader.new) (W.contents writer.old) (W.contents writer.new) result }
     ensures read_failures { R.failed reader.new ≡ read_failures result (R.failed reader.old) }
     ensures write_failures { W.failed writer.new ≡ write_failures result (W.failed writer.old) }
+    ensures untouched { IfErr result (λ why. why ≢ fault.WriteFault → writer.new ≡ writer.old) }
+    ensures flushed { OnOk result (W.unflushed writer.new ≡ 0) }
     ensures calls { R.asked reader.new ≤ R.asked reader.old + 2 ^ 30 + 1 }
 {
     let answer = read_shown(alloc, limit, in_kind, out_kind, reader)?;

@@ -1,8 +1,7 @@
 //! Reading a whole input, and encoding what it holds. Bytes are first taken in one pass that keeps no tree. Where that answers nothing, a scan tells whether they are well-formed, and only those that are become nodes, which are judged.
 ghost use Rattle.std.specs.Prelude.{◌≡◌, ◌≤◌, ◌+◌, ◌^◌, ℕ, length, IfSome};
 ghost use Rattle.cborn_engine.specs.declared.kinds.Kind.TheVariants as kinds;
-ghost use Rattle.cborn_engine.specs.Encoding.{Encodes, EncodeAnswers, IsEncoded};
-ghost use Rattle.cborn_engine.specs.Loading.{kind_of};
+ghost use Rattle.cborn_engine.specs.Encoding.{Encodes, EncodeAnswers, IsEncoded, kind_of};
 ghost use Rattle.cborn_engine.specs.Reading.{read_failures};
 
 use crate::faults::EngineFault;

@@ -114,7 +114,7 @@ impl From<ShowFault> for EngineFault {
 }
 
 impl From<Stop> for EngineFault {
-    ghost use Rattle.cborn_engine.specs.Faults.{of_stop};
+    ghost use Rattle.cborn_engine.specs.Stopping.{of_stop};
 
     ghost from_gives = { λ why e. e ≡ of_stop why };
 

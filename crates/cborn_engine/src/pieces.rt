@@ -1,6 +1,6 @@
 //! Reading a piece of an input, and room for the next.
 ghost use Rattle.std.specs.Prelude.{◌≡◌, ◌≤◌, ◌<◌, ◌+◌, ◌^◌, length, take, drop, OnOk};
-ghost use Rattle.cborn_engine.specs.Reading.{PieceAnswers, piece_failures};
+ghost use Rattle.cborn_engine.specs.Pieces.{PieceAnswers, piece_failures};
 
 use crate::sources::Source;
 use std::alloc::AllocError;

@@ -1,7 +1,9 @@
 //! Reading a whole text.
 ghost use Rattle.std.specs.Prelude.{◌≡◌, ◌≤◌, ◌+◌, ◌^◌};
-ghost use Rattle.cborn_engine.specs.Loading.{Loads, kind_of};
-ghost use Rattle.cborn_engine.specs.Reading.{Collects, read_failures};
+ghost use Rattle.cborn_engine.specs.Loading.{Loads};
+ghost use Rattle.cborn_engine.specs.Encoding.{kind_of};
+ghost use Rattle.cborn_engine.specs.Reading.{read_failures};
+ghost use Rattle.cborn_engine.specs.Pieces.{Collects};
 
 use crate::faults::EngineFault;
 use crate::pieces::{make_room, read_behind};

@@ -1,6 +1,5 @@
 use Rattle.std.proofs.Common.{◌^◌}
-use Rattle.cborn_engine.specs.Encoding.{Encodes}
-use Rattle.cborn_engine.specs.Loading.{kind_of}
+use Rattle.cborn_engine.specs.Encoding.{Encodes, kind_of}
 use Rattle.cborn_engine.proofs.Noted.{not_loaded}
 use Rattle.cborn_engine.proofs.Told.{told}
 use Rattle.cborn_engine.proofs.Untold.{garbled, untold}

@@ -1,5 +1,5 @@
-use Rattle.cborn_engine.proofs.Headline.{again}
+use Rattle.cborn_engine.proofs.Canonicity.{again}
 use Rattle.cborn_engine.proofs.laws.same_again.Goals as goal
 
 pub returns : goal.returns
-returns g c = again g.O.KeyOrder.order
+returns g c k out limit x v w short a b = again g.O.KeyOrder.order g.met.O.KeyOrder.laws k out limit x v short a w b

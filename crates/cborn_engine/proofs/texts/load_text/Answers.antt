@@ -1,4 +1,5 @@
-use Rattle.cborn_engine.specs.Loading.{Loads, kind_of}
+use Rattle.cborn_engine.specs.Loading.{Loads}
+use Rattle.cborn_engine.specs.Encoding.{kind_of}
 use Rattle.cborn_engine.proofs.Told.{told}
 use Rattle.cborn_engine.proofs.Untold.{garbled, untold}
 use Rattle.cborn_engine.proofs.texts.load_text.Goals as goal
