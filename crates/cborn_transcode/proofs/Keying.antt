@@ -1,11 +1,11 @@
 -- Pairs that lie in a buffer, whose keys are compared one by one.
-use Rattle.std.proofs.Common.{◌≡◌, ℕ, ◌+◌, ◌<◌, List, [], ◌∷◌, ◌++◌, length, take, drop, get_or, sym, ap, ◌∙◌, subst, Bor, Option, Ordering}
-use Rattle.std.proofs.lemmas.List.{take_more, drop_more, map-append, append_assoc}
+use Rattle.std.proofs.Common.{◌≡◌, ℕ, ◌+◌, ◌<◌, ◌≤◌, List, [], ◌∷◌, ◌++◌, length, take, drop, get_or, refl, sym, ap, ◌∙◌, subst, arith, take_at, drop_at, length-append, Bor, Option, Ordering}
+use Rattle.std.proofs.lemmas.List.{take_more, drop_more, map-append, append_assoc, take-append-drop, length-take-le}
 use Rattle.cborn_model.specs.Orders.{Rising}
 use Rattle.cborn_det.specs.Det.{Entry, keys, joined}
 use Rattle.cborn_det.proofs.Cutting.{EndsIn, Below, rise_more}
 use Rattle.cborn_transcode.specs.declared.entries.Span.{Span}
-use Rattle.cborn_transcode.specs.Transcoding.{spanned, all_spanned}
+use Rattle.cborn_transcode.specs.Transcoding.{spanned, all_spanned, AreSpans}
 
 pub spanned_more : (b : List ℕ) (ss : List Span) (i : ℕ) (d : Span) → i < length ss → all_spanned b (take (i + 1) ss) ≡ all_spanned b (take i ss) ++ spanned b (get_or ss i d) ∷ []
 spanned_more b ss i d l = ap (all_spanned b) (take_more ss i d l) ∙ map-append (spanned b) (take i ss) (get_or ss i d ∷ [])
@@ -29,10 +29,34 @@ joined_next b ss i d pair old half new l p e n =
     ∙ ap (λ z. half ++ (z ++ joined (all_spanned b (drop (i + 1) ss)))) p
     ∙ ap (λ z. half ++ joined (all_spanned b z)) (sym (drop_more ss i d l)) ∙ e
 
--- one span more, of the key and the value at the front of the rest
-pub span_more : (b rest k v : List ℕ) (ss new : List Span) (hint start key_len value_len : ℕ) → rest ≡ drop start b → new ≡ ss ++ (record { hint = hint; start = start; key_len = key_len; value_len = value_len }) ∷ []
-    → k ≡ take key_len rest → v ≡ take value_len (drop key_len rest) → all_spanned b new ≡ all_spanned b ss ++ (k, v) ∷ []
-span_more b rest k v ss new hint start key_len value_len r e p q =
-    let s : Span = record { hint = hint; start = start; key_len = key_len; value_len = value_len } in
-    ap (all_spanned b) e ∙ map-append (spanned b) ss (s ∷ [])
-    ∙ (λ i. all_spanned b ss ++ ((sym (p ∙ ap (take key_len) r) i, sym (q ∙ ap (λ l. take value_len (drop key_len l)) r) i) ∷ []))
+-- one entry more
+pub spans_more : (p : ℕ) (es : List Entry) (ss : List Span) (e : Entry) (s : Span) → AreSpans p es ss → s.start ≡ p + length (joined es) → s.key_len ≡ length e.0 → s.value_len ≡ length e.1 → AreSpans p (es ++ e ∷ []) (ss ++ s ∷ [])
+spans_more p [] [] e s a b c d = (omega (arith, b), c, d, tt)
+spans_more p [] (t ∷ ss) e s a b c d = absurd a
+spans_more p (f ∷ es) [] e s a b c d = absurd a
+spans_more p (f ∷ es) (t ∷ ss) e s a b c d =
+    (a.0, a.1, a.2, spans_more (p + length f.0 + length f.1) es ss e s a.3 (omega (arith, b, length-append (f.0 ++ f.1) (joined es), length-append f.0 f.1)) c d)
+
+-- entries that stand one after another behind a front are found where their spans say
+pub spanned_all : (front : List ℕ) (es : List Entry) (ss : List Span) (p : ℕ) → p ≡ length front → AreSpans p es ss → all_spanned (front ++ joined es) ss ≡ es
+spanned_all front [] [] p q a = refl
+spanned_all front [] (s ∷ ss) p q a = absurd a
+spanned_all front (e ∷ es) [] p q a = absurd a
+spanned_all front (e ∷ es) (s ∷ ss) p q a =
+    let b : List ℕ = front ++ ((e.0 ++ e.1) ++ joined es) in
+    let here : drop s.start b ≡ e.0 ++ (e.1 ++ joined es) = drop_at front ((e.0 ++ e.1) ++ joined es) s.start (sym (a.0 ∙ q)) ∙ append_assoc e.0 e.1 (joined es) in
+    let after : drop s.key_len (drop s.start b) ≡ e.1 ++ joined es = ap (drop s.key_len) here ∙ drop_at e.0 (e.1 ++ joined es) s.key_len (sym a.1) in
+    let key : take s.key_len (drop s.start b) ≡ e.0 = ap (take s.key_len) here ∙ take_at e.0 (e.1 ++ joined es) s.key_len (sym a.1) in
+    let value : take s.value_len (drop s.key_len (drop s.start b)) ≡ e.1 = ap (take s.value_len) after ∙ take_at e.1 (joined es) s.value_len (sym a.2) in
+    let others : all_spanned b ss ≡ es = ap (λ z. all_spanned z ss) (sym (append_assoc front (e.0 ++ e.1) (joined es)))
+    ∙ spanned_all (front ++ (e.0 ++ e.1)) es ss (p + length e.0 + length e.1) (omega (arith, q, length-append front (e.0 ++ e.1), length-append e.0 e.1)) a.3 in
+    λ i. (key i, value i) ∷ others i
+
+pub spanned_behind : (start : ℕ) (b : List ℕ) (es : List Entry) (ss : List Span) → start ≤ length b → AreSpans start es ss → drop start b ≡ joined es → all_spanned b ss ≡ es
+spanned_behind start b es ss l a e =
+    ap (λ z. all_spanned z ss) (sym (take-append-drop start b) ∙ ap (λ z. take start b ++ z) e)
+    ∙ spanned_all (take start b) es ss start (sym (length-take-le start b l)) a
+
+-- spans say which entries there are
+pub one_spanned : (es fs : List Entry) (ss : List Span) (b : List ℕ) → AreSpans 0 es ss → b ≡ joined es → AreSpans 0 fs ss → b ≡ joined fs → es ≡ fs
+one_spanned es fs ss b a e c f = sym (spanned_all [] es ss 0 refl a) ∙ ap (λ z. all_spanned z ss) (sym e ∙ f) ∙ spanned_all [] fs ss 0 refl c

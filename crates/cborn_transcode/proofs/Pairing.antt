@@ -2,7 +2,6 @@
 use Rattle.std.proofs.Common.{◌≡◌, ℕ, suc, ◌+◌, ◌-◌, ◌≤◌, List, [], ◌∷◌, ◌++◌, length, take, drop, refl, sym, ap, ◌∙◌, subst, arith, append_assoc, append-nil, length-append, take_at, drop_at, Ordering, Less, Equal, Greater, false, Bool, true≢false, is_eq, IsPermutation}
 use Rattle.std.specs.Ordering.{ordering_reverse}
 use Rattle.std.specs.List.{AllByRecursion, IsDistinct}
-use Rattle.std.proofs.lemmas.List.{map-append}
 use Rattle.std.proofs.lemmas.List.Sorted.{IsPermutation-sym}
 use Rattle.std.proofs.lemmas.Map.Keys.{IsDistinct-IsPermutation}
 use Rattle.cborn_model.specs.declared.heads.Width.{Width}
@@ -17,10 +16,12 @@ use Rattle.cborn_model.specs.Orders.{IsKeyOrder, Rising}
 use Rattle.cborn_model.proofs.Values.{pair_count-pairs_of}
 use Rattle.cborn_judge.proofs.Meanings.{Short, left, right, meaning_valid, same_count_entries}
 use Rattle.cborn_det.specs.Det.{Det, DetPairs, Entry, joined, keys, HasDistinctKeys}
-use Rattle.cborn_det.specs.Appending.{Appends, lengths_of, IsWritten}
+use Rattle.cborn_det.specs.Appending.{Appends}
 use Rattle.cborn_det.proofs.Canon.{one_of_same}
 use Rattle.cborn_det.proofs.Steps.{map_done}
-use Rattle.cborn_transcode.specs.Transcoding.{ItemTranscoded, PairsTranscoded, MapTranscoded, SetsHead}
+use Rattle.cborn_transcode.specs.declared.entries.Span.{Span}
+use Rattle.cborn_transcode.specs.Transcoding.{ItemTranscoded, PairsTranscoded, MapTranscoded, SetsHead, AreSpans}
+use Rattle.cborn_transcode.proofs.Keying.{spans_more}
 
 -- ---- one pair more
 
@@ -63,20 +64,20 @@ module _ (order : List ℕ → List ℕ → Ordering) where
     shallow = omega arith;
     meant = tt;
     det = tt;
-    laid = refl;
+    laid = tt;
     written = sym (append-nil old);
     count = refl;
   }
 
-  pub pairs_more : (room n : ℕ) (lengths : List (ℕ × ℕ)) (two : ℕ × ℕ) (input half mid rest old some most new : List ℕ) → PairsTranscoded order room n lengths input half old some → ItemTranscoded order room half mid some most → ItemTranscoded order room mid rest most new
-      → two.0 ≡ length most - length some → two.1 ≡ length new - length most
-      → PairsTranscoded order room (n + 1) (lengths ++ two ∷ []) input rest old new
-  pairs_more room n lengths two input half mid rest old some most new s k v p q =
+  pub pairs_more : (room n : ℕ) (spans : List Span) (span : Span) (input half mid rest old some most new : List ℕ) → PairsTranscoded order room n spans input half old some → ItemTranscoded order room half mid some most → ItemTranscoded order room mid rest most new
+      → span.start ≡ length some → span.key_len ≡ length most - length some → span.value_len ≡ length new - length most
+      → PairsTranscoded order room (n + 1) (spans ++ span ∷ []) input rest old new
+  pairs_more room n spans span input half mid rest old some most new s k v o p q =
       let x = k.written in
       let y = v.written in
       let e : Entry = (x.0, y.0) in
-      let first : two.0 ≡ length x.0 = omega (arith, p, ap length x.2, length-append some x.0) in
-      let second : two.1 ≡ length y.0 = omega (arith, q, ap length y.2, length-append most y.0) in
+      let first : span.key_len ≡ length x.0 = omega (arith, p, ap length x.2, length-append some x.0) in
+      let second : span.value_len ≡ length y.0 = omega (arith, q, ap length y.2, length-append most y.0) in
       record {
         nodes = s.nodes ++ (k.node, v.node) ∷ [];
         items = s.items ++ (k.item, v.item) ∷ [];
@@ -89,7 +90,7 @@ module _ (order : List ℕ → List ℕ → Ordering) where
         shallow = depth_more s.nodes k.node v.node room s.shallow k.shallow v.shallow;
         meant = mean_more s.nodes s.items k.node v.node k.item v.item s.meant k.meant v.meant;
         det = det_more s.items (k.item, v.item) s.es e s.det x.1 y.1;
-        laid = (λ i. s.laid i ++ (first i, second i) ∷ []) ∙ sym (map-append lengths_of s.es (e ∷ []));
+        laid = spans_more (length old) s.es spans e span s.laid (o ∙ ap length s.written ∙ length-append old (joined s.es)) first second;
         written = y.2 ∙ ap (λ l. l ++ y.0) (x.2 ∙ ap (λ l. l ++ x.0) s.written) ∙ append_assoc (old ++ joined s.es) x.0 y.0 ∙ append_assoc old (joined s.es) (x.0 ++ y.0) ∙ ap (λ l. old ++ l) (sym (joined_more s.es e));
         count = length-append s.nodes ((k.node, v.node) ∷ []) ∙ ap (λ i. i + 1) s.count;
       }
@@ -216,13 +217,13 @@ module _ (order : List ℕ → List ℕ → Ordering) where
         }
 
 -- the pairs, once their entries are so arranged that the keys rise
-pub arranged_map : (order : List ℕ → List ℕ → Ordering) (room n start : ℕ) (lengths : List (ℕ × ℕ)) (input rest old half new : List ℕ) → start ≡ length old → PairsTranscoded order room n lengths input rest old half
-    → ((es : List Entry) → IsWritten es lengths (drop start half) → (fs : List Entry) × IsPermutation es fs × Rising order (keys fs) × (new ≡ take start half ++ joined fs))
+pub arranged_map : (order : List ℕ → List ℕ → Ordering) (room n start : ℕ) (spans : List Span) (input rest old half new : List ℕ) → start ≡ length old → PairsTranscoded order room n spans input rest old half
+    → ((es : List Entry) → AreSpans start es spans → drop start half ≡ joined es → (fs : List Entry) × IsPermutation es fs × Rising order (keys fs) × (new ≡ take start half ++ joined fs))
     → MapTranscoded order room n input rest old new
-arranged_map order room n start lengths input rest old half new st s f =
+arranged_map order room n start spans input rest old half new st s f =
     let front : take start half ≡ old = ap (take start) s.written ∙ take_at old (joined s.es) start (sym st) in
     let behind : drop start half ≡ joined s.es = ap (drop start) s.written ∙ drop_at old (joined s.es) start (sym st) in
-    let a = f s.es (s.laid, behind) in
+    let a = f s.es (subst (λ (p : ℕ). AreSpans p s.es spans) (sym st) s.laid) behind in
     record {
       nodes = s.nodes;
       items = s.items;

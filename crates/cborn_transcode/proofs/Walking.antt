@@ -15,18 +15,20 @@ use Rattle.cborn_model.specs.Orders.{IsKeyOrder, Rising}
 use Rattle.cborn_model.proofs.OneHead.{append_same}
 use Rattle.cborn_judge.proofs.Meanings.{Short}
 use Rattle.cborn_det.specs.Det.{IsSimple, IsInteger, bignum_tag, Entry, joined, keys}
-use Rattle.cborn_det.specs.Appending.{Appends, IsWritten, lengths_of}
-use Rattle.cborn_det.proofs.Cutting.{EndsIn, Below, one_written, rise_more}
+use Rattle.cborn_det.specs.Appending.{Appends}
+use Rattle.cborn_det.proofs.Cutting.{EndsIn, Below, rise_more}
 use Rattle.cborn_wire.specs.declared.heads.Head.{Head}
 use Rattle.cborn_wire.specs.declared.heads.Argument.{Argument}
 use Rattle.cborn_wire.specs.declared.heads.Argument.TheVariants as arguments
 use Rattle.cborn_wire.specs.HeadReading.{IsHeadOf, seen_argument, ArgumentFits}
 use Rattle.cborn_wire.specs.Faults.{major_at}
+use Rattle.cborn_transcode.specs.declared.entries.Span.{Span}
 use Rattle.cborn_transcode.specs.Transcoding.{ContentTaken, StringTaken, BignumTaken, ItemTranscoded, ItemsTranscoded, PairsTranscoded, MapTranscoded, IsTranscoded}
 use Rattle.cborn_transcode.specs.Walking.{Leaves, IsLast, LeastHeadRead, ContentWalked, BignumWalked, ItemWalked, ItemsWalked, PairsWalked, WalkedBehind}
 use Rattle.cborn_transcode.proofs.Heading.{head_split, big_integer, bytes_left, bytes_right}
 use Rattle.cborn_transcode.proofs.Closing.{uint_done, nint_done, bytes_done, text_done, bignum_done, tagged_done}
 use Rattle.cborn_transcode.proofs.Lists.{all_none, all_more, array_done, normalised}
+use Rattle.cborn_transcode.proofs.Keying.{spans_more, one_spanned}
 use Rattle.cborn_transcode.proofs.Pairing.{pairs_none, pairs_more, map_fused}
 
 -- ---- heads
@@ -145,7 +147,7 @@ module _ (order : List ℕ → List ℕ → Ordering) (room : ℕ) where
   -- ---- pairs
 
   pub pairs_start : (input : List ℕ) (before : Option (Bor (List ℕ))) → before ≡ None → PairsWalked order room 0 before input input
-  pairs_start input before e = record { front = []; lengths = []; es = []; read = refl; pairs = pairs_none order room input []; laid = (refl, refl); rises = tt; last = subst (λ b. EndsIn b []) (sym e) refl }
+  pairs_start input before e = record { front = []; spans = []; es = []; read = refl; pairs = pairs_none order room input []; laid = (tt, refl); rises = tt; last = subst (λ b. EndsIn b []) (sym e) refl }
 
   joined_more : (es : List Entry) (e : Entry) → joined (es ++ e ∷ []) ≡ joined es ++ (e.0 ++ e.1)
   joined_more [] e = append-nil (e.0 ++ e.1)
@@ -161,17 +163,18 @@ module _ (order : List ℕ → List ℕ → Ordering) (room : ℕ) where
       → PairsWalked order room (n + 1) (Some key) input rest
   pairs_on n before key input half mid rest s k v e b =
       let same : k.front ≡ key.now = same_front half mid k.front key.now k.read e in
+      let span : Span = record { hint = (0, 0); start = length s.front; key_len = length k.front; value_len = length v.front } in
       let first : length k.front ≡ length (s.front ++ k.front) - length s.front = omega (arith, length-append s.front k.front) in
       let second : length v.front ≡ length ((s.front ++ k.front) ++ v.front) - length (s.front ++ k.front) = omega (arith, length-append (s.front ++ k.front) v.front) in
       record {
         front = (s.front ++ k.front) ++ v.front;
-        lengths = s.lengths ++ (length k.front, length v.front) ∷ [];
+        spans = s.spans ++ span ∷ [];
         es = s.es ++ (k.front, v.front) ∷ [];
         read = front_more input mid rest (s.front ++ k.front) v.front (front_more input half mid s.front k.front s.read k.read) v.read;
-        pairs = pairs_more order room n s.lengths (length k.front, length v.front) input half mid rest [] s.front (s.front ++ k.front) ((s.front ++ k.front) ++ v.front) s.pairs
-            (item_behind half mid k.front s.front k.item) (item_behind mid rest v.front (s.front ++ k.front) v.item) first second;
+        pairs = pairs_more order room n s.spans span input half mid rest [] s.front (s.front ++ k.front) ((s.front ++ k.front) ++ v.front) s.pairs
+            (item_behind half mid k.front s.front k.item) (item_behind mid rest v.front (s.front ++ k.front) v.item) refl first second;
         laid = (
-          ap (λ l. l ++ (length k.front, length v.front) ∷ []) s.laid.0 ∙ sym (map-append lengths_of s.es ((k.front, v.front) ∷ [])),
+          spans_more 0 s.es s.spans (k.front, v.front) span s.laid.0 (omega (arith, ap length s.laid.1)) refl refl,
           append_assoc s.front k.front v.front ∙ ap (λ l. l ++ (k.front ++ v.front)) s.laid.1 ∙ sym (joined_more s.es (k.front, v.front)),
         );
         rises = rise_more order before s.es (k.front, v.front) s.rises s.last (subst (λ l. Below order before l) (sym same) b);
@@ -181,7 +184,7 @@ module _ (order : List ℕ → List ℕ → Ordering) (room : ℕ) where
   map_from : (n : ℕ) (before : Option (Bor (List ℕ))) (input rest old : List ℕ) → (s : PairsWalked order room n before input rest) → MapTranscoded order room n input rest old (old ++ s.front)
   map_from n before input rest old s =
       let p = s.pairs in
-      let same : s.es ≡ p.es = one_written s.es p.es s.lengths s.front s.laid (p.laid, p.written) in
+      let same : s.es ≡ p.es = one_spanned s.es p.es s.spans s.front s.laid.0 s.laid.1 p.laid p.written in
       record {
         nodes = p.nodes;
         items = p.items;

@@ -1,5 +1,5 @@
 -- What one pass reads at the front of its input, and writes at the end of its buffer.
-use Rattle.std.specs.Prelude.{◌≡◌, ℕ, ◌+◌, ◌≤◌, List, ◌∷◌, ◌++◌, map, length, Bool, IsUtf8, IsPermutation, take, drop}
+use Rattle.std.specs.Prelude.{◌≡◌, ℕ, ◌+◌, ◌≤◌, List, [], ◌∷◌, ◌++◌, map, length, Bool, IsUtf8, IsPermutation, take, drop}
 use Rattle.std.specs.declared.cmp.Ordering.{Ordering}
 use Rattle.std.specs.List.{flat_map, AllZip}
 use Rattle.cborn_model.specs.declared.nodes.Chunk.{Chunk}
@@ -11,7 +11,7 @@ use Rattle.cborn_model.specs.Value.{Value, integer, pairs_of}
 use Rattle.cborn_model.specs.Meaning.{Means, EntriesMean, ChunksAreText, IsBignum, joined_chunks}
 use Rattle.cborn_model.specs.Orders.{Rising}
 use Rattle.cborn_det.specs.Det.{Det, DetSeq, DetPairs, IsString, IsInteger, IsSimple, Entry, joined, keys}
-use Rattle.cborn_det.specs.Appending.{Appends, lengths_of}
+use Rattle.cborn_det.specs.Appending.{Appends}
 use Rattle.cborn_transcode.specs.declared.entries.Span.{Span}
 use Rattle.cborn_wire.specs.declared.heads.Argument.{Argument}
 use Rattle.cborn_wire.specs.declared.heads.Argument.TheVariants as arguments
@@ -77,6 +77,20 @@ pub record BignumTaken (negative : Bool) (input rest old new : List ℕ) : Type 
 abbrev pub SimpleTaken : Argument → List ℕ → List ℕ → Type 0
 SimpleTaken a old new = (n : ℕ) × (a ≡ arguments.Given (simple_width n) n) × Fits (Simple 0 n) × Appends (IsSimple n) old new
 
+-- the key and the value of a pair that lies in a buffer
+abbrev pub spanned : List ℕ → Span → Entry
+spanned written s = (take s.key_len (drop s.start written), take s.value_len (drop s.key_len (drop s.start written)))
+
+abbrev pub all_spanned : List ℕ → List Span → List Entry
+all_spanned written = map (spanned written)
+
+-- where entries lie that stand one after another from a place on
+abbrev pub AreSpans : ℕ → List Entry → List Span → Type 0
+AreSpans p [] [] = Unit {0}
+AreSpans p [] (s ∷ ss) = ⊥
+AreSpans p (e ∷ es) [] = ⊥
+AreSpans p (e ∷ es) (s ∷ ss) = (s.start ≡ p) × (s.key_len ≡ length e.0) × (s.value_len ≡ length e.1) × AreSpans (p + length e.0 + length e.1) es ss
+
 module _ (order : List ℕ → List ℕ → Ordering) (room : ℕ) where
   -- a node no deeper than the room; the encoding of what it means is written
   pub record ItemTranscoded (input rest old new : List ℕ) : Type 0 where
@@ -103,8 +117,8 @@ module _ (order : List ℕ → List ℕ → Ordering) (room : ℕ) where
     pub written : Appends (DetSeq order items) old new
     pub count : length nodes ≡ n
 
-  -- n pairs one after another, with these lengths of their keys and values as they are written
-  pub record PairsTranscoded (n : ℕ) (lengths : List (ℕ × ℕ)) (input rest old new : List ℕ) : Type 0 where
+  -- n pairs one after another, which are written where the spans say
+  pub record PairsTranscoded (n : ℕ) (spans : List Span) (input rest old new : List ℕ) : Type 0 where
     pub nodes : List (Tree × Tree)
     pub items : List (Value × Value)
     pub es : List Entry
@@ -113,7 +127,7 @@ module _ (order : List ℕ → List ℕ → Ordering) (room : ℕ) where
     pub shallow : depth_entries (entries nodes) ≤ room
     pub meant : EntriesMean (entries nodes) (pairs_of items)
     pub det : DetPairs order (pairs_of items) es
-    pub laid : lengths ≡ map lengths_of es
+    pub laid : AreSpans (length old) es spans
     pub written : new ≡ old ++ joined es
     pub count : length nodes ≡ n
 
@@ -132,13 +146,6 @@ module _ (order : List ℕ → List ℕ → Ordering) (room : ℕ) where
     pub rises : Rising order (keys arranged)
     pub written : new ≡ old ++ joined arranged
     pub count : length nodes ≡ n
-
--- the key and the value of a pair that lies in a buffer
-abbrev pub spanned : List ℕ → Span → Entry
-spanned written s = (take s.key_len (drop s.start written), take s.value_len (drop s.key_len (drop s.start written)))
-
-abbrev pub all_spanned : List ℕ → List Span → List Entry
-all_spanned written = map (spanned written)
 
 -- the input is the spelling of nodes that mean items, none deeper than the limit, and the output the items' deterministic encodings, one after another
 pub record IsTranscoded (order : List ℕ → List ℕ → Ordering) (limit : ℕ) (input output : List ℕ) : Type 0 where

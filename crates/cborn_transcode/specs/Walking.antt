@@ -5,11 +5,11 @@ use Rattle.std.proofs.Common.{Bor}
 use Rattle.cborn_model.specs.Bytes.{AreBytes, IsShortest}
 use Rattle.cborn_model.specs.Heads.{Major, ByteString, Given, head, Holds, least}
 use Rattle.cborn_model.specs.Orders.{Rising}
-use Rattle.cborn_det.specs.Det.{Entry, keys}
-use Rattle.cborn_det.specs.Appending.{IsWritten}
+use Rattle.cborn_det.specs.Det.{Entry, joined, keys}
 use Rattle.cborn_det.proofs.Cutting.{EndsIn}
+use Rattle.cborn_transcode.specs.declared.entries.Span.{Span}
 use Rattle.cborn_wire.specs.Faults.{major_at}
-use Rattle.cborn_transcode.specs.Transcoding.{ItemTranscoded, ItemsTranscoded, PairsTranscoded}
+use Rattle.cborn_transcode.specs.Transcoding.{ItemTranscoded, ItemsTranscoded, PairsTranscoded, AreSpans}
 
 -- P holds of some rest, which has so many bytes
 abbrev pub Leaves : (List ℕ → Type 0) → ℕ → Type 0
@@ -71,11 +71,11 @@ module _ (order : List ℕ → List ℕ → Ordering) (room : ℕ) where
   -- the encodings of n pairs one after another, whose keys rise up to the one before
   pub record PairsWalked (n : ℕ) (before : Option (Bor (List ℕ))) (input rest : List ℕ) : Type 0 where
     pub front : List ℕ
-    pub lengths : List (ℕ × ℕ)
+    pub spans : List Span
     pub es : List Entry
     pub read : input ≡ front ++ rest
-    pub pairs : PairsTranscoded order room n lengths input rest [] front
-    pub laid : IsWritten es lengths front
+    pub pairs : PairsTranscoded order room n spans input rest [] front
+    pub laid : AreSpans 0 es spans × (front ≡ joined es)
     pub rises : Rising order (keys es)
     pub last : EndsIn before (keys es)
 

@@ -1,20 +1,20 @@
 //! The pairs of a map, whose keys and values lie one after another in a buffer, and their order.
 
-ghost use Rattle.std.specs.Prelude.{◌≡◌, ◌+◌, ◌≤◌, ◌++◌, List, length, take, drop, IsTrue, IsPermutation, IfSome, OnSome};
+ghost use Rattle.std.specs.Prelude.{◌≡◌, ◌-◌, ◌≤◌, ◌++◌, ◌∷◌, [], List, length, take, drop, IsTrue, IsPermutation, IfSome, OnSome};
 ghost use Rattle.cborn_model.specs.Orders.{Rising};
-ghost use Rattle.cborn_det.specs.Appending.{IsWritten};
 ghost use Rattle.cborn_det.specs.Det.{Entry, joined, keys};
-ghost use Rattle.cborn_transcode.specs.Transcoding.{spanned, all_spanned};
+ghost use Rattle.cborn_transcode.specs.declared.entries.Span.{Span};
+ghost use Rattle.cborn_transcode.specs.Transcoding.{spanned, all_spanned, AreSpans};
 
 use cborn_model::KeyOrder;
 use std::alloc::Global;
 use std::cmp::Ordering;
 
-/// Where a pair lies among the bytes of a map.
+/// Where a pair lies in a buffer. It has 20 bytes, since a great map has one for each of its pairs.
 #[derive(Clone, Copy)]
 pub(crate) struct Span {
-    /// A number that rises with the key, as a rule. Nothing but speed rests on it.
-    pub hint: u64,
+    /// A number of 64 bits, the upper half first, that rises with the key, as a rule. Nothing but speed rests on it.
+    pub hint: (u32, u32),
     /// How many bytes stand before the key.
     pub start: u32,
     /// The length of the key in bytes.
@@ -23,109 +23,80 @@ pub(crate) struct Span {
     pub value_len: u32,
 }
 
-/// Arranges the pairs that `out` has from `start` on, so that their keys rise. `lengths` are those
-/// of
-/// each key and value. Where the keys rise as they stand, nothing is moved. None where two keys are
-/// equal.
+/// Adds the span of the pair that begins at `start`, and whose value begins at `middle` and ends with the buffer. None where
+/// the pair ends behind the first 4 GB.
+#[inline(never)]
+pub(crate) fn push_span<O: KeyOrder>(
+    start: usize,
+    middle: usize,
+    out: &[u8],
+    spans: &mut Vec<Span>,
+) -> Option<()>
+    ensures { OnSome result ((s : Span) × (spans.new.items ≡ spans.old.items ++ s ∷ []) × (s.start ≡ start) × (s.key_len ≡ middle - start) × (s.value_len ≡ length out.now - middle)) }
+{
+    let span = Span {
+        hint: hint_at::<O>(out, start, middle),
+        start: u32::try_from(start).ok()?,
+        key_len: length_of(start, middle)?,
+        value_len: length_of(middle, out.len())?,
+    };
+    spans.push(span).ok()?;
+    Some(())
+}
+
+/// How much the end is above the start, where that fits 32 bits.
+#[inline(always)]
+fn length_of(start: usize, end: usize) -> Option<u32>
+    ensures { IfSome result (λ n. n ≡ end - start) }
+{
+    if end < start {
+        return None;
+    }
+    u32::try_from(end - start).ok()
+}
+
+/// Arranges the pairs that `out` has from `start` on, and that lie at `spans`, so that their keys rise. Where the keys rise as
+/// they stand, nothing is moved. None where two keys are equal.
 pub(crate) fn arrange<O: KeyOrder>(
     alloc: Global,
-    lengths: &[(u32, u32)],
+    spans: &mut Vec<Span>,
     start: usize,
     out: &mut Vec<u8>,
 ) -> Option<()>
     requires inside { start ≤ length out.old.items }
-    requires written { (es : List Entry) × IsWritten es lengths.now (drop start out.old.items) }
-    ensures { OnSome result ((es : List Entry) → IsWritten es lengths.now (drop start out.old.items) → (fs : List Entry) × IsPermutation es fs × Rising O.order (keys fs) × (out.new.items ≡ take start out.old.items ++ joined fs)) }
+    ensures { OnSome result ((es : List Entry) → AreSpans start es spans.old.items → drop start out.old.items ≡ joined es → (fs : List Entry) × IsPermutation es fs × Rising O.order (keys fs) × (out.new.items ≡ take start out.old.items ++ joined fs)) }
 {
-    if !rise::<O>(lengths, &out[start..]) {
-        let arranged = arranged::<O>(alloc, lengths, &out[start..])?;
+    if !are_rising::<O>(out, spans) {
+        let arranged = arranged::<O>(alloc, out.len() - start, out, spans)?;
         out.truncate(start);
         out.extend_from_slice(&arranged).ok()?;
     }
     Some(())
 }
 
-/// Whether the keys rise as they stand. `lengths` are those of each key and value in `written`.
-fn rise<O: KeyOrder>(lengths: &[(u32, u32)], written: &[u8]) -> bool
-    requires { (es : List Entry) × IsWritten es lengths.now written.now }
-    ensures { IsTrue result → (es : List Entry) → IsWritten es lengths.now written.now → Rising O.order (keys es) }
+/// The `len` bytes of the pairs, so arranged that the keys rise. The sort may do as it likes: what came out is tested.
+fn arranged<O: KeyOrder>(
+    alloc: Global,
+    len: usize,
+    written: &[u8],
+    spans: &mut Vec<Span>,
+) -> Option<Vec<u8>>
+    ensures { IfSome result (λ v. (fs : List Entry) × IsPermutation (all_spanned written.now spans.old.items) fs × Rising O.order (keys fs) × (v.items ≡ joined fs)) }
 {
-    let mut rest = written;
-    let mut before: Option<&[u8]> = None;
-    for (key_len, value_len) in lengths {
-        let (key, after) = rest.split_at(*key_len as usize);
-        let (_, after) = after.split_at(*value_len as usize);
-        if let Some(before) = before {
-            if !O::compare(before, key).is_lt() {
-                return false;
-            }
-        }
-        before = Some(key);
-        rest = after;
-    }
-    true
-}
-
-/// The bytes of the pairs, so arranged that the keys rise. The sort may do as it likes: what came
-/// out
-/// is tested.
-fn arranged<O: KeyOrder>(alloc: Global, lengths: &[(u32, u32)], written: &[u8]) -> Option<Vec<u8>>
-    requires { (es : List Entry) × IsWritten es lengths.now written.now }
-    ensures { IfSome result (λ v. (es : List Entry) → IsWritten es lengths.now written.now → (fs : List Entry) × IsPermutation es fs × Rising O.order (keys fs) × (v.items ≡ joined fs)) }
-{
-    let mut spans = spans_in(alloc, lengths, written, is_by_length::<O>())?;
-    sort::<O>(written, &mut spans);
-    if !are_rising::<O>(written, &spans) {
+    sort::<O>(written, spans);
+    if !are_rising::<O>(written, spans) {
         return None;
     }
-    let mut out = Vec::with_capacity(alloc, written.len()).ok()?;
-    push_pairs(written, &spans, &mut out)?;
+    let mut out = Vec::with_capacity(alloc, len).ok()?;
+    push_pairs(written, spans, &mut out)?;
     Some(out)
-}
-
-/// The pairs in the order in which they lie in the bytes.
-fn spans_in(
-    alloc: Global,
-    lengths: &[(u32, u32)],
-    written: &[u8],
-    by_length: bool,
-) -> Option<Vec<Span>>
-    requires { (es : List Entry) × IsWritten es lengths.now written.now }
-    ensures { IfSome result (λ v. IsWritten (all_spanned written.now v.items) lengths.now written.now) }
-{
-    let mut spans = Vec::with_capacity(alloc, lengths.len()).ok()?;
-    let mut rest = written;
-    let mut start: u32 = 0;
-    for (key_len, value_len) in lengths {
-        let (key, after) = rest.split_at(*key_len as usize);
-        let (_, after) = after.split_at(*value_len as usize);
-        let hint = hint(key, by_length);
-        spans
-            .push(Span {
-                hint,
-                start,
-                key_len: *key_len,
-                value_len: *value_len,
-            })
-            .ok()?;
-        start = end_of(start, *key_len, *value_len)?;
-        rest = after;
-    }
-    Some(spans)
-}
-
-/// Where a pair ends, where that fits 32 bits.
-fn end_of(start: u32, key_len: u32, value_len: u32) -> Option<u32>
-    ensures { IfSome result (λ n. n ≡ start + key_len + value_len) }
-{
-    start.checked_add(key_len)?.checked_add(value_len)
 }
 
 /// Arranges pairs so that their keys rise, where the hints suit the order.
 fn sort<O: KeyOrder>(written: &[u8], spans: &mut Vec<Span>)
     ensures { IsPermutation spans.old.items spans.new.items }
 {
-    spans.sort_unstable_by(|a, b| match a.hint.cmp(&b.hint) {
+    spans.sort_unstable_by(|a, b| match whole(a.hint).cmp(&whole(b.hint)) {
         Ordering::Equal => compare_keys::<O>(written, a, b),
         unequal => unequal,
     });
@@ -144,8 +115,23 @@ fn is_by_length<O: KeyOrder>() -> bool {
     !O::compare(&[1, 0], &[2]).is_lt()
 }
 
-/// A number that rises with the key, as a rule: its first bytes, behind its length where that comes
-/// first.
+/// The number that has these halves.
+#[inline(always)]
+fn whole(halves: (u32, u32)) -> u64 {
+    (u64::from(halves.0) << 32) | u64::from(halves.1)
+}
+
+/// The hint for the key that lies there.
+#[inline(always)]
+fn hint_at<O: KeyOrder>(out: &[u8], start: usize, end: usize) -> (u32, u32) {
+    let hint = match out.get(start..end) {
+        Some(key) => hint(key, is_by_length::<O>()),
+        None => 0,
+    };
+    ((hint >> 32) as u32, (hint & 0xffff_ffff) as u32)
+}
+
+/// A number that rises with the key, as a rule: its first bytes, behind its length where that comes first.
 fn hint(key: &[u8], by_length: bool) -> u64 {
     let front = match key.first_chunk::<8>() {
         Some(bytes) => u64::from_be_bytes(*bytes),

@@ -1,11 +1,11 @@
 //! Items, one after another and inside one another.
 
-ghost use Rattle.std.specs.Prelude.{◌≡◌, ◌≢◌, ◌∷◌, false, ◌<◌, ◌≤◌, ◌+◌, ◌^◌, ◌++◌, ◌-◌, ℕ, List, [], length, IfSome};
+ghost use Rattle.std.specs.Prelude.{◌≡◌, ◌≢◌, ◌∷◌, false, ◌<◌, ◌≤◌, ◌+◌, ◌^◌, ◌++◌, ℕ, List, [], length, IfSome};
 ghost use Rattle.cborn_model.specs.declared.heads.Width.{Width};
 ghost use Rattle.cborn_model.specs.Heads.{Array, Map, Tag, Given, Unbounded, head, Holds};
 ghost use Rattle.cborn_transcode.specs.Transcoding.{ItemTranscoded, ItemLeaves, ItemsTranscoded, PairsTranscoded};
 
-use crate::entries::arrange;
+use crate::entries::{Span, arrange, push_span};
 use crate::heads::{put_head, set_head};
 use crate::leaves::{
     behind_break, put_bignum, put_long_string_leaving, put_simple, put_string_leaving,
@@ -190,12 +190,12 @@ fn put_fixed_map<O: KeyOrder>(
     }
     put_head(5, n, out)?;
     let start = out.len();
-    let mut lengths = Vec::with_capacity(alloc, n.min(64) as usize).ok()?;
-    let (rest, count) = put_pairs::<O>(alloc, room - 1, n, false, bytes, out, &mut lengths)?;
+    let mut spans = Vec::with_capacity(alloc, n.min(64) as usize).ok()?;
+    let (rest, count) = put_pairs::<O>(alloc, room - 1, n, false, bytes, out, &mut spans)?;
     if count != n {
         return None;
     }
-    arrange::<O>(alloc, &lengths, start, out)?;
+    arrange::<O>(alloc, &mut spans, start, out)?;
     Some(rest.len())
 }
 
@@ -217,17 +217,16 @@ fn put_endless_map<O: KeyOrder>(
     let head_start = out.len();
     out.push(0).ok()?;
     let start = out.len();
-    let mut lengths = Vec::new(alloc);
+    let mut spans = Vec::new(alloc);
     let most = bytes.len() as u64;
-    let (rest, count) = put_pairs::<O>(alloc, room - 1, most, true, bytes, out, &mut lengths)?;
+    let (rest, count) = put_pairs::<O>(alloc, room - 1, most, true, bytes, out, &mut spans)?;
     let after = behind_break(rest)?;
-    arrange::<O>(alloc, &lengths, start, out)?;
+    arrange::<O>(alloc, &mut spans, start, out)?;
     set_head(alloc, 5, count, head_start, out)?;
     Some(after.len())
 }
 
-/// The pairs at the front of `bytes`, as `put_items` takes items. The lengths of each key and
-/// value, as they are written, join `lengths`.
+/// The pairs at the front of `bytes`, as `put_items` takes items. Where each is written joins `spans`.
 #[cycle(transcoded)]
 #[inline(always)]
 fn put_pairs<'a, O: KeyOrder>(
@@ -237,10 +236,10 @@ fn put_pairs<'a, O: KeyOrder>(
     may_end: bool,
     bytes: &'a [u8],
     out: &mut Vec<u8>,
-    lengths: &mut Vec<(u32, u32)>,
+    spans: &mut Vec<Span>,
 ) -> Option<(&'a [u8], u64)>
     requires room { room ≤ 1024 }
-    ensures { IfSome result (λ r. lengths.old.items ≡ [] → PairsTranscoded O.order room r.1 lengths.new.items bytes.now r.0.now out.old.items out.new.items) }
+    ensures { IfSome result (λ r. spans.old.items ≡ [] → PairsTranscoded O.order room r.1 spans.new.items bytes.now r.0.now out.old.items out.new.items) }
 {
     let mut rest = bytes;
     let mut count = 0;
@@ -248,7 +247,7 @@ fn put_pairs<'a, O: KeyOrder>(
         if is_done(count, most, may_end, rest) {
             break;
         }
-        rest = put_pair::<O>(alloc, room, rest, out, lengths)?;
+        rest = put_pair::<O>(alloc, room, rest, out, spans)?;
         count += 1;
     }
     Some((rest, count))
@@ -262,31 +261,17 @@ fn put_pair<'a, O: KeyOrder>(
     room: u64,
     bytes: &'a [u8],
     out: &mut Vec<u8>,
-    lengths: &mut Vec<(u32, u32)>,
+    spans: &mut Vec<Span>,
 ) -> Option<&'a [u8]>
     requires room { room ≤ 1024 }
-    ensures { IfSome result (λ rest. (n : ℕ) (input start : List ℕ) → PairsTranscoded O.order room n lengths.old.items input bytes.now start out.old.items → PairsTranscoded O.order room (n + 1) lengths.new.items input rest.now start out.new.items) }
+    ensures { IfSome result (λ rest. (n : ℕ) (input start : List ℕ) → PairsTranscoded O.order room n spans.old.items input bytes.now start out.old.items → PairsTranscoded O.order room (n + 1) spans.new.items input rest.now start out.new.items) }
 {
     let start = out.len();
     let after = put_item::<O>(alloc, room, bytes, out)?;
     let middle = out.len();
     let rest = put_item::<O>(alloc, room, after, out)?;
-    let end = out.len();
-    let key_len = length_of(start, middle)?;
-    let value_len = length_of(middle, end)?;
-    lengths.push((key_len, value_len)).ok()?;
+    push_span::<O>(start, middle, out, spans)?;
     Some(rest)
-}
-
-/// How much the end is above the start, where that fits 32 bits.
-#[inline(always)]
-fn length_of(start: usize, end: usize) -> Option<u32>
-    ensures { IfSome result (λ n. n ≡ end - start) }
-{
-    if end < start {
-        return None;
-    }
-    u32::try_from(end - start).ok()
 }
 
 /// The tag `n` over the item at the front of `bytes`.

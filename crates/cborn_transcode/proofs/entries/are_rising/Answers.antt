@@ -6,7 +6,7 @@ use Rattle.cborn_transcode.proofs.entries.are_rising.Goals.{in-Some-before+else-
 use Rattle.cborn_transcode.proofs.entries.are_rising.Goals as goal
 
 none : Span
-none = record { hint = 0; start = 0; key_len = 0; value_len = 0 }
+none = record { hint = (0, 0); start = 0; key_len = 0; value_len = 0 }
 
 pub loop-span-preserved : goal.loop-span-preserved
 unfolding none

@@ -1,18 +1,15 @@
-use Rattle.std.proofs.Common.{◌≡◌, List, subst, ap, ◌∙◌, rules, IsPermutation}
+use Rattle.std.proofs.Common.{◌≡◌, List, ap, ◌∙◌, rules, IsPermutation}
 use Rattle.std.proofs.lemmas.List.Sorted.{IsPermutation-map}
 use Rattle.cborn_model.specs.Orders.{Rising}
 use Rattle.cborn_transcode.specs.Transcoding.{spanned, all_spanned}
 use Rattle.cborn_det.specs.Det.{Entry, keys, joined}
-use Rattle.cborn_det.proofs.Cutting.{one_written}
 use Rattle.cborn_transcode.proofs.entries.arranged.Goals as goal
 
 pub returns : goal.returns
-returns g c es w =
-    let b = c.args.written.now in
-    let one : all_spanned c.args.written.now c.in_ok-spans.spans.items ≡ es = one_written (all_spanned c.args.written.now c.in_ok-spans.spans.items) es c.args.lengths.now c.args.written.now c.in_ok-spans.ensures w in
+returns g c =
     let same : c.deref.result.now ≡ c.sort.new.spans.items = search rules in
     let same2 : c.deref-2.result.now ≡ c.sort.new.spans.items = search rules in
     let rises : Rising g.O.KeyOrder.order (keys (all_spanned c.args.written.now c.deref.result.now)) = search rules in
     let put : c.push_pairs.new.out.items ≡ joined (all_spanned c.args.written.now c.deref-2.result.now) = search rules in
-    let moved : IsPermutation (all_spanned c.args.written.now c.in_ok-spans.spans.items) (all_spanned c.args.written.now c.sort.new.spans.items) = IsPermutation-map (spanned c.args.written.now) _ _ c.sort.ensures in
-    (all_spanned c.args.written.now c.sort.new.spans.items, subst (λ (z : List Entry). IsPermutation z (all_spanned c.args.written.now c.sort.new.spans.items)) one moved, rw same at rises, put ∙ ap (λ l. joined (all_spanned c.args.written.now l)) same2)
+    let moved : IsPermutation (all_spanned c.args.written.now c.args.spans.now.items) (all_spanned c.args.written.now c.sort.new.spans.items) = IsPermutation-map (spanned c.args.written.now) _ _ c.sort.ensures in
+    (all_spanned c.args.written.now c.sort.new.spans.items, moved, rw same at rises, put ∙ ap (λ l. joined (all_spanned c.args.written.now l)) same2)

@@ -1,6 +1,7 @@
 use Rattle.std.proofs.Common.{rules, ◌≡◌, ◌≢◌, ◌<◌, ◌+◌, ◌-◌, ◌^◌, ◌++◌, ◌∷◌, [], inl, inr, refl, length, ℕ, List, true, false, subst, sym, arith}
 use Rattle.std.proofs.lemmas.List.{take_rest}
 use Rattle.cborn_wire.specs.declared.heads.Argument.TheVariants.{Given, Endless}
+use Rattle.cborn_transcode.specs.declared.entries.Span.{Span}
 use Rattle.cborn_transcode.specs.Transcoding.{ItemsTranscoded, PairsTranscoded, MapTranscoded}
 use Rattle.cborn_transcode.proofs.Closing.{uint_done, nint_done, bytes_done, text_done, byte_chunks_done, text_chunks_done, simple_done, bignum_done, tagged_done}
 use Rattle.cborn_transcode.proofs.Lists.{all_none, run_more, all_more, array_done, endless_array_done}
@@ -116,11 +117,10 @@ pub put_fixed_map-returns : goal.put_fixed_map-returns
 put_fixed_map-returns g t c w h =
     let short : length c.args.bytes.now < 2 ^ 64 = omega arith in
     let start : c.len-start.result ≡ length c.put_head.new.out.items = search rules in
-    let lengths : c.put_pairs.new.lengths.items ≡ c.deref.result.now = search rules in
-    let pairs : PairsTranscoded g.O.KeyOrder.order (c.args.room - 1) c.in_ok-rest.count c.put_pairs.new.lengths.items c.args.bytes.now c.in_ok-rest.rest.now c.put_head.new.out.items c.put_pairs.new.out.items = c.in_ok-rest.ensures (search rules) in
+    let pairs : PairsTranscoded g.O.KeyOrder.order (c.args.room - 1) c.in_ok-rest.count c.put_pairs.new.spans.items c.args.bytes.now c.in_ok-rest.rest.now c.put_head.new.out.items c.put_pairs.new.out.items = c.in_ok-rest.ensures (search rules) in
     let arranged : MapTranscoded g.O.KeyOrder.order (c.args.room - 1) c.in_ok-rest.count c.args.bytes.now c.in_ok-rest.rest.now c.put_head.new.out.items c.arrange.new.out.items =
-    arranged_map g.O.KeyOrder.order (c.args.room - 1) c.in_ok-rest.count c.len-start.result c.deref.result.now c.args.bytes.now c.in_ok-rest.rest.now c.put_head.new.out.items c.put_pairs.new.out.items c.arrange.new.out.items start
-    (subst (λ (l : List (ℕ × ℕ)). PairsTranscoded g.O.KeyOrder.order (c.args.room - 1) c.in_ok-rest.count l c.args.bytes.now c.in_ok-rest.rest.now c.put_head.new.out.items c.put_pairs.new.out.items) lengths pairs) c.in_ok-arrange.ensures in (
+    arranged_map g.O.KeyOrder.order (c.args.room - 1) c.in_ok-rest.count c.len-start.result c.put_pairs.new.spans.items c.args.bytes.now c.in_ok-rest.rest.now c.put_head.new.out.items c.put_pairs.new.out.items c.arrange.new.out.items start
+    pairs c.in_ok-arrange.ensures in (
       c.in_ok-rest.rest.now,
       search rules,
       map_fused g.O.KeyOrder.order g.met.O.KeyOrder.laws c.args.room w c.args.n c.args.bytes.now c.in_ok-rest.rest.now c.args.out.now.items c.put_head.new.out.items c.arrange.new.out.items (omega arith) short h c.in_ok-put_head.ensures
@@ -133,11 +133,10 @@ put_endless_map-returns g t c =
     let pushed : c.push.new.self.items ≡ c.args.out.now.items ++ 0 ∷ [] = search rules in
     let head_start : c.len-head_start.result ≡ length c.args.out.now.items = search rules in
     let start : c.len-start.result ≡ length c.push.new.self.items = search rules in
-    let lengths : c.put_pairs.new.lengths.items ≡ c.deref.result.now = search rules in
-    let pairs : PairsTranscoded g.O.KeyOrder.order (c.args.room - 1) c.in_ok-rest.count c.put_pairs.new.lengths.items c.args.bytes.now c.in_ok-rest.rest.now c.push.new.self.items c.put_pairs.new.out.items = c.in_ok-rest.ensures (search rules) in
+    let pairs : PairsTranscoded g.O.KeyOrder.order (c.args.room - 1) c.in_ok-rest.count c.put_pairs.new.spans.items c.args.bytes.now c.in_ok-rest.rest.now c.push.new.self.items c.put_pairs.new.out.items = c.in_ok-rest.ensures (search rules) in
     let arranged : MapTranscoded g.O.KeyOrder.order (c.args.room - 1) c.in_ok-rest.count c.args.bytes.now c.in_ok-rest.rest.now c.push.new.self.items c.arrange.new.out.items =
-    arranged_map g.O.KeyOrder.order (c.args.room - 1) c.in_ok-rest.count c.len-start.result c.deref.result.now c.args.bytes.now c.in_ok-rest.rest.now c.push.new.self.items c.put_pairs.new.out.items c.arrange.new.out.items start
-    (subst (λ (l : List (ℕ × ℕ)). PairsTranscoded g.O.KeyOrder.order (c.args.room - 1) c.in_ok-rest.count l c.args.bytes.now c.in_ok-rest.rest.now c.push.new.self.items c.put_pairs.new.out.items) lengths pairs) c.in_ok-arrange.ensures in (
+    arranged_map g.O.KeyOrder.order (c.args.room - 1) c.in_ok-rest.count c.len-start.result c.put_pairs.new.spans.items c.args.bytes.now c.in_ok-rest.rest.now c.push.new.self.items c.put_pairs.new.out.items c.arrange.new.out.items start
+    pairs c.in_ok-arrange.ensures in (
       c.in_ok-after.after.now,
       search rules,
       endless_map_fused g.O.KeyOrder.order g.met.O.KeyOrder.laws c.args.room c.in_ok-rest.count c.len-head_start.result c.args.bytes.now c.in_ok-rest.rest.now c.in_ok-after.after.now c.args.out.now.items c.arrange.new.out.items c.set_head.new.out.items (omega arith) short head_start c.in_ok-after.ensures
@@ -146,7 +145,7 @@ put_endless_map-returns g t c =
 
 pub put_pairs-pairs-init : goal.put_pairs-pairs-init
 put_pairs-pairs-init g t c =
-    ((λ nil. subst (λ (l : List (ℕ × ℕ)). PairsTranscoded g.O.KeyOrder.order c.args.room 0 l c.args.bytes.now c.args.bytes.now c.args.out.now.items c.args.out.now.items) (sym nil) (pairs_none g.O.KeyOrder.order c.args.room c.args.bytes.now c.args.out.now.items)), omega arith)
+    ((λ nil. subst (λ (l : List Span). PairsTranscoded g.O.KeyOrder.order c.args.room 0 l c.args.bytes.now c.args.bytes.now c.args.out.now.items c.args.out.now.items) (sym nil) (pairs_none g.O.KeyOrder.order c.args.room c.args.bytes.now c.args.out.now.items)), omega arith)
 
 pub put_pairs-pairs-preserved : goal.put_pairs-pairs-preserved
 put_pairs-pairs-preserved g t c =
@@ -154,12 +153,12 @@ put_pairs-pairs-preserved g t c =
 
 pub put_pair-returns : goal.put_pair-returns
 put_pair-returns g t c n input start s =
-    let first : c.in_ok-key_len.key_len ≡ length c.put_item.new.out.items - length c.args.out.now.items = search rules in
-    let second : c.in_ok-value_len.value_len ≡ length c.put_item-2.new.out.items - length c.put_item.new.out.items = search rules in
-    let pushed : c.args.lengths.now.items ++ (c.in_ok-key_len.key_len, c.in_ok-value_len.value_len) ∷ [] ≡ c.push.new.self.items = search rules in
-    subst (λ (l : List (ℕ × ℕ)). PairsTranscoded g.O.KeyOrder.order c.args.room (n + 1) l input c.in_ok-rest.rest.now start c.put_item-2.new.out.items) pushed
-    (pairs_more g.O.KeyOrder.order c.args.room n c.args.lengths.now.items (c.in_ok-key_len.key_len, c.in_ok-value_len.value_len) input c.args.bytes.now c.in_ok-after.after.now c.in_ok-rest.rest.now start c.args.out.now.items c.put_item.new.out.items c.put_item-2.new.out.items
-    s c.in_ok-after.ensures c.in_ok-rest.ensures first second)
+    let pushed = c.in_ok-push_span.ensures in
+    let first : pushed.0.key_len ≡ length c.put_item.new.out.items - length c.args.out.now.items = search rules in
+    let second : pushed.0.value_len ≡ length c.put_item-2.new.out.items - length c.put_item.new.out.items = search rules in
+    subst (λ (l : List Span). PairsTranscoded g.O.KeyOrder.order c.args.room (n + 1) l input c.in_ok-rest.rest.now start c.put_item-2.new.out.items) (sym pushed.1)
+    (pairs_more g.O.KeyOrder.order c.args.room n c.args.spans.now.items pushed.0 input c.args.bytes.now c.in_ok-after.after.now c.in_ok-rest.rest.now start c.args.out.now.items c.put_item.new.out.items c.put_item-2.new.out.items
+    s c.in_ok-after.ensures c.in_ok-rest.ensures (search rules) first second)
 
 pub put_tagged-returns-then-n-eq2 : goal.put_tagged-returns-then-n-eq2
 put_tagged-returns-then-n-eq2 g t c w h =

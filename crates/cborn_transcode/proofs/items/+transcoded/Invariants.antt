@@ -38,4 +38,4 @@ invariant-put_items-items g l = ItemsTranscoded g.O.KeyOrder.order l.room l.coun
 
 -- the pairs so far
 abbrev pub invariant-put_pairs-pairs : goal.invariant-put_pairs-pairs
-invariant-put_pairs-pairs g l = (l.initial.lengths.items ≡ [] → PairsTranscoded g.O.KeyOrder.order l.room l.count l.lengths.items l.bytes l.rest l.initial.out.items l.out.items) × (l.count ≤ l.most)
+invariant-put_pairs-pairs g l = (l.initial.spans.items ≡ [] → PairsTranscoded g.O.KeyOrder.order l.room l.count l.spans.items l.bytes l.rest l.initial.out.items l.out.items) × (l.count ≤ l.most)
