@@ -22,13 +22,13 @@ use Rattle.cborn_search.proofs.Couples.{no_pair, pair_more, map_read, endless_ma
 use Rattle.cborn_search.proofs.Keying.{key_coded, cut_out, key_unknown, stands}
 use Rattle.cborn_search.proofs.Scanning.{both_told, alike_told}
 
-one_pair : (ns : List Pair) (n : Pair) (p : ℕ) (r : InvalidReason) → Either (FlawAmong (entries ns)) (Either (Flaw n.0) (Flaw n.1)) p r ↔ FlawAmong (entries (ns ++ n ∷ [])) p r
-one_pair ns n p r = (to, (λ f. elim (after ns n f.0 f.1) [ inl k ↦ inl (f.0, k, f.2) | inr k ↦ elim k [ inl i ↦ inr (inl (f.0, i, f.2)) | inr i ↦ inr (inr (f.0, i, f.2)) ] ]))
+one_pair : (ns : List Pair) (n : Pair) (p : ℕ) (r : InvalidReason) → Either (Either (FlawAmong (entries ns)) (Flaw n.0)) (Flaw n.1) p r ↔ FlawAmong (entries (ns ++ n ∷ [])) p r
+one_pair ns n p r = (to, (λ f. elim (after ns n f.0 f.1) [ inl k ↦ inl (inl (f.0, k, f.2)) | inr k ↦ elim k [ inl i ↦ inl (inr (f.0, i, f.2)) | inr i ↦ inr (f.0, i, f.2) ] ]))
   where
-    to : Either (FlawAmong (entries ns)) (Either (Flaw n.0) (Flaw n.1)) p r → FlawAmong (entries (ns ++ n ∷ [])) p r
-    to (inl f) = (f.0, before ns n f.0 f.1, f.2)
-    to (inr (inl f)) = (f.0, last_key ns n f.0 f.1, f.2)
-    to (inr (inr f)) = (f.0, last_value ns n f.0 f.1, f.2)
+    to : Either (Either (FlawAmong (entries ns)) (Flaw n.0)) (Flaw n.1) p r → FlawAmong (entries (ns ++ n ∷ [])) p r
+    to (inl (inl f)) = (f.0, before ns n f.0 f.1, f.2)
+    to (inl (inr f)) = (f.0, last_key ns n f.0 f.1, f.2)
+    to (inr f) = (f.0, last_value ns n f.0 f.1, f.2)
 
 pub pairs_none : (room total : ℕ) (input : List ℕ) → PairsSeen room total 0 input input None []
 pairs_none room total input = no_pair (PairsFlaw None []) room total input ((λ p r f. f.1), refl)
@@ -38,14 +38,14 @@ pub node_with : (P Q : Tree → Type 0) (room total : ℕ) (input rest : List �
 node_with P Q room total input rest x q = record { node = x.node; read = x.read; fits = x.fits; shallow = x.shallow; placed = x.placed; holds = (x.holds, q) }
 
 pub pairs_more : (room total n : ℕ) (input mid half rest : List ℕ) (a b c d o : Option Told) (s t : Bool) (old new : List SeenKey) → length input ≤ total → PairsSeen room total n input mid a old
-    → (k : Scanned room total mid half b s) → Scanned room total half rest c t → IsEarliestTold b c d → IsEarliestTold a d o → Joins n k.node old new
+    → (k : Scanned room total mid half b s) → Scanned room total half rest c t → IsEarliestTold a b d → IsEarliestTold d c o → Joins n k.node old new
     → PairsSeen room total (n + 1) input rest o new
 pairs_more room total n input mid half rest a b c d o s t old new l x k v e f j =
     pair_more (PairsFlaw a old) (PairsFlaw o new) (λ z. HasFlaw b s z × Joins n z old new) (HasFlaw c t) room total n input mid half rest l x
     (node_with (HasFlaw b s) (λ z. Joins n z old new) room total mid half k j) v
     (λ ns y w count g h i. (
-      alike_told (Either (FlawAmong (entries ns)) (Either (Flaw y) (Flaw w))) (FlawAmong (entries (ns ++ (y, w) ∷ []))) o (one_pair ns (y, w))
-          (both_told (FlawAmong (entries ns)) (Either (Flaw y) (Flaw w)) a d o g.0 (both_told (Flaw y) (Flaw w) b c d h.0.0 i.0 e) f),
+      alike_told (Either (Either (FlawAmong (entries ns)) (Flaw y)) (Flaw w)) (FlawAmong (entries (ns ++ (y, w) ∷ []))) o (one_pair ns (y, w))
+          (both_told (Either (FlawAmong (entries ns)) (Flaw y)) (Flaw w) d c o (both_told (FlawAmong (entries ns)) (Flaw y) a b d g.0 h.0.0 e) i.0 f),
       h.1 w ns count g.1,
     ))
 

@@ -15,6 +15,7 @@ use Rattle.cborn_wire.specs.declared.heads.Head.{Head}
 use Rattle.cborn_wire.specs.HeadReading.{IsHeadOf, seen_argument, ArgumentFits}
 use Rattle.cborn_wire.specs.Faults.{major_at}
 use Rattle.cborn_transcode.proofs.Heading.{head_split}
+use Rattle.cborn_transcode.specs.Walking.{Leaves}
 use Rattle.cborn_search.specs.Reading.{StringRead, IsSimpleArgument, ChunkRead, ChunksRead, NodeRead, NodesRead}
 
 -- the place of what follows
@@ -246,6 +247,22 @@ read_from F total place x tail h n major a t i e f l p done =
     let split : x ≡ head (major_at major) (seen_argument a) ++ tail = head_split x h n i ∙ (λ j. head (major_at (e j)) (seen_argument (f j)) ++ sym t j) in
     subst F (sym split)
     (done (subst (λ (b : Argument). ArgumentFits (seen_argument b)) f i.fits) (subst (λ (y : List ℕ). length y ≤ total) split l) (subst (λ (y : List ℕ). place ≡ total - length y) split p))
+
+-- the head is the whole node
+pub head_alone : (P : Tree → Type 0) (room total place : ℕ) (x tail : List ℕ) (left : ℕ) (h : Head) (n major : ℕ) (a : Argument) → tail ≡ drop n x → IsHeadOf x h n → h.major ≡ major → h.argument ≡ a → length x ≤ total → place ≡ total - length x → length tail ≡ left
+    → (ArgumentFits (seen_argument a) → place ≡ total - length (head (major_at major) (seen_argument a) ++ tail) → NodeRead P room total (head (major_at major) (seen_argument a) ++ tail) tail)
+    → Leaves (NodeRead P room total x) left
+head_alone P room total place x tail left h n major a t i e f l p c done = read_from (λ (y : List ℕ). Leaves (NodeRead P room total y) left) total place x tail h n major a t i e f l p (λ fits m q. (tail, c, done fits q))
+
+-- the node goes on behind its head
+pub head_before : (P : Tree → Type 0) (room total place : ℕ) (x tail : List ℕ) (left : ℕ) (h : Head) (n major : ℕ) (a : Argument) → tail ≡ drop n x → IsHeadOf x h n → h.major ≡ major → h.argument ≡ a → length x ≤ total → place ≡ total - length x
+    → (ArgumentFits (seen_argument a) → length (head (major_at major) (seen_argument a) ++ tail) ≤ total → place ≡ total - length (head (major_at major) (seen_argument a) ++ tail) → Leaves (NodeRead P room total (head (major_at major) (seen_argument a) ++ tail)) left)
+    → Leaves (NodeRead P room total x) left
+head_before P room total place x tail left h n major a t i e f l p done = read_from (λ (y : List ℕ). Leaves (NodeRead P room total y) left) total place x tail h n major a t i e f l p done
+
+-- the bytes that are left are those behind the node
+pub node_last : (P : Tree → Type 0) (room total : ℕ) (x rest : List ℕ) (left : ℕ) → Leaves (NodeRead P room total x) left → ((front back : List ℕ) → x ≡ front ++ back → length back ≡ left → rest ≡ back) → NodeRead P room total x rest
+node_last P room total x rest left s last = subst (NodeRead P room total x) (sym (last (spelled s.2.node) s.0 s.2.read s.1)) s.2
 
 pub under : {A : Type 0} {P Q : A → Type 0} (r : Option A) → ((x : A) → P x → Q x) → IfSome r P → IfSome r Q
 under None f h = h

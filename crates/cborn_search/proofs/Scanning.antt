@@ -21,7 +21,7 @@ use Rattle.cborn_judge.proofs.Steps.{flaw_items, flaw_tagged}
 use Rattle.cborn_judge.proofs.Walking.{one_more}
 use Rattle.cborn_search.specs.Reading.{StringRead, IsSimpleArgument}
 use Rattle.cborn_search.specs.Flawed.{Told, told_place, told_reason, IsEarliestTold, FindsTold, TextFlaw, BadChunk, ChunkSeen, ChunksSeen, IsKind, HasFlaw, Scanned, HaveFlaw, ScannedAll}
-use Rattle.cborn_search.proofs.Nodes.{uint_read, nint_read, bytes_read, text_read, simple_read, no_chunk, chunk_more, byte_chunks_read, text_chunks_read, no_node, node_more, array_read, endless_array_read, tagged_read, read_from}
+use Rattle.cborn_search.proofs.Nodes.{uint_read, nint_read, bytes_read, text_read, simple_read, no_chunk, chunk_more, byte_chunks_read, text_chunks_read, no_node, node_more, array_read, endless_array_read, tagged_read}
 
 pub both_told : (F G : ℕ → InvalidReason → Type 0) (a b o : Option Told) → FindsTold F a → FindsTold G b → IsEarliestTold a b o → FindsTold (Either F G) o
 both_told = found_both flaw_rank told_place told_reason
@@ -127,6 +127,9 @@ endless_array_seen room total n input after rest flaw r e l s =
 
 -- ---- tags
 
+own_first : (p : ℕ) (w : Width) (n : ℕ) (t : Tree) → (n ≡ 2) ⊎ (n ≡ 3) → ((b : List ℕ) → IsByteString t b → ⊥) → IsFirst flaw_rank (FlawAt (Tagged p w n t)) p BadBignum
+own_first p w n t d b = record { is = (refl, refl, d, b); first = λ q s f. inr (sym f.0, (let e : flaw_rank BadBignum ≡ flaw_rank s = ap flaw_rank (sym f.1) in omega arith)) }
+
 is_string_of : (t : Tree) (s : Bool) → s ≡ true → IsKind s t → (b : List ℕ) × IsByteString t b
 is_string_of t true e k = k
 is_string_of t false e k = cc
@@ -135,34 +138,29 @@ no_string_of : (t : Tree) (s : Bool) → s ≡ false → IsKind s t → (b : Lis
 no_string_of t true e k = cc
 no_string_of t false e k = k
 
-own_first : (p : ℕ) (w : Width) (n : ℕ) (t : Tree) → (n ≡ 2) ⊎ (n ≡ 3) → ((b : List ℕ) → IsByteString t b → ⊥) → IsFirst flaw_rank (FlawAt (Tagged p w n t)) p BadBignum
-own_first p w n t d b = record { is = (refl, refl, d, b); first = λ q s f. inr (sym f.0, (let e : flaw_rank BadBignum ≡ flaw_rank s = ap flaw_rank (sym f.1) in omega arith)) }
-
-fine_at : (p : ℕ) (w : Width) (n : ℕ) (t : Tree) (s : Bool) → ((n ≢ 2) × (n ≢ 3)) ⊎ (s ≡ true) → IsKind s t → (q : ℕ) (r : InvalidReason) → FlawAt (Tagged p w n t) q r → ⊥
-fine_at p w n t s (inl d) k q r f = elim f.2 [ inl e ↦ d.0 e | inr e ↦ d.1 e ]
-fine_at p w n t s (inr e) k q r f = let b = is_string_of t s e k in f.3 b.0 b.1
-
 module _ (room total place : ℕ) (w : Width) (n : ℕ) (input rest : List ℕ) (flaw : Option Told) (s : Bool) where
-  pub tagged_seen : 1 ≤ room → Holds w n → length (head Tag (Given w n) ++ input) ≤ total → Scanned (room - 1) total input rest flaw s → ((n ≢ 2) × (n ≢ 3)) ⊎ (s ≡ true)
+  -- the tag has no flaw of its own
+  sound_tag : 1 ≤ room → Holds w n → length (head Tag (Given w n) ++ input) ≤ total → Scanned (room - 1) total input rest flaw s → ((t : Tree) (p q : ℕ) (r : InvalidReason) → IsKind s t → FlawAt (Tagged p w n t) q r → ⊥)
       → Scanned room total (head Tag (Given w n) ++ input) rest flaw false
-  tagged_seen r h l x d =
+  sound_tag r h l x d =
       let p : ℕ = total - length (head Tag (Given w n) ++ input) in
       tagged_read (HasFlaw flaw s) (HasFlaw flaw false) room total p w n input rest r h l refl x
-      (λ t g. (alike_told (Flaw t) (Flaw (Tagged p w n t)) flaw (λ q i. let f = flaw_tagged p w n t q i in ((λ k. f.1 (inr k)), (λ k. elim (f.0 k) [ inl o ↦ absurd (fine_at p w n t s d g.1 q i o) | inr o ↦ o ]))) g.0, (λ b k. k)))
+      (λ t g. (alike_told (Flaw t) (Flaw (Tagged p w n t)) flaw (λ q i. let f = flaw_tagged p w n t q i in ((λ k. f.1 (inr k)), (λ k. elim (f.0 k) [ inl o ↦ absurd (d t p q i g.1 o) | inr o ↦ o ]))) g.0, (λ b k. k)))
 
-  pub bad_tag_seen : (o : Option Told) → 1 ≤ room → Holds w n → length (head Tag (Given w n) ++ input) ≤ total → place ≡ total - length (head Tag (Given w n) ++ input) → Scanned (room - 1) total input rest flaw s → ((n ≡ 2) ⊎ (n ≡ 3)) × (s ≡ false) → IsEarliestTold (Some (place, BadBignum)) flaw o
+  pub tagged_seen : 1 ≤ room → Holds w n → length (head Tag (Given w n) ++ input) ≤ total → Scanned (room - 1) total input rest flaw s → n ≢ 2 → n ≢ 3
+      → Scanned room total (head Tag (Given w n) ++ input) rest flaw false
+  tagged_seen r h l x a b = sound_tag r h l x (λ t p q i k f. elim f.2 [ inl e ↦ a e | inr e ↦ b e ])
+
+  pub bignum_seen : 1 ≤ room → Holds w n → length (head Tag (Given w n) ++ input) ≤ total → Scanned (room - 1) total input rest flaw s → s ≡ true
+      → Scanned room total (head Tag (Given w n) ++ input) rest flaw false
+  bignum_seen r h l x e = sound_tag r h l x (λ t p q i k f. let b = is_string_of t s e k in f.3 b.0 b.1)
+
+  pub bad_bignum_seen : (o : Option Told) → 1 ≤ room → Holds w n → length (head Tag (Given w n) ++ input) ≤ total → place ≡ total - length (head Tag (Given w n) ++ input) → Scanned (room - 1) total input rest flaw s → (n ≡ 2) ⊎ (n ≡ 3) → s ≡ false → IsEarliestTold (Some (place, BadBignum)) flaw o
       → Scanned room total (head Tag (Given w n) ++ input) rest o false
-  bad_tag_seen o r h l e x d k =
+  bad_bignum_seen o r h l e x d b k =
       tagged_read (HasFlaw flaw s) (HasFlaw o false) room total place w n input rest r h l e x
       (λ t g. (
         alike_told (Either (FlawAt (Tagged place w n t)) (Flaw t)) (Flaw (Tagged place w n t)) o (λ q i. let f = flaw_tagged place w n t q i in (f.1, f.0))
-            (both_told (FlawAt (Tagged place w n t)) (Flaw t) (Some (place, BadBignum)) flaw o (own_first place w n t d.0 (no_string_of t s d.1 g.1)) g.0 k),
+            (both_told (FlawAt (Tagged place w n t)) (Flaw t) (Some (place, BadBignum)) flaw o (own_first place w n t d (no_string_of t s b g.1)) g.0 k),
         (λ b z. z),
       ))
-
--- ---- behind a head that was read
-
-pub seen_from : (room total place : ℕ) (x tail rest : List ℕ) (flaw : Option Told) (s : Bool) (h : Head) (n major : ℕ) (a : Argument) → tail ≡ drop n x → IsHeadOf x h n → h.major ≡ major → h.argument ≡ a → length x ≤ total → place ≡ total - length x
-    → (ArgumentFits (seen_argument a) → length (head (major_at major) (seen_argument a) ++ tail) ≤ total → place ≡ total - length (head (major_at major) (seen_argument a) ++ tail) → Scanned room total (head (major_at major) (seen_argument a) ++ tail) rest flaw s)
-    → Scanned room total x rest flaw s
-seen_from room total place x tail rest flaw s h n major a t i e f l p done = read_from (λ (y : List ℕ). Scanned room total y rest flaw s) total place x tail h n major a t i e f l p done

@@ -34,7 +34,7 @@ use Rattle.cborn_search.specs.Departed.{LongChunk, ChunkWalked, HaveLongChunk, C
 use Rattle.cborn_search.proofs.Couples.{no_pair, pair_more, map_read, endless_map_read}
 use Rattle.cborn_search.proofs.Keying.{key_coded, cut_out, stands}
 use Rattle.cborn_search.proofs.Mapping.{node_with}
-use Rattle.cborn_search.proofs.Nodes.{uint_read, nint_read, bytes_read, text_read, simple_read, no_chunk, chunk_more, byte_chunks_read, text_chunks_read, no_node, node_more, array_read, endless_array_read, tagged_read, read_from}
+use Rattle.cborn_search.proofs.Nodes.{uint_read, nint_read, bytes_read, text_read, simple_read, no_chunk, chunk_more, byte_chunks_read, text_chunks_read, no_node, node_more, array_read, endless_array_read, tagged_read}
 
 -- ---- one more, by a lemma on what a loop over a list has passed
 
@@ -179,11 +179,8 @@ module _ (order : List ℕ → List ℕ → Ordering) where
     plain_tag : (n : ℕ) (t : Tree) (o : Option Defect) → n ≢ 2 → n ≢ 3 → HasDefect order o t → FindsDefect (TagDefect order place n t) o
     plain_tag n t o d e f = alike (DefectIn order t) (TagDefect order place n t) o (λ p r. ((λ k. inr k), (λ k. elim k [ inl u ↦ elim u.2 [ inl z ↦ absurd (d z) | inr z ↦ absurd (e z) ] | inr u ↦ u ]))) f
 
-    pub tagged_walked : (w : Width) (n : ℕ) (input rest : List ℕ) (a b o : Option Defect) → 1 ≤ room → n ≢ 2 → n ≢ 3 → Holds w n → length (head Tag (Given w n) ++ input) ≤ total → place ≡ total - length (head Tag (Given w n) ++ input) → Walked order (room - 1) total input rest b → FindsDefect (LongAt place w n) a → IsEarliestDefect a b o
-        → Walked order room total (head Tag (Given w n) ++ input) rest o
-    tagged_walked w n input rest a b o r d z h l at s f e =
-        tagged_read (HasDefect order b) (HasDefect order o) room total place w n input rest r h l at s
-        (λ t g. tag_found order place w n t a b o f (plain_tag n t b d z g) e)
+    pub plain_tagged : (n : ℕ) (input rest : List ℕ) (o : Option Defect) → n ≢ 2 → n ≢ 3 → Walked order room total input rest o → NodeRead (λ t. FindsDefect (TagDefect order place n t) o) room total input rest
+    plain_tagged n input rest o d z x = record { node = x.node; read = x.read; fits = x.fits; shallow = x.shallow; placed = x.placed; holds = plain_tag n x.node o d z x.holds }
 
     pub bignum_walked : (w : Width) (n : ℕ) (input rest : List ℕ) (a b o : Option Defect) → 1 ≤ room → Holds w n → length (head Tag (Given w n) ++ input) ≤ total → place ≡ total - length (head Tag (Given w n) ++ input) → NodeRead (λ t. FindsDefect (TagDefect order place n t) b) (room - 1) total input rest → FindsDefect (LongAt place w n) a → IsEarliestDefect a b o
         → Walked order room total (head Tag (Given w n) ++ input) rest o
@@ -212,19 +209,19 @@ module _ (order : List ℕ → List ℕ → Ordering) where
       alike (AfterKey order count q last x) (After order bytes (Some l) x q) o
       (λ p r. ((λ t. subst (λ z. NotAboveAt order q z x p r) (sym k.1) t.1), (λ t. (k.0, subst (λ z. NotAboveAt order q z x p r) k.1 t)))) f
 
-  one_pair : (ns : List Pair) (n : Pair) (p : ℕ) (r : DefectReason) → Either (DefectAmong order (entries ns)) (Either (DefectIn order n.0) (DefectIn order n.1)) p r ↔ DefectAmong order (entries (ns ++ n ∷ [])) p r
-  one_pair ns n p r = (to, (λ f. elim (after ns n f.0 f.1) [ inl k ↦ inl (f.0, k, f.2) | inr k ↦ elim k [ inl i ↦ inr (inl (f.0, i, f.2)) | inr i ↦ inr (inr (f.0, i, f.2)) ] ]))
+  one_pair : (ns : List Pair) (n : Pair) (p : ℕ) (r : DefectReason) → Either (Either (DefectAmong order (entries ns)) (DefectIn order n.0)) (DefectIn order n.1) p r ↔ DefectAmong order (entries (ns ++ n ∷ [])) p r
+  one_pair ns n p r = (to, (λ f. elim (after ns n f.0 f.1) [ inl k ↦ inl (inl (f.0, k, f.2)) | inr k ↦ elim k [ inl i ↦ inl (inr (f.0, i, f.2)) | inr i ↦ inr (f.0, i, f.2) ] ]))
     where
-      to : Either (DefectAmong order (entries ns)) (Either (DefectIn order n.0) (DefectIn order n.1)) p r → DefectAmong order (entries (ns ++ n ∷ [])) p r
-      to (inl f) = (f.0, before ns n f.0 f.1, f.2)
-      to (inr (inl f)) = (f.0, last_key ns n f.0 f.1, f.2)
-      to (inr (inr f)) = (f.0, last_value ns n f.0 f.1, f.2)
+      to : Either (Either (DefectAmong order (entries ns)) (DefectIn order n.0)) (DefectIn order n.1) p r → DefectAmong order (entries (ns ++ n ∷ [])) p r
+      to (inl (inl f)) = (f.0, before ns n f.0 f.1, f.2)
+      to (inl (inr f)) = (f.0, last_key ns n f.0 f.1, f.2)
+      to (inr f) = (f.0, last_value ns n f.0 f.1, f.2)
 
   -- x is the encoding of what the node means, and the node stands here
   abbrev Coded : ℕ → List ℕ → Tree → Type 0
   Coded q x t = ((v : Value) × Means t v × IsProper v × Det order v x) × (place t ≡ q)
 
-  so_far_more : IsKeyOrder order → (n q : ℕ) (ns : List Pair) (k v : Tree) (last x : List ℕ) (descent next down first b c d o : Option Defect) → SoFar n last descent first ns → HasDefect order b k → HasDefect order c v → Coded q x k → FindsDefect (AfterKey order n q last x) next → IsEarliestDefect descent next down → IsEarliestDefect b c d → IsEarliestDefect first d o
+  so_far_more : IsKeyOrder order → (n q : ℕ) (ns : List Pair) (k v : Tree) (last x : List ℕ) (descent next down first b c d o : Option Defect) → SoFar n last descent first ns → HasDefect order b k → HasDefect order c v → Coded q x k → FindsDefect (AfterKey order n q last x) next → IsEarliestDefect descent next down → IsEarliestDefect first b d → IsEarliestDefect d c o
       → SoFar (n + 1) x down o (ns ++ (k, v) ∷ [])
   so_far_more laws n q ns k v last x descent next down first b c d o s f g code a e h i =
       let bytes : List ℕ = s.0 in
@@ -235,12 +232,12 @@ module _ (order : List ℕ → List ℕ → Ordering) where
         ((omega arith), drop-append_seam bytes x),
         by_steps (λ l. Seen order l bytes previous descent) (λ l. Seen order l (bytes ++ x) (Some (length bytes)) down) ns (k, v)
             (λ ys j m at t. seen-take_more order laws ys j (length bytes) (k, v) bytes (bytes ++ x) x previous descent next down m at t code.0 refl refl here e) s.3,
-        alike (Either (DefectAmong order (entries ns)) (Either (DefectIn order k) (DefectIn order v))) (DefectAmong order (entries (ns ++ (k, v) ∷ []))) o (one_pair ns (k, v))
-            (both_found (DefectAmong order (entries ns)) (Either (DefectIn order k) (DefectIn order v)) first d o s.4 (both_found (DefectIn order k) (DefectIn order v) b c d f g h) i),
+        alike (Either (Either (DefectAmong order (entries ns)) (DefectIn order k)) (DefectIn order v)) (DefectAmong order (entries (ns ++ (k, v) ∷ []))) o (one_pair ns (k, v))
+            (both_found (Either (DefectAmong order (entries ns)) (DefectIn order k)) (DefectIn order v) d c o (both_found (DefectAmong order (entries ns)) (DefectIn order k) first b d s.4 f h) g i),
       )
 
   pub pairs_more : IsKeyOrder order → (room limit total n : ℕ) (input mid half rest last x : List ℕ) (descent next down first b c d o : Option Defect) → length input ≤ total → length mid < 2 ^ 64 → PairsRead (SoFar n last descent first) room total n input mid
-      → Walked order room total mid half b → Walked order room total half rest c → IsTranscoded order limit (take (length mid - length half) mid) x → FindsDefect (AfterKey order n (total - length mid) last x) next → IsEarliestDefect descent next down → IsEarliestDefect b c d → IsEarliestDefect first d o
+      → Walked order room total mid half b → Walked order room total half rest c → IsTranscoded order limit (take (length mid - length half) mid) x → FindsDefect (AfterKey order n (total - length mid) last x) next → IsEarliestDefect descent next down → IsEarliestDefect first b d → IsEarliestDefect d c o
       → PairsRead (SoFar (n + 1) x down o) room total (n + 1) input rest
   pairs_more laws room limit total n input mid half rest last x descent next down first b c d o l short p k v t a e h i =
       let u = key_coded order (HasDefect order b) room limit total mid half (take (length mid - length half) mid) x short k (cut_out (HasDefect order b) room total mid half k) t in
@@ -260,10 +257,3 @@ module _ (order : List ℕ → List ℕ → Ordering) where
     holds = both_found (DescentAt order (entries x.nodes)) (DefectAmong order (entries x.nodes)) descent first o x.holds.3.found x.holds.4 e;
     count = x.count;
   }
-
--- ---- behind a head that was read
-
-pub walked_from : (order : List ℕ → List ℕ → Ordering) (room total place : ℕ) (x tail rest : List ℕ) (o : Option Defect) (h : Head) (n major : ℕ) (a : Argument) → tail ≡ drop n x → IsHeadOf x h n → h.major ≡ major → h.argument ≡ a → length x ≤ total → place ≡ total - length x
-    → (ArgumentFits (seen_argument a) → length (head (major_at major) (seen_argument a) ++ tail) ≤ total → place ≡ total - length (head (major_at major) (seen_argument a) ++ tail) → Walked order room total (head (major_at major) (seen_argument a) ++ tail) rest o)
-    → Walked order room total x rest o
-walked_from order room total place x tail rest o h n major a t i e f l p done = read_from (λ (y : List ℕ). Walked order room total y rest o) total place x tail h n major a t i e f l p done

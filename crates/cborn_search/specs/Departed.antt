@@ -1,12 +1,14 @@
 -- What the search for defects finds.
-use Rattle.std.specs.Prelude.{◌≡◌, ◌≢◌, ℕ, ◌⊎◌, List, length, Option}
+use Rattle.std.specs.Prelude.{◌≡◌, ◌≢◌, ℕ, ◌-◌, ◌⊎◌, List, length, take, Option}
 use Rattle.std.specs.declared.cmp.Ordering.{Ordering}
 use Rattle.cborn_model.specs.Tree.{Tree, trees, entries}
 use Rattle.cborn_model.specs.declared.nodes.Chunk.{Chunk}
-use Rattle.cborn_judge.specs.Checked.{FindsDefect, LongAt, DefectIn, DefectInAll, NotAboveAt, MapDefect, TagDefect}
+use Rattle.cborn_judge.specs.Checked.{FindsDefect, IsEarliestDefect, LongAt, DefectIn, DefectInAll, NotAboveAt, MapDefect, TagDefect}
 use Rattle.cborn_judge.specs.Defects.{ChunksDefect}
 use Rattle.cborn_judge.specs.declared.defects.Defect.{Defect}
 use Rattle.cborn_judge.specs.declared.defects.DefectReason.{DefectReason}
+use Rattle.cborn_transcode.specs.Transcoding.{IsTranscoded}
+use Rattle.cborn_search.specs.declared.walked_maps.WalkedMap.{WalkedMap}
 use Rattle.cborn_search.specs.Reading.{Pair, ChunkRead, ChunksRead, NodeRead, NodesRead, PairsRead}
 
 -- a chunk, and the defect of its head
@@ -49,6 +51,14 @@ module _ (order : List ℕ → List ℕ → Ordering) where
   -- a key at this place has the encoding y; if it isn't the first, the one before it has x, which isn't below
   abbrev pub AfterKey : ℕ → ℕ → List ℕ → List ℕ → ℕ → DefectReason → Type 0
   AfterKey count q x y p r = (count ≢ 0) × NotAboveAt order q x y p r
+
+  -- the key that was read has this encoding, and is the first that isn't above the one before it, unless there was one
+  pub record TakesNext (count total : ℕ) (input rest : List ℕ) (old new : WalkedMap) : Type 0 where
+    pub next : Option Defect
+    pub encoded : IsTranscoded order 1024 (take (length input - length rest) input) new.last.items
+    pub found : FindsDefect (AfterKey count (total - length input) old.last.items new.last.items) next
+    pub descent : IsEarliestDefect old.descent next new.descent
+    pub first : new.first ≡ old.first
 
 -- the content of a bignum at this place, and the first defect of the tag, its head aside
 abbrev pub BignumWalked : ℕ → ℕ → List ℕ → List ℕ → Option Defect → Type 0

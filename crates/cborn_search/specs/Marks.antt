@@ -9,7 +9,7 @@ use Rattle.cborn_judge.specs.Repeats.{IsTied}
 use Rattle.cborn_judge.specs.declared.faults.InvalidReason.{InvalidReason}
 use Rattle.cborn_judge.specs.declared.faults.InvalidReason.TheVariants.{DuplicateKey}
 use Rattle.cborn_search.specs.Reading.{Pair, PairsRead}
-use Rattle.cborn_search.specs.Flawed.{Told, FindsTold, Scanned, SeenKey, seen_bytes, seen_place, AreSeen}
+use Rattle.cborn_search.specs.Flawed.{Told, IsEarliestTold, FindsTold, Scanned, SeenKey, seen_bytes, seen_place, AreSeen}
 use Rattle.cborn_search.specs.declared.keys.Keys.{Keys}
 use Rattle.cborn_search.specs.declared.keys.Mark.{Mark}
 
@@ -75,3 +75,7 @@ MapFlaw flaw ns = FindsTold (λ p r. FlawAmong (entries ns) p r ⊎ RepeatFlaw (
 -- n pairs one after another, and the first flaw of the map that they are
 abbrev pub MapSeen : ℕ → ℕ → ℕ → List ℕ → List ℕ → Option Told → Type 0
 MapSeen room total n input rest flaw = PairsRead (MapFlaw flaw) room total n input rest
+
+-- of a map with these keys, and this first flaw of keys and values, this is the first flaw
+abbrev pub Concludes : Keys → Option Told → Option Told → Type 0
+Concludes keys first flaw = (repeat : Option Told) × ((ns : List Pair) (ks : List SeenKey) → AreMarked ks keys → AreSeen ks ns → FindsTold (RepeatFlaw (entries ns)) repeat) × IsEarliestTold first repeat flaw

@@ -1,29 +1,53 @@
-//! The first defect of an item, and of those inside it.
+//! The first defect of an item, and of those inside it, as `flaws` tells flaws: what was found is written to one place.
 
-ghost use Rattle.std.specs.Prelude.{◌≡◌, ◌≢◌, ◌≤◌, ◌-◌, ◌++◌, ◌⊎◌, length, IfSome, MatchBool};
-ghost use Rattle.cborn_model.specs.Heads.{Array, Map, Tag, Given, Unbounded, head, Holds};
+ghost use Rattle.std.specs.Prelude.{◌≡◌, ◌≤◌, ◌-◌, ◌++◌, length, IfSome};
+ghost use Rattle.cborn_judge.specs.Checked.{FindsDefect, TagDefect};
+ghost use Rattle.cborn_model.specs.Heads.{Array, Map, Unbounded, head};
+ghost use Rattle.cborn_transcode.specs.Walking.{Leaves};
 ghost use Rattle.cborn_search.specs.Departed.{PairsWalked, Walked, WalkedAll};
+ghost use Rattle.cborn_search.specs.Reading.{NodeRead};
 
-use crate::departures::{earliest_defect, head_defect, order_defect, walk_bignum, walk_chunks};
-use crate::flaws::{behind_break, is_done};
-use crate::keys::encoded;
-use crate::leaves::{is_simple, string_at};
+use crate::departures::{
+    add_head, earliest_defect, head_defect, walk_bignum_content, walk_long_string,
+};
+use crate::leaves::{behind_break, is_bignum, is_done, is_simple, last, string_at};
+use crate::walked_maps::WalkedMap;
 use cborn_judge::{Defect, DefectReason};
-use cborn_model::{KeyOrder, Width};
+use cborn_model::KeyOrder;
 use cborn_wire::{Argument, HeadRead, read_head};
 use std::alloc::Global;
 
-/// The first defect of the item at the front of `bytes`, the last of `total`, and what follows it. None promises nothing.
+/// The item at the front of `bytes`, the last of `total`: what follows it. None promises nothing.
 #[cycle(walked)]
-pub(crate) fn walk_item<O: KeyOrder>(
+#[inline(always)]
+pub(crate) fn walk_item<'a, O: KeyOrder>(
+    alloc: Global,
+    room: u64,
+    total: u64,
+    bytes: &'a [u8],
+    found: &mut Option<Defect>,
+) -> Option<&'a [u8]>
+    requires room { room ≤ 1024 }
+    requires within { length bytes.now ≤ total }
+    ensures { IfSome result (λ rest. Walked O.order room total bytes.now rest.now found.new) }
+{
+    let left = walk_node::<O>(alloc, room, total, bytes, found)?;
+    last(bytes, left)
+}
+
+/// What `walk_item` does; answers how many bytes follow the item.
+#[cycle(walked)]
+#[inline(never)]
+fn walk_node<O: KeyOrder>(
     alloc: Global,
     room: u64,
     total: u64,
     bytes: &[u8],
-) -> Option<(&[u8], Option<Defect>)>
+    found: &mut Option<Defect>,
+) -> Option<usize>
     requires room { room ≤ 1024 }
     requires within { length bytes.now ≤ total }
-    ensures { IfSome result (λ r. Walked O.order room total bytes.now r.0.now r.1) }
+    ensures { IfSome result (Leaves (λ rest. Walked O.order room total bytes.now rest found.new)) }
 {
     let HeadRead::Full(head, len) = read_head(bytes) else {
         return None;
@@ -32,22 +56,43 @@ pub(crate) fn walk_item<O: KeyOrder>(
     let place = total - bytes.len() as u64;
     match head.argument {
         Argument::Given(width, n) => match head.major {
-            0 => Some((rest, head_defect(place, width, n))),
-            1 => Some((rest, head_defect(place, width, n))),
+            0 => {
+                *found = head_defect(place, width, n);
+                Some(rest.len())
+            }
+            1 => {
+                *found = head_defect(place, width, n);
+                Some(rest.len())
+            }
             2 => {
                 let (_, after) = string_at(n, rest)?;
-                Some((after, head_defect(place, width, n)))
+                *found = head_defect(place, width, n);
+                Some(after.len())
             }
             3 => {
                 let (_, after) = string_at(n, rest)?;
-                Some((after, head_defect(place, width, n)))
+                *found = head_defect(place, width, n);
+                Some(after.len())
             }
-            4 => walk_fixed_array::<O>(alloc, room, total, place, width, n, rest),
-            5 => walk_fixed_map::<O>(alloc, room, total, place, width, n, rest),
-            6 => walk_tagged::<O>(alloc, room, total, place, width, n, rest),
+            4 => {
+                let left = walk_fixed_array::<O>(alloc, room, total, n, rest, found)?;
+                add_head(place, width, n, found);
+                Some(left)
+            }
+            5 => {
+                let left = walk_fixed_map::<O>(alloc, room, total, n, rest, found)?;
+                add_head(place, width, n, found);
+                Some(left)
+            }
+            6 => {
+                let left = walk_tag::<O>(alloc, room, total, place, n, rest, found)?;
+                add_head(place, width, n, found);
+                Some(left)
+            }
             7 => {
                 if is_simple(head.argument) {
-                    Some((rest, None))
+                    *found = None;
+                    Some(rest.len())
                 } else {
                     None
                 }
@@ -55,49 +100,39 @@ pub(crate) fn walk_item<O: KeyOrder>(
             _ => None,
         },
         Argument::Endless => match head.major {
-            2 => {
-                let (after, defect) = walk_chunks(2, total, place, rest)?;
-                let end = behind_break(after)?;
-                Some((end, defect))
-            }
-            3 => {
-                let (after, defect) = walk_chunks(3, total, place, rest)?;
-                let end = behind_break(after)?;
-                Some((end, defect))
-            }
-            4 => walk_endless_array::<O>(alloc, room, total, place, rest),
-            5 => walk_endless_map::<O>(alloc, room, total, place, rest),
+            2 => walk_long_string(2, total, place, rest, found),
+            3 => walk_long_string(3, total, place, rest, found),
+            4 => walk_endless_array::<O>(alloc, room, total, place, rest, found),
+            5 => walk_endless_map::<O>(alloc, room, total, place, rest, found),
             _ => None,
         },
     }
 }
 
-/// The array at `place` of the `n` items at the front.
+/// The `n` items of an array at the front, whose first defect is found.
 #[cycle(walked)]
 #[inline(never)]
 fn walk_fixed_array<O: KeyOrder>(
     alloc: Global,
     room: u64,
     total: u64,
-    place: u64,
-    width: Width,
     n: u64,
     bytes: &[u8],
-) -> Option<(&[u8], Option<Defect>)>
+    found: &mut Option<Defect>,
+) -> Option<usize>
     requires room { room ≤ 1024 }
     requires within { length bytes.now ≤ total }
-    ensures { IfSome result (λ r. Holds width n → length (head Array (Given width n) ++ bytes.now) ≤ total → place ≡ total - length (head Array (Given width n) ++ bytes.now) → Walked O.order room total (head Array (Given width n) ++ bytes.now) r.0.now r.1) }
+    ensures { IfSome result (λ left. (1 ≤ room) × Leaves (λ rest. WalkedAll O.order (room - 1) total n bytes.now rest found.new) left) }
 {
     if room == 0 {
         return None;
     }
-    let (rest, count, inner) = walk_items::<O>(alloc, room - 1, total, n, false, bytes)?;
+    let (rest, count, inner) = walk_items::<O>(alloc, room - 1, total, n, false, bytes, found)?;
     if count != n {
         return None;
     }
-    let own = head_defect(place, width, n);
-    let first = earliest_defect(own, inner);
-    Some((rest, first))
+    *found = inner;
+    Some(rest.len())
 }
 
 /// The array at `place` of the items at the front, up to a break.
@@ -109,32 +144,34 @@ fn walk_endless_array<O: KeyOrder>(
     total: u64,
     place: u64,
     bytes: &[u8],
-) -> Option<(&[u8], Option<Defect>)>
+    found: &mut Option<Defect>,
+) -> Option<usize>
     requires room { room ≤ 1024 }
     requires within { length bytes.now ≤ total }
-    ensures { IfSome result (λ r. length (head Array Unbounded ++ bytes.now) ≤ total → place ≡ total - length (head Array Unbounded ++ bytes.now) → Walked O.order room total (head Array Unbounded ++ bytes.now) r.0.now r.1) }
+    ensures { IfSome result (λ left. length (head Array Unbounded ++ bytes.now) ≤ total → place ≡ total - length (head Array Unbounded ++ bytes.now) → Leaves (λ rest. Walked O.order room total (head Array Unbounded ++ bytes.now) rest found.new) left) }
 {
     if room == 0 {
         return None;
     }
-    let (rest, _, inner) = walk_items::<O>(alloc, room - 1, total, u64::MAX, true, bytes)?;
+    let (rest, _, inner) = walk_items::<O>(alloc, room - 1, total, u64::MAX, true, bytes, found)?;
     let after = behind_break(rest)?;
     let reason = DefectReason::EndlessLength;
-    let first = earliest_defect(Some(Defect { place, reason }), inner);
-    Some((after, first))
+    *found = earliest_defect(Some(Defect { place, reason }), inner);
+    Some(after.len())
 }
 
 /// The items at the front, at most `most`, and where there may be an end up to a break: what follows them, how many they are, and their first defect.
 #[cycle(walked)]
 #[inline(always)]
-fn walk_items<O: KeyOrder>(
+fn walk_items<'a, O: KeyOrder>(
     alloc: Global,
     room: u64,
     total: u64,
     most: u64,
     may_end: bool,
-    bytes: &[u8],
-) -> Option<(&[u8], u64, Option<Defect>)>
+    bytes: &'a [u8],
+    found: &mut Option<Defect>,
+) -> Option<(&'a [u8], u64, Option<Defect>)>
     requires room { room ≤ 1024 }
     requires within { length bytes.now ≤ total }
     ensures { IfSome result (λ r. WalkedAll O.order room total r.1 bytes.now r.0.now r.2) }
@@ -146,40 +183,36 @@ fn walk_items<O: KeyOrder>(
         if is_done(count, most, may_end, rest) {
             break;
         }
-        let (after, defect) = walk_item::<O>(alloc, room, total, rest)?;
-        rest = after;
-        first = earliest_defect(first, defect);
+        rest = walk_item::<O>(alloc, room, total, rest, found)?;
+        first = earliest_defect(first, *found);
         count += 1;
     }
     Some((rest, count, first))
 }
 
-/// The map at `place` of the `n` pairs at the front.
+/// The `n` pairs of a map at the front, whose first defect is found.
 #[cycle(walked)]
 #[inline(never)]
 fn walk_fixed_map<O: KeyOrder>(
     alloc: Global,
     room: u64,
     total: u64,
-    place: u64,
-    width: Width,
     n: u64,
     bytes: &[u8],
-) -> Option<(&[u8], Option<Defect>)>
+    found: &mut Option<Defect>,
+) -> Option<usize>
     requires room { room ≤ 1024 }
     requires within { length bytes.now ≤ total }
-    ensures { IfSome result (λ r. Holds width n → length (head Map (Given width n) ++ bytes.now) ≤ total → place ≡ total - length (head Map (Given width n) ++ bytes.now) → Walked O.order room total (head Map (Given width n) ++ bytes.now) r.0.now r.1) }
+    ensures { IfSome result (λ left. (1 ≤ room) × Leaves (λ rest. PairsWalked O.order (room - 1) total n bytes.now rest found.new) left) }
 {
     if room == 0 {
         return None;
     }
-    let (rest, count, inner) = walk_pairs::<O>(alloc, room - 1, total, n, false, bytes)?;
+    let (rest, count) = walk_pairs::<O>(alloc, room - 1, total, n, false, bytes, found)?;
     if count != n {
         return None;
     }
-    let own = head_defect(place, width, n);
-    let first = earliest_defect(own, inner);
-    Some((rest, first))
+    Some(rest.len())
 }
 
 /// The map at `place` of the pairs at the front, up to a break.
@@ -191,93 +224,77 @@ fn walk_endless_map<O: KeyOrder>(
     total: u64,
     place: u64,
     bytes: &[u8],
-) -> Option<(&[u8], Option<Defect>)>
+    found: &mut Option<Defect>,
+) -> Option<usize>
     requires room { room ≤ 1024 }
     requires within { length bytes.now ≤ total }
-    ensures { IfSome result (λ r. length (head Map Unbounded ++ bytes.now) ≤ total → place ≡ total - length (head Map Unbounded ++ bytes.now) → Walked O.order room total (head Map Unbounded ++ bytes.now) r.0.now r.1) }
+    ensures { IfSome result (λ left. length (head Map Unbounded ++ bytes.now) ≤ total → place ≡ total - length (head Map Unbounded ++ bytes.now) → Leaves (λ rest. Walked O.order room total (head Map Unbounded ++ bytes.now) rest found.new) left) }
 {
     if room == 0 {
         return None;
     }
-    let (rest, _, inner) = walk_pairs::<O>(alloc, room - 1, total, u64::MAX, true, bytes)?;
+    let (rest, _) = walk_pairs::<O>(alloc, room - 1, total, u64::MAX, true, bytes, found)?;
     let after = behind_break(rest)?;
     let reason = DefectReason::EndlessLength;
-    let first = earliest_defect(Some(Defect { place, reason }), inner);
-    Some((after, first))
+    *found = earliest_defect(Some(Defect { place, reason }), *found);
+    Some(after.len())
 }
 
-/// The pairs at the front, as `walk_items` takes items; the defect is the first of the map that they are, its head aside.
+/// The pairs at the front, as `walk_items` takes items; the first defect of the map that they are, its head aside, is found. What is known of the map is on the heap, out of the frames of a deep nest.
 #[cycle(walked)]
 #[inline(always)]
-fn walk_pairs<O: KeyOrder>(
+fn walk_pairs<'a, O: KeyOrder>(
     alloc: Global,
     room: u64,
     total: u64,
     most: u64,
     may_end: bool,
-    bytes: &[u8],
-) -> Option<(&[u8], u64, Option<Defect>)>
+    bytes: &'a [u8],
+    found: &mut Option<Defect>,
+) -> Option<(&'a [u8], u64)>
     requires room { room ≤ 1024 }
     requires within { length bytes.now ≤ total }
-    ensures { IfSome result (λ r. PairsWalked O.order room total r.1 bytes.now r.0.now r.2) }
+    ensures { IfSome result (λ r. PairsWalked O.order room total r.1 bytes.now r.0.now found.new) }
 {
-    let mut last = Vec::new(alloc);
+    let mut map = Box::new(alloc, WalkedMap::new(alloc)).ok()?;
     let mut rest = bytes;
     let mut count = 0;
-    let mut descent: Option<Defect> = None;
-    let mut first: Option<Defect> = None;
     'pairs: for _ in 0..bytes.len() {
         if is_done(count, most, may_end, rest) {
             break;
         }
-        let (middle, key_defect) = walk_item::<O>(alloc, room, total, rest)?;
-        let encoding = encoded::<O>(alloc, rest, middle)?;
-        let next = order_defect::<O>(count, total - rest.len() as u64, &last, &encoding);
-        let (after, defect) = walk_item::<O>(alloc, room, total, middle)?;
-        last = encoding;
-        rest = after;
-        descent = earliest_defect(descent, next);
-        let pair_defect = earliest_defect(key_defect, defect);
-        first = earliest_defect(first, pair_defect);
+        let middle = walk_item::<O>(alloc, room, total, rest, found)?;
+        map.take_key::<O>(alloc, count, total, rest, middle)?;
+        map.take_item(found);
+        rest = walk_item::<O>(alloc, room, total, middle, found)?;
+        map.take_item(found);
         count += 1;
     }
-    let whole = earliest_defect(descent, first);
-    Some((rest, count, whole))
+    map.conclude(found);
+    Some((rest, count))
 }
 
-/// Whether the tag is that of a bignum.
-fn is_bignum(n: u64) -> bool
-    ensures { MatchBool result ((n ≡ 2) ⊎ (n ≡ 3)) ((n ≢ 2) × (n ≢ 3)) }
-{
-    n == 2 || n == 3
-}
-
-/// The tag `n` at `place` over the item at the front.
+/// What is tagged by `n`, at `place`, at the front; the first defect of the tag, its head aside, is found.
 #[cycle(walked)]
-#[inline(never)]
-fn walk_tagged<O: KeyOrder>(
+#[inline(always)]
+fn walk_tag<O: KeyOrder>(
     alloc: Global,
     room: u64,
     total: u64,
     place: u64,
-    width: Width,
     n: u64,
     bytes: &[u8],
-) -> Option<(&[u8], Option<Defect>)>
+    found: &mut Option<Defect>,
+) -> Option<usize>
     requires room { room ≤ 1024 }
     requires within { length bytes.now ≤ total }
-    ensures { IfSome result (λ r. Holds width n → length (head Tag (Given width n) ++ bytes.now) ≤ total → place ≡ total - length (head Tag (Given width n) ++ bytes.now) → Walked O.order room total (head Tag (Given width n) ++ bytes.now) r.0.now r.1) }
+    ensures { IfSome result (λ left. (1 ≤ room) × Leaves (NodeRead (λ t. FindsDefect (TagDefect O.order place n t) found.new) (room - 1) total bytes.now) left) }
 {
     if room == 0 {
         return None;
     }
-    let own = head_defect(place, width, n);
     if is_bignum(n) {
-        let (after, inner) = walk_bignum(total, place, bytes)?;
-        let first = earliest_defect(own, inner);
-        return Some((after, first));
+        return walk_bignum_content(total, place, bytes, found);
     }
-    let (rest, inner) = walk_item::<O>(alloc, room - 1, total, bytes)?;
-    let first = earliest_defect(own, inner);
-    Some((rest, first))
+    walk_node::<O>(alloc, room - 1, total, bytes, found)
 }

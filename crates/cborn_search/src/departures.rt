@@ -1,13 +1,13 @@
 //! The defects of heads, strings, bignums and keys.
 
-ghost use Rattle.std.specs.Prelude.{◌≡◌, ◌≢◌, ◌<◌, ◌≤◌, ◌++◌, ◌⊎◌, ◌↔◌, ℕ, List, length, IsTrue, IfSome, MatchBool};
+ghost use Rattle.std.specs.Prelude.{◌≡◌, ◌≢◌, ◌<◌, ◌≤◌, ◌++◌, ◌∷◌, ◌⊎◌, ◌↔◌, ℕ, List, Option, length, IsTrue, IfSome, MatchBool};
 ghost use Rattle.cborn_judge.specs.Checked.{FindsDefect, LongAt, LooseBytesAt, IsEarlierDefect, IsEarliestDefect};
 ghost use Rattle.cborn_judge.specs.Defects.{defect_rank, ChunksDefect, IsLoose};
+ghost use Rattle.cborn_judge.specs.declared.defects.Defect.{Defect};
 ghost use Rattle.cborn_search.specs.Departed.{AfterKey, BignumWalked, ChunkWalked, ChunksWalked};
 ghost use Rattle.cborn_search.specs.Digits.{AreDigits, BeginsWith, DigitsWalked};
 
-use crate::flaws::behind_break;
-use crate::leaves::string_at;
+use crate::leaves::{behind_break, string_at};
 use crate::told::comes_first;
 use cborn_judge::{Defect, DefectReason};
 use cborn_model::{KeyOrder, Width, shortest};
@@ -63,6 +63,15 @@ pub(crate) fn head_defect(place: u64, width: Width, n: u64) -> Option<Defect>
     Some(Defect { place, reason })
 }
 
+/// Finds the first of what was found and the defect of a head at `place` with the argument `n`.
+#[inline(never)]
+pub(crate) fn add_head(place: u64, width: Width, n: u64, found: &mut Option<Defect>)
+    ensures { (own : Option Defect) × FindsDefect (LongAt place width n) own × IsEarliestDefect own found.old found.new }
+{
+    let own = head_defect(place, width, n);
+    *found = earliest_defect(own, *found);
+}
+
 /// The defect of a key at `place` whose encoding follows that of the key before it, if it is not the first.
 pub(crate) fn order_defect<O: KeyOrder>(
     count: u64,
@@ -83,12 +92,7 @@ pub(crate) fn order_defect<O: KeyOrder>(
 }
 
 /// The chunks of a string at `place`, up to a break: what follows them, and the first defect of the string. None promises nothing.
-pub(crate) fn walk_chunks(
-    major: u8,
-    total: u64,
-    place: u64,
-    bytes: &[u8],
-) -> Option<(&[u8], Option<Defect>)>
+fn walk_chunks(major: u8, total: u64, place: u64, bytes: &[u8]) -> Option<(&[u8], Option<Defect>)>
     requires { length bytes.now ≤ total }
     ensures { IfSome result (λ r. ChunksWalked place major total bytes.now r.0.now r.1) }
 {
@@ -104,6 +108,24 @@ pub(crate) fn walk_chunks(
         first = earliest_defect(first, defect);
     }
     Some((rest, first))
+}
+
+/// The chunks of a string at `place`, and its break; answers how many bytes follow it.
+#[inline(never)]
+pub(crate) fn walk_long_string(
+    major: u8,
+    total: u64,
+    place: u64,
+    bytes: &[u8],
+    found: &mut Option<Defect>,
+) -> Option<usize>
+    requires { length bytes.now ≤ total }
+    ensures { IfSome result (λ left. (after rest : List ℕ) × ChunksWalked place major total bytes.now after found.new × (after ≡ 255 ∷ rest) × (length rest ≡ left)) }
+{
+    let (after, defect) = walk_chunks(major, total, place, bytes)?;
+    let end = behind_break(after)?;
+    *found = defect;
+    Some(end.len())
 }
 
 /// A chunk: its content, what follows it, and the defect of its head.
@@ -129,7 +151,7 @@ fn walk_chunk(major: u8, total: u64, bytes: &[u8]) -> Option<(&[u8], &[u8], Opti
 }
 
 /// The content of a bignum at `place`: what follows it, and the first defect of the tag, its head aside. None promises nothing.
-pub(crate) fn walk_bignum(total: u64, place: u64, bytes: &[u8]) -> Option<(&[u8], Option<Defect>)>
+fn walk_bignum(total: u64, place: u64, bytes: &[u8]) -> Option<(&[u8], Option<Defect>)>
     requires { length bytes.now ≤ total }
     ensures { IfSome result (λ r. BignumWalked place total bytes.now r.0.now r.1) }
 {
@@ -156,6 +178,22 @@ pub(crate) fn walk_bignum(total: u64, place: u64, bytes: &[u8]) -> Option<(&[u8]
             Some((end, first))
         }
     }
+}
+
+/// What `walk_bignum` does; answers how many bytes follow the content.
+#[inline(never)]
+pub(crate) fn walk_bignum_content(
+    total: u64,
+    place: u64,
+    bytes: &[u8],
+    found: &mut Option<Defect>,
+) -> Option<usize>
+    requires { length bytes.now ≤ total }
+    ensures { IfSome result (λ left. (rest : List ℕ) × (length rest ≡ left) × BignumWalked place total bytes.now rest found.new) }
+{
+    let (after, defect) = walk_bignum(total, place, bytes)?;
+    *found = defect;
+    Some(after.len())
 }
 
 /// The bytes of a bignum that is in chunks: how many, and the first, if there is one.

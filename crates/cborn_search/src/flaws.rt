@@ -1,53 +1,87 @@
 //! The first flaw of an item, and of those inside it.
+//!
+//! A function that calls itself for each level answers a number of bytes, which comes back in registers, and writes what it found to one place that all share: so the frames of a deep nest stay small.
 
-ghost use Rattle.std.specs.Prelude.{◌≡◌, ◌≢◌, ◌<◌, ◌≤◌, ◌-◌, ◌++◌, ◌∷◌, ◌⊎◌, ℕ, true, false, length, IfSome, MatchBool};
+ghost use Rattle.std.specs.Prelude.{◌≡◌, ◌≢◌, ◌≤◌, ◌-◌, ◌++◌, ◌∷◌, ◌⊎◌, ℕ, false, length, IfSome};
 ghost use Rattle.cborn_model.specs.declared.heads.Width.{Width};
 ghost use Rattle.cborn_model.specs.Heads.{Array, Map, Tag, Given, Unbounded, head, Holds};
+ghost use Rattle.cborn_transcode.specs.Walking.{Leaves};
 ghost use Rattle.cborn_search.specs.Flawed.{Scanned, ScannedAll};
 ghost use Rattle.cborn_search.specs.Marks.{MapSeen};
 
-use crate::keys::Keys;
-use crate::leaves::{is_simple, scan_chunks, string_at, text_flaw};
-use crate::told::earliest;
+use crate::leaves::{
+    behind_break, is_bignum, is_done, is_simple, last, scan_long_bytes, scan_long_text, scan_text,
+    string_at,
+};
+use crate::scanned_maps::ScannedMap;
+use crate::told::{Finding, earliest};
 use cborn_judge::InvalidReason;
 use cborn_wire::{Argument, HeadRead, read_head};
 use std::alloc::Global;
 
-/// The first flaw of the item at the front of `bytes`, the last of `total`, what follows it, and whether it is a byte string. None promises nothing.
+/// The item at the front of `bytes`, the last of `total`: what follows it. None promises nothing.
 #[cycle(scanned)]
-pub(crate) fn scan_item(
+#[inline(always)]
+pub(crate) fn scan_item<'a>(
+    alloc: Global,
+    room: u64,
+    total: u64,
+    bytes: &'a [u8],
+    found: &mut Finding,
+) -> Option<&'a [u8]>
+    requires room { room ≤ 1024 }
+    requires within { length bytes.now ≤ total }
+    ensures { IfSome result (λ rest. Scanned room total bytes.now rest.now found.new.flaw found.new.is_string) }
+{
+    let left = scan_node(alloc, room, total, bytes, found)?;
+    last(bytes, left)
+}
+
+/// What `scan_item` does; answers how many bytes follow the item.
+#[cycle(scanned)]
+#[inline(never)]
+fn scan_node(
     alloc: Global,
     room: u64,
     total: u64,
     bytes: &[u8],
-) -> Option<(&[u8], Option<(u64, InvalidReason)>, bool)>
+    found: &mut Finding,
+) -> Option<usize>
     requires room { room ≤ 1024 }
     requires within { length bytes.now ≤ total }
-    ensures { IfSome result (λ r. Scanned room total bytes.now r.0.now r.1 r.2) }
+    ensures { IfSome result (Leaves (λ rest. Scanned room total bytes.now rest found.new.flaw found.new.is_string)) }
 {
     let HeadRead::Full(head, len) = read_head(bytes) else {
         return None;
     };
     let rest = &bytes[len..];
     let place = total - bytes.len() as u64;
+    *found = Finding {
+        flaw: None,
+        is_string: false,
+    };
     match head.argument {
         Argument::Given(_, n) => match head.major {
-            0 => Some((rest, None, false)),
-            1 => Some((rest, None, false)),
+            0 => Some(rest.len()),
+            1 => Some(rest.len()),
             2 => {
                 let (_, after) = string_at(n, rest)?;
-                Some((after, None, true))
+                found.is_string = true;
+                Some(after.len())
             }
-            3 => {
-                let (content, after) = string_at(n, rest)?;
-                Some((after, text_flaw(place, content), false))
+            3 => scan_text(place, n, rest, found),
+            4 => scan_fixed_array(alloc, room, total, n, rest, found),
+            5 => scan_fixed_map(alloc, room, total, n, rest, found),
+            6 => {
+                if is_bignum(n) {
+                    scan_bignum(alloc, room, total, place, rest, found)
+                } else {
+                    scan_tagged(alloc, room, total, rest, found)
+                }
             }
-            4 => scan_fixed_array(alloc, room, total, n, rest),
-            5 => scan_fixed_map(alloc, room, total, n, rest),
-            6 => scan_tagged(alloc, room, total, place, n, rest),
             7 => {
                 if is_simple(head.argument) {
-                    Some((rest, None, false))
+                    Some(rest.len())
                 } else {
                     None
                 }
@@ -55,18 +89,10 @@ pub(crate) fn scan_item(
             _ => None,
         },
         Argument::Endless => match head.major {
-            2 => {
-                let (after, _) = scan_chunks(2, total, rest)?;
-                let end = behind_break(after)?;
-                Some((end, None, true))
-            }
-            3 => {
-                let (after, flaw) = scan_chunks(3, total, rest)?;
-                let end = behind_break(after)?;
-                Some((end, flaw, false))
-            }
-            4 => scan_endless_array(alloc, room, total, rest),
-            5 => scan_endless_map(alloc, room, total, rest),
+            2 => scan_long_bytes(total, rest, found),
+            3 => scan_long_text(total, rest, found),
+            4 => scan_endless_array(alloc, room, total, rest, found),
+            5 => scan_endless_map(alloc, room, total, rest, found),
             _ => None,
         },
     }
@@ -81,19 +107,24 @@ fn scan_fixed_array(
     total: u64,
     n: u64,
     bytes: &[u8],
-) -> Option<(&[u8], Option<(u64, InvalidReason)>, bool)>
+    found: &mut Finding,
+) -> Option<usize>
     requires room { room ≤ 1024 }
     requires within { length bytes.now ≤ total }
-    ensures { IfSome result (λ r. (w : Width) → Holds w n → length (head Array (Given w n) ++ bytes.now) ≤ total → Scanned room total (head Array (Given w n) ++ bytes.now) r.0.now r.1 r.2) }
+    ensures { IfSome result (λ left. (w : Width) → Holds w n → length (head Array (Given w n) ++ bytes.now) ≤ total → Leaves (λ rest. Scanned room total (head Array (Given w n) ++ bytes.now) rest found.new.flaw found.new.is_string) left) }
 {
     if room == 0 {
         return None;
     }
-    let (rest, count, flaw) = scan_items(alloc, room - 1, total, n, false, bytes)?;
+    let (rest, count, flaw) = scan_items(alloc, room - 1, total, n, false, bytes, found)?;
     if count != n {
         return None;
     }
-    Some((rest, flaw, false))
+    *found = Finding {
+        flaw,
+        is_string: false,
+    };
+    Some(rest.len())
 }
 
 /// The array of the items at the front, up to a break.
@@ -104,30 +135,36 @@ fn scan_endless_array(
     room: u64,
     total: u64,
     bytes: &[u8],
-) -> Option<(&[u8], Option<(u64, InvalidReason)>, bool)>
+    found: &mut Finding,
+) -> Option<usize>
     requires room { room ≤ 1024 }
     requires within { length bytes.now ≤ total }
-    ensures { IfSome result (λ r. length (head Array Unbounded ++ bytes.now) ≤ total → Scanned room total (head Array Unbounded ++ bytes.now) r.0.now r.1 r.2) }
+    ensures { IfSome result (λ left. length (head Array Unbounded ++ bytes.now) ≤ total → Leaves (λ rest. Scanned room total (head Array Unbounded ++ bytes.now) rest found.new.flaw found.new.is_string) left) }
 {
     if room == 0 {
         return None;
     }
-    let (rest, _, flaw) = scan_items(alloc, room - 1, total, u64::MAX, true, bytes)?;
+    let (rest, _, flaw) = scan_items(alloc, room - 1, total, u64::MAX, true, bytes, found)?;
     let after = behind_break(rest)?;
-    Some((after, flaw, false))
+    *found = Finding {
+        flaw,
+        is_string: false,
+    };
+    Some(after.len())
 }
 
 /// The items at the front, at most `most`, and where there may be an end up to a break: what follows them, how many they are, and their first flaw.
 #[cycle(scanned)]
 #[inline(always)]
-fn scan_items(
+fn scan_items<'a>(
     alloc: Global,
     room: u64,
     total: u64,
     most: u64,
     may_end: bool,
-    bytes: &[u8],
-) -> Option<(&[u8], u64, Option<(u64, InvalidReason)>)>
+    bytes: &'a [u8],
+    found: &mut Finding,
+) -> Option<(&'a [u8], u64, Option<(u64, InvalidReason)>)>
     requires room { room ≤ 1024 }
     requires within { length bytes.now ≤ total }
     ensures { IfSome result (λ r. ScannedAll room total r.1 bytes.now r.0.now r.2) }
@@ -139,9 +176,8 @@ fn scan_items(
         if is_done(count, most, may_end, rest) {
             break;
         }
-        let (after, flaw, _) = scan_item(alloc, room, total, rest)?;
-        rest = after;
-        first = earliest(first, flaw);
+        rest = scan_item(alloc, room, total, rest, found)?;
+        first = earliest(first, found.flaw);
         count += 1;
     }
     Some((rest, count, first))
@@ -156,19 +192,20 @@ fn scan_fixed_map(
     total: u64,
     n: u64,
     bytes: &[u8],
-) -> Option<(&[u8], Option<(u64, InvalidReason)>, bool)>
+    found: &mut Finding,
+) -> Option<usize>
     requires room { room ≤ 1024 }
     requires within { length bytes.now ≤ total }
-    ensures { IfSome result (λ r. (w : Width) → Holds w n → length (head Map (Given w n) ++ bytes.now) ≤ total → Scanned room total (head Map (Given w n) ++ bytes.now) r.0.now r.1 r.2) }
+    ensures { IfSome result (λ left. (w : Width) → Holds w n → length (head Map (Given w n) ++ bytes.now) ≤ total → Leaves (λ rest. Scanned room total (head Map (Given w n) ++ bytes.now) rest found.new.flaw found.new.is_string) left) }
 {
     if room == 0 {
         return None;
     }
-    let (rest, count, flaw) = scan_pairs(alloc, room - 1, total, n, false, bytes)?;
+    let (rest, count) = scan_pairs(alloc, room - 1, total, n, false, bytes, found)?;
     if count != n {
         return None;
     }
-    Some((rest, flaw, false))
+    Some(rest.len())
 }
 
 /// The map of the pairs at the front, up to a break.
@@ -179,103 +216,103 @@ fn scan_endless_map(
     room: u64,
     total: u64,
     bytes: &[u8],
-) -> Option<(&[u8], Option<(u64, InvalidReason)>, bool)>
+    found: &mut Finding,
+) -> Option<usize>
     requires room { room ≤ 1024 }
     requires within { length bytes.now ≤ total }
-    ensures { IfSome result (λ r. length (head Map Unbounded ++ bytes.now) ≤ total → Scanned room total (head Map Unbounded ++ bytes.now) r.0.now r.1 r.2) }
+    ensures { IfSome result (λ left. length (head Map Unbounded ++ bytes.now) ≤ total → Leaves (λ rest. Scanned room total (head Map Unbounded ++ bytes.now) rest found.new.flaw found.new.is_string) left) }
 {
     if room == 0 {
         return None;
     }
-    let (rest, _, flaw) = scan_pairs(alloc, room - 1, total, u64::MAX, true, bytes)?;
+    let (rest, _) = scan_pairs(alloc, room - 1, total, u64::MAX, true, bytes, found)?;
     let after = behind_break(rest)?;
-    Some((after, flaw, false))
+    Some(after.len())
 }
 
-/// The pairs at the front, as `scan_items` takes items; the flaw is the first of the map that they are.
+/// The pairs at the front, as `scan_items` takes items; the flaw is the first of the map that they are. What is known of the map is on the heap, out of the frames of a deep nest.
 #[cycle(scanned)]
 #[inline(always)]
-fn scan_pairs(
+fn scan_pairs<'a>(
     alloc: Global,
     room: u64,
     total: u64,
     most: u64,
     may_end: bool,
-    bytes: &[u8],
-) -> Option<(&[u8], u64, Option<(u64, InvalidReason)>)>
+    bytes: &'a [u8],
+    found: &mut Finding,
+) -> Option<(&'a [u8], u64)>
     requires room { room ≤ 1024 }
     requires within { length bytes.now ≤ total }
-    ensures { IfSome result (λ r. MapSeen room total r.1 bytes.now r.0.now r.2) }
+    ensures { IfSome result (λ r. MapSeen room total r.1 bytes.now r.0.now found.new.flaw × (found.new.is_string ≡ false)) }
 {
-    let mut keys = Keys::new(alloc);
+    let mut map = Box::new(alloc, ScannedMap::new(alloc)).ok()?;
     let mut rest = bytes;
     let mut count = 0;
-    let mut first: Option<(u64, InvalidReason)> = None;
     'pairs: for _ in 0..bytes.len() {
         if is_done(count, most, may_end, rest) {
             break;
         }
-        let (middle, key_flaw, _) = scan_item(alloc, room, total, rest)?;
-        keys.take(alloc, total, rest, middle, key_flaw)?;
-        let (after, flaw, _) = scan_item(alloc, room, total, middle)?;
-        rest = after;
-        let pair_flaw = earliest(key_flaw, flaw);
-        first = earliest(first, pair_flaw);
+        let middle = scan_item(alloc, room, total, rest, found)?;
+        map.take_key(alloc, total, rest, middle, found)?;
+        rest = scan_item(alloc, room, total, middle, found)?;
+        map.take_value(found);
         count += 1;
     }
-    let repeat = keys.first_repeat()?;
-    let whole = earliest(first, repeat);
-    Some((rest, count, whole))
+    map.conclude(found)?;
+    Some((rest, count))
 }
 
-/// Whether no more is to be taken: all that there may be is taken, or a break ends it.
-#[inline(always)]
-pub(crate) fn is_done(count: u64, most: u64, may_end: bool, bytes: &[u8]) -> bool
-    ensures { result ≡ false → count ≢ most }
+/// The bignum at `place` over the item at the front, which has to be a byte string.
+#[cycle(scanned)]
+#[inline(never)]
+fn scan_bignum(
+    alloc: Global,
+    room: u64,
+    total: u64,
+    place: u64,
+    bytes: &[u8],
+    found: &mut Finding,
+) -> Option<usize>
+    requires room { room ≤ 1024 }
+    requires within { length bytes.now ≤ total }
+    ensures { IfSome result (λ left. (w : Width) (n : ℕ) → (n ≡ 2) ⊎ (n ≡ 3) → Holds w n → length (head Tag (Given w n) ++ bytes.now) ≤ total → place ≡ total - length (head Tag (Given w n) ++ bytes.now) → Leaves (λ rest. Scanned room total (head Tag (Given w n) ++ bytes.now) rest found.new.flaw found.new.is_string) left) }
 {
-    count == most || (may_end && matches!(bytes, [255, ..]))
-}
-
-/// What follows the break at the front.
-#[inline(always)]
-pub(crate) fn behind_break(bytes: &[u8]) -> Option<&[u8]>
-    ensures { IfSome result (λ rest. bytes.now ≡ 255 ∷ rest.now) }
-{
-    match bytes {
-        [255, rest @ ..] => Some(rest),
-        _ => None,
+    if room == 0 {
+        return None;
     }
+    let left = scan_node(alloc, room - 1, total, bytes, found)?;
+    if found.is_string {
+        found.is_string = false;
+        return Some(left);
+    }
+    let own = Some((place, InvalidReason::BadBignum));
+    let flaw = earliest(own, found.flaw);
+    *found = Finding {
+        flaw,
+        is_string: false,
+    };
+    Some(left)
 }
 
-/// The tag `n` at `place` over the item at the front.
+/// Another tag over the item at the front.
 #[cycle(scanned)]
 #[inline(never)]
 fn scan_tagged(
     alloc: Global,
     room: u64,
     total: u64,
-    place: u64,
-    n: u64,
     bytes: &[u8],
-) -> Option<(&[u8], Option<(u64, InvalidReason)>, bool)>
+    found: &mut Finding,
+) -> Option<usize>
     requires room { room ≤ 1024 }
     requires within { length bytes.now ≤ total }
-    ensures { IfSome result (λ r. (w : Width) → Holds w n → length (head Tag (Given w n) ++ bytes.now) ≤ total → place ≡ total - length (head Tag (Given w n) ++ bytes.now) → Scanned room total (head Tag (Given w n) ++ bytes.now) r.0.now r.1 r.2) }
+    ensures { IfSome result (λ left. (w : Width) (n : ℕ) → n ≢ 2 → n ≢ 3 → Holds w n → length (head Tag (Given w n) ++ bytes.now) ≤ total → Leaves (λ rest. Scanned room total (head Tag (Given w n) ++ bytes.now) rest found.new.flaw found.new.is_string) left) }
 {
     if room == 0 {
         return None;
     }
-    let (rest, flaw, is_string) = scan_item(alloc, room - 1, total, bytes)?;
-    if is_bad(n, is_string) {
-        let own = Some((place, InvalidReason::BadBignum));
-        return Some((rest, earliest(own, flaw), false));
-    }
-    Some((rest, flaw, false))
-}
-
-/// Whether the tag is 2 or 3, and not over a byte string.
-fn is_bad(n: u64, is_string: bool) -> bool
-    ensures { MatchBool result (((n ≡ 2) ⊎ (n ≡ 3)) × (is_string ≡ false)) (((n ≢ 2) × (n ≢ 3)) ⊎ (is_string ≡ true)) }
-{
-    (n == 2 || n == 3) && !is_string
+    let left = scan_node(alloc, room - 1, total, bytes, found)?;
+    found.is_string = false;
+    Some(left)
 }

@@ -1,14 +1,55 @@
 //! Items without children.
 
-ghost use Rattle.std.specs.Prelude.{◌≡◌, ◌<◌, ◌≤◌, ◌^◌, ◌++◌, length, IsTrue, IsUtf8, IfSome, OnSome, MatchBool};
+ghost use Rattle.std.specs.Prelude.{◌≡◌, ◌≢◌, ◌≤◌, ◌-◌, ◌++◌, ◌∷◌, ◌⊎◌, ℕ, List, false, length, IsTrue, IfSome, MatchBool};
+ghost use Rattle.cborn_model.specs.declared.heads.Width.{Width};
+ghost use Rattle.cborn_model.specs.Heads.{ByteString, TextString, Given, Unbounded, head, Holds};
+ghost use Rattle.cborn_transcode.specs.Walking.{Leaves};
 ghost use Rattle.cborn_wire.specs.HeadReading.{ArgumentFits, seen_argument};
-ghost use Rattle.cborn_search.specs.Flawed.{FindsTold, TextFlaw, ChunkSeen, ChunksSeen};
+ghost use Rattle.cborn_search.specs.Flawed.{FindsTold, TextFlaw, ChunkSeen, ChunksSeen, Scanned};
 ghost use Rattle.cborn_search.specs.Reading.{StringRead, IsSimpleArgument};
 
-use crate::told::earliest;
+use crate::told::{Finding, earliest};
 use cborn_judge::InvalidReason;
 use cborn_model::Width;
 use cborn_wire::{Argument, HeadRead, read_head};
+
+/// Whether no more is to be taken: all that there may be is taken, or a break ends it.
+#[inline(always)]
+pub(crate) fn is_done(count: u64, most: u64, may_end: bool, bytes: &[u8]) -> bool
+    ensures { result ≡ false → count ≢ most }
+{
+    count == most || (may_end && matches!(bytes, [255, ..]))
+}
+
+/// What follows the break at the front.
+#[inline(always)]
+pub(crate) fn behind_break(bytes: &[u8]) -> Option<&[u8]>
+    ensures { IfSome result (λ rest. bytes.now ≡ 255 ∷ rest.now) }
+{
+    match bytes {
+        [255, rest @ ..] => Some(rest),
+        _ => None,
+    }
+}
+
+/// The last `left` bytes.
+#[inline(always)]
+pub(crate) fn last(bytes: &[u8], left: usize) -> Option<&[u8]>
+    ensures { IfSome result (λ rest. (front back : List ℕ) → bytes.now ≡ front ++ back → length back ≡ left → rest.now ≡ back) }
+{
+    if left > bytes.len() {
+        return None;
+    }
+    Some(&bytes[bytes.len() - left..])
+}
+
+/// Whether the tag is that of a bignum.
+#[inline(always)]
+pub(crate) fn is_bignum(n: u64) -> bool
+    ensures { MatchBool result ((n ≡ 2) ⊎ (n ≡ 3)) ((n ≢ 2) × (n ≢ 3)) }
+{
+    n == 2 || n == 3
+}
 
 /// The content of a string of `n` bytes at the front, and what follows.
 #[inline]
@@ -97,4 +138,48 @@ fn chunk_flaw(major: u8, place: u64, bytes: &[u8]) -> Option<(u64, InvalidReason
     } else {
         None
     }
+}
+
+/// The text of `n` bytes at the front, whose head is at `place`; answers how many bytes follow it.
+#[inline(never)]
+pub(crate) fn scan_text(place: u64, n: u64, bytes: &[u8], found: &mut Finding) -> Option<usize>
+    ensures { IfSome result (λ left. (room total : ℕ) (w : Width) → Holds w n → place ≡ total - length (head TextString (Given w n) ++ bytes.now) → Leaves (λ rest. Scanned room total (head TextString (Given w n) ++ bytes.now) rest found.new.flaw found.new.is_string) left) }
+{
+    let (content, after) = string_at(n, bytes)?;
+    let flaw = text_flaw(place, content);
+    *found = Finding {
+        flaw,
+        is_string: false,
+    };
+    Some(after.len())
+}
+
+/// The chunks at the front of a byte string, and its break; answers how many bytes follow it.
+#[inline(never)]
+pub(crate) fn scan_long_bytes(total: u64, bytes: &[u8], found: &mut Finding) -> Option<usize>
+    requires { length bytes.now ≤ total }
+    ensures { IfSome result (λ left. (room : ℕ) → length (head ByteString Unbounded ++ bytes.now) ≤ total → Leaves (λ rest. Scanned room total (head ByteString Unbounded ++ bytes.now) rest found.new.flaw found.new.is_string) left) }
+{
+    let (after, _) = scan_chunks(2, total, bytes)?;
+    let end = behind_break(after)?;
+    *found = Finding {
+        flaw: None,
+        is_string: true,
+    };
+    Some(end.len())
+}
+
+/// The chunks at the front of a text, and its break; answers how many bytes follow it.
+#[inline(never)]
+pub(crate) fn scan_long_text(total: u64, bytes: &[u8], found: &mut Finding) -> Option<usize>
+    requires { length bytes.now ≤ total }
+    ensures { IfSome result (λ left. (room : ℕ) → length (head TextString Unbounded ++ bytes.now) ≤ total → Leaves (λ rest. Scanned room total (head TextString Unbounded ++ bytes.now) rest found.new.flaw found.new.is_string) left) }
+{
+    let (after, flaw) = scan_chunks(3, total, bytes)?;
+    let end = behind_break(after)?;
+    *found = Finding {
+        flaw,
+        is_string: false,
+    };
+    Some(end.len())
 }

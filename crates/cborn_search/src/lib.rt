@@ -12,8 +12,10 @@ mod departures;
 mod flaws;
 mod keys;
 mod leaves;
+mod scanned_maps;
 mod sequences;
 mod told;
+mod walked_maps;
 
 pub use sequences::{first_defect, first_flaw};
 

@@ -6,6 +6,7 @@ ghost use Rattle.cborn_search.specs.Searching.{IsFirstFlawOf, IsFirstDefectOf};
 use crate::defects::walk_item;
 use crate::departures::earliest_defect;
 use crate::flaws::scan_item;
+use crate::told::Finding;
 use cborn_judge::{Defect, InvalidReason};
 use cborn_model::{KeyOrder, Limit};
 use std::alloc::Global;
@@ -20,13 +21,16 @@ pub fn first_flaw(alloc: Global, limit: Limit, bytes: &[u8]) -> Option<Option<(u
     let room = limit.get();
     let mut rest = bytes;
     let mut first: Option<(u64, InvalidReason)> = None;
+    let mut found = Finding {
+        flaw: None,
+        is_string: false,
+    };
     'items: for _ in 0..bytes.len() {
         if rest.is_empty() {
             break;
         }
-        let (after, flaw, _) = scan_item(alloc, room, total, rest)?;
-        rest = after;
-        first = first.or(flaw);
+        rest = scan_item(alloc, room, total, rest, &mut found)?;
+        first = first.or(found.flaw);
     }
     if !rest.is_empty() {
         return None;
@@ -48,13 +52,13 @@ pub fn first_defect<O: KeyOrder>(
     let room = limit.get();
     let mut rest = bytes;
     let mut first: Option<Defect> = None;
+    let mut found: Option<Defect> = None;
     'items: for _ in 0..bytes.len() {
         if rest.is_empty() {
             break;
         }
-        let (after, defect) = walk_item::<O>(alloc, room, total, rest)?;
-        rest = after;
-        first = earliest_defect(first, defect);
+        rest = walk_item::<O>(alloc, room, total, rest, &mut found)?;
+        first = earliest_defect(first, found);
     }
     if !rest.is_empty() {
         return None;

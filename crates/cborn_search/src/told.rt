@@ -7,6 +7,13 @@ ghost use Rattle.cborn_search.specs.Flawed.{IsEarlierTold, IsEarliestTold};
 
 use cborn_judge::InvalidReason;
 
+/// What was found of the item that was passed last: its first flaw, and whether it is a byte string.
+#[derive(Clone, Copy)]
+pub(crate) struct Finding {
+    pub flaw: Option<(u64, InvalidReason)>,
+    pub is_string: bool,
+}
+
 /// The number of a reason.
 fn number(reason: InvalidReason) -> u8
     ensures { result ≡ flaw_rank reason }

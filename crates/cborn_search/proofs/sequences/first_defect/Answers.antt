@@ -13,10 +13,10 @@ pub items-preserved : goal.items-preserved
 items-preserved g c =
     let i = c.items.invariant in
     let total : ℕ = length c.args.bytes.now in
-    let x : Walked g.O.KeyOrder.order c.get-room.result total c.items.rest.now c.in_ok-after.after.now c.in_ok-after.defect = c.in_ok-after.ensures in (
+    let x : Walked g.O.KeyOrder.order c.get-room.result total c.items.rest.now c.in_ok-rest.rest.now c.walk_item.new.found = c.in_ok-rest.ensures in (
       i.0 + 1,
-      all_more g.O.KeyOrder.order c.get-room.result total i.0 c.args.bytes.now c.items.rest.now c.in_ok-after.after.now c.items.first c.in_ok-after.defect c.earliest_defect-first.result (omega arith) i.1 x c.earliest_defect-first.ensures,
-      node_left (HasDefect g.O.KeyOrder.order c.in_ok-after.defect) c.get-room.result total c.items.rest.now c.in_ok-after.after.now i.2 x,
+      all_more g.O.KeyOrder.order c.get-room.result total i.0 c.args.bytes.now c.items.rest.now c.in_ok-rest.rest.now c.items.first c.walk_item.new.found c.earliest_defect-first.result (omega arith) i.1 x c.earliest_defect-first.ensures,
+      node_left (HasDefect g.O.KeyOrder.order c.walk_item.new.found) c.get-room.result total c.items.rest.now c.in_ok-rest.rest.now i.2 x,
     )
 
 pub returns : goal.returns

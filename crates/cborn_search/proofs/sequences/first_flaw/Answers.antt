@@ -12,10 +12,10 @@ pub items-preserved : goal.items-preserved
 items-preserved c =
     let i = c.items.invariant in
     let total : ℕ = length c.args.bytes.now in
-    let x : Scanned c.get-room.result total c.items.rest.now c.in_ok-after.after.now c.in_ok-after.flaw c.in_ok-after.field-0-2 = c.in_ok-after.ensures in (
+    let x : Scanned c.get-room.result total c.items.rest.now c.in_ok-rest.rest.now c.scan_item.new.found.flaw c.scan_item.new.found.is_string = c.in_ok-rest.ensures in (
       i.0 + 1,
-      judged_more c.get-room.result total i.0 c.args.bytes.now c.items.rest.now c.in_ok-after.after.now c.items.first c.in_ok-after.flaw c.or-first.result c.in_ok-after.field-0-2 (omega arith) i.1 x c.or-first.ensures,
-      node_left (HasFlaw c.in_ok-after.flaw c.in_ok-after.field-0-2) c.get-room.result total c.items.rest.now c.in_ok-after.after.now i.2 x,
+      judged_more c.get-room.result total i.0 c.args.bytes.now c.items.rest.now c.in_ok-rest.rest.now c.items.first c.scan_item.new.found.flaw c.or-first.result c.scan_item.new.found.is_string (omega arith) i.1 x c.or-first.ensures,
+      node_left (HasFlaw c.scan_item.new.found.flaw c.scan_item.new.found.is_string) c.get-room.result total c.items.rest.now c.in_ok-rest.rest.now i.2 x,
     )
 
 pub returns : goal.returns

@@ -1,0 +1,16 @@
+use Rattle.std.proofs.Common.{List, ℕ, ◌-◌, length, subst, refl}
+use Rattle.cborn_judge.specs.Checked.{FindsDefect}
+use Rattle.cborn_search.specs.Departed.{AfterKey}
+use Rattle.cborn_search.proofs.walked_maps.WalkedMap.take_key.Goals as goal
+
+pub returns : goal.returns
+returns t c =
+    let order = t.O.KeyOrder.order in
+    record {
+      next = c.order_defect-next.result;
+      encoded = c.in_ok-encoding.ensures;
+      found = subst (λ (z : List ℕ). FindsDefect (AfterKey order c.args.count (c.args.total - length c.args.bytes.now) z c.in_ok-encoding.encoding.items) c.order_defect-next.result) c.deref.ensures.value
+          (subst (λ (z : List ℕ). FindsDefect (AfterKey order c.args.count (c.args.total - length c.args.bytes.now) c.deref.result.now z) c.order_defect-next.result) c.deref-2.ensures.value c.order_defect-next.ensures);
+      descent = c.earliest_defect-self.ensures;
+      first = refl;
+    }
