@@ -9,6 +9,7 @@ use Rattle.cborn_wire.specs.declared.faults.WireFault.TheVariants as wire
 use Rattle.cborn_wire.specs.declared.faults.WireReason.{WireReason}
 use Rattle.cborn_wire.specs.Faults.{Fault}
 use Rattle.cborn_wire.proofs.TreeLists.{tree_list, trees-tree_list}
+use Rattle.cborn_edn.specs.declared.faults.ShowFault.TheVariants as unshown
 use Rattle.cborn_show.specs.Passed.{IsShownText}
 use Rattle.cborn_engine.specs.declared.faults.EngineFault.{EngineFault}
 use Rattle.cborn_engine.specs.declared.faults.EngineFault.TheVariants as fault
@@ -119,6 +120,16 @@ spells_itself limit most now input e l (ts, w, p) =
 -- others are refused
 pub malformed : (out : Kind) (limit most : ℕ) (now : List ℕ) (input : Vec ℕ Global) (p : ℕ) (r : WireReason) → now ≡ input.items → length input.items ≤ most → Fault limit now p r → TellAnswers kind.Wire out limit most input.items (Err (fault.Wire (wire.Refused p r)))
 malformed out limit most now input p r e l f = ((l, subst (λ (x : List ℕ). Fault limit x p r) e f), tt)
+
+-- well-formed bytes that aren't told as this kind
+pub untold_text : (out : Kind) (limit most place : ℕ) (input : List ℕ) → length input ≤ most → (ts : Trees) × Wellformed limit ts input × PlacedAll 0 ts
+    → ((most : ℕ) (nodes : List Tree) → Wellformed most (trees nodes) input → PlacedAll 0 (trees nodes) → IsUnshownAs out nodes (unshown.NotUtf8 place))
+    → TellAnswers kind.Wire out limit most input (Err (fault.Show (unshown.NotUtf8 place)))
+untold_text out limit most place input l (ts, w, p) f =
+    let same : trees (tree_list ts) ≡ ts = trees-tree_list ts in
+    let read : Wellformed limit (trees (tree_list ts)) input = subst (λ (us : Trees). Wellformed limit us input) (sym same) w in
+    let placed : PlacedAll 0 (trees (tree_list ts)) = subst (PlacedAll 0) (sym same) p in
+    (l, record { nodes = tree_list ts; spelled = (read, placed); unshown = f limit (tree_list ts) read placed })
 
 of_wire_no_flaw : (why : WireFault) → IsNoFlaw (of_wire why)
 of_wire_no_flaw (wire.Refused p r) = tt

@@ -19,17 +19,6 @@ use cborn_search::first_flaw;
 use cborn_wire::{WireFault, read_all, scan};
 use std::alloc::{AllocError, Global};
 
-/// The nodes that the bytes spell. Bytes that aren't well-formed are refused before a node is kept.
-pub fn read_nodes(alloc: Global, limit: Limit, bytes: &[u8]) -> Result<Vec<Spelled>, WireFault>
-    ensures items { IfOk result (λ nodes. Wellformed limit (trees nodes.items) bytes.now × PlacedAll 0 (trees nodes.items)) }
-    ensures fault { (p : ℕ) (r : WireReason) → result ≡ Err (Refused p r) → Fault limit bytes.now p r }
-{
-    if let Some((place, reason)) = scan(limit, bytes) {
-        return Err(WireFault::Refused { place, reason });
-    }
-    read_all(alloc, limit, bytes)
-}
-
 /// The nodes of bytes that are to be judged. Bytes that aren't well-formed are refused before a node is kept, and so are
 /// those with a flaw, where a search that keeps none finds it. What it finds none of may have one yet.
 pub fn unjudged_nodes(

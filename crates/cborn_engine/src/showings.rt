@@ -1,21 +1,23 @@
-//! Reading a whole input, and telling what it holds in another form. Bytes that are to stay bytes are what their nodes spell, once it is known that they are well-formed. Bytes that are to become notation are first taken in one pass that keeps no tree; where that answers nothing, they are read as nodes, which tells what they hold or why not.
-ghost use Rattle.std.specs.Prelude.{◌≡◌, ◌≤◌, ◌+◌, ◌^◌, ℕ, length, IfOk, IfErr, IfSome};
-ghost use Rattle.cborn_model.specs.Tree.{trees};
+//! Reading a whole input, and telling what it holds in another form. Bytes that are to stay bytes are what their nodes spell, once it is known that they are well-formed. Bytes that are to become notation are first taken in one pass that keeps no tree; where that answers nothing, the faults are looked for without nodes, and only bytes with none are read as nodes.
+ghost use Rattle.std.specs.Prelude.{◌≡◌, ◌≤◌, ◌+◌, ◌^◌, ℕ, List, length, IfOk, IfErr, IfSome};
+ghost use Rattle.cborn_model.specs.Placed.{PlacedAll};
+ghost use Rattle.cborn_model.specs.Spelled.{Wellformed};
+ghost use Rattle.cborn_model.specs.Tree.{Tree, trees};
 ghost use Rattle.cborn_edn.specs.Shown.{Shown};
+ghost use Rattle.cborn_edn.specs.declared.faults.ShowFault.TheVariants.{NotUtf8};
 ghost use Rattle.cborn_engine.specs.declared.kinds.Kind.TheVariants as kinds;
 ghost use Rattle.cborn_engine.specs.Reading.{read_failures};
-ghost use Rattle.cborn_engine.specs.Showing.{Tells, TellAnswers, IsShown, IsSpelledAs, IsUnspelledAs};
+ghost use Rattle.cborn_engine.specs.Showing.{Tells, TellAnswers, IsShown, IsSpelledAs, IsUnshownAs, IsUnspelledAs};
 
 use crate::faults::EngineFault;
 use crate::inputs::{MOST, load};
 use crate::kinds::Kind;
-use crate::nodes::read_nodes;
 use crate::sources::Source;
 use crate::texts::read_bytes;
-use cborn_edn::show;
+use cborn_edn::{ShowFault, show};
 use cborn_model::{Limit, Spelled};
-use cborn_show::show_bytes;
-use cborn_wire::{WireFault, scan, spell_all};
+use cborn_show::{first_bad_text, show_bytes};
+use cborn_wire::{WireFault, read_all, scan, spell_all};
 use std::alloc::Global;
 
 /// The items of the whole input as they are spelled, in a form of this kind. The faults are those of `load`, and `Show`.
@@ -94,7 +96,7 @@ fn show_at_once(alloc: Global, limit: Limit, out_kind: Kind, input: &[u8]) -> Op
     }
 }
 
-/// What `show_input` answers, by trees.
+/// What `show_input` answers, where that pass tells nothing. Nodes are kept only where no fault is found without them.
 fn show_trees(
     alloc: Global,
     limit: Limit,
@@ -104,8 +106,25 @@ fn show_trees(
     ensures answers { length input.now ≤ 2 ^ 30 → TellAnswers kinds.Wire out_kind limit (2 ^ 30) input.now result }
     ensures failures { (n : ℕ) → read_failures result n ≡ n }
 {
-    let nodes = read_nodes(alloc, limit, input)?;
+    if let Some((place, reason)) = scan(limit, input) {
+        return Err(EngineFault::Wire(WireFault::Refused { place, reason }));
+    }
+    if let Some(place) = bad_text(out_kind, input) {
+        return Err(EngineFault::Show(ShowFault::NotUtf8 { place }));
+    }
+    let nodes = read_all(alloc, limit, input)?;
     spelled(alloc, out_kind, &nodes)
+}
+
+/// The place of the first text string in well-formed bytes that keeps them from being told in this kind.
+fn bad_text(out_kind: Kind, input: &[u8]) -> Option<u64>
+    ensures { IfSome result (λ place. (most : ℕ) (nodes : List Tree) → Wellformed most (trees nodes) input.now → PlacedAll 0 (trees nodes) → IsUnshownAs out_kind nodes (NotUtf8 place)) }
+{
+    match out_kind {
+        Kind::Wire => None,
+        Kind::Notation => first_bad_text(input),
+        Kind::Notation2 => first_bad_text(input),
+    }
 }
 
 /// What a text holds, by trees.

@@ -1,8 +1,11 @@
 -- Digits that are copied as a block, and cut off.
 use Rattle.std.specs.Prelude.{OnSome, IfSome}
-use Rattle.std.proofs.Common.{Option, None, Some, ◌≡◌, ℕ, ◌+◌, ◌-◌, List, ◌++◌, length, take, sym, ap, ◌∙◌, arith, take_at}
+use Rattle.std.proofs.Common.{Option, None, Some, ◌≡◌, ◌≤◌, ◌<◌, ℕ, suc, ◌+◌, ◌-◌, Bool, true, false, if◌then◌else◌, nat_lt, zero, length-append, ltb-true, lt-ltb, List, [], ◌∷◌, ◌++◌, length, take, refl, sym, ap, ◌∙◌, codes, decimal, arith, take_at, append_assoc}
 use Rattle.std.proofs.lemmas.List.{take-take}
 use Rattle.std.proofs.Math.Seq.{take-append-add}
+use Rattle.std.proofs.lemmas.Fmt.{length-decimal-le}
+use Rattle.cborn_edn.specs.devices.Between.{between}
+use Rattle.cborn_show.specs.Passed.{signed}
 
 pub block_cut : (start end : ℕ) (old text z behind block ext new : List ℕ) → start + length text ≡ 32 → behind ≡ text ++ z → block ≡ take 32 (take (64 - start) behind) → ext ≡ old ++ block → end ≡ length old + (32 - start) → new ≡ take end ext → new ≡ old ++ text
 block_cut start end old text z behind block ext new s b t e f n =
@@ -18,3 +21,53 @@ on (Some x) f h = f h
 pub under : {A : Type 0} {P Q : A → Type 0} (r : Option A) → ((x : A) → P x → Q x) → IfSome r P → IfSome r Q
 under None f h = h
 under (Some x) f h = f x h
+
+-- a number with its sign, and what stands before it, written from the end
+
+-- the byte, if it is wanted
+abbrev pub maybe : Bool → ℕ → List ℕ
+maybe wanted byte = if wanted then byte ∷ [] else []
+
+sign_before : (below : Bool) (n shown : ℕ) → shown ≡ (if below then suc n else n) → maybe below 45 ++ decimal shown ≡ signed below n
+sign_before true n shown e = ap (λ k. 45 ∷ decimal k) e
+sign_before false n shown e = ap decimal e
+
+both : (b : Bool) (index : ℕ) → b ≡ nat_lt 0 index → maybe b 44 ++ maybe b 32 ≡ between (codes ", ") index
+both true zero e = let none : 0 < 0 = ltb-true 0 0 (sym e) in absurd (omega (arith, none))
+both true (suc index) e = refl
+both false zero e = refl
+both false (suc index) e = let some : nat_lt 0 (suc index) ≡ true = lt-ltb 0 (suc index) (omega arith) in let clash : false ≡ true = e ∙ some in cc
+
+comma_before : (index : ℕ) → maybe (nat_lt 0 index) 44 ++ maybe (nat_lt 0 index) 32 ≡ between (codes ", ") index
+comma_before index = both (nat_lt 0 index) index refl
+
+module _ (index n shown : ℕ) (below : Bool) (e : shown ≡ (if below then suc n else n)) where
+  pub next_written : (behind b3 b2 b1 b0 : List ℕ) → b0 ≡ decimal shown ++ behind → b1 ≡ maybe below 45 ++ b0 → b2 ≡ maybe (nat_lt 0 index) 32 ++ b1 → b3 ≡ maybe (nat_lt 0 index) 44 ++ b2
+      → b3 ≡ (between (codes ", ") index ++ signed below n) ++ behind
+  next_written behind b3 b2 b1 b0 d s w c =
+      let x = maybe (nat_lt 0 index) 44 in
+      let y = maybe (nat_lt 0 index) 32 in
+      let z = maybe below 45 in
+      c ∙ ap (λ l. x ++ l) (w ∙ ap (λ l. y ++ l) (s ∙ ap (λ l. z ++ l) d ∙ sym (append_assoc z (decimal shown) behind) ∙ ap (λ l. l ++ behind) (sign_before below n shown e)))
+      ∙ sym (append_assoc x y (signed below n ++ behind)) ∙ ap (λ l. l ++ (signed below n ++ behind)) (comma_before index) ∙ sym (append_assoc (between (codes ", ") index) (signed below n) behind)
+
+  pub next_long : (p3 p2 p1 p0 : ℕ) → p0 + length (decimal shown) ≡ 32 → p1 + length (maybe below 45) ≡ p0 → p2 + length (maybe (nat_lt 0 index) 32) ≡ p1 → p3 + length (maybe (nat_lt 0 index) 44) ≡ p2
+      → p3 + length (between (codes ", ") index ++ signed below n) ≡ 32
+  next_long p3 p2 p1 p0 d s w c =
+      let x = maybe (nat_lt 0 index) 44 in
+      let y = maybe (nat_lt 0 index) 32 in
+      let z = maybe below 45 in
+      let sign : length z + length (decimal shown) ≡ length (signed below n) = sym (length-append z (decimal shown)) ∙ ap length (sign_before below n shown e) in
+      let comma : length x + length y ≡ length (between (codes ", ") index) = sym (length-append x y) ∙ ap length (comma_before index) in
+      omega (arith, d, s, w, c, sign, comma, length-append (between (codes ", ") index) (signed below n))
+
+one_at_most : (wanted : Bool) (byte : ℕ) → length (maybe wanted byte) ≤ 1
+one_at_most true byte = omega arith
+one_at_most false byte = omega arith
+
+pub one_less : (p q byte least : ℕ) (wanted : Bool) → suc least < p → q + length (maybe wanted byte) ≡ p → least < q
+one_less p q byte least wanted l e = omega (arith, l, e, one_at_most wanted byte)
+
+pub shown_short : (below : Bool) (n shown : ℕ) → n < 18446744073709551615 → shown ≡ (if below then suc n else n) → length (decimal shown) ≤ 20
+shown_short true n shown l e = length-decimal-le 20 shown (omega arith) (omega arith) (omega (arith, l, e))
+shown_short false n shown l e = length-decimal-le 20 shown (omega arith) (omega arith) (omega (arith, l, e))

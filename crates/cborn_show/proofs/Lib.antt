@@ -1,4 +1,6 @@
 pub mod Decimals
 pub mod Heading
+pub mod Looking
 pub mod Nodes
+pub mod Piecewise
 pub mod Placing

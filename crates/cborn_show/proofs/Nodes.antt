@@ -1,5 +1,5 @@
 -- Nodes, one after another and inside one another.
-use Rattle.std.proofs.Common.{◌≡◌, ℕ, suc, ◌+◌, ◌-◌, ◌≤◌, List, [], ◌∷◌, ◌++◌, length, drop, codes, decimal, refl, sym, ap, ◌∙◌, subst, arith, append_assoc, append-nil, length-append, true, false}
+use Rattle.std.proofs.Common.{◌≡◌, ℕ, suc, ◌+◌, ◌-◌, ◌≤◌, List, [], ◌∷◌, ◌++◌, length, drop, codes, decimal, refl, sym, ap, ◌∙◌, subst, arith, append_assoc, append-nil, length-append, true, false, zero, Bool, ◌==◌}
 use Rattle.std.specs.List.{flat_map}
 use Rattle.cborn_model.specs.declared.heads.Width.{Width}
 use Rattle.cborn_model.specs.declared.heads.Size.TheVariants.{Fixed, Endless}
@@ -12,17 +12,31 @@ use Rattle.cborn_edn.specs.devices.Between.{between, separated}
 use Rattle.cborn_edn.specs.Shown.{mark_for, indicator, opened, shown, IsShowable, AreShowable, ArePairsShowable}
 use Rattle.cborn_edn.proofs.Separated.{separated-push, all-separated, entries-separated, shown_items, shown_pairs}
 use Rattle.cborn_wire.specs.declared.heads.Argument.{Argument}
+use Rattle.cborn_wire.specs.declared.heads.Argument.TheVariants as arguments
 use Rattle.cborn_wire.specs.declared.heads.Head.{Head}
 use Rattle.cborn_wire.specs.HeadReading.{IsHeadOf, seen_argument, ArgumentFits}
 use Rattle.cborn_wire.specs.Faults.{major_at}
-use Rattle.cborn_show.specs.Passed.{StringShown, LongStringShown, SimpleShown, NodeShown, NodesShown, PairShown, PairsShown, shown_pair}
+use Rattle.cborn_show.specs.Passed.{StringShown, LongStringShown, SimpleShown, NodeShown, NodeLeaves, NextShown, NodesShown, PairShown, PairsShown, shown_pair, signed}
 use Rattle.cborn_show.proofs.Heading.{head_split}
 
-pub item_from : (room : ℕ) (x tail rest old new : List ℕ) (h : Head) (n major : ℕ) (a : Argument) → tail ≡ drop n x → IsHeadOf x h n → h.major ≡ major → h.argument ≡ a → (ArgumentFits (seen_argument a) → NodeShown room (head (major_at major) (seen_argument a) ++ tail) rest old new)
-    → NodeShown room x rest old new
-item_from room x tail rest old new h n major a t i e f done =
-    let split : x ≡ head (major_at major) (seen_argument a) ++ tail = head_split x h n i ∙ (λ j. head (major_at (e j)) (seen_argument (f j)) ++ sym t j) in
-    subst (λ (y : List ℕ). NodeShown room y rest old new) (sym split) (done (subst (λ (b : Argument). ArgumentFits (seen_argument b)) f i.fits))
+module _ (room : ℕ) (x tail old new : List ℕ) (left : ℕ) (h : Head) (n major : ℕ) (a : Argument) where
+  -- what is behind the head is an item's contents
+  pub inside : tail ≡ drop n x → IsHeadOf x h n → h.major ≡ major → h.argument ≡ a
+      → (ArgumentFits (seen_argument a) → NodeLeaves room (head (major_at major) (seen_argument a) ++ tail) left old new)
+      → NodeLeaves room x left old new
+  inside t i e f done =
+      let split : x ≡ head (major_at major) (seen_argument a) ++ tail = head_split x h n i ∙ (λ j. head (major_at (e j)) (seen_argument (f j)) ++ sym t j) in
+      subst (λ (y : List ℕ). NodeLeaves room y left old new) (sym split) (done (subst (λ (b : Argument). ArgumentFits (seen_argument b)) f i.fits))
+
+  -- the head is the whole item
+  pub alone : tail ≡ drop n x → IsHeadOf x h n → h.major ≡ major → h.argument ≡ a → length tail ≡ left
+      → (ArgumentFits (seen_argument a) → NodeShown room (head (major_at major) (seen_argument a) ++ tail) tail old new)
+      → NodeLeaves room x left old new
+  alone t i e f l done = inside t i e f (λ fits. (tail, l, done fits))
+
+-- the bytes that are left are those behind the item
+pub item_last : (room : ℕ) (x rest old new : List ℕ) (left : ℕ) → NodeLeaves room x left old new → ((front back : List ℕ) → x ≡ front ++ back → length back ≡ left → rest ≡ back) → NodeShown room x rest old new
+item_last room x rest old new left s last = subst (λ (y : List ℕ). NodeShown room x y old new) (sym (last (spelled s.2.node) s.0 s.2.read s.1)) s.2
 
 module _ (room : ℕ) where
   pub uint_done : (w : Width) (n : ℕ) (rest old new : List ℕ) → Holds w n → new ≡ old ++ (decimal n ++ indicator (mark_for w n)) → NodeShown room (head Unsigned (Given w n) ++ rest) rest old new
@@ -63,6 +77,28 @@ module _ (room : ℕ) where
 
   pub simple_done : (a : Argument) (rest old new : List ℕ) → SimpleShown a old new → NodeShown room (head Other (seen_argument a) ++ rest) rest old new
   simple_done a rest old new s = record { node = Simple 0 s.0; read = ap (λ (b : Argument). head Other (seen_argument b) ++ rest) s.1; fits = s.2; shallow = omega arith; showable = tt; written = s.3 }
+
+-- an integer, behind what stands before it
+pub next_leaving : (x tail : List ℕ) (h : Head) (len index n left : ℕ) (w : Width) (below : Bool) (old new : List ℕ) → tail ≡ drop len x → IsHeadOf x h len → h.major ≤ 1 → below ≡ (h.major == 1) → h.argument ≡ arguments.Given w n
+    → new ≡ old ++ (between (codes ", ") index ++ (signed below n ++ indicator (mark_for w n))) → length tail ≡ left
+    → (rest : List ℕ) × (length rest ≡ left) × ((room : ℕ) → NextShown room index x rest old new)
+next_leaving x tail h len index n left w below old new t i l b f e s = (tail, s, λ room. go room h.major refl)
+  where
+    fits : Holds w n
+    fits = subst (λ (a : Argument). ArgumentFits (seen_argument a)) f i.fits
+
+    split : (m : ℕ) → h.major ≡ m → x ≡ head (major_at m) (Given w n) ++ tail
+    split m q = head_split x h len i ∙ (λ j. head (major_at (q j)) (seen_argument (f j)) ++ sym t j)
+
+    text : (m : ℕ) → h.major ≡ m → new ≡ (old ++ between (codes ", ") index) ++ (signed (m == 1) n ++ indicator (mark_for w n))
+    text m q = e ∙ sym (append_assoc old (between (codes ", ") index) (signed below n ++ indicator (mark_for w n))) ∙ ap (λ (s : Bool). (old ++ between (codes ", ") index) ++ (signed s n ++ indicator (mark_for w n))) (b ∙ ap (λ k. k == 1) q)
+
+    go : (room m : ℕ) → h.major ≡ m → NextShown room index x tail old new
+    go room zero q = subst (λ (y : List ℕ). NodeShown room y tail (old ++ between (codes ", ") index) new) (sym (split 0 q)) (uint_done room w n tail (old ++ between (codes ", ") index) new fits (text 0 q))
+    go room (suc zero) q =
+        subst (λ (y : List ℕ). NodeShown room y tail (old ++ between (codes ", ") index) new) (sym (split 1 q))
+        (nint_done room w n tail (old ++ between (codes ", ") index) new fits (text 1 q ∙ ap (λ y. (old ++ between (codes ", ") index) ++ y) (append_assoc (codes "-") (decimal (suc n)) (indicator (mark_for w n)))))
+    go room (suc (suc k)) q = absurd (omega (arith, l, q))
 
 -- ---- one after another
 

@@ -1,7 +1,7 @@
 -- What one pass reads at the front of its input, and the notation that it writes at the end of its buffer.
 -- Start with IsShownText, at the end: it is all that the public call promises. The records before it say the same of a part
 -- of the input: of input, the pass took a front and left rest; of its buffer, what was old became new.
-use Rattle.std.specs.Prelude.{◌≡◌, ℕ, ◌≤◌, List, ◌∷◌, ◌++◌, length, Bool, true, false, codes}
+use Rattle.std.specs.Prelude.{◌≡◌, ℕ, suc, ◌≤◌, List, ◌∷◌, ◌++◌, length, Bool, true, false, codes, decimal}
 use Rattle.std.specs.List.{flat_map}
 use Rattle.std.specs.Str.{is_utf8}
 use Rattle.cborn_model.specs.declared.heads.Width.{Width}
@@ -14,7 +14,7 @@ use Rattle.cborn_model.specs.Tree.{Tree, trees, entries, depth, depth_all, depth
 use Rattle.hex.specs.Hex.{encode_lower}
 use Rattle.cborn_edn.specs.declared.strings.Kind.{Kind}
 use Rattle.cborn_edn.specs.declared.strings.Kind.TheVariants.{Bytes as OfBytes, Text as OfText}
-use Rattle.cborn_edn.specs.devices.Between.{separated}
+use Rattle.cborn_edn.specs.devices.Between.{between, separated}
 use Rattle.cborn_edn.specs.Shown.{Shown, IsShowable, AreShowable, ArePairsShowable, AreTexts, shown, shown_string, shown_more_chunks, shown_chunks, shown_simple, escaped}
 use Rattle.cborn_wire.specs.declared.heads.Argument.{Argument}
 use Rattle.cborn_wire.specs.declared.heads.Argument.TheVariants as arguments
@@ -75,6 +75,11 @@ pub record LongStringShown (text : Bool) (input rest old new : List ℕ) : Type 
 abbrev pub SimpleShown : Argument → List ℕ → List ℕ → Type 0
 SimpleShown a old new = (n : ℕ) × (a ≡ arguments.Given (simple_width n) n) × Fits (Simple 0 n) × (new ≡ old ++ shown_simple n)
 
+-- n, or -1-n, in decimal
+abbrev pub signed : Bool → ℕ → List ℕ
+signed false n = decimal n
+signed true n = codes "-" ++ decimal (suc n)
+
 -- a node no deeper than the room, which is written
 pub record NodeShown (room : ℕ) (input rest old new : List ℕ) : Type 0 where
   pub node : Tree
@@ -83,6 +88,14 @@ pub record NodeShown (room : ℕ) (input rest old new : List ℕ) : Type 0 where
   pub shallow : depth node ≤ room
   pub showable : IsShowable node
   pub written : new ≡ old ++ shown node
+
+-- such a node, behind which so many bytes are left
+abbrev pub NodeLeaves : (room : ℕ) (input : List ℕ) (left : ℕ) (old new : List ℕ) → Type 0
+NodeLeaves room input left old new = (rest : List ℕ) × (length rest ≡ left) × NodeShown room input rest old new
+
+-- a node, which is written behind what stands before the one at the index
+abbrev pub NextShown : (room index : ℕ) (input rest old new : List ℕ) → Type 0
+NextShown room index input rest old new = NodeShown room input rest (old ++ between (codes ", ") index) new
 
 -- n nodes one after another, which are written with a separator between them
 pub record NodesShown (sep : List ℕ) (room n : ℕ) (input rest old new : List ℕ) : Type 0 where

@@ -1,19 +1,19 @@
 //! Items, one after another and inside one another.
 
-ghost use Rattle.std.specs.Prelude.{◌≡◌, ◌≢◌, ◌≤◌, ◌++◌, false, codes, OnSome, IfSome};
+ghost use Rattle.std.specs.Prelude.{◌≡◌, ◌≢◌, ◌≤◌, ◌++◌, ℕ, List, length, false, codes, OnSome, IfSome};
 ghost use Rattle.cborn_model.specs.Heads.{Array, Map, Tag, Given, Unbounded, head, Holds};
-ghost use Rattle.cborn_edn.specs.devices.Between.{between};
 ghost use Rattle.cborn_edn.specs.Shown.{mark_for, opened};
-ghost use Rattle.cborn_show.specs.Passed.{NodeShown, NodesShown, PairShown, PairsShown};
+ghost use Rattle.cborn_show.specs.Passed.{NodeShown, NodeLeaves, NextShown, NodesShown, PairShown, PairsShown};
 
-use crate::leaves::{behind_break, put_long_string, put_simple, put_string};
-use crate::numbers::{put_below, put_indicator, put_number};
+use crate::leaves::{behind_break, put_long_string_leaving, put_simple, put_string_leaving};
+use crate::numbers::{put_below, put_between, put_indicator, put_next_number, put_number};
 use cborn_model::{Width, shortest};
 use cborn_wire::{Argument, HeadRead, read_head};
 use std::alloc::Global;
 
 /// Appends the text of the item at the front of `bytes`, which is no deeper than `room`, and answers what follows it.
 #[cycle(shown)]
+#[inline(always)]
 pub(crate) fn put_item<'a>(
     alloc: Global,
     room: u64,
@@ -23,6 +23,29 @@ pub(crate) fn put_item<'a>(
     requires { room ≤ 1024 }
     ensures { IfSome result (λ rest. NodeShown room bytes.now rest.now out.old.items out.new.items) }
 {
+    let left = put_node(alloc, room, bytes, out)?;
+    last(bytes, left)
+}
+
+/// The last `left` bytes.
+#[inline(always)]
+fn last(bytes: &[u8], left: usize) -> Option<&[u8]>
+    ensures { IfSome result (λ rest. (front back : List ℕ) → bytes.now ≡ front ++ back → length back ≡ left → rest.now ≡ back) }
+{
+    if left > bytes.len() {
+        return None;
+    }
+    Some(&bytes[bytes.len() - left..])
+}
+
+/// What `put_item` does; answers how many bytes follow the item, since a number comes back in registers, and keeps the frames
+/// of a deep nest small. So what isn't an array, a map or a tag is written out of line.
+#[cycle(shown)]
+#[inline(never)]
+fn put_node(alloc: Global, room: u64, bytes: &[u8], out: &mut Vec<u8>) -> Option<usize>
+    requires { room ≤ 1024 }
+    ensures { IfSome result (λ left. NodeLeaves room bytes.now left out.old.items out.new.items) }
+{
     let HeadRead::Full(head, len) = read_head(bytes) else {
         return None;
     };
@@ -31,26 +54,26 @@ pub(crate) fn put_item<'a>(
         Argument::Given(width, n) => match head.major {
             0 => {
                 put_number(width, n, out)?;
-                Some(rest)
+                Some(rest.len())
             }
             1 => {
                 put_below(width, n, out)?;
-                Some(rest)
+                Some(rest.len())
             }
-            2 => put_string(alloc, false, width, n, rest, out),
-            3 => put_string(alloc, true, width, n, rest, out),
+            2 => put_string_leaving(alloc, false, width, n, rest, out),
+            3 => put_string_leaving(alloc, true, width, n, rest, out),
             4 => put_fixed_array(alloc, room, width, n, rest, out),
             5 => put_fixed_map(alloc, room, width, n, rest, out),
             6 => put_tagged(alloc, room, width, n, rest, out),
             7 => {
                 put_simple(head.argument, out)?;
-                Some(rest)
+                Some(rest.len())
             }
             _ => None,
         },
         Argument::Endless => match head.major {
-            2 => put_long_string(alloc, false, rest, out),
-            3 => put_long_string(alloc, true, rest, out),
+            2 => put_long_string_leaving(alloc, false, rest, out),
+            3 => put_long_string_leaving(alloc, true, rest, out),
             4 => put_endless_array(alloc, room, rest, out),
             5 => put_endless_map(alloc, room, rest, out),
             _ => None,
@@ -61,16 +84,16 @@ pub(crate) fn put_item<'a>(
 /// The array of the `n` items at the front of `bytes`.
 #[cycle(shown)]
 #[inline(never)]
-fn put_fixed_array<'a>(
+fn put_fixed_array(
     alloc: Global,
     room: u64,
     width: Width,
     n: u64,
-    bytes: &'a [u8],
+    bytes: &[u8],
     out: &mut Vec<u8>,
-) -> Option<&'a [u8]>
+) -> Option<usize>
     requires { room ≤ 1024 }
-    ensures { IfSome result (λ rest. Holds width n → NodeShown room (head Array (Given width n) ++ bytes.now) rest.now out.old.items out.new.items) }
+    ensures { IfSome result (λ left. Holds width n → NodeLeaves room (head Array (Given width n) ++ bytes.now) left out.old.items out.new.items) }
 {
     if room == 0 {
         return None;
@@ -82,11 +105,11 @@ fn put_fixed_array<'a>(
         return None;
     }
     out.push(b']').ok()?;
-    Some(rest)
+    Some(rest.len())
 }
 
 /// The indicator of an array or a map of `n` entries, and a space behind it.
-#[inline]
+#[inline(never)]
 fn put_opened(width: Width, n: u64, out: &mut Vec<u8>) -> Option<()>
     ensures { OnSome result (out.new.items ≡ out.old.items ++ opened (mark_for width n)) }
 {
@@ -100,14 +123,9 @@ fn put_opened(width: Width, n: u64, out: &mut Vec<u8>) -> Option<()>
 /// The array of the items at the front of `bytes`, up to a break.
 #[cycle(shown)]
 #[inline(never)]
-fn put_endless_array<'a>(
-    alloc: Global,
-    room: u64,
-    bytes: &'a [u8],
-    out: &mut Vec<u8>,
-) -> Option<&'a [u8]>
+fn put_endless_array(alloc: Global, room: u64, bytes: &[u8], out: &mut Vec<u8>) -> Option<usize>
     requires { room ≤ 1024 }
-    ensures { IfSome result (λ rest. NodeShown room (head Array Unbounded ++ bytes.now) rest.now out.old.items out.new.items) }
+    ensures { IfSome result (λ left. NodeLeaves room (head Array Unbounded ++ bytes.now) left out.old.items out.new.items) }
 {
     if room == 0 {
         return None;
@@ -116,7 +134,7 @@ fn put_endless_array<'a>(
     let (rest, _) = put_items(alloc, room - 1, u64::MAX, true, bytes, out)?;
     let after = behind_break(rest)?;
     out.push(b']').ok()?;
-    Some(after)
+    Some(after.len())
 }
 
 /// The items at the front of `bytes`, at most `most`, and where there may be an end up to a break: answers what follows them, and how many they are.
@@ -139,22 +157,58 @@ fn put_items<'a>(
         if is_done(count, most, may_end, rest) {
             break;
         }
-        put_between(count, out)?;
-        rest = put_item(alloc, room, rest, out)?;
+        rest = put_next(alloc, room, count, rest, out)?;
         count += 1;
     }
     Some((rest, count))
 }
 
-/// What stands before the item or the pair with this index.
+/// What stands before the item with this index, and the item at the front of `bytes`.
+#[cycle(shown)]
 #[inline(always)]
-fn put_between(count: u64, out: &mut Vec<u8>) -> Option<()>
-    ensures { OnSome result (out.new.items ≡ out.old.items ++ between (codes ", ") count) }
+fn put_next<'a>(
+    alloc: Global,
+    room: u64,
+    index: u64,
+    bytes: &'a [u8],
+    out: &mut Vec<u8>,
+) -> Option<&'a [u8]>
+    requires { room ≤ 1024 }
+    ensures { IfSome result (λ rest. NextShown room index bytes.now rest.now out.old.items out.new.items) }
 {
-    if count > 0 {
-        out.extend_from_slice(b", ").ok()?;
+    if let [0..64, ..] = bytes {
+        return put_next_integer(index, bytes, out);
     }
-    Some(())
+    put_between(index, out)?;
+    put_item(alloc, room, bytes, out)
+}
+
+/// The same of an integer, which is most of what arrays hold. None for any other item.
+#[inline(always)]
+fn put_next_integer<'a>(index: u64, bytes: &'a [u8], out: &mut Vec<u8>) -> Option<&'a [u8]>
+    ensures { IfSome result (λ rest. (room : ℕ) → NextShown room index bytes.now rest.now out.old.items out.new.items) }
+{
+    let left = put_next_leaving(index, bytes, out)?;
+    last(bytes, left)
+}
+
+/// What `put_next_integer` does; answers how many bytes are left.
+#[inline(never)]
+fn put_next_leaving(index: u64, bytes: &[u8], out: &mut Vec<u8>) -> Option<usize>
+    ensures { IfSome result (λ left. (rest : List ℕ) × (length rest ≡ left) × ((room : ℕ) → NextShown room index bytes.now rest out.old.items out.new.items)) }
+{
+    let HeadRead::Full(head, len) = read_head(bytes) else {
+        return None;
+    };
+    let Argument::Given(width, n) = head.argument else {
+        return None;
+    };
+    if head.major > 1 {
+        return None;
+    }
+    let rest = &bytes[len..];
+    put_next_number(index, head.major == 1, width, n, out)?;
+    Some(rest.len())
 }
 
 /// Whether no more is to be taken: all that there may be is taken, or a break ends it.
@@ -168,16 +222,16 @@ fn is_done(count: u64, most: u64, may_end: bool, bytes: &[u8]) -> bool
 /// The map of the `n` pairs at the front of `bytes`.
 #[cycle(shown)]
 #[inline(never)]
-fn put_fixed_map<'a>(
+fn put_fixed_map(
     alloc: Global,
     room: u64,
     width: Width,
     n: u64,
-    bytes: &'a [u8],
+    bytes: &[u8],
     out: &mut Vec<u8>,
-) -> Option<&'a [u8]>
+) -> Option<usize>
     requires { room ≤ 1024 }
-    ensures { IfSome result (λ rest. Holds width n → NodeShown room (head Map (Given width n) ++ bytes.now) rest.now out.old.items out.new.items) }
+    ensures { IfSome result (λ left. Holds width n → NodeLeaves room (head Map (Given width n) ++ bytes.now) left out.old.items out.new.items) }
 {
     if room == 0 {
         return None;
@@ -189,20 +243,15 @@ fn put_fixed_map<'a>(
         return None;
     }
     out.push(b'}').ok()?;
-    Some(rest)
+    Some(rest.len())
 }
 
 /// The map of the pairs at the front of `bytes`, up to a break.
 #[cycle(shown)]
 #[inline(never)]
-fn put_endless_map<'a>(
-    alloc: Global,
-    room: u64,
-    bytes: &'a [u8],
-    out: &mut Vec<u8>,
-) -> Option<&'a [u8]>
+fn put_endless_map(alloc: Global, room: u64, bytes: &[u8], out: &mut Vec<u8>) -> Option<usize>
     requires { room ≤ 1024 }
-    ensures { IfSome result (λ rest. NodeShown room (head Map Unbounded ++ bytes.now) rest.now out.old.items out.new.items) }
+    ensures { IfSome result (λ left. NodeLeaves room (head Map Unbounded ++ bytes.now) left out.old.items out.new.items) }
 {
     if room == 0 {
         return None;
@@ -211,7 +260,7 @@ fn put_endless_map<'a>(
     let (rest, _) = put_pairs(alloc, room - 1, u64::MAX, true, bytes, out)?;
     let after = behind_break(rest)?;
     out.push(b'}').ok()?;
-    Some(after)
+    Some(after.len())
 }
 
 /// The pairs at the front of `bytes`, as `put_items` takes items.
@@ -256,23 +305,23 @@ fn put_pair<'a>(alloc: Global, room: u64, bytes: &'a [u8], out: &mut Vec<u8>) ->
 /// The tag `n` over the item at the front of `bytes`.
 #[cycle(shown)]
 #[inline(never)]
-fn put_tagged<'a>(
+fn put_tagged(
     alloc: Global,
     room: u64,
     width: Width,
     n: u64,
-    bytes: &'a [u8],
+    bytes: &[u8],
     out: &mut Vec<u8>,
-) -> Option<&'a [u8]>
+) -> Option<usize>
     requires { room ≤ 1024 }
-    ensures { IfSome result (λ rest. Holds width n → NodeShown room (head Tag (Given width n) ++ bytes.now) rest.now out.old.items out.new.items) }
+    ensures { IfSome result (λ left. Holds width n → NodeLeaves room (head Tag (Given width n) ++ bytes.now) left out.old.items out.new.items) }
 {
     if room == 0 {
         return None;
     }
     put_number(width, n, out)?;
     out.push(b'(').ok()?;
-    let rest = put_item(alloc, room - 1, bytes, out)?;
+    let left = put_node(alloc, room - 1, bytes, out)?;
     out.push(b')').ok()?;
-    Some(rest)
+    Some(left)
 }

@@ -1,6 +1,6 @@
 //! Strings and simple values.
 
-ghost use Rattle.std.specs.Prelude.{◌≡◌, ◌<◌, ◌/◌, ◌%◌, ◌++◌, [], ◌∷◌, length, true, false, slice_index, IsTrue, IfSome, OnSome, MatchOption};
+ghost use Rattle.std.specs.Prelude.{◌≡◌, ◌<◌, ◌/◌, ◌%◌, ◌++◌, ℕ, List, [], ◌∷◌, length, true, false, slice_index, IsTrue, IfSome, OnSome, MatchOption};
 ghost use Rattle.std.specs.Str.{is_utf8};
 ghost use Rattle.hex.specs.Hex.{encode_lower, lower_digits};
 ghost use Rattle.cborn_edn.specs.Shown.{shown_chunks};
@@ -15,7 +15,8 @@ use cborn_wire::{Argument, HeadRead, read_head};
 use std::alloc::Global;
 
 /// The string, a text or not, of the `n` bytes at the front.
-pub(crate) fn put_string<'a>(
+#[inline(always)]
+fn put_string<'a>(
     alloc: Global,
     text: bool,
     width: Width,
@@ -32,6 +33,22 @@ pub(crate) fn put_string<'a>(
     put_content(alloc, text, content, out)?;
     put_indicator(width, n, out)?;
     Some(rest)
+}
+
+/// What `put_string` does; answers how many bytes are left.
+#[inline(never)]
+pub(crate) fn put_string_leaving(
+    alloc: Global,
+    text: bool,
+    width: Width,
+    n: u64,
+    bytes: &[u8],
+    out: &mut Vec<u8>,
+) -> Option<usize>
+    ensures { IfSome result (λ left. (rest : List ℕ) × (length rest ≡ left) × StringShown text width n bytes.now rest out.old.items out.new.items) }
+{
+    let rest = put_string(alloc, text, width, n, bytes, out)?;
+    Some(rest.len())
 }
 
 /// A string, with no indicator.
@@ -140,14 +157,29 @@ const DIGITS: &[u8; 16] = b"0123456789abcdef";
 
 /// Whether the bytes are UTF-8.
 #[inline]
-fn is_text(bytes: &[u8]) -> bool
-    ensures { IsTrue result → is_utf8 bytes.now ≡ true }
+pub(crate) fn is_text(bytes: &[u8]) -> bool
+    ensures { result ≡ is_utf8 bytes.now }
 {
     bytes.is_ascii() || simdutf8::is_utf8(bytes)
 }
 
+/// What `put_long_string` does; answers how many bytes are left.
+#[inline(never)]
+pub(crate) fn put_long_string_leaving(
+    alloc: Global,
+    text: bool,
+    bytes: &[u8],
+    out: &mut Vec<u8>,
+) -> Option<usize>
+    ensures { IfSome result (λ left. (rest : List ℕ) × (length rest ≡ left) × LongStringShown text bytes.now rest out.old.items out.new.items) }
+{
+    let rest = put_long_string(alloc, text, bytes, out)?;
+    Some(rest.len())
+}
+
 /// A string in chunks, up to its break.
-pub(crate) fn put_long_string<'a>(
+#[inline(always)]
+fn put_long_string<'a>(
     alloc: Global,
     text: bool,
     bytes: &'a [u8],
@@ -234,6 +266,7 @@ fn is_string(text: bool, major: u8) -> bool
 }
 
 /// A simple value.
+#[inline(never)]
 pub(crate) fn put_simple(argument: Argument, out: &mut Vec<u8>) -> Option<()>
     requires { ArgumentFits (seen_argument argument) }
     ensures { OnSome result (SimpleShown argument out.old.items out.new.items) }

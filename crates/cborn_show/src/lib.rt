@@ -13,15 +13,19 @@
 //! It answers only where all is as it should be. Where it answers none, the bytes may hold no items, or a text in them isn't
 //! UTF-8, or memory was refused: the reader and the writer that keep trees tell which.
 //!
+//! [`first_bad_text`] tells of well-formed bytes the first text that isn't UTF-8, from head to head.
+//!
 //! In the code start with `passes`; `items` has a function for each kind of item that holds others, `leaves` the strings and
 //! simple values, `numbers` decimals and indicators.
 #![tactic(auto)]
 
+mod bad_texts;
 mod items;
 mod leaves;
 mod numbers;
 mod passes;
 
+pub use bad_texts::first_bad_text;
 pub use passes::show_bytes;
 
 #[cfg(test)]

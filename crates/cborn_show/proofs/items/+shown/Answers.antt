@@ -1,96 +1,115 @@
-use Rattle.std.proofs.Common.{rules, ◌≢◌, ◌-◌, refl, ℕ, codes, subst, arith}
+use Rattle.std.proofs.Common.{rules, ◌++◌, List, ◌≢◌, ◌-◌, refl, ℕ, codes, subst, arith}
 use Rattle.std.proofs.lemmas.List.{take_rest}
 use Rattle.cborn_wire.specs.declared.heads.Argument.TheVariants.{Given, Endless}
-use Rattle.cborn_show.specs.Passed.{NodesShown, PairsShown}
+use Rattle.cborn_show.specs.Passed.{NodeShown, NodesShown, PairsShown}
+use Rattle.cborn_edn.specs.devices.Between.{between}
 use Rattle.cborn_show.proofs.Decimals.{under}
-use Rattle.cborn_show.proofs.Nodes.{item_from, uint_done, nint_done, bytes_done, text_done, byte_chunks_done, text_chunks_done, simple_done, nodes_none, nodes_more, array_done, endless_array_done, pair_done, pairs_none, pairs_more, map_done, endless_map_done, tagged_done}
+use Rattle.cborn_show.proofs.Nodes.{inside, alone, item_last, uint_done, nint_done, bytes_done, text_done, byte_chunks_done, text_chunks_done, simple_done, nodes_none, nodes_more, array_done, endless_array_done, pair_done, pairs_none, pairs_more, map_done, endless_map_done, tagged_done}
 use Rattle.cborn_show.proofs.items.+shown.Goals as goal
 
-pub put_endless_array-returns : goal.put_endless_array-returns
-put_endless_array-returns t c =
-    endless_array_done c.args.room c.in_ok-rest.field-0-1 c.args.bytes.now c.in_ok-rest.rest.now c.in_ok-after.after.now c.args.out.now.items c.extend_from_slice.new.self.items c.put_items.new.out.items c.push.new.self.items
-    (omega arith) (search rules) c.in_ok-rest.ensures c.in_ok-after.ensures (search rules)
+pub put_item-returns : goal.put_item-returns
+put_item-returns t c =
+    under c.last.result
+    (λ rest e. item_last c.args.room c.args.bytes.now rest.now c.args.out.now.items c.put_node.new.out.items c.in_ok-left.left c.in_ok-left.ensures e)
+    c.last.ensures
 
-pub put_endless_map-returns : goal.put_endless_map-returns
-put_endless_map-returns t c =
-    endless_map_done c.args.room c.in_ok-rest.field-0-1 c.args.bytes.now c.in_ok-rest.rest.now c.in_ok-after.after.now c.args.out.now.items c.extend_from_slice.new.self.items c.put_pairs.new.out.items c.push.new.self.items
-    (omega arith) (search rules) c.in_ok-rest.ensures c.in_ok-after.ensures (search rules)
-
-pub put_fixed_array-returns : goal.put_fixed_array-returns
-put_fixed_array-returns t c h =
-    array_done c.args.room c.args.width c.args.n c.args.bytes.now c.in_ok-rest.rest.now c.args.out.now.items c.push.new.self.items c.put_opened.new.out.items c.put_items.new.out.items c.push-2.new.self.items
-    (omega arith) h (search rules) c.in_ok-put_opened.ensures
-    (subst (λ (k : ℕ). NodesShown (codes ", ") (c.args.room - 1) k c.args.bytes.now c.in_ok-rest.rest.now c.put_opened.new.out.items c.put_items.new.out.items) c.if-count-n.false c.in_ok-rest.ensures) (search rules)
-
-pub put_fixed_map-returns : goal.put_fixed_map-returns
-put_fixed_map-returns t c h =
-    map_done c.args.room c.args.width c.args.n c.args.bytes.now c.in_ok-rest.rest.now c.args.out.now.items c.push.new.self.items c.put_opened.new.out.items c.put_pairs.new.out.items c.push-2.new.self.items
-    (omega arith) h (search rules) c.in_ok-put_opened.ensures
-    (subst (λ (k : ℕ). PairsShown (c.args.room - 1) k c.args.bytes.now c.in_ok-rest.rest.now c.put_opened.new.out.items c.put_pairs.new.out.items) c.if-count-n.false c.in_ok-rest.ensures) (search rules)
-
-pub put_item-returns-in_ok-put_number-in-0 : goal.put_item-returns-in_ok-put_number-in-0
-put_item-returns-in_ok-put_number-in-0 t c =
-    item_from c.args.room c.args.bytes.now _ _ c.args.out.now.items c.put_number.new.out.items c.in-Full.head c.in-Full.len 0 (Given c.in-Given.width c.in-Given.n) (take_rest c.args.bytes.now c.in-Full.len) c.in-Full.ensures c.in-0.is c.in-Given.is
+pub put_node-returns-in_ok-put_number-in-0 : goal.put_node-returns-in_ok-put_number-in-0
+put_node-returns-in_ok-put_number-in-0 t c =
+    alone c.args.room c.args.bytes.now _ c.args.out.now.items c.put_number.new.out.items _ c.in-Full.head c.in-Full.len 0 (Given c.in-Given.width c.in-Given.n) (take_rest c.args.bytes.now c.in-Full.len) c.in-Full.ensures c.in-0.is c.in-Given.is (search rules)
     (λ fits. uint_done c.args.room c.in-Given.width c.in-Given.n _ c.args.out.now.items c.put_number.new.out.items fits c.in_ok-put_number-in-0.ensures)
 
-pub put_item-returns-in_ok-put_below-in-1 : goal.put_item-returns-in_ok-put_below-in-1
-put_item-returns-in_ok-put_below-in-1 t c =
-    item_from c.args.room c.args.bytes.now _ _ c.args.out.now.items c.put_below.new.out.items c.in-Full.head c.in-Full.len 1 (Given c.in-Given.width c.in-Given.n) (take_rest c.args.bytes.now c.in-Full.len) c.in-Full.ensures c.in-1.is c.in-Given.is
+pub put_node-returns-in_ok-put_below-in-1 : goal.put_node-returns-in_ok-put_below-in-1
+put_node-returns-in_ok-put_below-in-1 t c =
+    alone c.args.room c.args.bytes.now _ c.args.out.now.items c.put_below.new.out.items _ c.in-Full.head c.in-Full.len 1 (Given c.in-Given.width c.in-Given.n) (take_rest c.args.bytes.now c.in-Full.len) c.in-Full.ensures c.in-1.is c.in-Given.is (search rules)
     (λ fits. nint_done c.args.room c.in-Given.width c.in-Given.n _ c.args.out.now.items c.put_below.new.out.items fits c.in_ok-put_below-in-1.ensures)
 
-pub put_item-returns-in-2 : goal.put_item-returns-in-2
-put_item-returns-in-2 t c =
-    under c.put_string.result
-    (λ rest s. item_from c.args.room c.args.bytes.now _ rest.now c.args.out.now.items c.put_string.new.out.items c.in-Full.head c.in-Full.len 2 (Given c.in-Given.width c.in-Given.n) (take_rest c.args.bytes.now c.in-Full.len) c.in-Full.ensures c.in-2.is c.in-Given.is
-    (λ fits. bytes_done c.args.room c.in-Given.width c.in-Given.n _ rest.now c.args.out.now.items c.put_string.new.out.items fits s))
-    c.put_string.ensures
+pub put_node-returns-in-2 : goal.put_node-returns-in-2
+put_node-returns-in-2 t c =
+    under c.put_string_leaving.result
+    (λ left s. inside c.args.room c.args.bytes.now _ c.args.out.now.items c.put_string_leaving.new.out.items left c.in-Full.head c.in-Full.len 2 (Given c.in-Given.width c.in-Given.n) (take_rest c.args.bytes.now c.in-Full.len) c.in-Full.ensures c.in-2.is c.in-Given.is
+    (λ fits. (s.0, s.1, bytes_done c.args.room c.in-Given.width c.in-Given.n _ s.0 c.args.out.now.items c.put_string_leaving.new.out.items fits s.2)))
+    c.put_string_leaving.ensures
 
-pub put_item-returns-in-3 : goal.put_item-returns-in-3
-put_item-returns-in-3 t c =
-    under c.put_string-in-3.result
-    (λ rest s. item_from c.args.room c.args.bytes.now _ rest.now c.args.out.now.items c.put_string-in-3.new.out.items c.in-Full.head c.in-Full.len 3 (Given c.in-Given.width c.in-Given.n) (take_rest c.args.bytes.now c.in-Full.len) c.in-Full.ensures c.in-3.is c.in-Given.is
-    (λ fits. text_done c.args.room c.in-Given.width c.in-Given.n _ rest.now c.args.out.now.items c.put_string-in-3.new.out.items fits s))
-    c.put_string-in-3.ensures
+pub put_node-returns-in-3 : goal.put_node-returns-in-3
+put_node-returns-in-3 t c =
+    under c.put_string_leaving-in-3.result
+    (λ left s. inside c.args.room c.args.bytes.now _ c.args.out.now.items c.put_string_leaving-in-3.new.out.items left c.in-Full.head c.in-Full.len 3 (Given c.in-Given.width c.in-Given.n) (take_rest c.args.bytes.now c.in-Full.len) c.in-Full.ensures c.in-3.is c.in-Given.is
+    (λ fits. (s.0, s.1, text_done c.args.room c.in-Given.width c.in-Given.n _ s.0 c.args.out.now.items c.put_string_leaving-in-3.new.out.items fits s.2)))
+    c.put_string_leaving-in-3.ensures
 
-pub put_item-returns-in-4 : goal.put_item-returns-in-4
-put_item-returns-in-4 t c =
+pub put_node-returns-in-4 : goal.put_node-returns-in-4
+put_node-returns-in-4 t c =
     under c.put_fixed_array.result
-    (λ rest s. item_from c.args.room c.args.bytes.now _ rest.now c.args.out.now.items c.put_fixed_array.new.out.items c.in-Full.head c.in-Full.len 4 (Given c.in-Given.width c.in-Given.n) (take_rest c.args.bytes.now c.in-Full.len) c.in-Full.ensures c.in-4.is c.in-Given.is
+    (λ left s. inside c.args.room c.args.bytes.now _ c.args.out.now.items c.put_fixed_array.new.out.items left c.in-Full.head c.in-Full.len 4 (Given c.in-Given.width c.in-Given.n) (take_rest c.args.bytes.now c.in-Full.len) c.in-Full.ensures c.in-4.is c.in-Given.is
     (λ fits. s fits))
     c.put_fixed_array.ensures
 
-pub put_item-returns-in-5 : goal.put_item-returns-in-5
-put_item-returns-in-5 t c =
+pub put_node-returns-in-5 : goal.put_node-returns-in-5
+put_node-returns-in-5 t c =
     under c.put_fixed_map.result
-    (λ rest s. item_from c.args.room c.args.bytes.now _ rest.now c.args.out.now.items c.put_fixed_map.new.out.items c.in-Full.head c.in-Full.len 5 (Given c.in-Given.width c.in-Given.n) (take_rest c.args.bytes.now c.in-Full.len) c.in-Full.ensures c.in-5.is c.in-Given.is
+    (λ left s. inside c.args.room c.args.bytes.now _ c.args.out.now.items c.put_fixed_map.new.out.items left c.in-Full.head c.in-Full.len 5 (Given c.in-Given.width c.in-Given.n) (take_rest c.args.bytes.now c.in-Full.len) c.in-Full.ensures c.in-5.is c.in-Given.is
     (λ fits. s fits))
     c.put_fixed_map.ensures
 
-pub put_item-returns-in-6 : goal.put_item-returns-in-6
-put_item-returns-in-6 t c =
+pub put_node-returns-in-6 : goal.put_node-returns-in-6
+put_node-returns-in-6 t c =
     under c.put_tagged.result
-    (λ rest s. item_from c.args.room c.args.bytes.now _ rest.now c.args.out.now.items c.put_tagged.new.out.items c.in-Full.head c.in-Full.len 6 (Given c.in-Given.width c.in-Given.n) (take_rest c.args.bytes.now c.in-Full.len) c.in-Full.ensures c.in-6.is c.in-Given.is
+    (λ left s. inside c.args.room c.args.bytes.now _ c.args.out.now.items c.put_tagged.new.out.items left c.in-Full.head c.in-Full.len 6 (Given c.in-Given.width c.in-Given.n) (take_rest c.args.bytes.now c.in-Full.len) c.in-Full.ensures c.in-6.is c.in-Given.is
     (λ fits. s fits))
     c.put_tagged.ensures
 
-pub put_item-returns-in_ok-put_simple-in-7 : goal.put_item-returns-in_ok-put_simple-in-7
-put_item-returns-in_ok-put_simple-in-7 t c =
-    item_from c.args.room c.args.bytes.now _ _ c.args.out.now.items c.put_simple.new.out.items c.in-Full.head c.in-Full.len 7 c.in-Full.head.argument (take_rest c.args.bytes.now c.in-Full.len) c.in-Full.ensures c.in-7.is refl
+pub put_node-returns-in_ok-put_simple-in-7 : goal.put_node-returns-in_ok-put_simple-in-7
+put_node-returns-in_ok-put_simple-in-7 t c =
+    alone c.args.room c.args.bytes.now _ c.args.out.now.items c.put_simple.new.out.items _ c.in-Full.head c.in-Full.len 7 c.in-Full.head.argument (take_rest c.args.bytes.now c.in-Full.len) c.in-Full.ensures c.in-7.is refl (search rules)
     (λ fits. simple_done c.args.room c.in-Full.head.argument _ c.args.out.now.items c.put_simple.new.out.items c.in_ok-put_simple-in-7.ensures)
 
-pub put_item-returns-in-2-major : goal.put_item-returns-in-2-major
-put_item-returns-in-2-major t c =
-    under c.put_long_string.result
-    (λ rest s. item_from c.args.room c.args.bytes.now _ rest.now c.args.out.now.items c.put_long_string.new.out.items c.in-Full.head c.in-Full.len 2 Endless (take_rest c.args.bytes.now c.in-Full.len) c.in-Full.ensures c.in-2-major.is c.in-Endless.is
-    (λ fits. byte_chunks_done c.args.room _ rest.now c.args.out.now.items c.put_long_string.new.out.items s))
-    c.put_long_string.ensures
+pub put_node-returns-in-2-major : goal.put_node-returns-in-2-major
+put_node-returns-in-2-major t c =
+    under c.put_long_string_leaving.result
+    (λ left s. inside c.args.room c.args.bytes.now _ c.args.out.now.items c.put_long_string_leaving.new.out.items left c.in-Full.head c.in-Full.len 2 Endless (take_rest c.args.bytes.now c.in-Full.len) c.in-Full.ensures c.in-2-major.is c.in-Endless.is
+    (λ fits. (s.0, s.1, byte_chunks_done c.args.room _ s.0 c.args.out.now.items c.put_long_string_leaving.new.out.items s.2)))
+    c.put_long_string_leaving.ensures
 
-pub put_item-returns-in-3-major : goal.put_item-returns-in-3-major
-put_item-returns-in-3-major t c =
-    under c.put_long_string-in-3-major.result
-    (λ rest s. item_from c.args.room c.args.bytes.now _ rest.now c.args.out.now.items c.put_long_string-in-3-major.new.out.items c.in-Full.head c.in-Full.len 3 Endless (take_rest c.args.bytes.now c.in-Full.len) c.in-Full.ensures c.in-3-major.is c.in-Endless.is
-    (λ fits. text_chunks_done c.args.room _ rest.now c.args.out.now.items c.put_long_string-in-3-major.new.out.items s))
-    c.put_long_string-in-3-major.ensures
+pub put_node-returns-in-3-major : goal.put_node-returns-in-3-major
+put_node-returns-in-3-major t c =
+    under c.put_long_string_leaving-in-3-major.result
+    (λ left s. inside c.args.room c.args.bytes.now _ c.args.out.now.items c.put_long_string_leaving-in-3-major.new.out.items left c.in-Full.head c.in-Full.len 3 Endless (take_rest c.args.bytes.now c.in-Full.len) c.in-Full.ensures c.in-3-major.is c.in-Endless.is
+    (λ fits. (s.0, s.1, text_chunks_done c.args.room _ s.0 c.args.out.now.items c.put_long_string_leaving-in-3-major.new.out.items s.2)))
+    c.put_long_string_leaving-in-3-major.ensures
+
+pub put_endless_array-returns : goal.put_endless_array-returns
+put_endless_array-returns t c = (
+  c.in_ok-after.after.now,
+  search rules,
+  endless_array_done c.args.room c.in_ok-rest.field-0-1 c.args.bytes.now c.in_ok-rest.rest.now c.in_ok-after.after.now c.args.out.now.items c.extend_from_slice.new.self.items c.put_items.new.out.items c.push.new.self.items
+      (omega arith) (search rules) c.in_ok-rest.ensures c.in_ok-after.ensures (search rules),
+)
+
+pub put_endless_map-returns : goal.put_endless_map-returns
+put_endless_map-returns t c = (
+  c.in_ok-after.after.now,
+  search rules,
+  endless_map_done c.args.room c.in_ok-rest.field-0-1 c.args.bytes.now c.in_ok-rest.rest.now c.in_ok-after.after.now c.args.out.now.items c.extend_from_slice.new.self.items c.put_pairs.new.out.items c.push.new.self.items
+      (omega arith) (search rules) c.in_ok-rest.ensures c.in_ok-after.ensures (search rules),
+)
+
+pub put_fixed_array-returns : goal.put_fixed_array-returns
+put_fixed_array-returns t c h = (
+  c.in_ok-rest.rest.now,
+  search rules,
+  array_done c.args.room c.args.width c.args.n c.args.bytes.now c.in_ok-rest.rest.now c.args.out.now.items c.push.new.self.items c.put_opened.new.out.items c.put_items.new.out.items c.push-2.new.self.items
+      (omega arith) h (search rules) c.in_ok-put_opened.ensures
+      (subst (λ (k : ℕ). NodesShown (codes ", ") (c.args.room - 1) k c.args.bytes.now c.in_ok-rest.rest.now c.put_opened.new.out.items c.put_items.new.out.items) c.if-count-n.false c.in_ok-rest.ensures) (search rules),
+)
+
+pub put_fixed_map-returns : goal.put_fixed_map-returns
+put_fixed_map-returns t c h = (
+  c.in_ok-rest.rest.now,
+  search rules,
+  map_done c.args.room c.args.width c.args.n c.args.bytes.now c.in_ok-rest.rest.now c.args.out.now.items c.push.new.self.items c.put_opened.new.out.items c.put_pairs.new.out.items c.push-2.new.self.items
+      (omega arith) h (search rules) c.in_ok-put_opened.ensures
+      (subst (λ (k : ℕ). PairsShown (c.args.room - 1) k c.args.bytes.now c.in_ok-rest.rest.now c.put_opened.new.out.items c.put_pairs.new.out.items) c.if-count-n.false c.in_ok-rest.ensures) (search rules),
+)
 
 pub put_items-items-init : goal.put_items-items-init
 put_items-items-init t c = (nodes_none c.args.room (codes ", ") c.args.bytes.now c.args.out.now.items, omega arith)
@@ -98,7 +117,11 @@ put_items-items-init t c = (nodes_none c.args.room (codes ", ") c.args.bytes.now
 pub put_items-items-preserved : goal.put_items-items-preserved
 put_items-items-preserved t c =
     let more : c.items.count ≢ c.args.most = c.is_done.ensures c.if-is_done.false in
-    (nodes_more c.args.room (codes ", ") c.items.count c.args.bytes.now c.items.rest.now c.in_ok-rest.rest.now c.args.out.now.items c.items.out.items c.put_between.new.out.items c.put_item.new.out.items c.items.invariant.0 c.in_ok-put_between.ensures c.in_ok-rest.ensures, omega (arith, c.items.invariant.1))
+    (nodes_more c.args.room (codes ", ") c.items.count c.args.bytes.now c.items.rest.now c.in_ok-rest.rest.now c.args.out.now.items c.items.out.items (c.items.out.items ++ between (codes ", ") c.items.count) c.put_next.new.out.items c.items.invariant.0 refl c.in_ok-rest.ensures, omega (arith, c.items.invariant.1))
+
+pub put_next-returns : goal.put_next-returns
+put_next-returns t c =
+    under c.put_item.result (λ rest s. subst (λ (o : List ℕ). NodeShown c.args.room c.args.bytes.now rest.now o c.put_item.new.out.items) c.in_ok-put_between.ensures s) c.put_item.ensures
 
 pub put_pair-returns : goal.put_pair-returns
 put_pair-returns t c =
@@ -114,6 +137,9 @@ put_pairs-pairs-preserved t c =
     (pairs_more c.args.room c.pairs.count c.args.bytes.now c.pairs.rest.now c.in_ok-rest.rest.now c.args.out.now.items c.pairs.out.items c.put_between.new.out.items c.put_pair.new.out.items c.pairs.invariant.0 c.in_ok-put_between.ensures c.in_ok-rest.ensures, omega (arith, c.pairs.invariant.1))
 
 pub put_tagged-returns : goal.put_tagged-returns
-put_tagged-returns t c h =
-    tagged_done c.args.room c.args.width c.args.n c.args.bytes.now c.in_ok-rest.rest.now c.args.out.now.items c.put_number.new.out.items c.push.new.self.items c.put_item.new.out.items c.push-2.new.self.items
-    (omega arith) h c.in_ok-put_number.ensures (search rules) c.in_ok-rest.ensures (search rules)
+put_tagged-returns t c h = (
+  c.in_ok-left.ensures.0,
+  c.in_ok-left.ensures.1,
+  tagged_done c.args.room c.args.width c.args.n c.args.bytes.now c.in_ok-left.ensures.0 c.args.out.now.items c.put_number.new.out.items c.push.new.self.items c.put_node.new.out.items c.push-2.new.self.items
+      (omega arith) h c.in_ok-put_number.ensures (search rules) c.in_ok-left.ensures.2 (search rules),
+)
