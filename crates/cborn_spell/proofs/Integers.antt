@@ -1,10 +1,10 @@
 -- Integers that are written.
-use Rattle.std.proofs.Common.{◌≡◌, refl, sym, ap, ◌∙◌, subst, ℕ, suc, ◌+◌, ◌<◌, ◌≤◌, ◌^◌, List, [], ◌∷◌, ◌++◌, length, Bool, true, false, cond, arith, append_assoc, length-append}
+use Rattle.std.proofs.Common.{◌≡◌, ap, ◌∙◌, subst, ℕ, ◌+◌, ◌<◌, ◌≤◌, ◌^◌, List, [], ◌∷◌, ◌++◌, length, Bool, true, cond, arith, append_assoc, length-append}
 use Rattle.std.proofs.lemmas.Bool.{lt-ltb, le-ltb}
 use Rattle.std.specs.Int.Digits.{digits_of}
 use Rattle.cborn_model.specs.Heads.{head_bytes, least}
 use Rattle.cborn_lex.specs.declared.classes.Mark.{Mark}
-use Rattle.cborn_edn.specs.Syntax.{is_below, argument_of, is_small}
+use Rattle.cborn_edn.specs.Syntax.{is_below, argument_of}
 use Rattle.cborn_edn.specs.Meaning.{is_absent}
 use Rattle.cborn_spell.specs.Descent.{SetsHead, AddsMarked, AddsNumber, AddsBignum, IsBignum}
 use Rattle.cborn_spell.proofs.Taking.{set_head_done}

@@ -1,27 +1,25 @@
 -- Strings of pieces and of chunks.
-use Rattle.std.proofs.Common.{◌≡◌, refl, sym, ap, ◌∙◌, subst, ℕ, ◌+◌, ◌-◌, ◌*◌, ◌<◌, ◌≤◌, List, [], ◌∷◌, ◌++◌, length, take, drop, Bool, true, false, ◌&&◌, Option, Some, None, inl, inr, ◌⊎◌, arith, append_assoc, append-nil, length-append, take_at, drop_at}
-use Rattle.std.proofs.lemmas.Bool.{and_from, false≢true}
+use Rattle.std.proofs.Common.{◌≡◌, refl, sym, ap, ◌∙◌, subst, ℕ, ◌+◌, ◌-◌, ◌*◌, ◌≤◌, List, [], ◌∷◌, ◌++◌, length, take, drop, Bool, true, Some, inl, inr, ◌⊎◌, arith, append_assoc, append-nil, length-append, take_at, drop_at}
+use Rattle.std.proofs.lemmas.Bool.{and_from}
 use Rattle.std.proofs.lemmas.List.Concat.{flat_map-append}
 use Rattle.std.proofs.lemmas.Str.{is_utf8-from_IsUtf8}
 use Rattle.std.specs.List.{flat_map}
 use Rattle.std.specs.Str.{IsUtf8}
 use Rattle.cborn_model.specs.declared.heads.Width.{Width}
 use Rattle.cborn_model.specs.declared.nodes.Chunk.{Chunk}
-use Rattle.cborn_model.specs.Heads.{Unbounded, code, head, head_bytes}
+use Rattle.cborn_model.specs.Heads.{code, head_bytes}
 use Rattle.cborn_model.specs.Spelled.{string as string_bytes, chunk_bytes, spelled, spelled_all}
-use Rattle.cborn_model.specs.Tree.{TextChunks}
+use Rattle.cborn_model.specs.Tree.{ByteChunks, TextChunks}
 use Rattle.cborn_lex.specs.declared.classes.Profile.{Profile}
-use Rattle.cborn_lex.specs.declared.classes.Profile.TheVariants.{Two}
 use Rattle.cborn_lex.specs.declared.classes.Mark.{Mark}
 use Rattle.cborn_lex.specs.declared.classes.Mark.TheVariants.{Absent, Endless, Wide}
 use Rattle.cborn_lex.specs.declared.classes.Class.TheVariants.{Text, Bytes, EmbedOpen, EmbedClose, ChunkOpen, ParenClose, Comma}
-use Rattle.cborn_lex.specs.Lex.{Between}
 use Rattle.cborn_lex.proofs.Progress.{joins}
 use Rattle.cborn_edn.specs.declared.strings.Kind.{Kind}
 use Rattle.cborn_edn.specs.declared.strings.Kind.TheVariants.{Bytes as OfBytes, Text as OfText}
-use Rattle.cborn_edn.specs.Syntax.{Span, Piece, text as text_piece, bytes as bytes_piece, embedded, Pieces, piece, also, Strings, strings, StringsBefore, no_string, after_strings, string, chunked, tokens_of_piece, tokens_of_pieces, tokens_of_strings, tokens_of_content}
-use Rattle.cborn_edn.specs.Meaning.{and_then, when, width_for, is_absent, is_bare, is_bare_before, same_kind, kind_of, mark_of, kind, kind_after, kind_of_strings, place, last_piece, fits_kind, is_of_kind, is_good, is_string, string_node, chunked_node, marked_string, means_string, means_chunk, joined, joined_piece, means_strings, means_strings_before}
-use Rattle.cborn_spell.specs.Descent.{AddsString, AddsEmpty, major_of, major_type, suits, SetsHead, ClosesString, ClosesChunks, TokenAt, Ends, ItemTaken, RowTaken, PieceTaken, PiecesTaken, StringTaken, ChunksTaken}
+use Rattle.cborn_edn.specs.Syntax.{Piece, text as text_piece, bytes as bytes_piece, embedded, Pieces, piece, also, strings, StringsBefore, no_string, after_strings, string, chunked, tokens_of_piece, tokens_of_pieces, tokens_of_strings, tokens_of_content}
+use Rattle.cborn_edn.specs.Meaning.{and_then, when, width_for, is_absent, is_bare, is_bare_before, same_kind, kind_of, mark_of, kind, kind_after, kind_of_strings, place, last_piece, fits_kind, is_of_kind, is_good, string_node, chunked_node, marked_string, means_string, means_chunk, joined, joined_piece, means_strings, means_strings_before}
+use Rattle.cborn_spell.specs.Descent.{AddsString, AddsEmpty, major_of, major_type, suits, ClosesString, ClosesChunks, TokenAt, Ends, ItemTaken, RowTaken, PieceTaken, PiecesTaken, StringTaken, ChunksTaken}
 use Rattle.cborn_spell.proofs.Allowing.{allows_none, allows_sum}
 use Rattle.cborn_spell.proofs.Taking.{set_head_done, Inner, no_inner, some_inner, comma_inner}
 use Rattle.cborn_spell.proofs.Quoting.{text_done, bytes_done}
@@ -196,9 +194,20 @@ module _ (profile : Profile) (text : List ℕ) where
   text_token_done n m room mark x old new t u (inr (q, e, f, w)) =
       empty_text n m room old new (subst (λ (k : Mark). TokenAt profile text n m (Text [] k)) e (subst (λ (y : List ℕ). TokenAt profile text n m (Text y mark)) f t)) (subst IsUtf8 f u) w
 
-  pub bytes_token_done : (n m room : ℕ) (q : Bool) (mark : Mark) (x old new : List ℕ) → TokenAt profile text n m (Bytes q x mark) → AddsString 2 mark x old new ⊎ AddsEmpty 2 false mark x old new → ItemTaken profile text n m room old new
+  empty_bytes : (n m room : ℕ) (old new : List ℕ) → TokenAt profile text n m (Bytes true [] Endless) → new ≡ old ++ 95 ∷ 255 ∷ [] → ItemTaken profile text n m room old new
+  empty_bytes n m room old new t w = record {
+    item = string (piece (bytes_piece (record { start = t.0; stop = m }) true [] Endless));
+    lexed = t.1;
+    allowed = allows_none profile;
+    shallow = omega arith;
+    written = (ByteChunks t.0 [], refl, w);
+  }
+
+  pub bytes_token_done : (n m room : ℕ) (q : Bool) (mark : Mark) (x old new : List ℕ) → TokenAt profile text n m (Bytes q x mark) → AddsString 2 mark x old new ⊎ AddsEmpty 2 q mark x old new → ItemTaken profile text n m room old new
   bytes_token_done n m room q mark x old new t (inl a) = bytes_done profile text n m room mark x old new q t a
-  bytes_token_done n m room q mark x old new t (inr a) = absurd (false≢true a.0)
+  bytes_token_done n m room q mark x old new t (inr (h, e, f, w)) =
+      empty_bytes n m room old new
+      (subst (λ (b : Bool). TokenAt profile text n m (Bytes b [] Endless)) h (subst (λ (k : Mark). TokenAt profile text n m (Bytes q [] k)) e (subst (λ (y : List ℕ). TokenAt profile text n m (Bytes q y mark)) f t))) w
 
   -- Chunks.
 

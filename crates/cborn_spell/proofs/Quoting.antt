@@ -1,6 +1,6 @@
 -- Text strings from their letters.
-use Rattle.std.proofs.Common.{◌≡◌, refl, sym, ap, ◌∙◌, subst, ℕ, zero, suc, ◌+◌, ◌<◌, ◌≤◌, ◌^◌, List, [], ◌∷◌, ◌++◌, length, take, drop, get_or, Bool, true, false, ◌&&◌, not, eqb, Option, Some, None, cond, inl, inr, arith, take_at, append-nil, append_assoc, length-append}
-use Rattle.std.proofs.lemmas.Bool.{and_parts, and_from, lt-ltb, le-leb, ne_eqb, eqb-true, eq-eqb, false≢true, not-true}
+use Rattle.std.proofs.Common.{◌≡◌, refl, sym, ap, ◌∙◌, subst, ℕ, zero, suc, ◌+◌, ◌<◌, ◌≤◌, ◌^◌, List, [], ◌∷◌, ◌++◌, length, take, drop, get_or, Bool, true, false, ◌&&◌, not, eqb, Some, inl, arith, take_at, append-nil, append_assoc, length-append}
+use Rattle.std.proofs.lemmas.Bool.{and_parts, and_from, lt-ltb, le-leb, ne_eqb, eqb-true, false≢true, not-true}
 use Rattle.std.proofs.lemmas.List.{take_more, drop_more, drop_all, length-take-le, take-append-drop}
 use Rattle.std.proofs.Math.Seq.{take-append_seam, drop-append_seam}
 use Rattle.std.proofs.lemmas.List.Folds.{list_all-append}
@@ -10,23 +10,22 @@ use Rattle.std.specs.List.{list_all, flat_map}
 use Rattle.std.specs.Str.{IsUtf8, is_utf8}
 use Rattle.cborn_model.specs.declared.heads.Width.{Width}
 use Rattle.cborn_model.specs.Heads.{head_bytes, least}
-use Rattle.cborn_model.specs.Tree.{Tree, Bytes as ByteNode, Text as TextNode}
+use Rattle.cborn_model.specs.Tree.{Bytes as ByteNode, Text as TextNode}
 use Rattle.cborn_lex.specs.declared.classes.Profile.{Profile}
 use Rattle.cborn_lex.specs.declared.classes.Mark.{Mark}
 use Rattle.cborn_lex.specs.declared.classes.Mark.TheVariants.{Absent, Endless, Wide}
 use Rattle.cborn_lex.specs.declared.classes.Class.TheVariants.{Text, Bytes}
-use Rattle.cborn_lex.specs.Tokens.{Read, begins, is_not}
+use Rattle.cborn_lex.specs.Tokens.{Read, begins}
 use Rattle.cborn_lex.specs.Strings.{is_content, IsText, Letter, raw, escaped, written, meant, is_letter, is_escape, escape_code}
 use Rattle.cborn_lex.specs.Scan.{is_raw}
-use Rattle.cborn_lex.specs.Forms.{Reads, IsIndicator}
-use Rattle.cborn_lex.specs.Lex.{Between}
+use Rattle.cborn_lex.specs.Forms.{Reads}
 use Rattle.cborn_lex.proofs.Quotes.{content_cons}
 use Rattle.cborn_lex.proofs.Ends.{one_more, two_more}
 use Rattle.cborn_lex.proofs.Progress.{nothing, then_token}
-use Rattle.cborn_edn.specs.Syntax.{Span, Item, Piece, text as text_piece, bytes as bytes_piece, Pieces, piece, string}
+use Rattle.cborn_edn.specs.Syntax.{Span, text as text_piece, bytes as bytes_piece, piece, string}
 use Rattle.cborn_edn.specs.Meaning.{means, and_then, when, width_for}
 use Rattle.cborn_spell.proofs.Allowing.{allows_none}
-use Rattle.cborn_spell.specs.Descent.{AddsEmpty, AddsString, TokenAt, ItemTaken, IsPlainText, LettersTaken, LettersSoFar}
+use Rattle.cborn_spell.specs.Descent.{AddsString, TokenAt, ItemTaken, IsPlainText, LettersTaken, LettersSoFar}
 
 -- Strings in one piece.
 

@@ -1,5 +1,5 @@
 -- From what the code read to tokens.
-use Rattle.std.proofs.Common.{◌≡◌, refl, sym, ap, ◌∙◌, subst, ℕ, zero, suc, ◌+◌, ◌<◌, ◌≤◌, List, [], ◌∷◌, length, take, drop, get_or, true, eqb, Option, None, Some, arith}
+use Rattle.std.proofs.Common.{◌≡◌, subst, ℕ, zero, suc, ◌<◌, List, [], ◌∷◌, length, drop, get_or, true, eqb, Option, None, Some, arith}
 use Rattle.std.proofs.lemmas.Bool.{eq-eqb}
 use Rattle.std.specs.Prelude.{IfSome}
 use Rattle.cborn_lex.specs.Tokens.{begins}
@@ -20,3 +20,6 @@ pub begins_at : (x : List ℕ) (at c : ℕ) → at < length x → get_or x at 0 
 begins_at [] at c h e = absurd (omega arith)
 begins_at (d ∷ x) zero c h e = eq-eqb d c e
 begins_at (d ∷ x) (suc at) c h e = begins_at x at c (omega (arith, h)) e
+
+pub token_is : (profile : Profile) (text : List ℕ) (at end : ℕ) (j k : Class) → TokenAt profile text at end j → j ≡ k → TokenAt profile text at end k
+token_is profile text at end j k t e = subst (λ (l : Class). TokenAt profile text at end l) e t

@@ -1,10 +1,9 @@
 -- Tokens from the characters that were scanned.
-use Rattle.std.proofs.Common.{◌≡◌, refl, sym, ap, ◌∙◌, subst, ℕ, zero, suc, ◌+◌, ◌-◌, ◌*◌, ◌<◌, ◌≤◌, ◌^◌, List, [], ◌∷◌, ◌++◌, length, take, drop, get_or, Bool, true, false, ◌&&◌, ◌||◌, not, eqb, Ok, Some, inl, inr, arith, append-nil, length-append, length-drop}
-use Rattle.std.proofs.lemmas.Bool.{and_parts, and_from, cond-true, cond-false, lt-ltb, ltb-true, ne_eqb, eqb-true, eq-eqb, cases_Bool, false≢true, not-true}
-use Rattle.std.proofs.lemmas.List.{take_more, length-take-le, take_all, drop_all}
+use Rattle.std.proofs.Common.{◌≡◌, refl, sym, ap, ◌∙◌, subst, ℕ, zero, suc, ◌+◌, ◌-◌, ◌*◌, ◌<◌, ◌≤◌, ◌^◌, List, [], ◌∷◌, ◌++◌, length, take, drop, get_or, Bool, true, false, ◌&&◌, ◌||◌, not, eqb, Ok, Some, inl, inr, arith, append-nil, length-drop}
+use Rattle.std.proofs.lemmas.Bool.{and_parts, and_from, cond-true, lt-ltb, ltb-true, ne_eqb, eqb-true, cases_Bool, false≢true}
+use Rattle.std.proofs.lemmas.List.{take_more, take_all, drop_all}
 use Rattle.std.proofs.lemmas.List.Folds.{list_all-append}
 use Rattle.std.proofs.lemmas.Str.{digit_value_digit}
-use Rattle.std.specs.Prelude.{codes}
 use Rattle.std.specs.List.{list_all}
 use Rattle.std.specs.Char.{is_digit, digit_value}
 use Rattle.std.specs.Str.Parse.{AllDigits}
@@ -12,12 +11,13 @@ use Rattle.cborn_lex.specs.declared.classes.Profile.{Profile}
 use Rattle.cborn_lex.specs.declared.classes.Profile.TheVariants.{Two}
 use Rattle.cborn_lex.specs.declared.classes.Mark.TheVariants.{Absent}
 use Rattle.cborn_lex.specs.declared.classes.Class.{Class}
-use Rattle.cborn_lex.specs.declared.classes.Class.TheVariants.{Number, ArrayOpen, MapOpen}
-use Rattle.cborn_lex.specs.Tokens.{Front, Read, Blank, begins, is_numeral, is_not}
-use Rattle.cborn_lex.specs.Numbers.{are_digits, number, within, has_prefix, integer, number_front, signed}
-use Rattle.cborn_lex.specs.Forms.{Start, white, slash, hash, less, greater, paren, letter, minus, digit, other, single, opening, quote, start_of, ReadsFrom, ReadsNumber, Reads}
+use Rattle.cborn_lex.specs.declared.classes.Class.TheVariants.{Number}
+use Rattle.cborn_lex.specs.declared.classes.Mark.{Mark}
+use Rattle.cborn_lex.specs.Tokens.{Read, Blank, begins, is_numeral, is_not, mark_of, marked}
+use Rattle.cborn_lex.specs.Numbers.{number, within, integer, number_front, signed}
+use Rattle.cborn_lex.specs.Forms.{Start, single, opening, start_of, IsIndicator, ReadsFrom, ReadsNumber, Reads}
 use Rattle.cborn_lex.specs.Lex.{Between}
-use Rattle.cborn_lex.proofs.Progress.{nothing, after_white, after_blank, then_token}
+use Rattle.cborn_lex.proofs.Progress.{nothing, after_blank, then_token}
 use Rattle.cborn_edn.proofs.DecimalTexts.{digits_pass, starts, plain_integer}
 use Rattle.cborn_spell.specs.Descent.{TokenAt, IsPlain, goes_on}
 
@@ -184,21 +184,25 @@ below_token profile text y at n len s h b e p =
     let same : at + suc len ≡ at + 1 + len = omega arith in
     subst (λ (m : ℕ). TokenAt profile text at m (Number true n Absent)) same (at, then_token profile text at at (suc len) _ (nothing profile text at) r.0 r.1)
 
--- Brackets without an indicator.
+-- Brackets with their indicators.
 
-opens : (profile : Profile) (c : ℕ) (k : Class) (x : List ℕ) → begins (λ d. eqb d c) x ≡ true → ((z : List ℕ) → begins (λ d. eqb d 95) z ≡ false → ReadsFrom (start_of c) profile c [] z (Read k)) → begins (λ d. eqb d 95) (drop 1 x) ≡ false → (1 ≤ length x) × Reads profile (take 1 x) (drop 1 x) (Read k)
-opens profile c k [] h f e = absurd (false≢true h)
-opens profile c k (d ∷ y) h f e = (omega arith, subst (λ (b : ℕ). Reads profile (b ∷ []) y (Read k)) (sym (eqb-true d c h)) (f y e))
+bracket_reads : (profile : Profile) (c len : ℕ) (x tail : List ℕ) (mark : Mark) (k : Mark → Class) → begins (λ d. eqb d c) x ≡ true → tail ≡ drop 1 x → len ≤ length tail → IsIndicator (take len tail) (drop len tail) → mark_of (take len tail) ≡ Some mark → start_of c ≡ opening k
+    → (suc len ≤ length x) × Reads profile (take (suc len) x) (drop (suc len) x) (Read (k mark))
+bracket_reads profile c len [] tail mark k h t l i m s = absurd (false≢true h)
+bracket_reads profile c len (d ∷ y) tail mark k h t l i m s =
+    let same : tail ≡ y = t in
+    let size : length tail ≡ length y = ap length same in (
+      omega (arith, size, l),
+      subst (λ (z : List ℕ). ReadsFrom (start_of d) profile d (take len z) (drop len z) (Read (k mark))) same
+          (subst (λ (f : Start). ReadsFrom f profile d (take len tail) (drop len tail) (Read (k mark))) (sym (ap start_of (eqb-true d c h) ∙ s)) (i, sym (ap (marked k) m))),
+    )
 
-pub array_opens : (profile : Profile) (text : List ℕ) (at : ℕ) → begins (λ d. eqb d 91) (drop at text) ≡ true → begins (λ d. eqb d 95) (drop 1 (drop at text)) ≡ false → TokenAt profile text at (at + 1) (ArrayOpen Absent)
-array_opens profile text at h e =
-    let r = opens profile 91 (ArrayOpen Absent) (drop at text) h (λ z f. (f, refl)) e in
-    (at, then_token profile text at at 1 _ (nothing profile text at) r.0 r.1)
-
-pub map_opens : (profile : Profile) (text : List ℕ) (at : ℕ) → begins (λ d. eqb d 123) (drop at text) ≡ true → begins (λ d. eqb d 95) (drop 1 (drop at text)) ≡ false → TokenAt profile text at (at + 1) (MapOpen Absent)
-map_opens profile text at h e =
-    let r = opens profile 123 (MapOpen Absent) (drop at text) h (λ z f. (f, refl)) e in
-    (at, then_token profile text at at 1 _ (nothing profile text at) r.0 r.1)
+pub bracket_opens : (profile : Profile) (text tail : List ℕ) (at c len : ℕ) (mark : Mark) (k : Mark → Class) → begins (λ d. eqb d c) (drop at text) ≡ true → tail ≡ drop 1 (drop at text) → len ≤ length tail → IsIndicator (take len tail) (drop len tail) → mark_of (take len tail) ≡ Some mark → start_of c ≡ opening k
+    → TokenAt profile text at (at + 1 + len) (k mark)
+bracket_opens profile text tail at c len mark k h t l i m s =
+    let r = bracket_reads profile c len (drop at text) tail mark k h t l i m s in
+    let same : at + suc len ≡ at + 1 + len = omega arith in
+    subst (λ (n : ℕ). TokenAt profile text at n (k mark)) same (at, then_token profile text at at (suc len) _ (nothing profile text at) r.0 r.1)
 
 -- One more digit.
 

@@ -1,5 +1,5 @@
 -- Items from tokens, and rows and pairs from items.
-use Rattle.std.proofs.Common.{◌≡◌, refl, sym, ap, ◌∙◌, subst, ℕ, zero, suc, ◌+◌, ◌-◌, ◌*◌, ◌<◌, ◌≤◌, ◌^◌, List, [], ◌∷◌, ◌++◌, length, take, drop, Bool, true, false, ◌&&◌, Option, Some, None, cond, inl, inr, ◌⊎◌, arith, append_assoc, append-nil, length-append, take_at, drop_at}
+use Rattle.std.proofs.Common.{◌≡◌, refl, sym, ap, ◌∙◌, subst, ℕ, zero, suc, ◌+◌, ◌-◌, ◌<◌, ◌≤◌, ◌^◌, List, [], ◌∷◌, ◌++◌, length, take, drop, Bool, true, false, ◌&&◌, Some, cond, inl, inr, ◌⊎◌, arith, append_assoc, append-nil, length-append, take_at, drop_at}
 use Rattle.std.proofs.lemmas.Bool.{cond-true, cond-false, lt-ltb}
 use Rattle.std.specs.Int.Digits.{digits_of}
 use Rattle.std.proofs.lemmas.Int.Digits.{length-digits_of-le}
@@ -7,24 +7,23 @@ use Rattle.cborn_model.specs.declared.heads.Width.TheVariants.{Direct}
 use Rattle.cborn_model.specs.declared.heads.Width.{Width}
 use Rattle.cborn_model.specs.declared.heads.Size.TheVariants.{Fixed, Endless as Unending}
 use Rattle.cborn_model.specs.Heads.{head_bytes, least}
-use Rattle.cborn_model.specs.Tree.{Tree, Uint, Nint, Bytes as ByteNode, Items, Pairs as PairNode, Tagged, Simple, Trees, no_item as no_node, more, Entries, no_entry, entry, trees, count, count_entries}
+use Rattle.cborn_model.specs.Tree.{Tree, Uint, Nint, Bytes as ByteNode, Items, Pairs as PairNode, Tagged, Simple, Trees, no_item as no_node, more, Entries, no_entry, entry, count, count_entries}
 use Rattle.cborn_model.specs.Spelled.{spelled, spelled_all, spelled_entries}
 use Rattle.cborn_lex.specs.declared.classes.Profile.{Profile}
-use Rattle.cborn_lex.specs.declared.classes.Profile.TheVariants.{One, Two}
+use Rattle.cborn_lex.specs.declared.classes.Profile.TheVariants.{Two}
 use Rattle.cborn_wire.proofs.TreeLists.{tree_list, trees-tree_list}
 use Rattle.cborn_lex.specs.declared.classes.Mark.{Mark}
 use Rattle.cborn_lex.specs.declared.classes.Mark.TheVariants.{Absent, Endless, Wide}
-use Rattle.cborn_lex.specs.declared.classes.Class.{Class}
-use Rattle.cborn_lex.specs.declared.classes.Class.TheVariants.{ArrayOpen, MapOpen, ArrayClose, MapClose, ParenClose, Comma, Colon, Number, TagOpen, Word, SimpleOpen, Text, Bytes}
+use Rattle.cborn_lex.specs.declared.classes.Class.TheVariants.{ArrayOpen, MapOpen, ArrayClose, MapClose, ParenClose, Comma, Colon, Number, TagOpen, Word, SimpleOpen}
 use Rattle.cborn_lex.specs.Lex.{Between}
 use Rattle.cborn_lex.proofs.Progress.{nothing, joins, whole_text}
 use Rattle.cborn_edn.proofs.Agree.{count-snoc, count-snoc_entry}
 use Rattle.cborn_edn.proofs.Trailing.{parse_of}
-use Rattle.cborn_edn.specs.Syntax.{Span, depth_of_number, tokens_of_content, depth_of_content, tokens_of_fields, depth_of_fields, tokens_of_pairs, Item, number, word, tag, simple, array, map, tokens_of, depth, Row, row, RowBefore, no_item, after_row, Content, loose, tight, tokens_of_row, Pairs, pairs, PairsBefore, no_pair, after_pairs, Fields, loose_fields, tight_fields, Input, nothing as nothing_there, items, is_small, is_below, argument_of}
-use Rattle.cborn_edn.specs.devices.Commas.{commas_of_content, commas_of_fields, commas, commas_of_row, AllowsCount}
+use Rattle.cborn_edn.specs.Syntax.{Span, depth_of_number, tokens_of_content, depth_of_content, tokens_of_fields, depth_of_fields, tokens_of_pairs, number, word, tag, simple, array, map, tokens_of, row, no_item, after_row, Content, loose, tight, tokens_of_row, pairs, no_pair, after_pairs, Fields, loose_fields, tight_fields, nothing as nothing_there, items, is_small, is_below, argument_of}
+use Rattle.cborn_edn.specs.devices.Commas.{commas_of_content, commas_of_fields, AllowsCount}
 use Rattle.std.specs.Prelude.{nat_lt}
-use Rattle.cborn_edn.specs.Meaning.{integer, bignum, is_absent, holds, means_content, means_fields, and_then, when, means, snoc, snoc_entry, width_for, size_for}
-use Rattle.cborn_spell.specs.Descent.{AddsHead, SetsHead, AddsMarked, AddsNumber, AddsBignum, AddsSimple, Opens, Closes, Writes, TokenAt, Ends, ItemTaken, RowTaken, BeforeTaken, PairsTaken, PairsBeforeTaken, IsSpelling}
+use Rattle.cborn_edn.specs.Meaning.{integer, bignum, holds, means_content, means_fields, and_then, when, means, snoc, snoc_entry, width_for, size_for}
+use Rattle.cborn_spell.specs.Descent.{AddsHead, SetsHead, AddsMarked, AddsNumber, AddsBignum, AddsSimple, Opens, Closes, TokenAt, Ends, ItemTaken, RowTaken, BeforeTaken, PairsTaken, PairsBeforeTaken, IsSpelling}
 use Rattle.cborn_spell.proofs.Allowing.{allows_none, allows_sum, allows_any}
 
 spelled-snoc : (ts : Trees) (t : Tree) → spelled_all (snoc ts t) ≡ spelled_all ts ++ spelled t

@@ -1,7 +1,7 @@
 -- What is taken from a text between two places, and written at the end of a buffer.
 -- Start with IsSpelling, at the end: it is all that the public call promises. The definitions before it say the same of a
 -- part: of the text, tokens between two places were taken; of the buffer, what was old became new.
-use Rattle.std.specs.Prelude.{◌≡◌, ℕ, ◌+◌, ◌*◌, ◌≤◌, ◌<◌, ◌∷◌, List, [], ◌++◌, Bool, true, false, ◌||◌, ◌&&◌, not, ◌==◌, take, drop, length, Option, Some, if◌then◌else◌, nat_le, ◌^◌, ◌⊎◌, IsUtf8}
+use Rattle.std.specs.Prelude.{◌≡◌, ℕ, ◌+◌, ◌*◌, ◌≤◌, ◌<◌, ◌∷◌, List, [], ◌++◌, Bool, true, false, ◌||◌, ◌&&◌, not, ◌==◌, take, drop, length, Option, Some, if◌then◌else◌, ◌^◌, ◌⊎◌, IsUtf8}
 use Rattle.std.specs.List.{list_all}
 use Rattle.std.specs.Int.Digits.{digits_of}
 use Rattle.std.specs.Char.{is_digit, is_ascii_alphanumeric}

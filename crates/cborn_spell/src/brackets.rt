@@ -10,8 +10,9 @@ ghost use Rattle.cborn_spell.specs.Descent.{TokenAt, Ends, Opens, Closes, Closes
 use crate::heads::{set_head, set_wide_head};
 use crate::leaves::{holds, is_text};
 use crate::scans::{behind, skip};
+use crate::tokens::next_token;
 use cborn_edn::Kind;
-use cborn_lex::{Class, Mark, Profile, token_from};
+use cborn_lex::{Class, Mark, Profile};
 use std::alloc::Global;
 
 /// A byte in the place of the head, or the head of an indefinite length.
@@ -47,6 +48,7 @@ pub(crate) fn close(
 }
 
 /// The head with the argument `n` under an indicator, in the place of the byte at `start`.
+#[inline(never)]
 pub(crate) fn close_fixed(
     alloc: Global,
     major: u8,
@@ -71,6 +73,7 @@ pub(crate) fn close_fixed(
 }
 
 /// The head of a string in the place of the byte at `start`, behind which its bytes stand.
+#[inline(never)]
 pub(crate) fn close_string(
     alloc: Global,
     kind: Kind,
@@ -188,14 +191,8 @@ pub(crate) fn embed_end(
     ensures within { IfSome result (λ r. r.0 ≤ length text.now) }
     ensures token { IfSome result (λ r. TokenAt profile text.now at r.0 (classes.EmbedClose r.1)) }
 {
-    let Ok(Some(token)) = token_from(alloc, profile, text, at as u64) else {
-        return None;
-    };
-    let end = token.stop as usize;
-    if end > text.len() {
-        return None;
-    }
-    match token.class {
+    let (class, end) = next_token(alloc, profile, text, at)?;
+    match class {
         Class::EmbedClose(mark) => Some((end, mark)),
         _ => None,
     }

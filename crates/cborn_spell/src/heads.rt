@@ -54,6 +54,7 @@ fn put_eight(first: u8, n: u64, out: &mut Vec<u8>) -> Option<()>
 }
 
 /// Puts the shortest head of the major type with the argument `n` in the place of the byte at `start`.
+#[inline(always)]
 pub(crate) fn set_head(
     alloc: Global,
     major: u8,
@@ -74,6 +75,7 @@ pub(crate) fn set_head(
     widen_head(alloc, major, n, start, out)
 }
 
+#[inline(never)]
 fn widen_head(alloc: Global, major: u8, n: u64, start: usize, out: &mut Vec<u8>) -> Option<()>
     requires major { major < 8 }
     requires inside { start < length out.old.items }

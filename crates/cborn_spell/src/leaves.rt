@@ -113,23 +113,6 @@ pub(crate) fn put_simple(n: u64, out: &mut Vec<u8>) -> Option<()>
     }
 }
 
-/// A simple value, behind `simple(`.
-pub(crate) fn put_simple_item(
-    profile: Profile,
-    text: &str,
-    at: usize,
-    out: &mut Vec<u8>,
-) -> Option<usize>
-    requires at { at ≤ length text.now }
-    ensures within { IfSome result (λ end. end ≤ length text.now) }
-    ensures taken { IfSome result (λ end. (n room : ℕ) → TokenAt profile text.now n at classes.SimpleOpen → ItemTaken profile text.now n end room out.old.items out.new.items) }
-{
-    let place = skip(profile, text, at)?;
-    let (n, last) = decimal(text, place)?;
-    put_simple(n, out)?;
-    behind(b')', profile, text, last)
-}
-
 /// Whether there is no indicator.
 pub(crate) fn is_bare(mark: Mark) -> bool
     ensures { result ≡ is_absent mark }

@@ -15,19 +15,25 @@
 //! It answers only where all is as it should be. Where it answers none, the text may notate no items, or memory was refused:
 //! the reader that keeps nodes tells which, and why.
 //!
-//! In the code start with `passes`; `items` has the descent, `brackets` what opens and closes, `scans` what stands between
-//! tokens, and `numerals`, `numbers`, `strings`, `leaves` and `heads` what has no items inside.
+//! In the code start with `passes`; `items`, `rows` (arrays and maps) and `pieces` (strings of several pieces) have the
+//! descent, `brackets` and `marks` what opens and closes, `scans` what stands between tokens, `tokens` what is read by
+//! `cborn_lex`, and `numerals`, `numbers`, `strings`, `leaves` and `heads` what has no items inside.
 #![tactic(auto)]
 
 mod brackets;
+mod guesses;
 mod heads;
 mod items;
 mod leaves;
+mod marks;
 mod numbers;
 mod numerals;
 mod passes;
+mod pieces;
+mod rows;
 mod scans;
 mod strings;
+mod tokens;
 
 pub use passes::spell_text;
 

@@ -3,7 +3,7 @@
 ghost use Rattle.std.specs.Prelude.{IfSome};
 ghost use Rattle.cborn_spell.specs.Descent.{IsSpelling};
 
-use crate::items::put_row;
+use crate::rows::put_row;
 use crate::scans::skip;
 use cborn_lex::Profile;
 use cborn_model::Limit;

@@ -113,30 +113,6 @@ fn find(q: u8, tail: &[u8]) -> Option<usize>
     None
 }
 
-/// Whether another piece of a string may stand behind the place. Nothing is promised: it is read again.
-#[inline(always)]
-pub(crate) fn joins(profile: Profile, text: &str, at: usize) -> bool
-    requires { at ≤ length text.now }
-{
-    if at < text.len() && matches!(text.as_bytes()[at], b',' | b']' | b'}' | b':' | b')') {
-        return false;
-    }
-    is_piece(profile, text, at)
-}
-
-#[inline(never)]
-fn is_piece(profile: Profile, text: &str, at: usize) -> bool
-    requires { at ≤ length text.now }
-{
-    match skip(profile, text, at) {
-        Some(place) => {
-            place < text.len()
-                && matches!(text.as_bytes()[place], b'"' | b'\'' | b'<' | b'h' | b'b')
-        }
-        None => false,
-    }
-}
-
 /// Whether this character stands at the place.
 #[inline(always)]
 pub(crate) fn stands(c: u8, text: &str, at: usize) -> bool

@@ -1,4 +1,4 @@
-use Rattle.std.proofs.Common.{rules, ◌≡◌, ◌+◌, ◌-◌, ◌<◌, ◌++◌, ◌∷◌, [], ℕ, length, arith}
+use Rattle.std.proofs.Common.{rules, ◌≡◌, ◌-◌, ◌<◌, ◌++◌, ◌∷◌, [], length, arith}
 use Rattle.cborn_model.specs.Heads.{least}
 use Rattle.cborn_spell.specs.Descent.{SetsHead}
 use Rattle.cborn_spell.proofs.Integers.{bignum_done}

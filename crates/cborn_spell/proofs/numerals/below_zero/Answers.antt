@@ -1,6 +1,5 @@
-use Rattle.std.proofs.Common.{◌≡◌, ◌+◌, ◌-◌, ◌<◌, ℕ, List, subst, sym, ap, ◌∙◌, arith, take, drop, length, refl}
+use Rattle.std.proofs.Common.{◌+◌, sym, ap, ◌∙◌, arith, drop}
 use Rattle.std.proofs.lemmas.List.{take_rest, drop-drop}
-use Rattle.cborn_spell.specs.Descent.{IsPlain}
 use Rattle.cborn_spell.proofs.Scanning.{below_token}
 use Rattle.cborn_spell.proofs.numerals.below_zero.Goals as goal
 

@@ -1,4 +1,4 @@
-use Rattle.std.proofs.Common.{rules, ◌≡◌, ◌∙◌, ◌+◌, ◌-◌, ◌++◌, ℕ, List, ap, sym, subst, arith, length, take, drop, eqb, false, drop_at, length-append}
+use Rattle.std.proofs.Common.{rules, ◌≡◌, ◌∙◌, ◌+◌, ◌-◌, ℕ, List, ap, sym, subst, arith, length, take, drop, eqb, false, drop_at, length-append}
 use Rattle.std.proofs.lemmas.List.{take_rest, drop-drop}
 use Rattle.std.specs.Str.{IsUtf8}
 use Rattle.cborn_lex.specs.Tokens.{begins}

@@ -1,5 +1,5 @@
-use Rattle.std.proofs.Common.{rules, ◌≡◌, ◌∷◌, ◌++◌, [], ◌+◌, get_or, arith}
-use Rattle.cborn_spell.proofs.Quoting.{letters_none, raw_more, escape_more, letters_end}
+use Rattle.std.proofs.Common.{rules, ◌≡◌, ◌∷◌, ◌++◌, [], get_or, arith}
+use Rattle.cborn_spell.proofs.Quoting.{raw_more, escape_more}
 use Rattle.cborn_spell.proofs.strings.put_letters.Goals as goal
 
 pub letters-preserved-then-c-eq92 : goal.letters-preserved-then-c-eq92

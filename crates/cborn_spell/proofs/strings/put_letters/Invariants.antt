@@ -1,6 +1,4 @@
-use Rattle.std.proofs.Common.{◌≡◌, ◌≤◌, ◌-◌, ◌++◌, true, take, length}
-use Rattle.std.specs.List.{list_all, flat_map}
-use Rattle.cborn_lex.specs.Strings.{Letter, written, meant, is_letter, is_content}
+use Rattle.std.proofs.Common.{◌≤◌, ◌-◌, length}
 use Rattle.cborn_spell.specs.Descent.{LettersSoFar}
 use Rattle.cborn_spell.proofs.strings.put_letters.Given as goal
 

@@ -1,0 +1,76 @@
+use Rattle.std.proofs.Common.{◌+◌, ◌*◌, ◌≤◌, ℕ, List, length}
+use Rattle.cborn_spell.specs.Descent.{BeforeTaken, PairsBeforeTaken, PiecesTaken, ChunksTaken}
+use Rattle.cborn_spell.proofs.+descent.Given as goal
+
+abbrev pub decreases-items::put_item : goal.decreases-items::put_item
+decreases-items::put_item l = 16 * l.room + 11
+
+abbrev pub decreases-items::put_here : goal.decreases-items::put_here
+decreases-items::put_here l = 16 * l.room + 10
+
+abbrev pub decreases-items::put_common : goal.decreases-items::put_common
+decreases-items::put_common l = 16 * l.room + 8
+
+abbrev pub decreases-items::put_other : goal.decreases-items::put_other
+decreases-items::put_other l = 16 * l.room + 7
+
+abbrev pub decreases-items::put_tagged : goal.decreases-items::put_tagged
+decreases-items::put_tagged l = 16 * l.room + 6
+
+abbrev pub decreases-rows::put_array : goal.decreases-rows::put_array
+decreases-rows::put_array l = 16 * l.room + 6
+
+abbrev pub decreases-rows::put_row : goal.decreases-rows::put_row
+decreases-rows::put_row l = 16 * l.room + 12
+
+abbrev pub decreases-rows::put_map : goal.decreases-rows::put_map
+decreases-rows::put_map l = 16 * l.room + 6
+
+abbrev pub decreases-rows::put_pairs : goal.decreases-rows::put_pairs
+decreases-rows::put_pairs l = 16 * l.room + 12
+
+abbrev pub decreases-pieces::put_embedded_item : goal.decreases-pieces::put_embedded_item
+decreases-pieces::put_embedded_item l = 16 * l.room + 6
+
+abbrev pub decreases-pieces::put_joined_behind : goal.decreases-pieces::put_joined_behind
+decreases-pieces::put_joined_behind l = 16 * l.room + 4
+
+abbrev pub decreases-pieces::put_pieces_item : goal.decreases-pieces::put_pieces_item
+decreases-pieces::put_pieces_item l = 16 * l.room + 5
+
+abbrev pub decreases-pieces::put_joined : goal.decreases-pieces::put_joined
+decreases-pieces::put_joined l = 16 * l.room + 4
+
+abbrev pub decreases-pieces::put_pieces : goal.decreases-pieces::put_pieces
+decreases-pieces::put_pieces l = 16 * l.room + 3
+
+abbrev pub decreases-pieces::put_further : goal.decreases-pieces::put_further
+decreases-pieces::put_further l = 16 * l.room + 2
+
+abbrev pub decreases-pieces::put_piece : goal.decreases-pieces::put_piece
+decreases-pieces::put_piece l = 16 * l.room + 1
+
+abbrev pub decreases-pieces::put_embedded : goal.decreases-pieces::put_embedded
+decreases-pieces::put_embedded l = 16 * l.room
+
+abbrev pub decreases-pieces::put_chunked : goal.decreases-pieces::put_chunked
+decreases-pieces::put_chunked l = 16 * l.room + 6
+
+abbrev pub decreases-pieces::put_chunks : goal.decreases-pieces::put_chunks
+decreases-pieces::put_chunks l = 16 * l.room + 5
+
+-- the items so far
+abbrev pub invariant-rows::put_row-items : goal.invariant-rows::put_row-items
+invariant-rows::put_row-items l = (l.place ≤ length l.text) × BeforeTaken l.profile l.text l.fn.at l.place l.room l.count l.initial.out.items l.out.items
+
+-- the pairs so far
+abbrev pub invariant-rows::put_pairs-pairs : goal.invariant-rows::put_pairs-pairs
+invariant-rows::put_pairs-pairs l = (l.place ≤ length l.text) × PairsBeforeTaken l.profile l.text l.fn.at l.place l.room l.count l.initial.out.items l.out.items
+
+-- the pieces so far
+abbrev pub invariant-pieces::put_further-pieces : goal.invariant-pieces::put_further-pieces
+invariant-pieces::put_further-pieces l = (l.place ≤ length l.text) × ((n : ℕ) (start : List ℕ) → PiecesTaken l.profile l.text n l.fn.at l.room l.kind l.fn.mark start l.initial.out.items → PiecesTaken l.profile l.text n l.place l.room l.kind l.last_mark start l.out.items)
+
+-- the chunks so far
+abbrev pub invariant-pieces::put_chunks-chunks : goal.invariant-pieces::put_chunks-chunks
+invariant-pieces::put_chunks-chunks l = (l.place ≤ length l.text) × ChunksTaken l.profile l.text l.fn.at l.place l.room l.kind l.fn.out.items l.out.items

@@ -1,0 +1,96 @@
+//! What probably stands at a place. Nothing is promised of it: what was guessed is read again by who takes it.
+
+ghost use Rattle.std.specs.Prelude.{◌≤◌, ◌<◌, length, IfSome};
+
+use crate::scans::skip;
+use cborn_lex::Profile;
+
+/// Whether another piece of a string may stand behind the place.
+#[inline(always)]
+pub(crate) fn joins(profile: Profile, text: &str, at: usize) -> bool
+    requires { at ≤ length text.now }
+{
+    if at < text.len() && matches!(text.as_bytes()[at], b',' | b']' | b'}' | b':' | b')') {
+        return false;
+    }
+    is_piece(profile, text, at)
+}
+
+#[inline(never)]
+fn is_piece(profile: Profile, text: &str, at: usize) -> bool
+    requires { at ≤ length text.now }
+{
+    match skip(profile, text, at) {
+        Some(place) => {
+            place < text.len()
+                && matches!(text.as_bytes()[place], b'"' | b'\'' | b'<' | b'h' | b'b')
+        }
+        None => false,
+    }
+}
+
+/// Whether a string stands at the place that goes on in another piece.
+#[inline(never)]
+pub(crate) fn is_joined(profile: Profile, text: &str, at: usize) -> bool
+    requires { at ≤ length text.now }
+{
+    match string_len(&text.as_bytes()[at..]) {
+        Some(len) => joins(profile, text, at + len),
+        None => false,
+    }
+}
+
+/// The length of the string at the front, up to its closing quote.
+fn string_len(tail: &[u8]) -> Option<usize>
+    ensures { IfSome result (λ n. n ≤ length tail.now) }
+{
+    match tail {
+        [b'"', rest @ ..] => Some(closing(b'"', true, rest)? + 2),
+        [b'\'', rest @ ..] => Some(closing(b'\'', true, rest)? + 2),
+        [b'h', b'\'', rest @ ..] => Some(closing(b'\'', false, rest)? + 3),
+        [b'b', b'6', b'4', b'\'', rest @ ..] => Some(closing(b'\'', false, rest)? + 5),
+        _ => None,
+    }
+}
+
+/// The place of the closing quote.
+fn closing(q: u8, has_escapes: bool, tail: &[u8]) -> Option<usize>
+    ensures { IfSome result (λ i. i < length tail.now) }
+{
+    let mut is_escaped = false;
+    for (i, c) in tail.iter().enumerate() {
+        if is_escaped {
+            is_escaped = false;
+        } else if *c == q {
+            return Some(i);
+        } else if *c == b'\\' {
+            is_escaped = has_escapes;
+        }
+    }
+    None
+}
+
+/// Whether the number at the front is a tag's.
+#[inline(never)]
+pub(crate) fn is_tag(tail: &[u8]) -> bool {
+    for c in tail.iter() {
+        if *c == b'(' {
+            return true;
+        }
+        if !c.is_ascii_alphanumeric() && *c != b'_' {
+            return false;
+        }
+    }
+    false
+}
+
+/// Whether no item stands from the place on, but the end of embedded items.
+#[inline(never)]
+pub(crate) fn is_void(profile: Profile, text: &str, at: usize) -> bool
+    requires { at ≤ length text.now }
+{
+    match skip(profile, text, at) {
+        Some(place) => place < text.len() && text.as_bytes()[place] == b'>',
+        None => false,
+    }
+}

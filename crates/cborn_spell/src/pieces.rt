@@ -1,0 +1,281 @@
+//! Strings of pieces, of chunks, and of embedded items.
+
+ghost use Rattle.std.specs.Prelude.{◌≡◌, ◌≤◌, ◌-◌, ◌++◌, ◌∷◌, [], ℕ, List, length, IfSome};
+ghost use Rattle.cborn_lex.specs.declared.classes.Class.TheVariants as classes;
+ghost use Rattle.cborn_edn.specs.declared.strings.Kind.TheVariants as kinds;
+ghost use Rattle.cborn_spell.specs.Descent.{TokenAt, ItemTaken, RowTaken, PieceTaken, PiecesTaken, StringTaken, ChunksTaken};
+
+use crate::brackets::{close_chunks, close_string, embed_end, embed_ending};
+use crate::guesses::{is_void, joins};
+use crate::leaves::{fits_kind, is_bare, is_same};
+use crate::rows::put_row;
+use crate::scans::{behind, skip, stands};
+use crate::tokens::{chunk_open, embed_open, put_string_piece};
+use cborn_edn::Kind;
+use cborn_lex::{Mark, Profile};
+use std::alloc::Global;
+
+/// The byte string of the items behind the `<<` at the place, and of what is joined to it, as an item.
+#[cycle(descent)]
+#[inline(never)]
+pub(crate) fn put_embedded_item(
+    alloc: Global,
+    room: u64,
+    profile: Profile,
+    text: &str,
+    at: usize,
+    out: &mut Vec<u8>,
+) -> Option<usize>
+    requires room { room ≤ 1024 }
+    requires at { at ≤ length text.now }
+    ensures within { IfSome result (λ end. end ≤ length text.now) }
+    ensures taken { IfSome result (λ end. ItemTaken profile text.now at end room out.old.items out.new.items) }
+{
+    if room == 0 {
+        return None;
+    }
+    let inner = embed_open(alloc, profile, text, at)?;
+    if is_void(profile, text, inner) {
+        return put_pieces_item(alloc, room, profile, text, at, out);
+    }
+    let start = out.len();
+    out.push(0).ok()?;
+    let (last, _) = put_row(alloc, room - 1, profile, text, inner, out)?;
+    put_joined_behind(alloc, room, profile, text, last, start, out)
+}
+
+/// The end of the byte string whose embedded items end at the place, and what is joined to it. Its head has its place at `start`.
+#[cycle(descent)]
+#[inline(never)]
+fn put_joined_behind(
+    alloc: Global,
+    room: u64,
+    profile: Profile,
+    text: &str,
+    at: usize,
+    start: usize,
+    out: &mut Vec<u8>,
+) -> Option<usize>
+    requires room { room ≤ 1024 }
+    requires at { at ≤ length text.now }
+    ensures within { IfSome result (λ end. end ≤ length text.now) }
+    ensures taken { IfSome result (λ end. (n inner k : ℕ) (old one : List ℕ) → 1 ≤ room → TokenAt profile text.now n inner classes.EmbedOpen → start ≡ length old → one ≡ old ++ 0 ∷ [] → RowTaken profile text.now inner at (room - 1) k one out.old.items → ItemTaken profile text.now n end room old out.new.items) }
+{
+    let (first, first_mark) = embed_ending(alloc, profile, text, at)?;
+    let (end, mark) = put_further(
+        alloc,
+        room,
+        profile,
+        text,
+        first,
+        Kind::Bytes,
+        first_mark,
+        out,
+    )?;
+    close_string(alloc, Kind::Bytes, mark, start, out)?;
+    Some(end)
+}
+
+/// The string of the pieces from `at` on, as an item.
+#[cycle(descent)]
+#[inline(never)]
+pub(crate) fn put_pieces_item(
+    alloc: Global,
+    room: u64,
+    profile: Profile,
+    text: &str,
+    at: usize,
+    out: &mut Vec<u8>,
+) -> Option<usize>
+    requires room { room ≤ 1024 }
+    requires at { at ≤ length text.now }
+    ensures within { IfSome result (λ end. end ≤ length text.now) }
+    ensures taken { IfSome result (λ end. ItemTaken profile text.now at end room out.old.items out.new.items) }
+{
+    let (end, _) = put_joined(alloc, room, profile, text, at, out)?;
+    Some(end)
+}
+
+/// The string of the pieces from `at` on; answers where the last one ends, and the kind of the string.
+#[cycle(descent)]
+#[inline(never)]
+fn put_joined(
+    alloc: Global,
+    room: u64,
+    profile: Profile,
+    text: &str,
+    at: usize,
+    out: &mut Vec<u8>,
+) -> Option<(usize, Kind)>
+    requires room { room ≤ 1024 }
+    requires at { at ≤ length text.now }
+    ensures within { IfSome result (λ r. r.0 ≤ length text.now) }
+    ensures taken { IfSome result (λ r. StringTaken profile text.now at r.0 room r.1 out.old.items out.new.items) }
+{
+    let start = out.len();
+    out.push(0).ok()?;
+    let (end, kind, mark) = put_pieces(alloc, room, profile, text, at, out)?;
+    close_string(alloc, kind, mark, start, out)?;
+    Some((end, kind))
+}
+
+/// One or more pieces side by side; answers where the last one ends, the kind of the first, and the indicator of the last.
+#[cycle(descent)]
+fn put_pieces(
+    alloc: Global,
+    room: u64,
+    profile: Profile,
+    text: &str,
+    at: usize,
+    out: &mut Vec<u8>,
+) -> Option<(usize, Kind, Mark)>
+    requires room { room ≤ 1024 }
+    requires at { at ≤ length text.now }
+    ensures within { IfSome result (λ r. r.0 ≤ length text.now) }
+    ensures taken { IfSome result (λ r. PiecesTaken profile text.now at r.0 room r.1 r.2 out.old.items out.new.items) }
+{
+    let (first, kind, first_mark) = put_piece(alloc, room, profile, text, at, out)?;
+    let (end, mark) = put_further(alloc, room, profile, text, first, kind, first_mark, out)?;
+    Some((end, kind, mark))
+}
+
+/// The pieces that stand behind others, the first of which is of the kind `kind`, and the last of which has the indicator `mark`; answers where the last one ends, and its indicator.
+#[cycle(descent)]
+#[inline(never)]
+fn put_further(
+    alloc: Global,
+    room: u64,
+    profile: Profile,
+    text: &str,
+    at: usize,
+    kind: Kind,
+    mark: Mark,
+    out: &mut Vec<u8>,
+) -> Option<(usize, Mark)>
+    requires room { room ≤ 1024 }
+    requires at { at ≤ length text.now }
+    ensures within { IfSome result (λ r. r.0 ≤ length text.now) }
+    ensures taken { IfSome result (λ r. (n : ℕ) (start : List ℕ) → PiecesTaken profile text.now n at room kind mark start out.old.items → PiecesTaken profile text.now n r.0 room kind r.1 start out.new.items) }
+{
+    let mut place = at;
+    let mut last_mark = mark;
+    'pieces: for _ in 0..text.len() {
+        if !joins(profile, text, place) {
+            break;
+        }
+        if !is_bare(last_mark) {
+            return None;
+        }
+        let (next, other, next_mark) = put_piece(alloc, room, profile, text, place, out)?;
+        if !fits_kind(kind, other) {
+            return None;
+        }
+        place = next;
+        last_mark = next_mark;
+    }
+    Some((place, last_mark))
+}
+
+/// The bytes of one piece; answers where it ends, its kind and its indicator.
+#[cycle(descent)]
+fn put_piece(
+    alloc: Global,
+    room: u64,
+    profile: Profile,
+    text: &str,
+    at: usize,
+    out: &mut Vec<u8>,
+) -> Option<(usize, Kind, Mark)>
+    requires room { room ≤ 1024 }
+    requires at { at ≤ length text.now }
+    ensures within { IfSome result (λ r. r.0 ≤ length text.now) }
+    ensures taken { IfSome result (λ r. PieceTaken profile text.now at r.0 room r.1 r.2 out.old.items out.new.items) }
+{
+    let place = skip(profile, text, at)?;
+    if stands(b'<', text, place) {
+        let (last, mark) = put_embedded(alloc, room, profile, text, at, out)?;
+        return Some((last, Kind::Bytes, mark));
+    }
+    put_string_piece(alloc, room, profile, text, at, out)
+}
+
+/// The bytes of the items between `<<`, which comes first, and `>>`; answers where `>>` ends, and its indicator.
+#[cycle(descent)]
+fn put_embedded(
+    alloc: Global,
+    room: u64,
+    profile: Profile,
+    text: &str,
+    at: usize,
+    out: &mut Vec<u8>,
+) -> Option<(usize, Mark)>
+    requires room { room ≤ 1024 }
+    requires at { at ≤ length text.now }
+    ensures within { IfSome result (λ r. r.0 ≤ length text.now) }
+    ensures taken { IfSome result (λ r. PieceTaken profile text.now at r.0 room kinds.Bytes r.1 out.old.items out.new.items) }
+{
+    if room == 0 {
+        return None;
+    }
+    let inner = embed_open(alloc, profile, text, at)?;
+    if is_void(profile, text, inner) {
+        return embed_end(alloc, profile, text, inner);
+    }
+    let (last, _) = put_row(alloc, room - 1, profile, text, inner, out)?;
+    embed_ending(alloc, profile, text, last)
+}
+
+/// The string in chunks whose `(_` stands at the place.
+#[cycle(descent)]
+#[inline(never)]
+pub(crate) fn put_chunked(
+    alloc: Global,
+    room: u64,
+    profile: Profile,
+    text: &str,
+    at: usize,
+    out: &mut Vec<u8>,
+) -> Option<usize>
+    requires room { room ≤ 1024 }
+    requires at { at ≤ length text.now }
+    ensures within { IfSome result (λ end. end ≤ length text.now) }
+    ensures taken { IfSome result (λ end. ItemTaken profile text.now at end room out.old.items out.new.items) }
+{
+    let inner = chunk_open(alloc, profile, text, at)?;
+    let start = out.len();
+    out.push(0).ok()?;
+    let (last, kind) = put_chunks(alloc, room, profile, text, inner, out)?;
+    let end = behind(b')', profile, text, last)?;
+    close_chunks(kind, start, out)?;
+    Some(end)
+}
+
+/// One or more chunks with commas between them; answers where the last one ends, and of which kind they are.
+#[cycle(descent)]
+fn put_chunks(
+    alloc: Global,
+    room: u64,
+    profile: Profile,
+    text: &str,
+    at: usize,
+    out: &mut Vec<u8>,
+) -> Option<(usize, Kind)>
+    requires room { room ≤ 1024 }
+    requires at { at ≤ length text.now }
+    ensures within { IfSome result (λ r. r.0 ≤ length text.now) }
+    ensures taken { IfSome result (λ r. ChunksTaken profile text.now at r.0 room r.1 out.old.items out.new.items) }
+{
+    let (first, kind) = put_joined(alloc, room, profile, text, at, out)?;
+    let mut place = first;
+    'chunks: for _ in 0..text.len() {
+        let Some(next) = behind(b',', profile, text, place) else {
+            break;
+        };
+        let (last, other) = put_joined(alloc, room, profile, text, next, out)?;
+        if !is_same(kind, other) {
+            return None;
+        }
+        place = last;
+    }
+    Some((place, kind))
+}

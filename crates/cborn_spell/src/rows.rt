@@ -1,0 +1,141 @@
+//! Arrays and maps.
+
+ghost use Rattle.std.specs.Prelude.{◌≤◌, length, IfSome};
+ghost use Rattle.cborn_spell.specs.Descent.{ItemTaken, RowTaken, PairsTaken};
+
+use crate::brackets::{close, ending, is_last, open};
+use crate::items::put_item;
+use crate::marks::opening;
+use crate::scans::behind;
+use cborn_lex::Profile;
+use std::alloc::Global;
+
+/// The array whose bracket stands at the place.
+#[cycle(descent)]
+#[inline(never)]
+pub(crate) fn put_array(
+    alloc: Global,
+    room: u64,
+    profile: Profile,
+    text: &str,
+    at: usize,
+    out: &mut Vec<u8>,
+) -> Option<usize>
+    requires room { room ≤ 1024 }
+    requires at { at ≤ length text.now }
+    ensures within { IfSome result (λ end. end ≤ length text.now) }
+    ensures taken { IfSome result (λ end. ItemTaken profile text.now at end room out.old.items out.new.items) }
+{
+    if room == 0 {
+        return None;
+    }
+    let (inner, mark) = opening(b'[', text, at)?;
+    let start = out.len();
+    open(4, mark, out)?;
+    if let Some(end) = behind(b']', profile, text, inner) {
+        close(alloc, 4, mark, 0, start, out)?;
+        return Some(end);
+    }
+    let (last, count) = put_row(alloc, room - 1, profile, text, inner, out)?;
+    let end = ending(b']', profile, text, last)?;
+    close(alloc, 4, mark, count, start, out)?;
+    Some(end)
+}
+
+/// One or more items with commas between them; answers where the last one ends, and how many they are. A comma before a closing bracket is left where it stands.
+#[cycle(descent)]
+#[inline(always)]
+pub(crate) fn put_row(
+    alloc: Global,
+    room: u64,
+    profile: Profile,
+    text: &str,
+    at: usize,
+    out: &mut Vec<u8>,
+) -> Option<(usize, u64)>
+    requires room { room ≤ 1024 }
+    requires at { at ≤ length text.now }
+    ensures within { IfSome result (λ r. r.0 ≤ length text.now) }
+    ensures taken { IfSome result (λ r. RowTaken profile text.now at r.0 room r.1 out.old.items out.new.items) }
+{
+    let mut place = at;
+    'items: for count in 0..text.len() {
+        let end = put_item(alloc, room, profile, text, place, out)?;
+        match behind(b',', profile, text, end) {
+            Some(next) => {
+                if is_last(profile, text, next) {
+                    return Some((end, count as u64 + 1));
+                }
+                place = next;
+            }
+            None => return Some((end, count as u64 + 1)),
+        }
+    }
+    None
+}
+
+/// The map whose bracket stands at the place.
+#[cycle(descent)]
+#[inline(never)]
+pub(crate) fn put_map(
+    alloc: Global,
+    room: u64,
+    profile: Profile,
+    text: &str,
+    at: usize,
+    out: &mut Vec<u8>,
+) -> Option<usize>
+    requires room { room ≤ 1024 }
+    requires at { at ≤ length text.now }
+    ensures within { IfSome result (λ end. end ≤ length text.now) }
+    ensures taken { IfSome result (λ end. ItemTaken profile text.now at end room out.old.items out.new.items) }
+{
+    if room == 0 {
+        return None;
+    }
+    let (inner, mark) = opening(b'{', text, at)?;
+    let start = out.len();
+    open(5, mark, out)?;
+    if let Some(end) = behind(b'}', profile, text, inner) {
+        close(alloc, 5, mark, 0, start, out)?;
+        return Some(end);
+    }
+    let (last, count) = put_pairs(alloc, room - 1, profile, text, inner, out)?;
+    let end = ending(b'}', profile, text, last)?;
+    close(alloc, 5, mark, count, start, out)?;
+    Some(end)
+}
+
+/// One or more pairs with commas between them, as `put_row` takes items.
+#[cycle(descent)]
+#[inline(always)]
+fn put_pairs(
+    alloc: Global,
+    room: u64,
+    profile: Profile,
+    text: &str,
+    at: usize,
+    out: &mut Vec<u8>,
+) -> Option<(usize, u64)>
+    requires room { room ≤ 1024 }
+    requires at { at ≤ length text.now }
+    ensures within { IfSome result (λ r. r.0 ≤ length text.now) }
+    ensures taken { IfSome result (λ r. PairsTaken profile text.now at r.0 room r.1 out.old.items out.new.items) }
+{
+    let mut place = at;
+    'pairs: for count in 0..text.len() {
+        let key_end = put_item(alloc, room, profile, text, place, out)?;
+        let middle = behind(b':', profile, text, key_end)?;
+        let end = put_item(alloc, room, profile, text, middle, out)?;
+        match behind(b',', profile, text, end) {
+            Some(next) => {
+                if is_last(profile, text, next) {
+                    return Some((end, count as u64 + 1));
+                }
+                place = next;
+            }
+            None => return Some((end, count as u64 + 1)),
+        }
+    }
+    None
+}

@@ -1,0 +1,202 @@
+//! What is read as a token: items without children, pieces of strings, and what opens.
+
+ghost use Rattle.std.specs.Prelude.{◌≤◌, ◌<◌, ◌^◌, ℕ, length, true, false, IfSome};
+ghost use Rattle.cborn_lex.specs.declared.classes.Mark.{Mark};
+ghost use Rattle.cborn_lex.specs.declared.classes.Mark.TheVariants as marks;
+ghost use Rattle.cborn_lex.specs.declared.classes.Class.TheVariants as classes;
+ghost use Rattle.cborn_spell.specs.Descent.{AddsMarked, TokenAt, ItemTaken, PieceTaken};
+
+use crate::leaves::{put_marked, put_simple, put_string};
+use crate::numbers::put_number;
+use crate::scans::behind;
+use cborn_edn::Kind;
+use cborn_lex::{Class, Mark, Profile, token_from};
+use std::alloc::Global;
+
+/// The token at or behind the place, and its end.
+pub(crate) fn next_token(
+    alloc: Global,
+    profile: Profile,
+    text: &str,
+    at: usize,
+) -> Option<(Class, usize)>
+    requires { at ≤ length text.now }
+    ensures within { IfSome result (λ r. r.1 ≤ length text.now) }
+    ensures token { IfSome result (λ r. TokenAt profile text.now at r.1 r.0) }
+{
+    let Ok(Some(token)) = token_from(alloc, profile, text, at as u64) else {
+        return None;
+    };
+    let end = token.stop as usize;
+    if end > text.len() {
+        return None;
+    }
+    Some((token.class, end))
+}
+
+/// The item without children at the place.
+#[inline(never)]
+pub(crate) fn put_leaf(
+    alloc: Global,
+    room: u64,
+    profile: Profile,
+    text: &str,
+    at: usize,
+    out: &mut Vec<u8>,
+) -> Option<usize>
+    requires { at ≤ length text.now }
+    ensures within { IfSome result (λ end. end ≤ length text.now) }
+    ensures taken { IfSome result (λ end. ItemTaken profile text.now at end room out.old.items out.new.items) }
+{
+    let (class, end) = next_token(alloc, profile, text, at)?;
+    match class {
+        Class::Number {
+            negative,
+            magnitude,
+            mark,
+        } => {
+            put_number(alloc, room, negative, magnitude, mark, out)?;
+            Some(end)
+        }
+        Class::Word(n) => {
+            put_simple(n as u64, out)?;
+            Some(end)
+        }
+        Class::Text { bytes, mark } => {
+            put_string(3, true, mark, bytes.as_slice(), out)?;
+            Some(end)
+        }
+        Class::Bytes {
+            quoted,
+            bytes,
+            mark,
+        } => {
+            put_string(2, quoted, mark, bytes.as_slice(), out)?;
+            Some(end)
+        }
+        Class::SimpleOpen => put_simple_item(alloc, profile, text, end, out),
+        _ => None,
+    }
+}
+
+/// A simple value, behind `simple(`.
+fn put_simple_item(
+    alloc: Global,
+    profile: Profile,
+    text: &str,
+    at: usize,
+    out: &mut Vec<u8>,
+) -> Option<usize>
+    requires at { at ≤ length text.now }
+    ensures within { IfSome result (λ end. end ≤ length text.now) }
+    ensures taken { IfSome result (λ end. (n room : ℕ) → TokenAt profile text.now n at classes.SimpleOpen → ItemTaken profile text.now n end room out.old.items out.new.items) }
+{
+    let (n, last) = whole_number(alloc, profile, text, at)?;
+    put_simple(n, out)?;
+    behind(b')', profile, text, last)
+}
+
+/// The number at or behind the place that isn't below zero and has no indicator, and its end.
+fn whole_number(alloc: Global, profile: Profile, text: &str, at: usize) -> Option<(u64, usize)>
+    requires { at ≤ length text.now }
+    ensures within { IfSome result (λ r. r.1 ≤ length text.now) }
+    ensures small { IfSome result (λ r. r.0 < 2 ^ 64) }
+    ensures token { IfSome result (λ r. TokenAt profile text.now at r.1 (classes.Number false r.0 marks.Absent)) }
+{
+    let (class, end) = next_token(alloc, profile, text, at)?;
+    match class {
+        Class::Number {
+            negative: false,
+            magnitude,
+            mark: Mark::Absent,
+        } => {
+            if magnitude > 255 {
+                return None;
+            }
+            Some((magnitude as u64, end))
+        }
+        _ => None,
+    }
+}
+
+/// The bytes of the piece at or behind the place that is one token; answers where it ends, its kind and its indicator.
+#[inline(never)]
+pub(crate) fn put_string_piece(
+    alloc: Global,
+    room: u64,
+    profile: Profile,
+    text: &str,
+    at: usize,
+    out: &mut Vec<u8>,
+) -> Option<(usize, Kind, Mark)>
+    requires { at ≤ length text.now }
+    ensures within { IfSome result (λ r. r.0 ≤ length text.now) }
+    ensures taken { IfSome result (λ r. PieceTaken profile text.now at r.0 room r.1 r.2 out.old.items out.new.items) }
+{
+    let (class, end) = next_token(alloc, profile, text, at)?;
+    match class {
+        Class::Text { bytes, mark } => {
+            out.extend_from_slice(bytes.as_slice()).ok()?;
+            Some((end, Kind::Text, mark))
+        }
+        Class::Bytes { bytes, mark, .. } => {
+            out.extend_from_slice(bytes.as_slice()).ok()?;
+            Some((end, Kind::Bytes, mark))
+        }
+        _ => None,
+    }
+}
+
+/// Appends the head of the tag whose number stands at the place, and answers where its item begins.
+#[inline(never)]
+pub(crate) fn put_tag_head(
+    alloc: Global,
+    profile: Profile,
+    text: &str,
+    at: usize,
+    out: &mut Vec<u8>,
+) -> Option<usize>
+    requires { at ≤ length text.now }
+    ensures within { IfSome result (λ end. end ≤ length text.now) }
+    ensures head { IfSome result (λ end. (k : ℕ) × (mark : Mark) × TokenAt profile text.now at end (classes.TagOpen k mark) × AddsMarked 6 mark k out.old.items out.new.items) }
+{
+    let (class, end) = next_token(alloc, profile, text, at)?;
+    match class {
+        Class::TagOpen { number, mark } => {
+            if number > 18446744073709551615 {
+                return None;
+            }
+            put_marked(6, mark, number as u64, out)?;
+            Some(end)
+        }
+        _ => None,
+    }
+}
+
+/// The end of the `<<` at or behind the place.
+#[inline(never)]
+pub(crate) fn embed_open(alloc: Global, profile: Profile, text: &str, at: usize) -> Option<usize>
+    requires { at ≤ length text.now }
+    ensures within { IfSome result (λ end. end ≤ length text.now) }
+    ensures token { IfSome result (λ end. TokenAt profile text.now at end classes.EmbedOpen) }
+{
+    let (class, end) = next_token(alloc, profile, text, at)?;
+    match class {
+        Class::EmbedOpen => Some(end),
+        _ => None,
+    }
+}
+
+/// The end of the `(_` at or behind the place.
+#[inline(never)]
+pub(crate) fn chunk_open(alloc: Global, profile: Profile, text: &str, at: usize) -> Option<usize>
+    requires { at ≤ length text.now }
+    ensures within { IfSome result (λ end. end ≤ length text.now) }
+    ensures token { IfSome result (λ end. TokenAt profile text.now at end classes.ChunkOpen) }
+{
+    let (class, end) = next_token(alloc, profile, text, at)?;
+    match class {
+        Class::ChunkOpen => Some(end),
+        _ => None,
+    }
+}
