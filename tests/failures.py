@@ -10,14 +10,11 @@ and nothing where the trouble was the input's. trouble.c, which is compiled by $
 has very many calls, as on the longest inputs, its first and its last ones have trouble.
 """
 import collections
-import concurrent.futures
-import itertools
 import os
 import pathlib
-import subprocess
 import sys
-import tempfile
 
+import shared
 from run import Outcome, cases
 
 KINDS = {
@@ -119,11 +116,11 @@ def tried_on(library, case, program):
             yield f"{kind} at {trouble}", outcome, wanted(case.words, ample, trouble, kind)
 
 
-def tried(library, program, tables, first, shares):
-    """Each so many-th command line from the first on: how many troubles and runs that were, and the wrong ones."""
+def tried(library, program, tables, *which):
+    """A share of the command lines: how many troubles and runs that were, and the wrong ones."""
     troubles = runs = 0
     wrong = []
-    for table, case in itertools.islice(cases(tables), first, None, shares):
+    for table, case in shared.share(cases(tables), *which):
         runs += 1
         for name, outcome, answer in tried_on(library, case, program):
             troubles += 1
@@ -133,20 +130,11 @@ def tried(library, program, tables, first, shares):
 
 
 def main():
-    source = pathlib.Path(__file__).resolve().parent / "trouble.c"
-    with tempfile.TemporaryDirectory() as folder, concurrent.futures.ProcessPoolExecutor() as pool:
-        library = f"{folder}/trouble.so"
-        subprocess.run([os.environ.get("CC", "cc"), "-O2", "-shared", "-fPIC", "-o", library, str(source)], check=True)
-        program, *tables = sys.argv[1:]
-        program = str(pathlib.Path(program).resolve())
-        shares = os.cpu_count() or 1
-        parts = [pool.submit(tried, library, program, tables, first, shares) for first in range(shares)]
-        troubles, runs, wrong = zip(*(part.result() for part in parts))
-    wrong = sum(wrong, [])
-    for line in wrong:
-        print(line)
-    print(f"{sum(troubles)} troubles of {sum(runs)} command lines made in turn, {len(wrong)} failed")
-    return 1 if wrong or not sum(troubles) else 0
+    program, *tables = sys.argv[1:]
+    with shared.library("trouble.c") as library:
+        found = shared.over_processors(tried, library, str(pathlib.Path(program).resolve()), tables)
+    troubles, runs, wrong = found
+    return shared.status(troubles, wrong, f"{troubles} troubles of {runs} command lines made in turn")
 
 
 if __name__ == "__main__":

@@ -10,15 +10,13 @@ A command line has to answer as it does with ample memory, or to answer want of 
 standard output, and one line on standard error. A test has to pass with ample memory; with a growth refused it
 has to pass too, or to fail by want of memory: by the error that a call answered, and not by an answer that differs. refuse.c, which is compiled by $CC or cc, refuses.
 """
-import concurrent.futures
-import itertools
 import os
 import pathlib
 import re
 import subprocess
 import sys
-import tempfile
 
+import shared
 from run import Outcome, cases
 
 WANT = re.compile(rb"AllocError|AllocFailed|OutOfMemory|[Oo]ut of memory")
@@ -50,9 +48,9 @@ def wants_of_memory(words):
             yield Outcome(b"", os.fsencode(f"cborn: {which}cannot read {word}\n"), 4)
 
 
-def command_lines(library, program, tables, share):
+def command_lines(library, program, tables, *which):
     """Each command line of a share: its name, the outcomes of its runs, and which outcomes it may have."""
-    for table, case in share(cases(tables)):
+    for table, case in shared.share(cases(tables), *which):
         allowed = [case.run(program), *wants_of_memory(case.words)]
         outcomes = refused_in_turn(library, lambda **how: case.run(program, **how))
         yield f"{table}: {case.name}", list(outcomes), allowed.__contains__
@@ -67,21 +65,24 @@ def passes_or_wants(outcome):
     return outcome.status == 0 or (outcome.status in STOPPED and WANT.search(outcome.stderr))
 
 
-def built_tests(library, tests, words, share):
+def built_tests(library, tests, words, *which):
     """Each test of a share: its name, the outcomes of its runs, and which outcomes it may have."""
     listed = subprocess.run([tests, "--list"], capture_output=True, text=True, check=True).stdout
     names = re.findall(r"^(.*): test$", listed, re.MULTILINE)
-    for name in share(name for name in names if not words or any(word in name for word in words)):
+    for name in shared.share((name for name in names if not words or any(word in name for word in words)), *which):
         ample = run_test(tests, name)
-        outcomes = refused_in_turn(library, lambda **how: run_test(tests, name, **how))
-        yield name, list(outcomes), passes_or_wants if ample.status == 0 else lambda _: False
+        if ample.status == 0:
+            outcomes = refused_in_turn(library, lambda **how: run_test(tests, name, **how))
+            yield name, list(outcomes), passes_or_wants
+        else:
+            yield f"{name}, with ample memory", [ample], lambda _: False
 
 
-def tried(find, library, program, words, first, shares):
-    """Each so many-th run from the first on: how many growths and runs that were, and a line for each wrong outcome."""
+def tried(find, library, program, words, *which):
+    """A share of the runs: how many growths and runs that were, and a line for each wrong outcome."""
     growths = runs = 0
     wrong = []
-    for name, outcomes, is_allowed in find(library, program, words, lambda all: itertools.islice(all, first, None, shares)):
+    for name, outcomes, is_allowed in find(library, program, words, *which):
         growths, runs = growths + len(outcomes), runs + 1
         for nth, outcome in enumerate(outcomes, 1):
             if not is_allowed(outcome):
@@ -90,23 +91,13 @@ def tried(find, library, program, words, first, shares):
 
 
 def main():
-    source = pathlib.Path(__file__).resolve().parent / "refuse.c"
-    with tempfile.TemporaryDirectory() as folder, concurrent.futures.ProcessPoolExecutor() as pool:
-        library = f"{folder}/refuse.so"
-        compiler = os.environ.get("CC", "cc")
-        subprocess.run([compiler, "-O2", "-shared", "-fPIC", "-o", library, str(source)], check=True)
-        are_tests = sys.argv[1] == "--tests"
-        program, *words = sys.argv[2:] if are_tests else sys.argv[1:]
-        find = built_tests if are_tests else command_lines
-        program = str(pathlib.Path(program).resolve())
-        shares = os.cpu_count() or 1
-        parts = [pool.submit(tried, find, library, program, words, first, shares) for first in range(shares)]
-        all_growths, all_runs, all_wrong = zip(*(part.result() for part in parts))
-    wrong = sum(all_wrong, [])
-    for line in wrong:
-        print(line)
-    print(f"{sum(all_growths)} growths of {sum(all_runs)} runs refused in turn, {len(wrong)} failed")
-    return 1 if wrong or not sum(all_growths) else 0
+    are_tests = sys.argv[1] == "--tests"
+    program, *words = sys.argv[2:] if are_tests else sys.argv[1:]
+    find = built_tests if are_tests else command_lines
+    with shared.library("refuse.c") as library:
+        found = shared.over_processors(tried, find, library, str(pathlib.Path(program).resolve()), words)
+    growths, runs, wrong = found
+    return shared.status(growths, wrong, f"{growths} growths of {runs} runs refused in turn")
 
 
 if __name__ == "__main__":

@@ -6,14 +6,14 @@
 Each front is an input of `show --to wire`, which loads it and spells it, and of `normalise`. Bytes that are read are
 shown as they are. fronts.vectors says how its lines are read.
 """
-import concurrent.futures
 import itertools
-import os
 import pathlib
 import subprocess
 import sys
 
+import shared
 from run import Outcome, given_bytes
+
 
 def vectors(path):
     """The lines of a file: the kinds of an input, its bytes, and (least length, answer) of its fronts."""
@@ -60,10 +60,10 @@ def fronts(path):
                 yield kind, content[:length], answer
 
 
-def tried(program, path, first, shares):
-    """Each so many-th front from the first on: how many answers there were, and a line for each wrong one."""
+def tried(program, paths, *which):
+    """A share of the fronts: how many answers there were, and a line for each wrong one."""
     count, wrong = 0, []
-    for kind, front, answer in itertools.islice(fronts(path), first, None, shares):
+    for kind, front, answer in shared.share(itertools.chain.from_iterable(map(fronts, paths)), *which):
         shown, normalised = refusals(answer, len(front))
         for words, refusal, output in [
             (["show", "--to", "wire"], shown, front if kind == "wire" else None),
@@ -80,15 +80,8 @@ def main():
     here = pathlib.Path(__file__).resolve().parent
     program = str(pathlib.Path(sys.argv[1]).resolve())
     paths = [pathlib.Path(name) for name in sys.argv[2:]] or [here / "fronts.vectors"]
-    shares = os.cpu_count() or 1
-    with concurrent.futures.ProcessPoolExecutor(shares) as pool:
-        parts = [pool.submit(tried, program, path, first, shares) for path in paths for first in range(shares)]
-        counts, wrong = zip(*(part.result() for part in parts))
-    wrong = sum(wrong, [])
-    for line in wrong:
-        print(line)
-    print(f"{sum(counts) - len(wrong)} answers to fronts passed, {len(wrong)} failed")
-    return 1 if wrong or not sum(counts) else 0
+    count, wrong = shared.over_processors(tried, program, paths)
+    return shared.status(count, wrong, f"{count - len(wrong)} answers to fronts passed")
 
 
 if __name__ == "__main__":
