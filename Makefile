@@ -10,7 +10,7 @@ STACK ?= 8192
 
 help:
 	@echo 'make build      prove every crate and build the program, $(PROGRAM)'
-	@echo 'make test       the merge gate from nothing, then make tables, vectors, growths and failures'
+	@echo 'make test       the merge gate from nothing, then make tables, vectors, growths, failures and library-tests'
 	@echo 'make tables     the built program on the tables of tests/, and the examples of the documents'
 	@echo 'make vectors    the built program on each front of each worked input'
 	@echo 'make growths    the built program on those tables, each growth refused in turn'
@@ -26,14 +26,16 @@ help:
 	@echo 'make library    the library for C, build/libcborn.a and build/libcborn.so, and cborn.pc'
 	@echo 'make library-tests   the command lines of tests/ through the library, from C, Python and Rust'
 	@echo 'make dist       one archive of program, library, wheel and crate for whoever has no kit'
+	@echo 'make dist-tests the archive, unpacked and called with no kit on the path, from each language whose tools are there'
 	@echo 'make clean      drop what was built'
 
 build:
+	@test -e $(PROGRAM) || echo 'Each crate is proved, lowest first, and then $(PROGRAM) is built: a quarter of an hour on four idle processors, more than an hour where others use them too. A quiet minute is no hang.'
 	cd crates/cborn && rt run -- --version
 
 test:
 	rt ci
-	$(MAKE) tables vectors growths failures
+	$(MAKE) tables vectors growths failures library-tests
 
 tables: build
 	python3 tests/run.py $(PROGRAM)

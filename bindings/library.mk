@@ -68,11 +68,17 @@ dist: build library
 	install -D $(PROGRAM) build/$(DIST)/bin/cborn
 	install -D -m 644 man/cborn.1 build/$(DIST)/share/man/man1/cborn.1
 	$(MAKE) put-library DESTDIR=build/$(DIST) PREFIX=
-	mkdir -p build/$(DIST)/doc build/$(DIST)/python build/$(DIST)/rust/lib
-	cp README.md docs/LIBRARY.md docs/FORMATS.md build/$(DIST)/doc
+	mkdir -p build/$(DIST)/docs build/$(DIST)/examples build/$(DIST)/python build/$(DIST)/rust/lib
+	cp README.md CHANGELOG.md CONTRIBUTING.md build/$(DIST)
+	cp docs/*.md build/$(DIST)/docs
+	cp examples/*.py build/$(DIST)/examples
 	cp -r $(addprefix bindings/rust/,Cargo.toml Cargo.lock build.rs src tests) build/$(DIST)/rust
 	cp build/libcborn.a build/$(DIST)/rust/lib
 	python3 bindings/python/make_wheel.py $(VERSION) build/$(SONAME) build/$(DIST)/python/$(WHEEL)
 	rt version > build/$(DIST)/PROVED-WITH
 	cd build && tar --sort=name --format=ustar --owner=0 --group=0 --numeric-owner --mode=u=rwX,go=rX --mtime=@0 -cf - $(DIST) | gzip -9n > $(DIST).tar.gz
 	sha256sum build/$(DIST).tar.gz
+
+.PHONY: dist-tests
+dist-tests: dist
+	python3 bindings/try_archive.py build/$(DIST).tar.gz

@@ -3,9 +3,9 @@
 
     dask_digest.py [--scheduler ADDRESS | --workers N] [--part BYTES] FILE..
 
-Each file is cut into parts at the ends of items, files side by side. A worker normalises the items of its part, so that equal items are
-equal bytes however they were spelled, and gives a digest (SHA-256) and the offset of each. Digests that occur more
-than once are printed with where they occur, each on a line: DIGEST FILE:OFFSET FILE:OFFSET ..
+Each file is cut into parts at the ends of items, files side by side. A worker normalises the items of its part, so
+that equal items are equal bytes however they were spelled, and gives a digest (SHA-256) and the offset of each.
+Digests that occur more than once are printed with where they occur, each on a line: DIGEST FILE:OFFSET FILE:OFFSET ..
 
 With --scheduler every machine needs the files at the same paths, and the packages cborn and distributed. Without it
 N worker processes are started on this machine.
@@ -85,7 +85,7 @@ def digests(name, start, length):
         data = memoryview(file.read(length))
     ends = list(items(data))
     return [
-        (hashlib.sha256(cborn.normalise(data[at:end])).hexdigest(), start + at)
+        (hashlib.sha256(cborn.normalise(data[at:end])).digest(), start + at)
         for at, end in zip(ends, ends[1:])
     ]
 
@@ -110,7 +110,7 @@ def main():
         done = time.perf_counter()
     for digest, where in sorted(places.items()):
         if len(where) > 1:
-            print(digest, *(f"{name}:{offset}" for name, offset in sorted(where)))
+            print(digest.hex(), *(f"{name}:{offset}" for name, offset in sorted(where)))
     count = sum(map(len, places.values()))
     print(f"{count} items, {len(places)} of them different, in {done - start:.2f} s")
 

@@ -1,6 +1,7 @@
 #!/usr/bin/env python3
 """Run each line '$ COMMAND' of the README, the guide and the man page, and compare what it prints with the lines below it.
-Then see whether each function, file and clause that docs/PROMISES.md names is in the source.
+Then see whether each function, file and clause that docs/PROMISES.md names is in the source, whether each link of the
+documents leads somewhere, and whether each target that they give to make is one.
 
     documents.py PROGRAM
 
@@ -56,6 +57,34 @@ def lacking(root):
             yield from (f"{source}: {name}" for name, kind in kinds if not re.search(rf"\b({kind}) {name}\b", text))
 
 
+def slug(heading):
+    """What a link to a heading ends with."""
+    return re.sub(r"[^\w -]", "", heading.lower()).strip().replace(" ", "-")
+
+
+def dead_links(page):
+    """The links of a page, within the repository, that lead nowhere."""
+    for link in re.findall(r"\]\(([^)\s]+)\)", page.read_text()):
+        path, _, anchor = link.partition("#")
+        if "://" in link:
+            continue
+        target = page.parent / path if path else page
+        if not target.exists():
+            yield link
+        elif anchor and anchor not in map(slug, re.findall(r"^#+ (.*)", target.read_text(), re.MULTILINE)):
+            yield link
+
+
+def lost(root):
+    """The links of all documents that lead nowhere, and the targets for make that there are none of."""
+    rules = (root / "Makefile").read_text() + (root / "bindings/library.mk").read_text()
+    targets = set(re.findall(r"^([a-z-]+):", rules, re.MULTILINE))
+    for page in (*root.glob("*.md"), *root.glob("docs/*.md")):
+        yield from (f"{page.relative_to(root)}: {link} leads nowhere" for link in dead_links(page))
+        named = re.findall(r"`make ([a-z-]+)|^    make ([a-z-]+)", page.read_text(), re.MULTILINE)
+        yield from (f"{page.relative_to(root)}: no target {name}" for name in {"".join(it) for it in named} - targets)
+
+
 def main():
     program = pathlib.Path(sys.argv[1]).resolve()
     root = pathlib.Path(__file__).resolve().parent.parent
@@ -80,6 +109,9 @@ def main():
     for name in lacking(root):
         failed += 1
         print(f"docs/PROMISES.md: there is no {name}")
+    for line in lost(root):
+        failed += 1
+        print(line)
     print(f"{passed} examples passed, {failed} failed")
     return 1 if failed or not passed else 0
 

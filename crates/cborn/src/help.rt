@@ -16,6 +16,8 @@ bytes, and no floats, which are refused. It is of one of these kinds:
               section 8, RFC 8610 appendix G), with commas between the items
   notation-2  the same, with comments from # to the end of a line, and with one
               comma that may stand behind the last element
+What isn't said to be notation is read as bytes, and a text may be CBOR bytes too:
+'echo 1 | cborn normalise' refuses nothing, and writes the bytes 31 0a.
 Where no FILE is named, standard input is read. A FILE named - is a file of that
 name. 'cborn COMMAND --help' says what a command does.
 
@@ -27,9 +29,12 @@ Exit status:
   3  the command line is wrong
   4  a file can't be opened, a read or a write failed, or memory was refused
 
-Example:
+Examples:
   printf '\\x98\\x02\\x18\\x01\\x58\\x01\\x61' | cborn normalise | od -An -tx1
-  prints  82 01 41 61";
+  prints  82 01 41 61
+
+  echo '[_ 1_1]' | cborn show --from notation --to wire | od -An -tx1
+  prints  9f 19 00 01 ff";
 
 pub const SHOW: &str =
     "Writes what the input holds as it is spelled, as diagnostic notation or bytes";
@@ -37,10 +42,15 @@ pub const SHOW: &str =
 pub const SHOW_NOTES: &str = "\
 Reads a sequence of CBOR data items (RFC 8949) from FILE, or from standard input,
 and writes each as it is spelled: in diagnostic notation (section 8), a line for
-each item, with an indicator where a head isn't the shortest, or with --to wire
-as bytes. Items that aren't valid are shown too, but as notation no text that
-isn't UTF-8. Nothing is put in order or shortened: normalise does that.
-A FILE named - is a file of that name.
+each item, a comma at the end of each line but the last, and an indicator where a
+head isn't the shortest; or with --to wire as bytes. Nothing is put in order or
+shortened: normalise does that. Items that aren't valid are shown too; only a
+text string whose bytes aren't UTF-8 can't be written as notation, and the input
+is refused then. A FILE named - is a file of that name.
+
+With --from notation --to wire it writes the very bytes that a text spells, valid
+or not, which is how test vectors are written by hand. Without --from notation a
+text is read as bytes, and refused only where these aren't CBOR.
 
 Exit status:
   0  done
@@ -49,9 +59,12 @@ Exit status:
   3  the command line is wrong
   4  the file can't be opened, a read or a write failed, or memory was refused
 
-Example:
+Examples:
   printf '\\x9f\\x19\\x00\\x01\\xff' | cborn show
-  prints  [_ 1_1]";
+  prints  [_ 1_1]
+
+  echo '[_ 1_1]' | cborn show --from notation --to wire | od -An -tx1
+  prints  9f 19 00 01 ff";
 
 pub const NORMALISE: &str = "Writes what the input holds in its deterministic encoding";
 
@@ -60,9 +73,13 @@ Reads a sequence of CBOR data items (RFC 8949) from FILE, or from standard input
 and writes the deterministic encoding (section 4.2) of each: shortest heads,
 definite lengths, integers in place of bignums where they fit, the keys of each
 map in order. It is written as bytes, or with --to notation in diagnostic
-notation (section 8), a line for each item. Two inputs, each of any kind, give
-the same output exactly if they hold the same items. A FILE named - is a file of
-that name.
+notation (section 8), a line for each item, and a comma at the end of each line
+but the last. Under the same --order and the same --to, two inputs, each of any
+kind, give the same output exactly if they hold the same items. A FILE named - is
+a file of that name.
+
+Without --from notation a text is read as bytes, and refused only where these
+aren't CBOR: 'echo 1 | cborn normalise' writes 31 0a, the integers -18 and 10.
 
 Exit status:
   0  done
@@ -87,6 +104,9 @@ item N': N counts from 0, and is the first item that differs, or that only one
 of the files has. How the items are spelled makes no difference: the widths of
 heads, indefinite lengths, the order of a map's pairs, integers written as
 bignums. Nor does --order. A FILE named - is a file of that name.
+
+Each file has an option of its own: without --from-a FILE_A is read as bytes, and
+without --from-b FILE_B is, whatever the other one is.
 
 Exit status:
   0  they hold the same items
@@ -136,11 +156,12 @@ pub const TO: &str = "What to write: bytes, or diagnostic notation";
 
 pub const FILE: &str = "The file to read, in place of standard input";
 
-pub const FILE_A: &str = "The first file to read";
+pub const FILE_A: &str = "The first file to read: bytes, unless --from-a says otherwise";
 
-pub const FILE_B: &str = "The second file to read";
+pub const FILE_B: &str = "The second file to read: bytes, unless --from-b says otherwise";
 
 pub const ORDER: &str =
     "How the encodings of a map's keys rise: byte by byte, or shorter ones first";
 
-pub const DEPTH: &str = "How many arrays, maps and tags may stand in one another, 1 to 1024";
+pub const DEPTH: &str =
+    "How many arrays, maps and tags may stand in one another, 1 to 1024; in notation <<..>> and integers beyond 64 bits count too";

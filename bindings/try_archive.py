@@ -1,0 +1,128 @@
+#!/usr/bin/env python3
+"""Unpack the archive of `make dist` and use it as somebody who has nothing else: no kit, and an empty home.
+
+    try_archive.py ARCHIVE
+
+The program reads its first input, and the examples of docs/LIBRARY.md in the archive are compiled and run, each in
+the languages whose tools are there; a line says which aren't. Each has to print what RFC 8949 makes of the input.
+"""
+import itertools
+import os
+import pathlib
+import shutil
+import subprocess
+import sys
+import tempfile
+import textwrap
+
+LOOSE, TIGHT = bytes([0x98, 2, 0x18, 1, 0x58, 1, 0x61]), bytes([0x82, 1, 0x41, 0x61])
+JNA = "/usr/share/java/jna.jar"
+MAIN = """fn main() -> Result<(), cborn::Fault> {
+    let input = [0x98, 2, 0x18, 1, 0x58, 1, 0x61];
+EXAMPLE
+    println!("{:02x?}", bytes);
+    Ok(())
+}
+"""
+
+
+class Archive:
+    """The unpacked archive, and a folder to work in."""
+
+    def __init__(self, archive, folder):
+        subprocess.run(["tar", "xf", archive, "-C", folder], check=True)
+        (self.top,) = pathlib.Path(folder).iterdir()
+        self.work = pathlib.Path(folder, "work")
+        self.work.mkdir()
+        self.page = (self.top / "docs/LIBRARY.md").read_text()
+        homes = {name: os.environ[name] for name in ("CARGO_HOME", "RUSTUP_HOME") if name in os.environ}
+        if "RUSTUP_HOME" not in homes and pathlib.Path.home().joinpath(".rustup").exists():
+            homes["RUSTUP_HOME"] = str(pathlib.Path.home() / ".rustup")
+        self.environment = {
+            **homes,
+            "PATH": os.pathsep.join(it for it in os.environ["PATH"].split(os.pathsep) if not os.path.exists(f"{it}/rt")),
+            "HOME": str(self.work),
+            "PIP_ROOT_USER_ACTION": "ignore",
+            "PKG_CONFIG_PATH": f"{self.top}/lib/pkgconfig",
+        }
+
+    def example(self, heading):
+        """The first block of code below a heading of the page."""
+        chapter = self.page.partition(f"\n## {heading}\n")[2].splitlines()
+        code = itertools.dropwhile(lambda line: not line.startswith("    "), chapter)
+        lines = itertools.takewhile(lambda line: not line or line.startswith("    "), code)
+        return textwrap.dedent("\n".join(lines)).strip() + "\n"
+
+    def run(self, *words, **how):
+        """What a command writes, in bash where it is one text."""
+        command = ["bash", "-c", words[0]] if len(words) == 1 else list(words)
+        done = subprocess.run(command, cwd=self.work, env=self.environment, stdout=subprocess.PIPE, check=True, **how)
+        return done.stdout
+
+
+def in_program(archive):
+    return archive.run(f"{archive.top}/bin/cborn", "normalise", input=LOOSE) == TIGHT
+
+
+def in_c(archive):
+    (archive.work / "example.c").write_text(archive.example("A call"))
+    by_hand = archive.run(f"cc example.c -I{archive.top}/include {archive.top}/lib/libcborn.a && ./a.out")
+    by_name = archive.run(f"cc example.c $(pkg-config --cflags --libs cborn) -Wl,-rpath,{archive.top}/lib && ./a.out")
+    return by_hand == by_name == TIGHT
+
+
+def in_python(archive):
+    archive.run(f"python3 -m pip install --quiet --no-index --target modules {archive.top}/python/*.whl")
+    (archive.work / "page.txt").write_text(archive.example("Python"))
+    told = archive.run("PYTHONPATH=modules python3 -m doctest -v page.txt")
+    return b"Test passed." in told and b"3 passed" in told
+
+
+def in_rust(archive):
+    call = archive.work / "call"
+    (call / "src").mkdir(parents=True)
+    text = "    " + archive.example("Rust").strip()
+    (call / "src/main.rs").write_text(MAIN.replace("EXAMPLE", text))
+    package = '[package]\nname = "call"\nversion = "0.0.0"\nedition = "2021"\n'
+    (call / "Cargo.toml").write_text(f'{package}[dependencies]\ncborn = {{ path = "{archive.top}/rust" }}\n')
+    told = archive.run("cargo run --offline --quiet --manifest-path call/Cargo.toml")
+    return told == b"[82, 01, 41, 61]\n"
+
+
+def in_go(archive):
+    (archive.work / "main.go").write_text(archive.example("Go"))
+    return archive.run(f"LD_LIBRARY_PATH={archive.top}/lib go run main.go") == b"82014161 <nil>\n"
+
+
+def in_java(archive):
+    (archive.work / "Seven.java").write_text(archive.example("Java"))
+    told = archive.run(f"javac -cp {JNA} Seven.java && java -cp {JNA}:. Seven {archive.top}/lib/libcborn.so")
+    return told == b"82014161\n"
+
+
+WAYS = {
+    "the program": (in_program, ()),
+    "C": (in_c, ("cc", "pkg-config")),
+    "Python": (in_python, ("python3",)),
+    "Rust": (in_rust, ("cargo", "rustc")),
+    "Go": (in_go, ("go",)),
+    "Java": (in_java, ("javac", "java", JNA)),
+}
+
+
+def main():
+    failed = 0
+    for name, (way, tools) in WAYS.items():
+        missing = [tool for tool in tools if not (shutil.which(tool) or os.path.isfile(tool))]
+        if missing:
+            print(f"{name}: not tried, without {', '.join(missing)}")
+            continue
+        with tempfile.TemporaryDirectory() as folder:
+            is_right = way(Archive(os.path.abspath(sys.argv[1]), folder))
+        failed += not is_right
+        print(f"{name}: {'as it should' if is_right else 'WRONG'}")
+    return 1 if failed else 0
+
+
+if __name__ == "__main__":
+    sys.exit(main())
