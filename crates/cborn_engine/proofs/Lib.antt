@@ -18,6 +18,7 @@ pub mod Unfailing
 pub mod Headline
 pub mod Whole
 pub mod Telling
+pub mod TellingTexts
 pub mod Noted
 pub mod Apart
 pub mod Compared

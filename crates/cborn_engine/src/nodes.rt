@@ -1,12 +1,9 @@
 //! Bytes that are held whole, read as nodes where nothing quicker tells about them.
-ghost use Rattle.std.specs.Prelude.{◌≡◌, ◌≤◌, ◌^◌, ℕ, List, length, Err, IfOk, IfErr};
+ghost use Rattle.std.specs.Prelude.{◌≡◌, ◌≤◌, ◌^◌, ℕ, List, length, IfOk, IfErr};
 ghost use Rattle.cborn_model.specs.Placed.{PlacedAll};
 ghost use Rattle.cborn_model.specs.Spelled.{Wellformed};
 ghost use Rattle.cborn_model.specs.Tree.{trees};
 ghost use Rattle.cborn_model.specs.Value.{Value};
-ghost use Rattle.cborn_wire.specs.Faults.{Fault};
-ghost use Rattle.cborn_wire.specs.declared.faults.WireFault.TheVariants.{Refused};
-ghost use Rattle.cborn_wire.specs.declared.faults.WireReason.{WireReason};
 ghost use Rattle.cborn_engine.specs.declared.kinds.Kind.TheVariants as kinds;
 ghost use Rattle.cborn_engine.specs.Holding.{Holds};
 ghost use Rattle.cborn_engine.specs.Reading.{read_failures};

@@ -1,4 +1,4 @@
-//! Reading a whole input, and telling what it holds in another form. Bytes that are to stay bytes are what their nodes spell, once it is known that they are well-formed. Bytes that are to become notation are first taken in one pass that keeps no tree; where that answers nothing, the faults are looked for without nodes, and only bytes with none are read as nodes.
+//! Reading a whole input, and telling what it holds in another form. Bytes that are to stay bytes are what their nodes spell, once it is known that they are well-formed. Bytes that are to become notation are first taken in one pass that keeps no tree; where that answers nothing, the faults are looked for without nodes, and only bytes with none are read as nodes. A text is first spelled as bytes in one pass; where that answers nothing, it is read as nodes.
 ghost use Rattle.std.specs.Prelude.{◌≡◌, ◌≤◌, ◌+◌, ◌^◌, ℕ, List, length, IfOk, IfErr, IfSome};
 ghost use Rattle.cborn_model.specs.Placed.{PlacedAll};
 ghost use Rattle.cborn_model.specs.Spelled.{Wellformed};
@@ -6,18 +6,22 @@ ghost use Rattle.cborn_model.specs.Tree.{Tree, trees};
 ghost use Rattle.cborn_edn.specs.Shown.{Shown};
 ghost use Rattle.cborn_edn.specs.declared.faults.ShowFault.TheVariants.{NotUtf8};
 ghost use Rattle.cborn_engine.specs.declared.kinds.Kind.TheVariants as kinds;
+ghost use Rattle.cborn_engine.specs.Encoding.{kind_of};
 ghost use Rattle.cborn_engine.specs.Reading.{read_failures};
 ghost use Rattle.cborn_engine.specs.Showing.{Tells, TellAnswers, IsShown, IsSpelledAs, IsUnshownAs, IsUnspelledAs};
 
 use crate::faults::EngineFault;
-use crate::inputs::{MOST, load};
+use crate::inputs::MOST;
 use crate::kinds::Kind;
 use crate::sources::Source;
 use crate::texts::read_bytes;
-use cborn_edn::{ShowFault, show};
+use cborn_edn::{ShowFault, read_notation, show};
+use cborn_lex::Profile;
 use cborn_model::{Limit, Spelled};
 use cborn_show::{first_bad_text, show_bytes};
+use cborn_spell::spell_text;
 use cborn_wire::{WireFault, read_all, scan, spell_all};
+use simdutf8::compat::from_utf8;
 use std::alloc::Global;
 
 /// The items of the whole input as they are spelled, in a form of this kind. The faults are those of `load`, and `Show`.
@@ -34,8 +38,8 @@ pub fn read_shown<R: Source>(
 {
     match in_kind {
         Kind::Wire => show_whole(alloc, limit, out_kind, reader),
-        Kind::Notation => show_nodes(alloc, limit, Kind::Notation, out_kind, reader),
-        Kind::Notation2 => show_nodes(alloc, limit, Kind::Notation2, out_kind, reader),
+        Kind::Notation => show_text(alloc, limit, Profile::One, out_kind, reader),
+        Kind::Notation2 => show_text(alloc, limit, Profile::Two, out_kind, reader),
     }
 }
 
@@ -127,20 +131,46 @@ fn bad_text(out_kind: Kind, input: &[u8]) -> Option<u64>
     }
 }
 
-/// What a text holds, by trees.
-fn show_nodes<R: Source>(
+/// A text, which is read whole.
+fn show_text<R: Source>(
     alloc: Global,
     limit: Limit,
-    in_kind: Kind,
+    profile: Profile,
     out_kind: Kind,
     reader: &mut R,
 ) -> Result<Vec<u8>, EngineFault>
-    ensures tells { Tells in_kind out_kind limit (2 ^ 30) (R.remaining reader.old) (R.remaining reader.new) result }
+    ensures tells { Tells (kind_of profile) out_kind limit (2 ^ 30) (R.remaining reader.old) (R.remaining reader.new) result }
     ensures failures { R.failed reader.new ≡ read_failures result (R.failed reader.old) }
     ensures calls { R.asked reader.new ≤ R.asked reader.old + 2 ^ 30 + 1 }
 {
-    let nodes = load(alloc, limit, in_kind, reader)?;
+    let bytes = read_bytes(alloc, MOST, reader)?;
+    let text = match from_utf8(&bytes) {
+        Ok(text) => text,
+        Err(why) => return Err(EngineFault::TextInput(why.valid_up_to() as u64)),
+    };
+    if let Some(answer) = text_at_once(alloc, limit, profile, out_kind, text) {
+        return Ok(answer);
+    }
+    let nodes = read_notation(alloc, limit, profile, text)?;
     spelled(alloc, out_kind, &nodes)
+}
+
+/// What a text holds, where one pass over it, and one over the bytes that it notates, tell it.
+fn text_at_once(
+    alloc: Global,
+    limit: Limit,
+    profile: Profile,
+    out_kind: Kind,
+    text: &str,
+) -> Option<Vec<u8>>
+    ensures { IfSome result (λ answer. length text.now ≤ 2 ^ 30 → IsShown (kind_of profile) out_kind limit text.now answer.items) }
+{
+    let bytes = spell_text(alloc, limit, profile, text)?;
+    match out_kind {
+        Kind::Wire => Some(bytes),
+        Kind::Notation => show_bytes(alloc, limit, &bytes),
+        Kind::Notation2 => show_bytes(alloc, limit, &bytes),
+    }
 }
 
 /// Nodes as they are spelled, or their fixed notation. `Show` where a text string of theirs isn't UTF-8.
