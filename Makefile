@@ -3,20 +3,21 @@ PREFIX ?= /usr/local
 PROGRAM := crates/cborn/out/cborn
 LIBRARIES := cborn_model cborn_wire cborn_det cborn_judge cborn_transcode cborn_search cborn_lex cborn_edn cborn_show cborn_spell cborn_engine
 
-# The least stack, in KB, with which each command has to answer at 1,024 levels.
-STACK ?= 8192
+# The stack, in KB, within which each command has to answer at 1,024 levels.
+STACK ?= 256
 
-.PHONY: help build test tables vectors growths failures believed stack library-growths bench install clean
+.PHONY: help build test tables vectors growths failures believed stack big library-growths bench install clean
 
 help:
 	@echo 'make build      prove every crate and build the program, $(PROGRAM)'
-	@echo 'make test       the merge gate from nothing, then make tables, vectors, growths, failures and library-tests'
+	@echo 'make test       the merge gate from nothing, then make tables, believed, stack, vectors, growths, failures and library-tests'
 	@echo 'make tables     the built program on the tables of tests/, and the examples of the documents'
 	@echo 'make vectors    the built program on each front of each worked input'
 	@echo 'make growths    the built program on those tables, each growth refused in turn'
 	@echo 'make failures   the built program on those tables, with trouble at each opening, read and write in turn'
 	@echo 'make believed   the lines of definitions that a reader has to believe, and that the documents say so'
-	@echo 'make stack      the least stack that each command needs at 1,024 levels, at most STACK KB (STACK is $(STACK))'
+	@echo 'make stack      the least stack that each command needs at 1,024 levels: no more than STACK KB (STACK is $(STACK))'
+	@echo 'make big        the largest inputs there are, 2^30 bytes, with time and memory: some minutes, 8 GB of memory, 3 GB of disk'
 	@echo 'make library-growths   the tests of the libraries, proved and built first, each growth refused in turn'
 	@echo 'make bench      time the commands on a corpus of 130 MB, made under bench/corpus'
 	@echo 'make bench-peers    the program beside its peers, whose drivers it builds (Debian packages; it says which): some ten minutes'
@@ -35,7 +36,7 @@ build:
 
 test:
 	rt ci
-	$(MAKE) tables vectors growths failures library-tests
+	$(MAKE) tables believed stack vectors growths failures library-tests
 
 tables: build
 	python3 tests/run.py $(PROGRAM)
@@ -56,14 +57,15 @@ believed:
 stack: build
 	python3 tests/stack.py $(PROGRAM) $(STACK)
 
-library-growths: $(LIBRARIES:%=growths-of-%)
+# BIG may hold an option: BIG='--into docs/PERFORMANCE.md' to put the table there.
+big: build
+	python3 tests/big.py $(PROGRAM) $(BIG)
 
-# Where words are given, only the tests whose names have one: the others don't tell what a call answered.
-WORDS_cborn_engine := growths within_a_bound
+library-growths: $(LIBRARIES:%=growths-of-%)
 
 growths-of-%:
 	cd crates/$* && rt test
-	python3 tests/growths.py --tests crates/$*/out/$*_tests $(WORDS_$*)
+	python3 tests/growths.py --tests crates/$*/out/$*_tests
 
 .PHONY: bench-peers bench-growth bench-cost
 

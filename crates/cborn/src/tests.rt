@@ -1,4 +1,7 @@
 //! What the program prints, and its statuses.
+
+mod flushes;
+
 use crate::lines::{Trouble, tell_trouble};
 use crate::run;
 use cborn_engine::{CompareFault, EngineFault};

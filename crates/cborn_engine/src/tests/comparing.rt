@@ -37,7 +37,7 @@ fn comparisons(rt: HostRuntime) -> Result<(), Fail> {
             kind,
             &mut second,
         );
-        assert!(rt; answer == Ok(index), "{ours:?} {theirs:?}");
+        assert_eq!(rt; answer, Ok(index), "{ours:?} {theirs:?}");
     }
     Ok(())
 }
@@ -108,10 +108,10 @@ fn defects(rt: HostRuntime) -> Result<(), Fail> {
     for (input, bytewise, length_first) in cases {
         let mut bytes = Bytes::new(input, 1);
         let answer = check::<Bytewise, Bytes<'_>>(rt.alloc(), Limit::USUAL, &mut bytes);
-        assert!(rt; answer == Ok(bytewise), "{input:?}");
+        assert_eq!(rt; answer, Ok(bytewise), "{input:?}");
         let mut bytes = Bytes::new(input, 3);
         let answer = check::<LengthFirst, Bytes<'_>>(rt.alloc(), Limit::USUAL, &mut bytes);
-        assert!(rt; answer == Ok(length_first), "{input:?}");
+        assert_eq!(rt; answer, Ok(length_first), "{input:?}");
     }
     Ok(())
 }

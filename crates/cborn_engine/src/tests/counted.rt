@@ -69,12 +69,12 @@ fn normalised<W: Sink>(alloc: Global, input: &[u8], out: &mut W) -> Result<(), E
 fn interrupted_calls(rt: HostRuntime) -> Result<(), Fail> {
     let mut reader = Counted::new(Interrupted { calls: 0 });
     let result = load(rt.alloc(), Limit::USUAL, Kind::Wire, &mut reader);
-    assert!(rt; matches!(result, Err(EngineFault::ReadFault)));
+    assert_eq!(rt; result.err(), Some(EngineFault::ReadFault));
     assert_eq!(rt; Source::failures(&reader), 1);
     assert_eq!(rt; reader.inner.calls, 1);
     let mut writer = Counted::new(Interrupted { calls: 0 });
     let result = normalised(rt.alloc(), b"\x00", &mut writer);
-    assert!(rt; result == Err(EngineFault::WriteFault));
+    assert_eq!(rt; result, Err(EngineFault::WriteFault));
     assert_eq!(rt; Sink::failures(&writer), 1);
     assert_eq!(rt; writer.inner.calls, 1);
     Ok(())
@@ -86,7 +86,7 @@ fn failed_flushes(rt: HostRuntime) -> Result<(), Fail> {
     for input in [b"".as_slice(), b"\x18\x01".as_slice()] {
         let mut writer = Counted::new(Unflushed { taken: 0 });
         let result = normalised(rt.alloc(), input, &mut writer);
-        assert!(rt; result == Err(EngineFault::WriteFault), "{input:?}");
+        assert_eq!(rt; result, Err(EngineFault::WriteFault), "{input:?}");
         assert_eq!(rt; Sink::failures(&writer), 1, "{input:?}");
         assert_eq!(rt; writer.inner.taken, input.len() / 2, "{input:?}");
     }

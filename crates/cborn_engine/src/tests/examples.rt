@@ -174,7 +174,7 @@ fn normalised<O: KeyOrder>(
 fn deterministic_encodings(rt: HostRuntime) -> Result<(), Fail> {
     for (input, output) in NORMALISED {
         for step in [1, 4096] {
-            let mut out = Taken::new(rt.alloc());
+            let mut out = Taken::new(rt.alloc())?;
             normalised::<Bytewise>(rt.alloc(), Limit::USUAL, input, step, &mut out)?;
             assert_eq!(rt; out.bytes.as_slice(), output, "{input:?}");
             assert_eq!(rt; out.flushes, 1, "{input:?}");
@@ -187,7 +187,7 @@ fn deterministic_encodings(rt: HostRuntime) -> Result<(), Fail> {
 fn spellings_kept(rt: HostRuntime) -> Result<(), Fail> {
     let kind = Kind::Wire;
     for (input, _) in NORMALISED {
-        let mut out = Taken::new(rt.alloc());
+        let mut out = Taken::new(rt.alloc())?;
         let mut bytes = Bytes::new(input, 2);
         show_all(rt.alloc(), Limit::USUAL, kind, kind, &mut bytes, &mut out)?;
         assert_eq!(rt; out.bytes.as_slice(), input);
@@ -202,10 +202,10 @@ fn unread_bytes(rt: HostRuntime) -> Result<(), Fail> {
         for step in [1, 4096] {
             let mut bytes = Bytes::new(input, step);
             let result = load(rt.alloc(), Limit::USUAL, Kind::Wire, &mut bytes);
-            assert!(rt; matches!(result, Err(why) if why == fault), "{input:?}");
-            let mut out = Taken::new(rt.alloc());
+            assert_eq!(rt; result.err(), Some(fault), "{input:?}");
+            let mut out = Taken::new(rt.alloc())?;
             let result = normalised::<Bytewise>(rt.alloc(), Limit::USUAL, input, step, &mut out);
-            assert!(rt; result == Err(fault), "{input:?}");
+            assert_eq!(rt; result, Err(fault), "{input:?}");
             assert!(rt; out.is_untouched(), "{input:?}");
         }
     }
@@ -216,23 +216,19 @@ fn unread_bytes(rt: HostRuntime) -> Result<(), Fail> {
 fn invalid_items(rt: HostRuntime) -> Result<(), Fail> {
     for (input, place, reason) in INVALID {
         let fault = EngineFault::Invalid(Invalid::Refused { place, reason });
-        let mut out = Taken::new(rt.alloc());
+        let mut out = Taken::new(rt.alloc())?;
         let result = normalised::<Bytewise>(rt.alloc(), Limit::USUAL, input, 1, &mut out);
-        assert!(rt; result == Err(fault), "{input:?}");
+        assert_eq!(rt; result, Err(fault), "{input:?}");
         assert!(rt; out.is_untouched(), "{input:?}");
-        let nodes = load(
-            rt.alloc(),
-            Limit::USUAL,
-            Kind::Wire,
-            &mut Bytes::new(input, 1),
-        );
-        assert!(rt; nodes.is_ok(), "{input:?}");
+        let mut bytes = Bytes::new(input, 1);
+        let nodes = load(rt.alloc(), Limit::USUAL, Kind::Wire, &mut bytes);
+        assert_eq!(rt; nodes.err(), None, "{input:?}");
         let result = check::<Bytewise, Bytes<'_>>(
             rt.alloc(),
             Limit::USUAL,
             &mut Bytes::new(input, 1),
         );
-        assert!(rt; result == Err(fault), "{input:?}");
+        assert_eq!(rt; result.err(), Some(fault), "{input:?}");
     }
     Ok(())
 }
@@ -241,12 +237,12 @@ fn invalid_items(rt: HostRuntime) -> Result<(), Fail> {
 fn both_orders_of_keys(rt: HostRuntime) -> Result<(), Fail> {
     let input =
         b"\xa8\xf4\x00\x81\x20\x00\x81\x18\x64\x00\x62\x61\x61\x00\x61\x7a\x00\x20\x00\x18\x64\x00\x0a\x00";
-    let mut out = Taken::new(rt.alloc());
+    let mut out = Taken::new(rt.alloc())?;
     normalised::<Bytewise>(rt.alloc(), Limit::USUAL, input, 5, &mut out)?;
     let bytewise =
         b"\xa8\x0a\x00\x18\x64\x00\x20\x00\x61\x7a\x00\x62\x61\x61\x00\x81\x18\x64\x00\x81\x20\x00\xf4\x00";
     assert_eq!(rt; out.bytes.as_slice(), bytewise.as_slice());
-    let mut out = Taken::new(rt.alloc());
+    let mut out = Taken::new(rt.alloc())?;
     normalised::<LengthFirst>(rt.alloc(), Limit::USUAL, input, 5, &mut out)?;
     let shorter_first =
         b"\xa8\x0a\x00\x20\x00\xf4\x00\x18\x64\x00\x61\x7a\x00\x81\x20\x00\x62\x61\x61\x00\x81\x18\x64\x00";
@@ -284,7 +280,7 @@ fn depths(rt: HostRuntime) -> Result<(), Fail> {
         let Some(limit) = Limit::new(limit) else {
             return Err(Fail::new("no limit"));
         };
-        let mut out = Taken::new(rt.alloc());
+        let mut out = Taken::new(rt.alloc())?;
         normalised::<Bytewise>(rt.alloc(), limit, &input, 7, &mut out)?;
         assert_eq!(rt;
             out.bytes.as_slice(),
@@ -325,10 +321,10 @@ fn too_deep(rt: HostRuntime) -> Result<(), Fail> {
         let Some(limit) = Limit::new(limit) else {
             return Err(Fail::new("no limit"));
         };
-        let mut out = Taken::new(rt.alloc());
+        let mut out = Taken::new(rt.alloc())?;
         let result = normalised::<Bytewise>(rt.alloc(), limit, &input, 7, &mut out);
         let fault = EngineFault::Wire(WireFault::Refused { place, reason });
-        assert!(rt; result == Err(fault), "{place}");
+        assert_eq!(rt; result, Err(fault), "{place}");
     }
     Ok(())
 }
@@ -356,19 +352,19 @@ fn large_map(alloc: Global, last: &[u8]) -> Result<Vec<u8>, AllocError> {
 #[test]
 fn large_maps(rt: HostRuntime) -> Result<(), Fail> {
     let input = large_map(rt.alloc(), b"\x00")?;
-    let mut out = Taken::new(rt.alloc());
+    let mut out = Taken::new(rt.alloc())?;
     normalised::<Bytewise>(rt.alloc(), Limit::USUAL, &input, 4096, &mut out)?;
     let output = out.bytes.as_slice();
     assert_eq!(rt; output.len(), 3723);
     assert!(rt; output.starts_with(b"\xb9\x03\xe8\x00\x00\x01\x00\x02\x00"));
     assert!(rt; output.ends_with(b"\x19\x03\xe7\x00"));
     let input = large_map(rt.alloc(), b"\x19\x03\xe7")?;
-    let mut out = Taken::new(rt.alloc());
+    let mut out = Taken::new(rt.alloc())?;
     let result = normalised::<Bytewise>(rt.alloc(), Limit::USUAL, &input, 4096, &mut out);
     let fault = EngineFault::Invalid(Invalid::Refused {
         place: 3721,
         reason: InvalidReason::DuplicateKey,
     });
-    assert!(rt; result == Err(fault));
+    assert_eq!(rt; result, Err(fault));
     Ok(())
 }

@@ -2,7 +2,7 @@
 ghost use Rattle.std.specs.Prelude.{Some};
 
 use crate::{Sink, Source};
-use std::alloc::Global;
+use std::alloc::{AllocError, Global};
 use std::io;
 use std::io::ErrorKind;
 
@@ -69,6 +69,9 @@ pub enum Trouble {
     FailsToFlush,
 }
 
+/// The room of a writer, in bytes. It is taken at first, so that no write wants memory.
+const ROOM: usize = 1 << 14;
+
 /// Takes bytes into a vector, at most `step` a call, until its trouble.
 #[derive(Drop)]
 pub struct Taken {
@@ -83,21 +86,26 @@ pub struct Taken {
 
 impl Taken {
     /// Takes all bytes.
-    pub fn new(alloc: Global) -> Self {
+    pub fn new(alloc: Global) -> Result<Self, AllocError> {
         Taken::troubled(alloc, 4096, 0, Trouble::Nothing)
     }
 
     /// Takes `step` bytes a call, and has its trouble after so many calls.
-    pub fn troubled(alloc: Global, step: usize, calls_to_trouble: u64, trouble: Trouble) -> Self {
-        Taken {
-            bytes: Vec::new(alloc),
+    pub fn troubled(
+        alloc: Global,
+        step: usize,
+        calls_to_trouble: u64,
+        trouble: Trouble,
+    ) -> Result<Self, AllocError> {
+        Ok(Taken {
+            bytes: Vec::with_capacity(alloc, ROOM)?,
             step,
             calls_to_trouble,
             trouble,
             failed: 0,
             writes: 0,
             flushes: 0,
-        }
+        })
     }
 
     /// Whether nothing was written and nothing flushed.

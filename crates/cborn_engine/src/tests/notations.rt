@@ -38,7 +38,7 @@ fn normalised(rt: HostRuntime) -> Result<(), Fail> {
     for (from, input, to, output) in NORMALISED {
         for step in [1, 3] {
             let mut bytes = Bytes::new(input, step);
-            let mut out = Taken::new(rt.alloc());
+            let mut out = Taken::new(rt.alloc())?;
             let result = normalise::<Bytewise, Bytes<'_>, Taken>(
                 rt.alloc(),
                 Limit::USUAL,
@@ -73,7 +73,7 @@ fn refused(rt: HostRuntime) -> Result<(), Fail> {
     for (input, fault) in cases {
         for step in [1, 2] {
             let mut bytes = Bytes::new(input, step);
-            let mut out = Taken::new(rt.alloc());
+            let mut out = Taken::new(rt.alloc())?;
             let kind = Kind::Notation;
             let result = show_all(rt.alloc(), Limit::USUAL, kind, kind, &mut bytes, &mut out);
             assert_eq!(rt; result, Err(fault), "{input:?}");
@@ -86,7 +86,7 @@ fn refused(rt: HostRuntime) -> Result<(), Fail> {
 #[test]
 fn shown(rt: HostRuntime) -> Result<(), Fail> {
     let mut bytes = Bytes::new(b"\xbf\x61\x7a\x01\x0a\x5f\x41\x01\xff\xff", 4);
-    let mut out = Taken::new(rt.alloc());
+    let mut out = Taken::new(rt.alloc())?;
     let (wire, notation) = (Kind::Wire, Kind::Notation);
     let result = show_all(
         rt.alloc(),
@@ -102,7 +102,7 @@ fn shown(rt: HostRuntime) -> Result<(), Fail> {
         b"{_ \"z\": 1, 10: (_ h'01')}\n".as_slice()
     );
     let mut bytes = Bytes::new(b"\x7f\x61\xc3\x61\xbc\xff", 4);
-    let mut out = Taken::new(rt.alloc());
+    let mut out = Taken::new(rt.alloc())?;
     let result = show_all(
         rt.alloc(),
         Limit::USUAL,
@@ -137,7 +137,7 @@ fn compared(rt: HostRuntime) -> Result<(), Fail> {
             Kind::Wire,
             &mut second,
         );
-        assert!(rt; result == answer, "{input:?}");
+        assert_eq!(rt; result, answer, "{input:?}");
     }
     Ok(())
 }

@@ -22,45 +22,34 @@ const NOTATED: [(&[u8], usize, usize); 4] = [
     (b"[_ true,] # \xc3\xa9", 12, 14),
 ];
 
-/// Whether each proper prefix of some bytes is read, or is refused for its content.
-fn are_prefixes_told(alloc: Global, input: &[u8]) -> bool {
+/// Hands on what refuses a proper prefix of some bytes, other than its content.
+fn read_prefixes(alloc: Global, input: &[u8]) -> Result<(), EngineFault> {
     for end in 0..input.len() {
         let mut bytes = Bytes::new(&input[..end], 4096);
-        let is_told = match load(alloc, Limit::USUAL, Kind::Wire, &mut bytes) {
-            Ok(_) => true,
-            Err(why) => matches!(why, EngineFault::Wire(_)),
-        };
-        if !is_told {
-            return false;
+        match load(alloc, Limit::USUAL, Kind::Wire, &mut bytes) {
+            Ok(_) | Err(EngineFault::Wire(_)) => {}
+            Err(why) => return Err(why),
         }
     }
-    true
+    Ok(())
 }
 
 #[test]
 fn proper_prefixes(rt: HostRuntime) -> Result<(), Fail> {
     for input in vectors(rt.alloc())? {
-        assert!(rt; are_prefixes_told(rt.alloc(), input), "{input:?}");
+        read_prefixes(rt.alloc(), input)?;
     }
     for input in SPELLINGS {
-        assert!(rt; are_prefixes_told(rt.alloc(), input), "{input:?}");
+        read_prefixes(rt.alloc(), input)?;
     }
     Ok(())
 }
 
-/// Whether an answer is one to a whole text: its items, or why it has none.
-fn is_of_text(answer: Result<Vec<Spelled>, EngineFault>) -> bool {
+/// The fault of a proper prefix of a text, unless it is one of a whole text.
+fn fault_of_cut(answer: Result<Vec<Spelled>, EngineFault>) -> Option<EngineFault> {
     match answer {
-        Ok(_) => true,
-        Err(why) => matches!(why, EngineFault::Edn(_)),
-    }
-}
-
-/// Whether an answer tells that the text isn't UTF-8 from this place on.
-fn is_cut_at(answer: Result<Vec<Spelled>, EngineFault>, place: u64) -> bool {
-    match answer {
-        Ok(_) => false,
-        Err(why) => why == EngineFault::TextInput(place),
+        Ok(_) | Err(EngineFault::Edn(_)) => None,
+        Err(why) => Some(why),
     }
 }
 
@@ -70,12 +59,9 @@ fn proper_prefixes_of_notation(rt: HostRuntime) -> Result<(), Fail> {
         for end in 0..input.len() {
             let mut bytes = Bytes::new(&input[..end], 1);
             let answer = load(rt.alloc(), Limit::USUAL, Kind::Notation2, &mut bytes);
-            let is_told = if start < end && end < behind {
-                is_cut_at(answer, start as u64)
-            } else {
-                is_of_text(answer)
-            };
-            assert!(rt; is_told, "{end} of {input:?}");
+            let is_cut = start < end && end < behind;
+            let fault = is_cut.then_some(EngineFault::TextInput(start as u64));
+            assert_eq!(rt; fault_of_cut(answer), fault, "{end} of {input:?}");
         }
     }
     Ok(())

@@ -4,6 +4,7 @@ use crate::{
     CompareFault, Counted, EngineFault, Kind, Sink, Source, compare, load, load_within, normalise,
 };
 use cborn_model::{Bytewise, Limit};
+use cborn_wire::{WireFault, WireReason};
 use std::alloc::Global;
 use std::test::Fail;
 
@@ -49,9 +50,9 @@ fn writers_with_trouble(rt: HostRuntime) -> Result<(), Fail> {
         ),
     ];
     for (calls, trouble, answer, taken, writes, flushes, failures) in cases {
-        let mut out = Taken::troubled(rt.alloc(), 1, calls, trouble);
+        let mut out = Taken::troubled(rt.alloc(), 1, calls, trouble)?;
         let result = normalised(rt.alloc(), &mut Bytes::new(INPUT, 3), &mut out);
-        assert!(rt; result == answer, "{trouble:?}");
+        assert_eq!(rt; result, answer, "{trouble:?}");
         assert_eq!(rt; out.bytes.as_slice(), taken, "{trouble:?}");
         assert_eq!(rt; out.writes, writes, "{trouble:?}");
         assert_eq!(rt; out.flushes, flushes, "{trouble:?}");
@@ -64,9 +65,9 @@ fn writers_with_trouble(rt: HostRuntime) -> Result<(), Fail> {
 fn readers_that_fail(rt: HostRuntime) -> Result<(), Fail> {
     for input in [b"\x00".as_slice(), b"\x00\x1c".as_slice()] {
         let mut bytes = Bytes::failing(input, 2, 1);
-        let mut out = Taken::new(rt.alloc());
+        let mut out = Taken::new(rt.alloc())?;
         let result = normalised(rt.alloc(), &mut bytes, &mut out);
-        assert!(rt; result == Err(EngineFault::ReadFault));
+        assert_eq!(rt; result, Err(EngineFault::ReadFault));
         assert_eq!(rt; bytes.failures(), 1);
         assert!(rt; out.is_untouched());
     }
@@ -80,7 +81,7 @@ fn inputs_within_a_bound(rt: HostRuntime) -> Result<(), Fail> {
     assert_eq!(rt; nodes.len(), 4);
     let mut long = Bytes::new(b"\x1c\x00\x00\x00\x00\x00\x00", 4096);
     let result = load_within(rt.alloc(), Limit::USUAL, 4, Kind::Wire, &mut long);
-    assert!(rt; matches!(result, Err(EngineFault::TooLong)));
+    assert_eq!(rt; result.err(), Some(EngineFault::TooLong));
     assert_eq!(rt; long.rest.len(), 2);
     let nodes = load(
         rt.alloc(),
@@ -92,10 +93,12 @@ fn inputs_within_a_bound(rt: HostRuntime) -> Result<(), Fail> {
     Ok(())
 }
 
-fn calls_of_load(alloc: Global, kind: Kind, input: &[u8], step: usize) -> u64 {
+fn calls_of_load(alloc: Global, kind: Kind, input: &[u8], step: usize) -> Result<u64, EngineFault> {
     let mut bytes = Bytes::new(input, step);
-    let _nodes = load_within(alloc, Limit::USUAL, 5, kind, &mut bytes);
-    bytes.calls
+    match load_within(alloc, Limit::USUAL, 5, kind, &mut bytes) {
+        Err(EngineFault::OutOfMemory) => Err(EngineFault::OutOfMemory),
+        _ => Ok(bytes.calls),
+    }
 }
 
 /// Catches a reader that is asked again behind its end or a byte too many.
@@ -112,9 +115,9 @@ fn calls_of_readers(rt: HostRuntime) -> Result<(), Fail> {
         (7, 4096, 1),
     ] {
         let input = &zeros[..length];
-        let of_bytes = calls_of_load(rt.alloc(), Kind::Wire, input, step);
+        let of_bytes = calls_of_load(rt.alloc(), Kind::Wire, input, step)?;
         assert_eq!(rt; of_bytes, calls, "{length} by {step}");
-        let of_text = calls_of_load(rt.alloc(), Kind::Notation, input, step);
+        let of_text = calls_of_load(rt.alloc(), Kind::Notation, input, step)?;
         assert_eq!(rt; of_text, calls, "{length} by {step}");
     }
     Ok(())
@@ -125,7 +128,9 @@ fn calls_of_readers(rt: HostRuntime) -> Result<(), Fail> {
 fn calls_of_failing_readers(rt: HostRuntime) -> Result<(), Fail> {
     for (calls_to_failure, calls) in [(0, 1), (2, 3), (7, 8), (8, 8)] {
         let mut bytes = Bytes::failing(INPUT, 1, calls_to_failure);
-        let _result = normalised(rt.alloc(), &mut bytes, &mut Taken::new(rt.alloc()));
+        let result = normalised(rt.alloc(), &mut bytes, &mut Taken::new(rt.alloc())?);
+        let fault = (calls_to_failure < 8).then_some(EngineFault::ReadFault);
+        assert_eq!(rt; result.err(), fault, "{calls_to_failure}");
         assert_eq!(rt; bytes.calls, calls, "{calls_to_failure}");
     }
     Ok(())
@@ -144,7 +149,7 @@ fn second_readers(rt: HostRuntime) -> Result<(), Fail> {
         kind,
         &mut theirs,
     );
-    assert!(rt; result == Err(CompareFault::Second(EngineFault::ReadFault)));
+    assert_eq!(rt; result, Err(CompareFault::Second(EngineFault::ReadFault)));
     let mut refused = Bytes::new(b"\x1c", 1);
     let mut unread = Bytes::failing(b"\x00", 1, 0);
     let result = compare::<Bytewise, Bytes<'_>, Bytes<'_>>(
@@ -155,7 +160,11 @@ fn second_readers(rt: HostRuntime) -> Result<(), Fail> {
         kind,
         &mut unread,
     );
-    assert!(rt; matches!(result, Err(CompareFault::First(EngineFault::Wire(_)))));
+    let fault = WireFault::Refused {
+        place: 0,
+        reason: WireReason::ReservedInfo,
+    };
+    assert_eq!(rt; result, Err(CompareFault::First(EngineFault::Wire(fault))));
     assert_eq!(rt; unread.failures(), 0);
     Ok(())
 }

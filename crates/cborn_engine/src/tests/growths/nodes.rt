@@ -1,0 +1,85 @@
+//! The calls that give or take nodes.
+use super::super::memory::Bytes;
+use crate::{Kind, load, load_within};
+use cborn_det::{encode, encode_all, equal_bytes};
+use cborn_judge::{Defect, DefectReason, first_defect, judge_all};
+use cborn_model::{Bytewise, Limit};
+use cborn_wire::{Feeder, WireFault, read_all, read_one, spell_all};
+use std::test::Fail;
+
+#[test]
+fn inputs_loaded(rt: HostRuntime) -> Result<(), Fail> {
+    let spelled = b"\xbf\x61\x7a\x01\x0a\x5f\x41\x01\xff\xff\x18\x02".as_slice();
+    let mut bytes = Bytes::new(spelled, 2);
+    let nodes = load(rt.alloc(), Limit::USUAL, Kind::Wire, &mut bytes)?;
+    assert_eq!(rt; spell_all(rt.alloc(), &nodes)?.as_slice(), spelled);
+    let mut text = Bytes::new(b"{_ \"z\": 1, 10: (_ h'01')}, 2_0", 2);
+    let nodes = load_within(rt.alloc(), Limit::USUAL, 31, Kind::Notation, &mut text)?;
+    assert_eq!(rt; spell_all(rt.alloc(), &nodes)?.as_slice(), spelled);
+    let mut text = Bytes::new(b"{_ \"z\": 1, 10: (_ h'01'),},2_0#", 2);
+    let nodes = load_within(rt.alloc(), Limit::USUAL, 31, Kind::Notation2, &mut text)?;
+    assert_eq!(rt; spell_all(rt.alloc(), &nodes)?.as_slice(), spelled);
+    Ok(())
+}
+
+/// A feeder that was refused memory answers that again, and gives what it kept.
+#[test]
+fn pieces_fed(rt: HostRuntime) -> Result<(), Fail> {
+    let mut feeder = Feeder::new(rt.alloc(), Limit::USUAL);
+    let first = feeder.feed(b"\xbf\x61\x7a\x01\x0a\x5f\x41");
+    let second = feeder.feed(b"\x01\xff\xff\x00");
+    if first.is_err() {
+        assert_eq!(rt; second, Err(WireFault::OutOfMemory));
+    }
+    let taken = feeder.take();
+    let rest = match feeder.finish() {
+        Ok(rest) => rest,
+        Err(why) => {
+            assert_eq!(rt; second, Err(why));
+            return Err(Fail::from(why));
+        }
+    };
+    assert_eq!(rt; (first, second), (Ok(()), Ok(())));
+    assert!(rt; taken.is_some());
+    assert_eq!(rt;
+        spell_all(rt.alloc(), &rest)?.as_slice(),
+        b"\x00".as_slice()
+    );
+    Ok(())
+}
+
+#[test]
+fn nodes_read(rt: HostRuntime) -> Result<(), Fail> {
+    let input = b"\xa2\x02\x00\x01\x5f\x41\x61\xff".as_slice();
+    let nodes = read_all(rt.alloc(), Limit::USUAL, input)?;
+    assert_eq!(rt; spell_all(rt.alloc(), &nodes)?.as_slice(), input);
+    let (_, end) = read_one(rt.alloc(), Limit::USUAL, input, 1)?;
+    assert_eq!(rt; end, 2);
+    let defect = Defect {
+        place: 3,
+        reason: DefectReason::KeyOrder,
+    };
+    assert_eq!(rt;
+        first_defect::<Bytewise>(rt.alloc(), &nodes[0])?,
+        Some(defect)
+    );
+    Ok(())
+}
+
+#[test]
+fn items_judged(rt: HostRuntime) -> Result<(), Fail> {
+    let input = b"\xa2\x02\x00\x01\x5f\x41\x61\xff\x18\x01\xc2\x41\x07\x7f\x61\x61\xff\x9f\xff";
+    let nodes = read_all(rt.alloc(), Limit::USUAL, input.as_slice())?;
+    let items = judge_all(rt.alloc(), &nodes)?;
+    assert_eq!(rt; items.len(), 5);
+    let first = encode::<Bytewise>(rt.alloc(), &items[0])?;
+    assert_eq!(rt; first.as_slice(), b"\xa2\x01\x41\x61\x02\x00".as_slice());
+    let all = encode_all::<Bytewise>(rt.alloc(), &items)?;
+    assert_eq!(rt;
+        all.as_slice(),
+        b"\xa2\x01\x41\x61\x02\x00\x01\x07\x61\x61\x80".as_slice()
+    );
+    assert!(rt; equal_bytes::<Bytewise>(rt.alloc(), &items[1], &items[1])?);
+    assert!(rt; !equal_bytes::<Bytewise>(rt.alloc(), &items[1], &items[2])?);
+    Ok(())
+}
