@@ -110,7 +110,7 @@ enum {
 };
 
 /* The bytes of stack that a call takes at most, measured. */
-#define CBORN_STACK(depth) (81920 + 1536 * (depth))
+#define CBORN_STACK(depth) (32768 + 208 * (depth))
 
 /* What a call tells beside the number that it answers. */
 typedef struct {

@@ -349,7 +349,7 @@ def compare(
 
 def stack(depth: int = 128) -> int:
     """How many bytes of stack a call takes at most, as measured: CBORN_STACK of cborn.h."""
-    return 81920 + 1536 * depth
+    return 32768 + 208 * depth
 
 
 def version() -> str:

@@ -33,7 +33,7 @@ extern "C" {
 
 /// `CBORN_STACK`.
 pub fn stack(depth: usize) -> usize {
-    81920 + 1536 * depth
+    32768 + 208 * depth
 }
 
 /// The answer of a call that writes one, into so much room or, if that is too little, into what the call then asks for.
