@@ -17,33 +17,33 @@ pub enum Order {
 
 /// What the program is asked to do. A `file` that isn't named is standard input.
 #[derive(Clone, Copy, Debug)]
-pub enum Task<'a> {
-    Show {
+pub struct Task<'a> {
+    pub action: Action<'a>,
+    pub order: Order,
+    pub limit: Limit,
+}
+
+/// The command of a task, with what it alone has.
+#[derive(Clone, Copy, Debug)]
+pub enum Action<'a> {
+    Read {
         file: Option<&'a str>,
-        from: Kind,
-        to: Kind,
-        limit: Limit,
-    },
-    Normalise {
-        file: Option<&'a str>,
-        from: Kind,
-        to: Kind,
-        order: Order,
-        limit: Limit,
+        purpose: Purpose,
     },
     Compare {
         first: &'a str,
         second: &'a str,
         from_a: Kind,
         from_b: Kind,
-        order: Order,
-        limit: Limit,
     },
-    Check {
-        file: Option<&'a str>,
-        order: Order,
-        limit: Limit,
-    },
+}
+
+/// What one input is read for.
+#[derive(Clone, Copy, Debug)]
+pub enum Purpose {
+    Show { from: Kind, to: Kind },
+    Normalise { from: Kind, to: Kind },
+    Check,
 }
 
 /// Reads the command line, of which the first word is the program's name.
@@ -58,37 +58,38 @@ pub fn read_task<'a>(alloc: Global, words: &'a [&'a str]) -> Result<Task<'a>, Er
 
 fn task_of<'a>(matches: &ArgMatches<'a>) -> Option<Task<'a>> {
     let (name, found) = matches.subcommand()?;
-    let limit = Limit::new(found.get_one::<u64>("depth")?)?;
-    let order = order_of(found);
-    match name {
-        "show" => Some(Task::Show {
-            file: found.get_str("FILE"),
+    Some(Task {
+        action: action_of(name, found)?,
+        order: order_of(found),
+        limit: Limit::new(found.get_one::<u64>("depth")?)?,
+    })
+}
+
+fn action_of<'a>(name: &str, found: &ArgMatches<'a>) -> Option<Action<'a>> {
+    let purpose = match name {
+        "show" => Purpose::Show {
             from: kind_of(found, "from"),
             to: kind_of(found, "to"),
-            limit,
-        }),
-        "normalise" => Some(Task::Normalise {
-            file: found.get_str("FILE"),
+        },
+        "normalise" => Purpose::Normalise {
             from: kind_of(found, "from"),
             to: kind_of(found, "to"),
-            order,
-            limit,
-        }),
-        "compare" => Some(Task::Compare {
-            first: found.get_str("FILE_A")?,
-            second: found.get_str("FILE_B")?,
-            from_a: kind_of(found, "from-a"),
-            from_b: kind_of(found, "from-b"),
-            order,
-            limit,
-        }),
-        "check" => Some(Task::Check {
-            file: found.get_str("FILE"),
-            order,
-            limit,
-        }),
-        _ => None,
-    }
+        },
+        "check" => Purpose::Check,
+        "compare" => {
+            return Some(Action::Compare {
+                first: found.get_str("FILE_A")?,
+                second: found.get_str("FILE_B")?,
+                from_a: kind_of(found, "from-a"),
+                from_b: kind_of(found, "from-b"),
+            });
+        }
+        _ => return None,
+    };
+    Some(Action::Read {
+        file: found.get_str("FILE"),
+        purpose,
+    })
 }
 
 fn order_of(found: &ArgMatches<'_>) -> Order {

@@ -2,13 +2,10 @@
 
 use crate::inputs::LateFile;
 use crate::lines::{Answer, Trouble, tell_answer};
-use crate::options::{Order, Task};
+use crate::options::{Action, Order, Purpose, Task};
 use crate::statuses::DONE;
-use cborn_engine::{
-    CompareFault, Counted, EngineFault, Kind, Sink, Source, check, compare, normalise, show_all,
-};
-use cborn_judge::Defect;
-use cborn_model::{Bytewise, LengthFirst, Limit};
+use cborn_engine::{CompareFault, Counted, Kind, check, compare, normalise, show_all};
+use cborn_model::{Bytewise, KeyOrder, LengthFirst, Limit};
 use std::alloc::Global;
 use std::fs;
 use std::io::{Read, Write};
@@ -22,137 +19,86 @@ pub fn perform<'a, F: Files, I: Read + Drop, W: Write + Drop>(
     input: I,
     out: W,
 ) -> Result<u8, Trouble<'a>> {
-    match task {
-        Task::Show {
-            file,
-            from,
-            to,
-            limit,
-        } => match file {
-            None => show_from(alloc, *limit, *from, *to, input, out),
-            Some(name) => show_from(alloc, *limit, *from, *to, opened(rt, name)?, out),
+    let Task {
+        action,
+        order,
+        limit,
+    } = *task;
+    match order {
+        Order::Bytewise => act::<Bytewise, F, I, W>(rt, alloc, limit, action, input, out),
+        Order::LengthFirst => act::<LengthFirst, F, I, W>(rt, alloc, limit, action, input, out),
+    }
+}
+
+/// The same, the keys of maps in the order `O`.
+fn act<'a, O: KeyOrder, F: Files, I: Read + Drop, W: Write + Drop>(
+    rt: &F,
+    alloc: Global,
+    limit: Limit,
+    action: Action<'a>,
+    input: I,
+    out: W,
+) -> Result<u8, Trouble<'a>> {
+    match action {
+        Action::Read {
+            file: None,
+            purpose,
+        } => read_for::<O, I, W>(alloc, limit, purpose, input, out),
+        Action::Read {
+            file: Some(name),
+            purpose,
+        } => match fs::open(rt, name) {
+            Ok(file) => read_for::<O, F::File, W>(alloc, limit, purpose, file, out),
+            Err(_) => Err(Trouble::CannotRead(name)),
         },
-        Task::Normalise {
-            file,
-            from,
-            to,
-            order,
-            limit,
-        } => match file {
-            None => normalise_from(alloc, *order, *limit, *from, *to, input, out),
-            Some(name) => {
-                normalise_from(alloc, *order, *limit, *from, *to, opened(rt, name)?, out)
-            }
-        },
-        Task::Compare {
+        Action::Compare {
             first,
             second,
             from_a,
             from_b,
-            order,
-            limit,
-        } => {
-            let kinds = (*from_a, *from_b);
-            let difference = compare_files(rt, alloc, *order, *limit, kinds, first, second)?;
-            match difference {
-                None => tell_answer(out, Answer::Same),
-                Some(index) => tell_answer(out, Answer::DifferentAt(index)),
-            }
-        }
-        Task::Check { file, order, limit } => match file {
-            None => check_from(alloc, *order, *limit, input, out),
-            Some(name) => check_from(alloc, *order, *limit, opened(rt, name)?, out),
+        } => match compare_files::<O, F>(rt, alloc, limit, from_a, first, from_b, second)? {
+            None => tell_answer(out, Answer::Same),
+            Some(index) => tell_answer(out, Answer::DifferentAt(index)),
         },
     }
 }
 
-fn opened<'a, F: Files>(rt: &F, name: &'a str) -> Result<F::File, Trouble<'a>> {
-    match fs::open(rt, name) {
-        Ok(file) => Ok(file),
-        Err(_) => Err(Trouble::CannotRead(name)),
-    }
-}
-
-fn show_from<'a, I: Read + Drop, W: Write + Drop>(
+/// Reads one input, and writes what is asked of it.
+fn read_for<'a, O: KeyOrder, I: Read + Drop, W: Write + Drop>(
     alloc: Global,
     limit: Limit,
-    from: Kind,
-    to: Kind,
+    purpose: Purpose,
     input: I,
     out: W,
 ) -> Result<u8, Trouble<'a>> {
     let mut reader = Counted::new(input);
     let mut writer = Counted::new(out);
-    show_all(alloc, limit, from, to, &mut reader, &mut writer)?;
-    Ok(DONE)
-}
-
-fn normalise_from<'a, I: Read + Drop, W: Write + Drop>(
-    alloc: Global,
-    order: Order,
-    limit: Limit,
-    from: Kind,
-    to: Kind,
-    input: I,
-    out: W,
-) -> Result<u8, Trouble<'a>> {
-    let mut reader = Counted::new(input);
-    let mut writer = Counted::new(out);
-    normalised(alloc, order, limit, from, to, &mut reader, &mut writer)?;
-    Ok(DONE)
-}
-
-fn normalised<R: Source, W: Sink>(
-    alloc: Global,
-    order: Order,
-    limit: Limit,
-    from: Kind,
-    to: Kind,
-    reader: &mut R,
-    writer: &mut W,
-) -> Result<(), EngineFault> {
-    match order {
-        Order::Bytewise => normalise::<Bytewise, R, W>(alloc, limit, from, to, reader, writer),
-        Order::LengthFirst => {
-            normalise::<LengthFirst, R, W>(alloc, limit, from, to, reader, writer)
+    match purpose {
+        Purpose::Show { from, to } => {
+            show_all(alloc, limit, from, to, &mut reader, &mut writer)?;
+        }
+        Purpose::Normalise { from, to } => {
+            normalise::<O, _, _>(alloc, limit, from, to, &mut reader, &mut writer)?;
+        }
+        Purpose::Check => {
+            let answer = match check::<O, _>(alloc, limit, &mut reader)? {
+                None => Answer::Deterministic,
+                Some(defect) => Answer::Defective(defect),
+            };
+            return tell_answer(writer.inner, answer);
         }
     }
-}
-
-fn check_from<'a, I: Read + Drop, W: Write + Drop>(
-    alloc: Global,
-    order: Order,
-    limit: Limit,
-    input: I,
-    out: W,
-) -> Result<u8, Trouble<'a>> {
-    let mut reader = Counted::new(input);
-    match checked(alloc, order, limit, &mut reader)? {
-        None => tell_answer(out, Answer::Deterministic),
-        Some(defect) => tell_answer(out, Answer::Defective(defect)),
-    }
-}
-
-fn checked<R: Source>(
-    alloc: Global,
-    order: Order,
-    limit: Limit,
-    reader: &mut R,
-) -> Result<Option<Defect>, EngineFault> {
-    match order {
-        Order::Bytewise => check::<Bytewise, R>(alloc, limit, reader),
-        Order::LengthFirst => check::<LengthFirst, R>(alloc, limit, reader),
-    }
+    Ok(DONE)
 }
 
 /// Compares two files. The second is opened once the first was read and judged.
-fn compare_files<'a, F: Files>(
+fn compare_files<'a, O: KeyOrder, F: Files>(
     rt: &F,
     alloc: Global,
-    order: Order,
     limit: Limit,
-    kinds: (Kind, Kind),
+    from_a: Kind,
     first: &'a str,
+    from_b: Kind,
     second: &'a str,
 ) -> Result<Option<u64>, Trouble<'a>> {
     let file = match fs::open(rt, first) {
@@ -161,26 +107,11 @@ fn compare_files<'a, F: Files>(
     };
     let mut reader = Counted::new(file);
     let mut late = LateFile::new(rt, second);
-    match compared(alloc, order, limit, kinds, &mut reader, &mut late) {
+    match compare::<O, _, _>(alloc, limit, from_a, &mut reader, from_b, &mut late) {
         Ok(index) => Ok(index),
         Err(CompareFault::Second(_)) if late.is_missing() => {
             Err(Trouble::CannotReadSecond(second))
         }
         Err(why) => Err(Trouble::Compare(why)),
-    }
-}
-
-fn compared<R: Source, Q: Source>(
-    alloc: Global,
-    order: Order,
-    limit: Limit,
-    kinds: (Kind, Kind),
-    first: &mut R,
-    second: &mut Q,
-) -> Result<Option<u64>, CompareFault> {
-    let (a, b) = kinds;
-    match order {
-        Order::Bytewise => compare::<Bytewise, R, Q>(alloc, limit, a, first, b, second),
-        Order::LengthFirst => compare::<LengthFirst, R, Q>(alloc, limit, a, first, b, second),
     }
 }
