@@ -58,16 +58,10 @@ place (Simple p n) = p
 -- A leaf is 0, a chunked string included; an array, a map or a tag is one more than its deepest child.
 abbrev mutual
   pub depth : Tree → ℕ
-  depth (Uint p w n) = 0
-  depth (Nint p w n) = 0
-  depth (Bytes p w b) = 0
-  depth (Text p w b) = 0
-  depth (ByteChunks p cs) = 0
-  depth (TextChunks p cs) = 0
   depth (Items p s ts) = suc (depth_all ts)
   depth (Pairs p s es) = suc (depth_entries es)
   depth (Tagged p w n t) = suc (depth t)
-  depth (Simple p n) = 0
+  depth _ = 0
 
   pub depth_all : Trees → ℕ
   depth_all no_item = 0

@@ -12,8 +12,7 @@ use Rattle.cborn_model.specs.Placed.{Placed, PlacedAll, ChunksPlaced}
 use Rattle.cborn_wire.specs.declared.heads.Argument.{Argument}
 use Rattle.cborn_wire.specs.declared.heads.Argument.TheVariants as arguments
 use Rattle.cborn_wire.specs.declared.heads.Head.{Head}
-use Rattle.cborn_wire.specs.HeadReading.{IsHeadOf, seen_argument, ArgumentFits}
-use Rattle.cborn_wire.specs.Faults.{major_at}
+use Rattle.cborn_wire.specs.HeadReading.{major_at, IsHeadOf, seen_argument, ArgumentFits}
 use Rattle.cborn_transcode.proofs.Heading.{head_split}
 use Rattle.cborn_transcode.specs.Walking.{Leaves}
 use Rattle.cborn_search.specs.Reading.{StringRead, IsSimpleArgument, ChunkRead, ChunksRead, NodeRead, NodesRead}

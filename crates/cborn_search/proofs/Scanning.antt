@@ -9,8 +9,7 @@ use Rattle.cborn_model.specs.Heads.{Unsigned, Negative, ByteString, TextString, 
 use Rattle.cborn_model.specs.Meaning.{joined_chunks, IsByteString}
 use Rattle.cborn_model.specs.Tree.{Tree, Text, TextChunks, Items, Tagged, trees}
 use Rattle.cborn_wire.specs.declared.heads.Argument.{Argument}
-use Rattle.cborn_wire.specs.HeadReading.{IsHeadOf, seen_argument, ArgumentFits}
-use Rattle.cborn_wire.specs.Faults.{major_at}
+use Rattle.cborn_wire.specs.HeadReading.{major_at, IsHeadOf, seen_argument, ArgumentFits}
 use Rattle.cborn_wire.specs.declared.heads.Head.{Head}
 use Rattle.cborn_judge.specs.Flaws.{FlawAt, Flaw, HasBadChunk, flaw_rank}
 use Rattle.cborn_judge.specs.Judged.{FlawIn, ChunkFlaw}

@@ -15,8 +15,7 @@ use Rattle.cborn_model.specs.Value.{Value}
 use Rattle.cborn_det.specs.Det.{Det}
 use Rattle.cborn_wire.specs.declared.heads.Argument.{Argument}
 use Rattle.cborn_wire.specs.declared.heads.Head.{Head}
-use Rattle.cborn_wire.specs.Faults.{major_at}
-use Rattle.cborn_wire.specs.HeadReading.{IsHeadOf, seen_argument, ArgumentFits}
+use Rattle.cborn_wire.specs.HeadReading.{major_at, IsHeadOf, seen_argument, ArgumentFits}
 use Rattle.cborn_judge.specs.Checked.{IsEarliestDefect, FindsDefect, LongAt, SizeAt, DefectIn, DefectAmong, DescentAt, NotAboveAt, TagDefect, LooseBytesAt}
 use Rattle.cborn_judge.specs.Defects.{defect_rank, ChunksDefect, DefectAt, IsLoose}
 use Rattle.cborn_judge.specs.declared.defects.Defect.{Defect}

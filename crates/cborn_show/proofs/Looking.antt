@@ -7,8 +7,7 @@ use Rattle.cborn_model.specs.declared.heads.Width.TheVariants.{Direct}
 use Rattle.cborn_model.specs.Heads.{Major, Unsigned, Negative, ByteString, TextString, Array, Map, Tag, Other, Argument, Given, Unbounded, head, code, information, Holds}
 use Rattle.cborn_model.proofs.OneHead.{one_head}
 use Rattle.cborn_wire.specs.declared.heads.Head.{Head}
-use Rattle.cborn_wire.specs.Faults.{major_at}
-use Rattle.cborn_wire.specs.HeadReading.{IsHeadOf, seen_argument, ArgumentFits}
+use Rattle.cborn_wire.specs.HeadReading.{major_at, IsHeadOf, seen_argument, ArgumentFits}
 use Rattle.cborn_wire.specs.Scanning.{content_of}
 use Rattle.cborn_wire.proofs.TakesHeads.{major_at-code}
 use Rattle.cborn_show.specs.declared.bad_texts.Look.TheVariants.{Passed}

@@ -14,8 +14,7 @@ use Rattle.cborn_edn.proofs.Separated.{separated-push, all-separated, entries-se
 use Rattle.cborn_wire.specs.declared.heads.Argument.{Argument}
 use Rattle.cborn_wire.specs.declared.heads.Argument.TheVariants as arguments
 use Rattle.cborn_wire.specs.declared.heads.Head.{Head}
-use Rattle.cborn_wire.specs.HeadReading.{IsHeadOf, seen_argument, ArgumentFits}
-use Rattle.cborn_wire.specs.Faults.{major_at}
+use Rattle.cborn_wire.specs.HeadReading.{major_at, IsHeadOf, seen_argument, ArgumentFits}
 use Rattle.cborn_show.specs.Passed.{StringShown, LongStringShown, SimpleShown, NodeShown, NodeLeaves, NextShown, NodesShown, PairShown, PairsShown, shown_pair, signed}
 use Rattle.cborn_show.proofs.Heading.{head_split}
 

@@ -7,8 +7,7 @@ ghost use Rattle.cborn_model.specs.Placed.{PlacedAll};
 ghost use Rattle.cborn_model.specs.Spelled.{Wellformed};
 ghost use Rattle.cborn_model.specs.Tree.{Trees};
 ghost use Rattle.cborn_edn.specs.Shown.{LowestBadText};
-ghost use Rattle.cborn_wire.specs.Faults.{major_at};
-ghost use Rattle.cborn_wire.specs.HeadReading.{seen_argument};
+ghost use Rattle.cborn_wire.specs.HeadReading.{major_at, seen_argument};
 ghost use Rattle.cborn_wire.specs.Scanning.{content_of};
 ghost use Rattle.cborn_show.specs.Pieces.{Piece, PieceFits, piece_bytes, Looks, Steps, all_bytes, AllFit, IsFirstBad};
 

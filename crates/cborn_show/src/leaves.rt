@@ -4,8 +4,7 @@ ghost use Rattle.std.specs.Prelude.{◌≡◌, ◌<◌, ◌/◌, ◌%◌, ◌++�
 ghost use Rattle.std.specs.Str.{is_utf8};
 ghost use Rattle.hex.specs.Hex.{encode_lower, lower_digits};
 ghost use Rattle.cborn_edn.specs.Shown.{shown_chunks};
-ghost use Rattle.cborn_wire.specs.Faults.{major_at};
-ghost use Rattle.cborn_wire.specs.HeadReading.{ArgumentFits, seen_argument};
+ghost use Rattle.cborn_wire.specs.HeadReading.{major_at, ArgumentFits, seen_argument};
 ghost use Rattle.cborn_show.specs.Passed.{StringShown, ChunkShown, ChunksShown, LongStringShown, SimpleShown, kind_of, major_of, shown_content};
 
 use crate::numbers::put_indicator;

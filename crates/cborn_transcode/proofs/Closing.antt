@@ -16,9 +16,8 @@ use Rattle.cborn_det.specs.Appending.{Appends}
 use Rattle.cborn_wire.specs.declared.heads.Argument.{Argument}
 use Rattle.cborn_wire.specs.declared.heads.Argument.TheVariants as arguments
 use Rattle.cborn_wire.specs.declared.heads.Head.{Head}
-use Rattle.cborn_wire.specs.HeadReading.{IsHeadOf, seen_argument, ArgumentFits}
+use Rattle.cborn_wire.specs.HeadReading.{major_at, IsHeadOf, seen_argument, ArgumentFits}
 use Rattle.cborn_transcode.proofs.Heading.{head_split}
-use Rattle.cborn_wire.specs.Faults.{major_at}
 use Rattle.cborn_transcode.specs.Transcoding.{ItemTranscoded, StringTaken, LongStringTaken, BignumTaken, SimpleTaken, IsLeast}
 
 module _ (order : List ℕ → List ℕ → Ordering) (room : ℕ) where

@@ -15,8 +15,7 @@ use Rattle.cborn_model.specs.Meaning.{joined_chunks, ChunksAreText}
 use Rattle.cborn_wire.specs.declared.heads.Head.{Head}
 use Rattle.cborn_wire.specs.declared.heads.Argument.{Argument}
 use Rattle.cborn_wire.specs.declared.heads.Argument.TheVariants as arguments
-use Rattle.cborn_wire.specs.HeadReading.{IsHeadOf, seen_argument, ArgumentFits}
-use Rattle.cborn_wire.specs.Faults.{major_at}
+use Rattle.cborn_wire.specs.HeadReading.{major_at, IsHeadOf, seen_argument, ArgumentFits}
 use Rattle.cborn_transcode.specs.Transcoding.{ContentTaken, ChunkTaken, ChunksTaken, LongStringTaken, BignumTaken}
 
 pub head_split : (x : List ℕ) (h : Head) (n : ℕ) → IsHeadOf x h n → x ≡ head (major_at h.major) (seen_argument h.argument) ++ drop n x

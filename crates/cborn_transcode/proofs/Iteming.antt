@@ -5,8 +5,7 @@ use Rattle.cborn_model.specs.Heads.{head}
 use Rattle.cborn_model.specs.Spelled.{spelled}
 use Rattle.cborn_wire.specs.declared.heads.Head.{Head}
 use Rattle.cborn_wire.specs.declared.heads.Argument.{Argument}
-use Rattle.cborn_wire.specs.HeadReading.{IsHeadOf, seen_argument, ArgumentFits}
-use Rattle.cborn_wire.specs.Faults.{major_at}
+use Rattle.cborn_wire.specs.HeadReading.{major_at, IsHeadOf, seen_argument, ArgumentFits}
 use Rattle.cborn_transcode.specs.Transcoding.{ItemTranscoded, ItemLeaves}
 use Rattle.cborn_transcode.proofs.Heading.{head_split}
 

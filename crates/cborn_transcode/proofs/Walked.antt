@@ -9,8 +9,8 @@ use Rattle.cborn_model.specs.Heads.{Holds, least, head, Given}
 use Rattle.cborn_wire.specs.declared.heads.Head.{Head}
 use Rattle.cborn_wire.specs.declared.heads.HeadRead.TheVariants.{Full}
 use Rattle.cborn_wire.specs.declared.heads.Argument.TheVariants as arguments
-use Rattle.cborn_wire.specs.HeadReading.{IsHeadOf}
-use Rattle.cborn_wire.specs.Faults.{Next, info_at, major_at}
+use Rattle.cborn_wire.specs.HeadReading.{major_at, IsHeadOf}
+use Rattle.cborn_wire.specs.InitialBytes.{Next, info_at}
 use Rattle.cborn_wire.specs.Machine.{width_bytes, number}
 use Rattle.cborn_wire.proofs.HeadFronts.{direct_front, wide_fronts, wide_head}
 use Rattle.cborn_transcode.specs.Walking.{IsIntegerForm, top_of, ItemWalked}

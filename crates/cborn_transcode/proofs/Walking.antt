@@ -20,8 +20,7 @@ use Rattle.cborn_det.proofs.Cutting.{EndsIn, Below, rise_more}
 use Rattle.cborn_wire.specs.declared.heads.Head.{Head}
 use Rattle.cborn_wire.specs.declared.heads.Argument.{Argument}
 use Rattle.cborn_wire.specs.declared.heads.Argument.TheVariants as arguments
-use Rattle.cborn_wire.specs.HeadReading.{IsHeadOf, seen_argument, ArgumentFits}
-use Rattle.cborn_wire.specs.Faults.{major_at}
+use Rattle.cborn_wire.specs.HeadReading.{major_at, IsHeadOf, seen_argument, ArgumentFits}
 use Rattle.cborn_transcode.specs.declared.entries.Span.{Span}
 use Rattle.cborn_transcode.specs.Transcoding.{ContentTaken, StringTaken, BignumTaken, ItemTranscoded, ItemsTranscoded, PairsTranscoded, MapTranscoded, IsTranscoded}
 use Rattle.cborn_transcode.specs.Walking.{Leaves, IsLast, LeastHeadRead, ContentWalked, BignumWalked, ItemWalked, ItemsWalked, PairsWalked, WalkedBehind}

@@ -15,7 +15,7 @@ use Rattle.cborn_det.specs.Appending.{Appends}
 use Rattle.cborn_transcode.specs.declared.entries.Span.{Span}
 use Rattle.cborn_wire.specs.declared.heads.Argument.{Argument}
 use Rattle.cborn_wire.specs.declared.heads.Argument.TheVariants as arguments
-use Rattle.cborn_wire.specs.Faults.{major_at}
+use Rattle.cborn_wire.specs.HeadReading.{major_at}
 
 -- the head of the major type, the shortest for n, stands in the place of a byte
 abbrev pub SetsHead : ℕ → ℕ → ℕ → List ℕ → List ℕ → Type 0

@@ -8,7 +8,7 @@ use Rattle.cborn_model.specs.Orders.{Rising}
 use Rattle.cborn_det.specs.Det.{Entry, joined, keys}
 use Rattle.cborn_det.proofs.Cutting.{EndsIn}
 use Rattle.cborn_transcode.specs.declared.entries.Span.{Span}
-use Rattle.cborn_wire.specs.Faults.{major_at}
+use Rattle.cborn_wire.specs.HeadReading.{major_at}
 use Rattle.cborn_transcode.specs.Transcoding.{ItemTranscoded, ItemsTranscoded, PairsTranscoded, AreSpans}
 
 -- P holds of some rest, which has so many bytes

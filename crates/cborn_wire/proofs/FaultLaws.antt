@@ -8,15 +8,18 @@ use Rattle.cborn_model.specs.Placed.{PlacedAll}
 use Rattle.cborn_wire.specs.declared.faults.WireReason.{WireReason}
 use Rattle.cborn_wire.specs.declared.faults.WireReason.TheVariants.{ReservedInfo, EndlessNotAllowed, BadChunk, UnexpectedBreak, FloatLeftOut, BadSimple, TooDeep, Truncated}
 use Rattle.cborn_wire.specs.Slots.{Slot, Begun, beginnings, slot, open_depth, Open}
-use Rattle.cborn_wire.specs.Faults.{IsWellformed, Refused, Fault, Info, major_at, info_at, is_reserved, is_unended, is_always_bounded, is_other, is_container, is_break, is_bad_chunk, needs_item, is_float, is_one, begins_low, reason_of, reason_at}
+use Rattle.cborn_wire.specs.Faults.{IsWellformed, Refused, Fault, needs_item, begins_low}
+use Rattle.cborn_wire.specs.InitialBytes.{Info, info_at, is_reserved, is_unended, is_always_bounded, is_other, is_container, is_break, is_bad_chunk, is_float, is_one, head_reason, front_reason}
+use Rattle.cborn_wire.specs.HeadReading.{major_at}
 use Rattle.cborn_wire.specs.Places.{all_from}
 use Rattle.cborn_wire.specs.Machine.{Partial, nothing, gathering, State, Live, Failed, run, start, front}
+use Rattle.cborn_wire.proofs.InitialBytes.{same_reason}
 use Rattle.cborn_wire.proofs.Running.{run-append, failed_run}
 use Rattle.cborn_wire.proofs.AllBytes.{bytes-append, bytes-left, well_bytes}
 use Rattle.cborn_wire.proofs.AsPlaced.{spelled_all-from, depth_all-from, fits_all-from, placed_all-from}
 use Rattle.cborn_wire.proofs.OneReading.{reads, takes_sequence}
 use Rattle.cborn_wire.proofs.SoundItems.{SoundLive, SoundFailed, Sound}
-use Rattle.cborn_wire.proofs.SoundRuns.{sound, reason_at_stays}
+use Rattle.cborn_wire.proofs.SoundRuns.{sound, front_reason_stays}
 use Rattle.cborn_wire.proofs.TakesOpen.{open_from, slot-from, open_depth-from, takes_open}
 use Rattle.cborn_wire.proofs.SomeEnd.{some_is, refused_run, closes}
 
@@ -51,7 +54,7 @@ module _ (limit base : ℕ) where
   pub refused_fails : (x : List ℕ) (p : ℕ) (r : WireReason) → Refused limit x p r → (ready : Trees) × (run limit (start base) x ≡ Failed ready (base + p) r)
   refused_fails x p r (f, y, s, k, is, at, opens, reason) =
       let a = opened f s k opens in
-      let stands : reason_at limit (slot a.os) (open_depth a.os) y ≡ Some r = ap (λ t. reason_at limit t (open_depth a.os) y) a.slot_is ∙ ap (λ d. reason_at limit s d y) a.depth_is ∙ reason in
+      let stands : front_reason limit (slot a.os) (open_depth a.os) y ≡ Some r = ap (λ t. front_reason limit t (open_depth a.os) y) a.slot_is ∙ ap (λ d. front_reason limit s d y) a.depth_is ∙ sym (same_reason limit s k y) ∙ reason in
       (a.ready, ap (run limit (start base)) is ∙ run-append limit (start base) f y ∙ ap (λ u. run limit u y) a.is ∙ refused_run limit y (base + length f) a.ready a.os r stands ∙ ap (λ q. Failed a.ready (base + q) r) at)
 
   -- and nothing else fails
@@ -68,7 +71,7 @@ module _ (limit base : ℕ) where
           h.whole,
           refl,
           (ready, h.os, h.live.ground.fit, h.live.ground.shallow, h.live.ground.begun, h.live.bytes ∙ append-nil (front ready h.os), refl, refl),
-          h.refused,
+          same_reason limit (slot h.os) (open_depth h.os) h.after ∙ h.refused,
         ),
       )
 
@@ -156,7 +159,7 @@ larger_limit limit most ts x h w = record { spells = w.spells; fit = w.fit; shal
 -- What is refused stays so, whatever follows.
 pub refused_stays : (limit : ℕ) (x z : List ℕ) (p : ℕ) (r : WireReason) → Refused limit x p r → Refused limit (x ++ z) p r
 refused_stays limit x z p r (f, y, s, k, is, at, opens, reason) =
-    (f, y ++ z, s, k, ap (λ l. l ++ z) is ∙ append_assoc f y z, at, opens, reason_at_stays limit s k y z r reason)
+    (f, y ++ z, s, k, ap (λ l. l ++ z) is ∙ append_assoc f y z, at, opens, same_reason limit s k (y ++ z) ∙ front_reason_stays limit s k y z r (sym (same_reason limit s k y) ∙ reason))
 
 pub fault_stays : (limit : ℕ) (x z : List ℕ) (p : ℕ) (r : WireReason) → Fault limit x p r → (r ≡ Truncated → ⊥) → Fault limit (x ++ z) p r
 fault_stays limit x z p r (inl h) n = inl (refused_stays limit x z p r h)
@@ -166,7 +169,7 @@ not_end : (c : Bool) (q : WireReason) (o : Option WireReason) → (q ≡ Truncat
 not_end true q o g h e = g (some_is q Truncated e)
 not_end false q o g h e = h e
 
-not_truncated : (s : Slot) (full : Bool) (m : Major) (i : Info) (y : List ℕ) → reason_of s full m i y ≡ Some Truncated → ⊥
+not_truncated : (s : Slot) (full : Bool) (m : Major) (i : Info) (y : List ℕ) → head_reason s full m i y ≡ Some Truncated → ⊥
 not_truncated s full m i y =
     not_end (is_reserved i) ReservedInfo _ (λ e. cc)
     (not_end (is_unended i && is_always_bounded m) EndlessNotAllowed _ (λ e. cc)
@@ -180,7 +183,7 @@ not_truncated s full m i y =
 pub refused_is_no_end : (limit : ℕ) (x : List ℕ) (p : ℕ) (r : WireReason) → Refused limit x p r → r ≡ Truncated → ⊥
 refused_is_no_end limit x p r (f, [], s, k, is, at, opens, reason) e = cc
 refused_is_no_end limit x p r (f, b ∷ y, s, k, is, at, opens, reason) e =
-    not_truncated s (leb limit k) (major_at (b / 32)) (info_at (b % 32)) y (reason ∙ ap Some e)
+    not_truncated s (leb limit k) (major_at (b / 32)) (info_at (b % 32)) y (sym (same_reason limit s k (b ∷ y)) ∙ reason ∙ ap Some e)
 
 -- A head that may not stand where it stands is there.
 pub refused_inside : (limit : ℕ) (x : List ℕ) (p : ℕ) (r : WireReason) → Refused limit x p r → p < length x

@@ -4,21 +4,22 @@ use Rattle.std.proofs.lemmas.List.{take-append-drop, length-take-le, length-repl
 use Rattle.std.proofs.Math.ListN.{replicate}
 use Rattle.cborn_model.specs.Bytes.{AreBytes}
 use Rattle.cborn_model.specs.declared.heads.Width.{Width}
-use Rattle.cborn_model.specs.declared.heads.Width.TheVariants.{Direct}
+use Rattle.cborn_model.specs.declared.heads.Width.TheVariants.{Direct, One, Two, Four, Eight}
 use Rattle.cborn_model.specs.Heads.{Major, Unsigned, Negative, ByteString, TextString, Array, Map, Tag, Other, code, information, following}
 use Rattle.cborn_model.specs.Heads as heads
 use Rattle.cborn_wire.specs.declared.heads.Argument.TheVariants.{Given, Endless}
 use Rattle.cborn_wire.specs.declared.heads.HeadRead.{HeadRead}
-use Rattle.cborn_wire.specs.HeadReading.{reason_alone, IsHeadOf, IsFrontOfHead, ReadsHead}
+use Rattle.cborn_wire.specs.HeadReading.{major_at, reason_alone, IsHeadOf, IsFrontOfHead, ReadsHead}
 use Rattle.cborn_wire.specs.Slots.{element_or_end}
-use Rattle.cborn_wire.specs.Faults.{Info, Now, Next, Unended, Reserved, major_at, info_at, is_unended, is_always_bounded, is_other, reason_of}
+use Rattle.cborn_wire.specs.InitialBytes.{Info, Now, Next, Unended, Reserved, info_at, is_unended, is_always_bounded, is_other, head_reason}
 use Rattle.cborn_wire.specs.Machine.{width_bytes, number}
+use Rattle.cborn_wire.proofs.InitialBytes.{same_alone}
 use Rattle.cborn_wire.proofs.AllBytes.{bytes-append, bytes-left}
 use Rattle.cborn_wire.proofs.TakesHeads.{info_at-now}
 use Rattle.cborn_wire.proofs.SoundRuns.{code_at, IsWide, InfoIs, info_is, again, wide_information}
 
 module _ (y : List ℕ) where
-  now_free : (m : Major) (n : ℕ) → reason_of element_or_end false m (Now n) y ≡ None
+  now_free : (m : Major) (n : ℕ) → head_reason element_or_end false m (Now n) y ≡ None
   now_free Unsigned n = refl
   now_free Negative n = refl
   now_free ByteString n = refl
@@ -28,7 +29,7 @@ module _ (y : List ℕ) where
   now_free Tag n = refl
   now_free Other n = refl
 
-  endless_free : (m : Major) → is_always_bounded m ≡ false → reason_of element_or_end false m Unended y ≡ None
+  endless_free : (m : Major) → is_always_bounded m ≡ false → head_reason element_or_end false m Unended y ≡ None
   endless_free Unsigned e = cc
   endless_free Negative e = cc
   endless_free ByteString e = refl
@@ -47,7 +48,7 @@ module _ (y : List ℕ) where
         fits = h;
         whole = ap (λ c. c ∷ y) same;
         len = refl;
-        free = ap (λ i. reason_of element_or_end false (major_at (b / 32)) i y) (info_at-now (b % 32) h) ∙ now_free (major_at (b / 32)) (b % 32);
+        free = same_alone b y ∙ ap (λ i. head_reason element_or_end false (major_at (b / 32)) i y) (info_at-now (b % 32) h) ∙ now_free (major_at (b / 32)) (b % 32);
       }
 
   pub endless_head : (b m : ℕ) → m < 8 → b / 32 ≡ m → info_at (b % 32) ≡ Unended → is_always_bounded (major_at m) ≡ false → IsHeadOf (b ∷ y) (record { major = m; argument = Endless }) 1
@@ -60,7 +61,7 @@ module _ (y : List ℕ) where
         fits = tt;
         whole = ap (λ c. c ∷ y) same;
         len = refl;
-        free = ap (λ n. reason_of element_or_end false (major_at n) (info_at (b % 32)) y) e ∙ ap (λ j. reason_of element_or_end false (major_at m) j y) i ∙ endless_free (major_at m) free;
+        free = same_alone b y ∙ ap (λ n. head_reason element_or_end false (major_at n) (info_at (b % 32)) y) e ∙ ap (λ j. head_reason element_or_end false (major_at m) j y) i ∙ endless_free (major_at m) free;
       }
 
   -- the initial byte of a head with a wide argument
@@ -128,7 +129,7 @@ no_other (suc (suc (suc (suc (suc zero))))) h e = refl
 no_other (suc (suc (suc (suc (suc (suc zero)))))) h e = refl
 no_other (suc (suc (suc (suc (suc (suc (suc n))))))) h e = absurd (e (omega arith))
 
-next_free : (y : List ℕ) (m : Major) (w : Width) → is_other m ≡ false → reason_of element_or_end false m (Next w) y ≡ None
+next_free : (y : List ℕ) (m : Major) (w : Width) → is_other m ≡ false → head_reason element_or_end false m (Next w) y ≡ None
 next_free y Unsigned w e = refl
 next_free y Negative w e = refl
 next_free y ByteString w e = refl
@@ -151,7 +152,7 @@ pub wide_fronts : (x rest : List ℕ) (r : HeadRead) (w : Width) → rest ≡ dr
     → ((b : ℕ) → b / 32 ≡ get_or x 0 0 / 32 → info_at (b % 32) ≡ Next w → reason_alone (b ∷ rest) ≡ None → ReadsHead (b ∷ rest) r) → ReadsHead x r
 wide_fronts [] rest r w same are h i e reads = absurd (omega arith)
 wide_fronts (b ∷ y) rest r w same are h i e reads =
-    subst (λ (l : List ℕ). ReadsHead (b ∷ l) r) same (reads b refl i (ap (λ j. reason_of element_or_end false (major_at (b / 32)) j rest) i ∙ next_free rest (major_at (b / 32)) w (no_other (b / 32) (omega (arith, are.0)) e)))
+    subst (λ (l : List ℕ). ReadsHead (b ∷ l) r) same (reads b refl i (same_alone b rest ∙ ap (λ j. head_reason element_or_end false (major_at (b / 32)) j rest) i ∙ next_free rest (major_at (b / 32)) w (no_other (b / 32) (omega (arith, are.0)) e)))
 
 -- A byte below 24 is the head of an unsigned integer.
 pub small_head : (x : List ℕ) → 0 < length x → get_or x 0 0 < 24 → IsHeadOf x (record { major = 0; argument = Given Direct (get_or x 0 0) }) 1
@@ -161,3 +162,16 @@ small_head (b ∷ y) some h =
     let same : b % 32 ≡ b = omega arith in
     subst (λ (n : ℕ). IsHeadOf (b ∷ y) (record { major = 0; argument = Given Direct n }) 1) same
     (subst (λ (m : ℕ). IsHeadOf (b ∷ y) (record { major = m; argument = Given Direct (b % 32) }) 1) none (direct_head y b (omega arith) (omega arith)))
+
+-- The front of a head that isn't whole announces an argument of one byte or more.
+pub short_front : (x : List ℕ) → 0 < length x → IsFrontOfHead x → (24 ≤ get_or x 0 0 % 32) × (get_or x 0 0 % 32 ≤ 27)
+short_front [] some f = absurd (omega (arith, some))
+short_front (b ∷ x) some f = go f.argument f.whole
+  where
+    go : (a : heads.Argument) → b ∷ (x ++ f.missing) ≡ heads.head f.major a → (24 ≤ b % 32) × (b % 32 ≤ 27)
+    go (heads.Given Direct n) e = absurd (omega (arith, ap length e, length-append x f.missing, f.some))
+    go (heads.Given One n) e = let first : b ≡ 32 * code f.major + 24 = cc in (omega (arith, first), omega (arith, first))
+    go (heads.Given Two n) e = let first : b ≡ 32 * code f.major + 25 = cc in (omega (arith, first), omega (arith, first))
+    go (heads.Given Four n) e = let first : b ≡ 32 * code f.major + 26 = cc in (omega (arith, first), omega (arith, first))
+    go (heads.Given Eight n) e = let first : b ≡ 32 * code f.major + 27 = cc in (omega (arith, first), omega (arith, first))
+    go heads.Unbounded e = absurd (omega (arith, ap length e, length-append x f.missing, f.some))

@@ -9,10 +9,12 @@ use Rattle.cborn_model.specs.Tree.{Trees}
 use Rattle.cborn_wire.specs.declared.faults.WireReason.{WireReason}
 use Rattle.cborn_wire.specs.declared.faults.WireReason.TheVariants.{BadSimple, TooDeep}
 use Rattle.cborn_wire.specs.declared.heads.Head.{Head}
-use Rattle.cborn_wire.specs.HeadReading.{seen_argument, reason_alone, IsHeadOf}
+use Rattle.cborn_wire.specs.HeadReading.{major_at, seen_argument, reason_alone, IsHeadOf}
 use Rattle.cborn_wire.specs.Slots.{Slot, element_or_end, Begun, slot, open_depth}
-use Rattle.cborn_wire.specs.Faults.{Info, major_at, info_at, is_break, is_other, is_one, is_container, begins_low, reason_of}
+use Rattle.cborn_wire.specs.Faults.{begins_low}
+use Rattle.cborn_wire.specs.InitialBytes.{Info, info_at, is_break, is_other, is_one, is_container, head_reason}
 use Rattle.cborn_wire.specs.Machine.{width_bytes, number, argument_of, nothing, gathering, Live, Failed, after_head, run}
+use Rattle.cborn_wire.proofs.InitialBytes.{same_alone}
 use Rattle.cborn_wire.proofs.Pieces.{takes_whole_head, refuses_first, argument_done}
 use Rattle.cborn_wire.proofs.SoundSteps.{is_clear}
 use Rattle.cborn_wire.proofs.SomeEnd.{refused_run}
@@ -49,13 +51,13 @@ module _ (limit at : ℕ) (ready : Trees) (os : List Begun) where
       ∙ ap (λ k. after_head (at + 1) p ready os m (Given w k)) (sym (value ∙ ap (number w) (whole ∙ is)))
 
   -- An initial byte that may not stand there.
-  pub first_refused : (piece : List ℕ) (r : WireReason) → 0 < length piece → Some r ≡ reason_of (slot os) (leb limit (open_depth os)) (major_at (get_or piece 0 0 / 32)) (info_at (get_or piece 0 0 % 32)) []
+  pub first_refused : (piece : List ℕ) (r : WireReason) → 0 < length piece → Some r ≡ head_reason (slot os) (leb limit (open_depth os)) (major_at (get_or piece 0 0 / 32)) (info_at (get_or piece 0 0 % 32)) []
       → run limit (Live at ready os nothing) piece ≡ Failed ready at r
   first_refused [] r some e = absurd (omega arith)
   first_refused (b ∷ y) r some e = refuses_first limit at ready os b y r (sym e)
 
   -- A whole head.
-  pub head_taken : (piece : List ℕ) (h : Head) (n : ℕ) → IsHeadOf piece h n → None ≡ reason_of (slot os) (leb limit (open_depth os)) (major_at (get_or piece 0 0 / 32)) (info_at (get_or piece 0 0 % 32)) []
+  pub head_taken : (piece : List ℕ) (h : Head) (n : ℕ) → IsHeadOf piece h n → None ≡ head_reason (slot os) (leb limit (open_depth os)) (major_at (get_or piece 0 0 / 32)) (info_at (get_or piece 0 0 % 32)) []
       → run limit (Live at ready os nothing) (take n piece) ≡ after_head (at + n) at ready os (major_at h.major) (seen_argument h.argument)
   head_taken piece h n i none =
       let x = head (major_at h.major) (seen_argument h.argument) in
@@ -63,18 +65,18 @@ module _ (limit at : ℕ) (ready : Trees) (os : List Begun) where
       whole_head x i.rest refl piece i.whole front none
     where
       whole_head : (x rest : List ℕ) → x ≡ head (major_at h.major) (seen_argument h.argument) → (all : List ℕ) → all ≡ x ++ rest → take n piece ≡ x
-          → None ≡ reason_of (slot os) (leb limit (open_depth os)) (major_at (get_or all 0 0 / 32)) (info_at (get_or all 0 0 % 32)) []
+          → None ≡ head_reason (slot os) (leb limit (open_depth os)) (major_at (get_or all 0 0 / 32)) (info_at (get_or all 0 0 % 32)) []
           → run limit (Live at ready os nothing) (take n piece) ≡ after_head (at + n) at ready os (major_at h.major) (seen_argument h.argument)
       whole_head [] rest e all is f none = absurd (omega (arith, ap length e, head_some (major_at h.major) (seen_argument h.argument)))
       whole_head (b ∷ y) rest e all is f none =
           let first : get_or all 0 0 ≡ b = ap (λ l. get_or l 0 0) is in
-          let clear : reason_of (slot os) (leb limit (open_depth os)) (major_at (b / 32)) (info_at (b % 32)) [] ≡ None = ap (λ j. reason_of (slot os) (leb limit (open_depth os)) (major_at (j / 32)) (info_at (j % 32)) []) (sym first) ∙ sym none in
+          let clear : head_reason (slot os) (leb limit (open_depth os)) (major_at (b / 32)) (info_at (b % 32)) [] ≡ None = ap (λ j. head_reason (slot os) (leb limit (open_depth os)) (major_at (j / 32)) (info_at (j % 32)) []) (sym first) ∙ sym none in
           ap (run limit (Live at ready os nothing)) f
           ∙ takes_whole_head limit at ready os (major_at h.major) (seen_argument h.argument) b y [] i.fits (e ∙ sym (append-nil (head (major_at h.major) (seen_argument h.argument)))) clear
           ∙ ap (λ k. after_head (at + k) at ready os (major_at h.major) (seen_argument h.argument)) (sym i.len)
 
 -- A reason that the initial byte alone doesn't give is told by the second byte, wherever the head stands.
-bad_simple : (s : Slot) (full : Bool) (m : Major) (i : Info) (y : List ℕ) (r : WireReason) → reason_of s full m i [] ≡ None → reason_of element_or_end false m i y ≡ Some r → reason_of s full m i y ≡ Some r
+bad_simple : (s : Slot) (full : Bool) (m : Major) (i : Info) (y : List ℕ) (r : WireReason) → head_reason s full m i [] ≡ None → head_reason element_or_end false m i y ≡ Some r → head_reason s full m i y ≡ Some r
 bad_simple s full m i y r none e =
     let c = is_clear s full m i [] none in
     rw (c.reserved, c.bounded, c.chunked, c.broken, c.float, c.room) (again e)
@@ -83,17 +85,17 @@ bad_simple s full m i y r none e =
     last a true x e = e
     last a false x e = e
 
-    again : reason_of element_or_end false m i y ≡ Some r → cond (is_other m && is_one i && begins_low y) (Some BadSimple) None ≡ Some r
+    again : head_reason element_or_end false m i y ≡ Some r → cond (is_other m && is_one i && begins_low y) (Some BadSimple) None ≡ Some r
     again e =
         let c = is_clear s full m i [] none in
         last (is_other m && is_one i && begins_low y) (is_container m) (Some BadSimple) (rw (c.reserved, c.bounded, and-false (is_break m i), c.float) at e)
 
 pub second_refused : (limit at : ℕ) (ready : Trees) (os : List Begun) (piece : List ℕ) (r : WireReason) → 0 < length piece
-    → None ≡ reason_of (slot os) (leb limit (open_depth os)) (major_at (get_or piece 0 0 / 32)) (info_at (get_or piece 0 0 % 32)) [] → reason_alone piece ≡ Some r
+    → None ≡ head_reason (slot os) (leb limit (open_depth os)) (major_at (get_or piece 0 0 / 32)) (info_at (get_or piece 0 0 % 32)) [] → reason_alone piece ≡ Some r
     → run limit (Live at ready os nothing) piece ≡ Failed ready at r
 second_refused limit at ready os [] r some none e = absurd (omega arith)
 second_refused limit at ready os (b ∷ y) r some none e =
-    refused_run limit (b ∷ y) at ready os r (bad_simple (slot os) (leb limit (open_depth os)) (major_at (b / 32)) (info_at (b % 32)) y r (sym none) e)
+    refused_run limit (b ∷ y) at ready os r (bad_simple (slot os) (leb limit (open_depth os)) (major_at (b / 32)) (info_at (b % 32)) y r (sym none) (sym (same_alone b y) ∙ e))
 
 pub head_fits : (piece : List ℕ) (h : Head) (n : ℕ) → IsHeadOf piece h n → (0 < n) × (n ≤ length piece)
 head_fits piece h n i =

@@ -1,3 +1,4 @@
+pub mod InitialBytes
 pub mod Running
 pub mod TakesHeads
 pub mod AsPlaced

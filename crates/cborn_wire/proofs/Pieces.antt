@@ -7,10 +7,10 @@ use Rattle.cborn_model.specs.Heads.{Major, Argument, Given, Unbounded, code, fol
 use Rattle.cborn_model.specs.Tree.{Trees}
 use Rattle.cborn_wire.specs.declared.faults.WireReason.{WireReason}
 use Rattle.cborn_wire.specs.Slots.{Kind, Begun, slot, open_depth}
-use Rattle.cborn_wire.specs.Faults.{major_at, info_at, reason_of}
+use Rattle.cborn_wire.specs.InitialBytes.{info_at, head_reason}
 use Rattle.cborn_wire.specs.Machine.{number, Goal, argument_of, content_of, nothing, gathering, Live, Failed, string_done, after_head, gathered, gather, begin_head, unless, step, run}
 use Rattle.cborn_wire.proofs.Running.{failed_run}
-use Rattle.cborn_wire.specs.HeadReading.{ArgumentFits}
+use Rattle.cborn_wire.specs.HeadReading.{major_at, ArgumentFits}
 use Rattle.cborn_wire.proofs.TakesHeads.{gathers, takes_head, info_for, quotient, remainder, major_at-code, info_at-now}
 
 -- the initial byte of a head, and what its information is
@@ -48,16 +48,16 @@ info_of_head m a b z y fits e =
 module _ (limit fed : ℕ) (ready : Trees) (os : List Begun) where
   -- A head that lies whole at the front of a piece.
   pub takes_whole_head : (m : Major) (a : Argument) (b : ℕ) (z y : List ℕ) → ArgumentFits a → b ∷ z ≡ head m a ++ y
-      → reason_of (slot os) (leb limit (open_depth os)) (major_at (b / 32)) (info_at (b % 32)) [] ≡ None
+      → head_reason (slot os) (leb limit (open_depth os)) (major_at (b / 32)) (info_at (b % 32)) [] ≡ None
       → run limit (Live fed ready os nothing) (b ∷ z) ≡ run limit (after_head (fed + length (head m a)) fed ready os m a) y
   takes_whole_head m a b z y fits e none =
-      let suits : reason_of (slot os) (leb limit (open_depth os)) m (info_for a) [] ≡ None
-      = ap (λ j. reason_of (slot os) (leb limit (open_depth os)) j (info_for a) []) (sym (major_of_head m a b z y fits e))
-      ∙ ap (λ i. reason_of (slot os) (leb limit (open_depth os)) (major_at (b / 32)) i []) (sym (info_of_head m a b z y fits e)) ∙ none in
+      let suits : head_reason (slot os) (leb limit (open_depth os)) m (info_for a) [] ≡ None
+      = ap (λ j. head_reason (slot os) (leb limit (open_depth os)) j (info_for a) []) (sym (major_of_head m a b z y fits e))
+      ∙ ap (λ i. head_reason (slot os) (leb limit (open_depth os)) (major_at (b / 32)) i []) (sym (info_of_head m a b z y fits e)) ∙ none in
       ap (run limit (Live fed ready os nothing)) e ∙ takes_head limit fed ready os m a y fits suits
 
   -- An initial byte that may not stand in the slot.
-  pub refuses_first : (b : ℕ) (y : List ℕ) (r : WireReason) → reason_of (slot os) (leb limit (open_depth os)) (major_at (b / 32)) (info_at (b % 32)) [] ≡ Some r
+  pub refuses_first : (b : ℕ) (y : List ℕ) (r : WireReason) → head_reason (slot os) (leb limit (open_depth os)) (major_at (b / 32)) (info_at (b % 32)) [] ≡ Some r
       → run limit (Live fed ready os nothing) (b ∷ y) ≡ Failed ready fed r
   refuses_first b y r e =
       ap (λ o. run limit (unless o ready fed (begin_head fed ready os (major_at (b / 32)) (info_at (b % 32)))) y) e ∙ failed_run limit y ready fed r

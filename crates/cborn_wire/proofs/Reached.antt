@@ -6,7 +6,7 @@ use Rattle.cborn_model.specs.Heads.{Major, Unsigned, Negative, ByteString, TextS
 use Rattle.cborn_model.specs.Tree.{Tree, Trees, no_item, more, depth, depth_all}
 use Rattle.cborn_model.specs.Spelled.{Fits, FitsAll}
 use Rattle.cborn_wire.specs.Slots.{Kind, Slot, Begun, begun_items, begun_pairs, begun_value, begun_tag, begun_chunks, slot, open_depth, IsNoChunk, AreBegun}
-use Rattle.cborn_wire.specs.Faults.{Info, is_container, is_bad_chunk}
+use Rattle.cborn_wire.specs.InitialBytes.{Info, is_container, is_bad_chunk}
 use Rattle.cborn_wire.specs.Machine.{snoc, width_bytes, argument_of, content_of, Partial, gathering, State, Live, Failed, start, IsLive, held, run, IsReached}
 use Rattle.cborn_wire.proofs.Running.{run-append}
 use Rattle.cborn_wire.proofs.AllBytes.{bytes-append}

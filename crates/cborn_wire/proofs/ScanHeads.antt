@@ -10,7 +10,7 @@ use Rattle.cborn_wire.specs.declared.faults.WireReason.TheVariants.{BadSimple}
 use Rattle.cborn_wire.specs.declared.levels.Level.{Level}
 use Rattle.cborn_wire.specs.declared.levels.Level.TheVariants.{Array, Map}
 use Rattle.cborn_wire.specs.Slots.{Kind, OfBytes, OfText, Begun, slot, IsNoChunk, AreBegun}
-use Rattle.cborn_wire.specs.Faults.{Next, Unended, is_unended, is_of_kind, is_break, is_other, reason_of}
+use Rattle.cborn_wire.specs.InitialBytes.{Next, Unended, is_unended, is_of_kind, is_break, is_other, head_reason}
 use Rattle.cborn_wire.specs.Machine as machine
 use Rattle.cborn_wire.specs.Machine.{nothing, gathering, State, Live, Failed, string_done, content_at, gather, after_head, run}
 use Rattle.cborn_wire.specs.Scanning.{finish, begin_items, begin_pairs, take_head, content_of, levels_of, IsScanned, IsAmid}
@@ -52,7 +52,7 @@ module _ (limit : ℕ) (ready : Trees) (os : List Begun) (h : AreBegun limit os)
 
   module _ (full : Bool) (fed p : ℕ) where
     -- no chunk is wanted where a head stands that is none
-    free_at : (m : Major) (a : Argument) → reason_of (slot os) full m (info_for a) [] ≡ None → ((k : Kind) → is_of_kind k m ≡ false) → is_break m (info_for a) ≡ false → IsNoChunk (slot os)
+    free_at : (m : Major) (a : Argument) → head_reason (slot os) full m (info_for a) [] ≡ None → ((k : Kind) → is_of_kind k m ≡ false) → is_break m (info_for a) ≡ false → IsNoChunk (slot os)
     free_at m a suits k b = free_of (slot os) m (info_for a) (is_clear (slot os) full m (info_for a) [] suits).chunked k b
 
     no_break : (m : Major) (a : Argument) → is_other m ≡ false → is_break m (info_for a) ≡ false
@@ -70,7 +70,7 @@ module _ (limit : ℕ) (ready : Trees) (os : List Begun) (h : AreBegun limit os)
     high n e free = subst (λ c. IsScanned fed (finish (levels_of os)) (cond c (Failed ready p BadSimple) (machine.finished fed ready os (Simple p n)))) (sym e) (scans_item limit fed ready os (Simple p n) free h)
 
     -- A head and its content.
-    pub head_scanned : (m : Major) (a : Argument) (y : List ℕ) → reason_of (slot os) full m (info_for a) [] ≡ None → IsHigh m a → length y ≡ content_of m a
+    pub head_scanned : (m : Major) (a : Argument) (y : List ℕ) → head_reason (slot os) full m (info_for a) [] ≡ None → IsHigh m a → length y ≡ content_of m a
         → IsScanned (fed + length y) (take_head (levels_of os) m a) (run limit (after_head fed p ready os m a) y)
     head_scanned Unsigned (Given w n) y suits low e = alone fed _ _ y e (scans_item limit fed ready os (Uint p w n) (free_at Unsigned (Given w n) suits (other_kind Unsigned refl refl) (no_break Unsigned (Given w n) refl)) h)
     head_scanned Unsigned Unbounded y suits low e = cc (is_clear (slot os) full Unsigned Unended [] suits).bounded

@@ -9,7 +9,8 @@ use Rattle.cborn_model.specs.Tree.{Tree, Items, Pairs, Tagged, Trees, count, cou
 use Rattle.cborn_wire.specs.declared.levels.Level.{Level}
 use Rattle.cborn_wire.specs.declared.levels.Level.TheVariants.{Array, Map}
 use Rattle.cborn_wire.specs.Slots.{Kind, OfBytes, OfText, Slot, item, value, element_or_end, key_or_end, chunk, Begun, begun_items, begun_pairs, begun_value, begun_tag, begun_chunks, slot, slot_in, open_depth, IsNoChunk, AreBegun}
-use Rattle.cborn_wire.specs.Faults.{Info, needs_item, reason_of}
+use Rattle.cborn_wire.specs.Faults.{needs_item}
+use Rattle.cborn_wire.specs.InitialBytes.{Info, head_reason}
 use Rattle.cborn_wire.specs.Machine.{snoc, snoc_entry, State, items_tree, pairs_tree, string_tree, chunks_tree, finished, string_done, ended}
 use Rattle.cborn_wire.specs.Scanning.{or_around, finish, leave, slot_of, slot_at, level_of, levels_of, IsScanned}
 use Rattle.cborn_wire.proofs.TakesItems.{count-snoc, count_entries-snoc, items_open, pairs_open}
@@ -54,7 +55,7 @@ slot_levels [] = refl
 slot_levels (o ∷ os) = slot_same o
 
 -- in an indefinite string the depth says nothing
-in_chunks : (k : Kind) (m : Major) (i : Info) (f g : Bool) → reason_of (chunk k) f m i [] ≡ reason_of (chunk k) g m i []
+in_chunks : (k : Kind) (m : Major) (i : Info) (f g : Bool) → head_reason (chunk k) f m i [] ≡ head_reason (chunk k) g m i []
 in_chunks k Unsigned i f g = refl
 in_chunks k Negative i f g = refl
 in_chunks k ByteString i f g = refl
@@ -67,17 +68,17 @@ in_chunks OfBytes heads.Tag i f g = refl
 in_chunks OfText heads.Tag i f g = refl
 in_chunks k Other i f g = refl
 
-any_slot : (s : Slot) (limit j k : ℕ) (m : Major) (i : Info) → (IsNoChunk s → j ≡ k) → reason_of s (leb limit j) m i [] ≡ reason_of s (leb limit k) m i []
-any_slot item limit j k m i e = ap (λ n. reason_of item (leb limit n) m i []) (e tt)
-any_slot value limit j k m i e = ap (λ n. reason_of value (leb limit n) m i []) (e tt)
-any_slot element_or_end limit j k m i e = ap (λ n. reason_of element_or_end (leb limit n) m i []) (e tt)
-any_slot key_or_end limit j k m i e = ap (λ n. reason_of key_or_end (leb limit n) m i []) (e tt)
+any_slot : (s : Slot) (limit j k : ℕ) (m : Major) (i : Info) → (IsNoChunk s → j ≡ k) → head_reason s (leb limit j) m i [] ≡ head_reason s (leb limit k) m i []
+any_slot item limit j k m i e = ap (λ n. head_reason item (leb limit n) m i []) (e tt)
+any_slot value limit j k m i e = ap (λ n. head_reason value (leb limit n) m i []) (e tt)
+any_slot element_or_end limit j k m i e = ap (λ n. head_reason element_or_end (leb limit n) m i []) (e tt)
+any_slot key_or_end limit j k m i e = ap (λ n. head_reason key_or_end (leb limit n) m i []) (e tt)
 any_slot (chunk c) limit j k m i e = in_chunks c m i (leb limit j) (leb limit k)
 
 pub reason_levels : (limit : ℕ) (os : List Begun) (m : Major) (i : Info) → AreBegun limit os
-    → reason_of (slot_at (levels_of os)) (leb limit (length (levels_of os))) m i [] ≡ reason_of (slot os) (leb limit (open_depth os)) m i []
+    → head_reason (slot_at (levels_of os)) (leb limit (length (levels_of os))) m i [] ≡ head_reason (slot os) (leb limit (open_depth os)) m i []
 reason_levels limit os m i h =
-    ap (λ s. reason_of s (leb limit (length (levels_of os))) m i []) (slot_levels os)
+    ap (λ s. head_reason s (leb limit (length (levels_of os))) m i []) (slot_levels os)
     ∙ any_slot (slot os) limit (length (levels_of os)) (open_depth os) m i (λ free. levels_length os ∙ sym (depth_is_length limit os h free))
 
 -- what a whole item makes of what is open

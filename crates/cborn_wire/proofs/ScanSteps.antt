@@ -13,10 +13,11 @@ use Rattle.cborn_wire.specs.declared.heads.Argument.TheVariants as arguments
 use Rattle.cborn_wire.specs.declared.heads.Head.{Head}
 use Rattle.cborn_wire.specs.declared.levels.Level.{Level}
 use Rattle.cborn_wire.specs.Slots.{Begun, slot, element_or_end, open_depth, IsNoChunk, AreBegun}
-use Rattle.cborn_wire.specs.Faults.{Now, Next, major_at, info_at, reason_of}
-use Rattle.cborn_wire.specs.HeadReading.{seen_argument, reason_alone, IsHeadOf, IsFrontOfHead}
+use Rattle.cborn_wire.specs.InitialBytes.{Now, Next, info_at, head_reason}
+use Rattle.cborn_wire.specs.HeadReading.{major_at, seen_argument, reason_alone, IsHeadOf, IsFrontOfHead}
 use Rattle.cborn_wire.specs.Machine.{width_bytes, argument_of, nothing, gathering, Live, gather, gathered, begin_head, after_head, unless, at_slot, run}
 use Rattle.cborn_wire.specs.Scanning.{finish, take_head, content_of, slot_at, levels_of, IsScanned, IsAmid, HasFailed}
+use Rattle.cborn_wire.proofs.InitialBytes.{same_alone}
 use Rattle.cborn_wire.proofs.Running.{run-append}
 use Rattle.cborn_wire.proofs.Pieces.{major_of_head, info_of_head}
 use Rattle.cborn_wire.proofs.TakesHeads.{gathers, info_for, info_at-now}
@@ -28,10 +29,10 @@ use Rattle.cborn_wire.proofs.ScanHeads.{IsHigh, head_scanned, head_cut}
 
 -- the reason that the table gives for an initial byte, at what is open
 abbrev pub reason_here : ℕ → List Level → List ℕ → Option WireReason
-reason_here limit ls piece = reason_of (slot_at ls) (leb limit (length ls)) (major_at (get_or piece 0 0 / 32)) (info_at (get_or piece 0 0 % 32)) []
+reason_here limit ls piece = head_reason (slot_at ls) (leb limit (length ls)) (major_at (get_or piece 0 0 / 32)) (info_at (get_or piece 0 0 % 32)) []
 
-high_simple : (b n : ℕ) (z rest : List ℕ) → b ∷ z ≡ head Other (Given One n) ++ rest → reason_of element_or_end false Other (Next One) z ≡ None → ltb n 32 ≡ false
-high_simple b n z rest e free = go (ltb n 32) (subst (λ l. reason_of element_or_end false Other (Next One) l ≡ None) (tail e) free)
+high_simple : (b n : ℕ) (z rest : List ℕ) → b ∷ z ≡ head Other (Given One n) ++ rest → head_reason element_or_end false Other (Next One) z ≡ None → ltb n 32 ≡ false
+high_simple b n z rest e free = go (ltb n 32) (subst (λ l. head_reason element_or_end false Other (Next One) l ≡ None) (tail e) free)
   where
     tail : {c : ℕ} {l m : List ℕ} → b ∷ l ≡ c ∷ m → l ≡ m
     tail e = cc
@@ -40,7 +41,7 @@ high_simple b n z rest e free = go (ltb n 32) (subst (λ l. reason_of element_or
     go true e = cc
     go false e = refl
 
-is_high : (m : Major) (a : Argument) (b : ℕ) (z rest : List ℕ) → b ∷ z ≡ head m a ++ rest → reason_of element_or_end false m (info_for a) z ≡ None → IsHigh m a
+is_high : (m : Major) (a : Argument) (b : ℕ) (z rest : List ℕ) → b ∷ z ≡ head m a ++ rest → head_reason element_or_end false m (info_for a) z ≡ None → IsHigh m a
 is_high Other (Given One n) b z rest e free = high_simple b n z rest e free
 is_high Other (Given Direct n) b z rest e free = tt
 is_high Other (Given Two n) b z rest e free = tt
@@ -59,8 +60,8 @@ module _ (limit at : ℕ) (ready : Trees) (os : List Begun) (ls : List Level) (b
   abbrev full : Bool
   full = leb limit (open_depth os)
 
-  same : reason_here limit ls piece ≡ reason_of (slot os) (leb limit (open_depth os)) (major_at (get_or piece 0 0 / 32)) (info_at (get_or piece 0 0 % 32)) []
-  same = subst (λ l. reason_here limit l piece ≡ reason_of (slot os) (leb limit (open_depth os)) (major_at (get_or piece 0 0 / 32)) (info_at (get_or piece 0 0 % 32)) []) is
+  same : reason_here limit ls piece ≡ head_reason (slot os) (leb limit (open_depth os)) (major_at (get_or piece 0 0 / 32)) (info_at (get_or piece 0 0 % 32)) []
+  same = subst (λ l. reason_here limit l piece ≡ head_reason (slot os) (leb limit (open_depth os)) (major_at (get_or piece 0 0 / 32)) (info_at (get_or piece 0 0 % 32)) []) is
       (reason_levels limit os (major_at (get_or piece 0 0 / 32)) (info_at (get_or piece 0 0 % 32)) begun)
 
   -- The initial byte is refused, and the second is.
@@ -71,17 +72,17 @@ module _ (limit at : ℕ) (ready : Trees) (os : List Begun) (ls : List Level) (b
   step_bad r none e = (ready, second_refused limit at ready os piece r some (none ∙ same) e)
 
   module _ (h : Head) (n : ℕ) (i : IsHeadOf piece h n) (none : None ≡ reason_here limit ls piece) where
-    suits : (x : List ℕ) → x ≡ piece → 0 < length x → (reason_of (slot os) (leb limit (open_depth os)) (major_at h.major) (info_for (seen_argument h.argument)) [] ≡ None) × IsHigh (major_at h.major) (seen_argument h.argument)
+    suits : (x : List ℕ) → x ≡ piece → 0 < length x → (head_reason (slot os) (leb limit (open_depth os)) (major_at h.major) (info_for (seen_argument h.argument)) [] ≡ None) × IsHigh (major_at h.major) (seen_argument h.argument)
     suits [] e l = absurd (omega (arith, l))
     suits (b ∷ z) e l =
         let whole : b ∷ z ≡ head (major_at h.major) (seen_argument h.argument) ++ i.rest = e ∙ i.whole in
         let major : major_at (b / 32) ≡ major_at h.major = major_of_head (major_at h.major) (seen_argument h.argument) b z i.rest i.fits whole in
         let info : info_at (b % 32) ≡ info_for (seen_argument h.argument) = info_of_head (major_at h.major) (seen_argument h.argument) b z i.rest i.fits whole in
-        let here : reason_of (slot os) (leb limit (open_depth os)) (major_at (b / 32)) (info_at (b % 32)) [] ≡ None
-        = ap (λ (x : List ℕ). reason_of (slot os) (leb limit (open_depth os)) (major_at (get_or x 0 0 / 32)) (info_at (get_or x 0 0 % 32)) []) e ∙ sym (none ∙ same) in
-        let free : reason_of element_or_end false (major_at (b / 32)) (info_at (b % 32)) z ≡ None = ap reason_alone e ∙ i.free in (
-          subst (λ j. reason_of (slot os) (leb limit (open_depth os)) (major_at h.major) j [] ≡ None) info (subst (λ k. reason_of (slot os) (leb limit (open_depth os)) k (info_at (b % 32)) [] ≡ None) major here),
-          is_high (major_at h.major) (seen_argument h.argument) b z i.rest whole (subst (λ j. reason_of element_or_end false (major_at h.major) j z ≡ None) info (subst (λ k. reason_of element_or_end false k (info_at (b % 32)) z ≡ None) major free)),
+        let here : head_reason (slot os) (leb limit (open_depth os)) (major_at (b / 32)) (info_at (b % 32)) [] ≡ None
+        = ap (λ (x : List ℕ). head_reason (slot os) (leb limit (open_depth os)) (major_at (get_or x 0 0 / 32)) (info_at (get_or x 0 0 % 32)) []) e ∙ sym (none ∙ same) in
+        let free : head_reason element_or_end false (major_at (b / 32)) (info_at (b % 32)) z ≡ None = sym (same_alone b z) ∙ ap reason_alone e ∙ i.free in (
+          subst (λ j. head_reason (slot os) (leb limit (open_depth os)) (major_at h.major) j [] ≡ None) info (subst (λ k. head_reason (slot os) (leb limit (open_depth os)) k (info_at (b % 32)) [] ≡ None) major here),
+          is_high (major_at h.major) (seen_argument h.argument) b z i.rest whole (subst (λ j. head_reason element_or_end false (major_at h.major) j z ≡ None) info (subst (λ k. head_reason element_or_end false k (info_at (b % 32)) z ≡ None) major free)),
         )
 
     goes : (y : List ℕ) → run limit (Live at ready os nothing) (take n piece ++ y) ≡ run limit (after_head (at + n) at ready os (major_at h.major) (seen_argument h.argument)) y
@@ -121,8 +122,8 @@ module _ (limit at : ℕ) (ready : Trees) (os : List Begun) (ls : List Level) (b
       let major : major_at (b / 32) ≡ Unsigned = ap major_at zero_major in
       let info : info_at (b % 32) ≡ Now b = ap info_at all_info ∙ info_at-now b low in
       let none : reason_here limit ls piece ≡ None
-      = ap (λ k. reason_of (slot_at ls) (leb limit (length ls)) k (info_at (b % 32)) []) major
-      ∙ ap (λ j. reason_of (slot_at ls) (leb limit (length ls)) Unsigned j []) info
+      = ap (λ k. head_reason (slot_at ls) (leb limit (length ls)) k (info_at (b % 32)) []) major
+      ∙ ap (λ j. head_reason (slot_at ls) (leb limit (length ls)) Unsigned j []) info
       ∙ clear_given (slot_at ls) (leb limit (length ls)) Unsigned Direct b free refl refl in
       step_taken (record { major = 0; argument = arguments.Given Direct b }) 1 (small_head piece some low) (sym none) 0 refl (omega (arith, some))
 
@@ -153,8 +154,8 @@ module _ (limit at : ℕ) (ready : Trees) (os : List Begun) (ls : List Level) (b
           let split : b ∷ (z ++ f.missing) ≡ head f.major f.argument ++ [] = whole ∙ sym (append-nil (head f.major f.argument)) in
           let major : major_at (b / 32) ≡ f.major = major_of_head f.major f.argument b (z ++ f.missing) [] f.fits split in
           let info : info_at (b % 32) ≡ info_for f.argument = info_of_head f.major f.argument b (z ++ f.missing) [] f.fits split in
-          let here : reason_of (slot os) (leb limit (open_depth os)) (major_at (b / 32)) (info_at (b % 32)) [] ≡ None
-          = ap (λ (x : List ℕ). reason_of (slot os) (leb limit (open_depth os)) (major_at (get_or x 0 0 / 32)) (info_at (get_or x 0 0 % 32)) []) e ∙ sym (none ∙ same) in
+          let here : head_reason (slot os) (leb limit (open_depth os)) (major_at (b / 32)) (info_at (b % 32)) [] ≡ None
+          = ap (λ (x : List ℕ). head_reason (slot os) (leb limit (open_depth os)) (major_at (get_or x 0 0 / 32)) (info_at (get_or x 0 0 % 32)) []) e ∙ sym (none ∙ same) in
           let starts : at_slot limit at ready os (major_at (b / 32)) (info_at (b % 32)) ≡ begin_head at ready os f.major (info_for f.argument)
           = ap (λ o. unless o ready at (begin_head at ready os (major_at (b / 32)) (info_at (b % 32)))) here
           ∙ ap (λ k. begin_head at ready os k (info_at (b % 32))) major ∙ ap (begin_head at ready os f.major) info in

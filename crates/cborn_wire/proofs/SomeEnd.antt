@@ -10,7 +10,9 @@ use Rattle.cborn_model.specs.Tree.{Tree, Uint, Items, Pairs, Tagged, Simple, Tre
 use Rattle.cborn_wire.specs.declared.faults.WireReason.{WireReason}
 use Rattle.cborn_wire.specs.declared.faults.WireReason.TheVariants.{BadSimple}
 use Rattle.cborn_wire.specs.Slots.{Kind, OfBytes, OfText, Slot, Begun, begun_items, begun_pairs, begun_value, begun_tag, begun_chunks, slot, open_depth, IsNoChunk, AreBegun}
-use Rattle.cborn_wire.specs.Faults.{Info, Now, Next, Reserved, Unended, major_at, info_at, is_other, is_one, begins_low, reason_of, reason_at}
+use Rattle.cborn_wire.specs.Faults.{begins_low}
+use Rattle.cborn_wire.specs.InitialBytes.{Info, Now, Next, Reserved, Unended, info_at, is_other, is_one, head_reason, front_reason}
+use Rattle.cborn_wire.specs.HeadReading.{major_at}
 use Rattle.cborn_wire.specs.Machine.{snoc, snoc_entry, width_bytes, number, argument_of, content_of, Partial, nothing, gathering, State, Live, Failed, items_tree, pairs_tree, string_tree, chunks_tree, finished, items_at, pairs_at, string_done, gather, begin_head, after_head, unless, step, run}
 use Rattle.cborn_wire.proofs.Running.{failed_run}
 use Rattle.cborn_wire.proofs.TakesHeads.{info_for}
@@ -50,10 +52,10 @@ module _ (limit : ℕ) where
       go false e = cc
 
   -- What may not stand at a slot fails there, for that reason.
-  pub refused_run : (y : List ℕ) (fed : ℕ) (ready : Trees) (os : List Begun) (r : WireReason) → reason_at limit (slot os) (open_depth os) y ≡ Some r
+  pub refused_run : (y : List ℕ) (fed : ℕ) (ready : Trees) (os : List Begun) (r : WireReason) → front_reason limit (slot os) (open_depth os) y ≡ Some r
       → run limit (Live fed ready os nothing) y ≡ Failed ready fed r
   refused_run [] fed ready os r e = cc
-  refused_run (b ∷ y) fed ready os r e = go (reason_of s full m i []) refl
+  refused_run (b ∷ y) fed ready os r e = go (head_reason s full m i []) refl
     where
       s : Slot
       s = slot os
@@ -67,7 +69,7 @@ module _ (limit : ℕ) where
       i : Info
       i = info_at (b % 32)
 
-      go : (o : Option WireReason) → reason_of s full m i [] ≡ o → run limit (unless o ready fed (begin_head fed ready os m i)) y ≡ Failed ready fed r
+      go : (o : Option WireReason) → head_reason s full m i [] ≡ o → run limit (unless o ready fed (begin_head fed ready os m i)) y ≡ Failed ready fed r
       go (Some q) h = failed_run limit y ready fed q ∙ ap (Failed ready fed) (some_is q r (sym (reason_stays s full m i y q h) ∙ e))
       go None h =
           let c = is_clear s full m i [] h in
@@ -183,7 +185,7 @@ number_last Four g l = omega (arith, get_or_at g 255 [] 0 3 (omega arith))
 number_last Eight g l = omega (arith, get_or_at g 255 [] 0 7 (omega arith))
 
 module _ (limit : ℕ) where
-  closes_argument : (j : ℕ) (m : Major) (w : Width) (n : ℕ) (os : List Begun) (fed p : ℕ) (ready : Trees) (got : List ℕ) → AreBegun limit os → reason_of (slot os) (leb limit (open_depth os)) m (Next w) [] ≡ None
+  closes_argument : (j : ℕ) (m : Major) (w : Width) (n : ℕ) (os : List Begun) (fed p : ℕ) (ready : Trees) (got : List ℕ) → AreBegun limit os → head_reason (slot os) (leb limit (open_depth os)) m (Next w) [] ≡ None
       → n ≡ width_bytes w → length got + suc j ≡ n
       → Closable limit (Live fed ready os (gathering p (argument_of m w) n got))
   closes_argument zero m w n os fed p ready got h none all left =

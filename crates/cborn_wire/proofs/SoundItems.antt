@@ -11,7 +11,7 @@ use Rattle.cborn_model.specs.Spelled.{chunk_bytes, spelled, spelled_all, spelled
 use Rattle.cborn_model.specs.Placed.{ChunksPlaced, Placed, PlacedAll, PlacedEntries}
 use Rattle.cborn_wire.specs.declared.faults.WireReason.{WireReason}
 use Rattle.cborn_wire.specs.Slots.{major_of, Begun, begun_items, begun_pairs, begun_value, begun_tag, begun_chunks, beginnings, slot, open_depth, HasRoom, IsNoChunk, MayBegin, AreBegun}
-use Rattle.cborn_wire.specs.Faults.{Next, is_bad_chunk, reason_of, reason_at}
+use Rattle.cborn_wire.specs.InitialBytes.{Next, is_bad_chunk, head_reason, front_reason}
 use Rattle.cborn_wire.specs.Machine.{front, part_bytes, snoc, snoc_entry, width_bytes, argument_of, content_of, Partial, nothing, gathering, State, Live, Failed, finished, items_at, pairs_at}
 use Rattle.cborn_wire.specs.HeadReading.{ArgumentFits}
 use Rattle.cborn_wire.proofs.TakesHeads.{info_for}
@@ -86,7 +86,7 @@ OpenPlaced p (o ∷ os) = BegunPlaced (p + length (beginnings os)) o × OpenPlac
 -- A part is what the bytes that came make of a head or a string that may stand here.
 abbrev pub PartFits : ℕ → List Begun → ℕ → Partial → Type 0
 PartFits limit os at nothing = Unit {0}
-PartFits limit os at (gathering p (argument_of m w) n got) = (p ≡ at) × (n ≡ width_bytes w) × (length got < n) × (reason_of (slot os) (leb limit (open_depth os)) m (Next w) [] ≡ None) × AreBytes got
+PartFits limit os at (gathering p (argument_of m w) n got) = (p ≡ at) × (n ≡ width_bytes w) × (length got < n) × (head_reason (slot os) (leb limit (open_depth os)) m (Next w) [] ≡ None) × AreBytes got
 PartFits limit os at (gathering p (content_of k w) n got) = (p ≡ at) × Holds w n × (length got < n) × (is_bad_chunk (slot os) (major_of k) (info_for (Given w n)) ≡ false) × AreBytes got
 
 module _ (limit base : ℕ) where
@@ -109,7 +109,7 @@ module _ (limit base : ℕ) where
     pub os : List Begun
     pub whole : x ≡ before ++ after
     pub live : SoundLive before p ready os nothing
-    pub refused : reason_at limit (slot os) (open_depth os) after ≡ Some r
+    pub refused : front_reason limit (slot os) (open_depth os) after ≡ Some r
 
   abbrev pub Sound : List ℕ → State → Type 0
   Sound x (Live fed ready os part) = SoundLive x fed ready os part

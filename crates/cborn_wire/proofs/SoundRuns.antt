@@ -11,7 +11,9 @@ use Rattle.cborn_model.specs.Tree.{Trees}
 use Rattle.cborn_wire.specs.declared.faults.WireReason.{WireReason}
 use Rattle.cborn_wire.specs.declared.faults.WireReason.TheVariants.{BadSimple, TooDeep}
 use Rattle.cborn_wire.specs.Slots.{major_of, Slot, Begun, slot, open_depth}
-use Rattle.cborn_wire.specs.Faults.{Info, Now, Next, Reserved, Unended, major_at, info_at, is_bad_chunk, reason_of, reason_at, is_reserved, is_unended, is_always_bounded, is_break, needs_item, is_other, is_float, is_one, is_container, begins_low}
+use Rattle.cborn_wire.specs.Faults.{needs_item, begins_low}
+use Rattle.cborn_wire.specs.InitialBytes.{Info, Now, Next, Reserved, Unended, info_at, is_bad_chunk, head_reason, front_reason, is_reserved, is_unended, is_always_bounded, is_break, is_other, is_float, is_one, is_container}
+use Rattle.cborn_wire.specs.HeadReading.{major_at}
 use Rattle.cborn_wire.specs.Machine.{start, width_bytes, number, argument_of, content_of, nothing, gathering, State, Live, Failed, gather, begin_head, after_head, at_slot, unless, step, run, front}
 use Rattle.cborn_wire.proofs.AllBytes.{bytes-append}
 use Rattle.cborn_wire.proofs.TakesHeads.{info_for}
@@ -114,7 +116,7 @@ reason_last full true Other y r e = cc
 reason_last full false Other y r e = e
 
 -- a reason that the initial byte gives stands, whatever follows
-pub reason_stays : (s : Slot) (full : Bool) (m : Major) (i : Info) (y : List ℕ) (r : WireReason) → reason_of s full m i [] ≡ Some r → reason_of s full m i y ≡ Some r
+pub reason_stays : (s : Slot) (full : Bool) (m : Major) (i : Info) (y : List ℕ) (r : WireReason) → head_reason s full m i [] ≡ Some r → head_reason s full m i y ≡ Some r
 reason_stays s full m i y r e =
     pass (is_reserved i) _ _ _ r e (λ e.
     pass (is_unended i && is_always_bounded m) _ _ _ r e (λ e.
@@ -123,15 +125,15 @@ reason_stays s full m i y r e =
     pass (is_other m && is_float i) _ _ _ r e (λ e.
     reason_last full (is_one i) m y r e)))))
 
-pub reason_at_stays : (limit : ℕ) (s : Slot) (k : ℕ) (y z : List ℕ) (r : WireReason) → reason_at limit s k y ≡ Some r → reason_at limit s k (y ++ z) ≡ Some r
-reason_at_stays limit s k [] z r e = cc
-reason_at_stays limit s k (c ∷ d ∷ y) z r e = e
-reason_at_stays limit s k (c ∷ []) z r e = reason_stays s (leb limit k) (major_at (c / 32)) (info_at (c % 32)) z r e
+pub front_reason_stays : (limit : ℕ) (s : Slot) (k : ℕ) (y z : List ℕ) (r : WireReason) → front_reason limit s k y ≡ Some r → front_reason limit s k (y ++ z) ≡ Some r
+front_reason_stays limit s k [] z r e = cc
+front_reason_stays limit s k (c ∷ d ∷ y) z r e = e
+front_reason_stays limit s k (c ∷ []) z r e = reason_stays s (leb limit k) (major_at (c / 32)) (info_at (c % 32)) z r e
 
 module _ (limit base : ℕ) where
   -- some bytes of an argument came
   sound_argument : (m : Major) (w : Width) (ready : Trees) (os : List Begun) (n : ℕ) (got : List ℕ) (fed p : ℕ) (x : List ℕ)
-      → Ground limit base ready os → reason_of (slot os) (leb limit (open_depth os)) m (Next w) [] ≡ None → AreBytes got → IsWide w
+      → Ground limit base ready os → head_reason (slot os) (leb limit (open_depth os)) m (Next w) [] ≡ None → AreBytes got → IsWide w
       → n ≡ width_bytes w → length got ≤ n → p ≡ base + length (front ready os)
       → x ≡ front ready os ++ ((32 * code m + information w 0) ∷ got) → fed ≡ base + length x
       → Sound limit base x (gather fed p ready os (argument_of m w) n got)
@@ -149,7 +151,7 @@ module _ (limit base : ℕ) where
       go false e = record { ground = g; bytes = is; fed_is = at; part_fits = (placed, all, leb-false n (length got) e, none, bytes) }
 
   sound_begin : (i : Info) (m : Major) (ready : Trees) (os : List Begun) (fed b : ℕ) (x : List ℕ)
-      → SoundLive limit base x fed ready os nothing → reason_of (slot os) (leb limit (open_depth os)) m i [] ≡ None
+      → SoundLive limit base x fed ready os nothing → head_reason (slot os) (leb limit (open_depth os)) m i [] ≡ None
       → b ≡ 32 * code m + b % 32 → InfoIs (b % 32) i
       → Sound limit base (x ++ b ∷ []) (begin_head fed ready os m i)
   sound_begin i m ready os fed b x h none first is = go i none is
@@ -166,7 +168,7 @@ module _ (limit base : ℕ) where
       read : (j : ℕ) → b % 32 ≡ j → x ++ b ∷ [] ≡ front ready os ++ (32 * code m + j) ∷ []
       read j e = ap (λ l. l ++ b ∷ []) here ∙ ap (λ c. front ready os ++ c ∷ []) (first ∙ ap (λ k. 32 * code m + k) e)
 
-      go : (i : Info) → reason_of (slot os) (leb limit (open_depth os)) m i [] ≡ None → InfoIs (b % 32) i → Sound limit base (x ++ b ∷ []) (begin_head fed ready os m i)
+      go : (i : Info) → head_reason (slot os) (leb limit (open_depth os)) m i [] ≡ None → InfoIs (b % 32) i → Sound limit base (x ++ b ∷ []) (begin_head fed ready os m i)
       go (Now n) none is = sound_head limit base m (Given Direct n) ready os (suc fed) fed (x ++ b ∷ []) h.ground (is_clear (slot os) (leb limit (open_depth os)) m (Now n) [] none) is.1 placed (read n is.0) at
       go (Next w) none is = sound_argument m w ready os (width_bytes w) [] (suc fed) fed (x ++ b ∷ []) h.ground none tt is.1 refl (omega arith) placed (read (information w 0) is.0) at
       go Reserved none is = let e : true ≡ false = (is_clear (slot os) (leb limit (open_depth os)) m Reserved [] none).reserved in cc
@@ -174,9 +176,9 @@ module _ (limit base : ℕ) where
 
   sound_slot : (ready : Trees) (os : List Begun) (fed b : ℕ) (x : List ℕ) → b < 256 → SoundLive limit base x fed ready os nothing
       → Sound limit base (x ++ b ∷ []) (at_slot limit fed ready os (major_at (b / 32)) (info_at (b % 32)))
-  sound_slot ready os fed b x byte h = go (reason_of (slot os) (leb limit (open_depth os)) (major_at (b / 32)) (info_at (b % 32)) []) refl
+  sound_slot ready os fed b x byte h = go (head_reason (slot os) (leb limit (open_depth os)) (major_at (b / 32)) (info_at (b % 32)) []) refl
     where
-      go : (o : Option WireReason) → reason_of (slot os) (leb limit (open_depth os)) (major_at (b / 32)) (info_at (b % 32)) [] ≡ o
+      go : (o : Option WireReason) → head_reason (slot os) (leb limit (open_depth os)) (major_at (b / 32)) (info_at (b % 32)) [] ≡ o
           → Sound limit base (x ++ b ∷ []) (unless o ready fed (begin_head fed ready os (major_at (b / 32)) (info_at (b % 32))))
       go None e = sound_begin (info_at (b % 32)) (major_at (b / 32)) ready os fed b x h e (initial b byte) (info_is (b % 32))
       go (Some r) e = record { before = x; after = b ∷ []; os = os; whole = refl; live = h; refused = e }
@@ -188,7 +190,7 @@ module _ (limit base : ℕ) where
     os = h.os;
     whole = ap (λ l. l ++ b ∷ []) h.whole ∙ append_assoc h.before h.after (b ∷ []);
     live = h.live;
-    refused = reason_at_stays limit (slot h.os) (open_depth h.os) h.after (b ∷ []) r h.refused;
+    refused = front_reason_stays limit (slot h.os) (open_depth h.os) h.after (b ∷ []) r h.refused;
   }
   sound_step (Live fed ready os nothing) b x byte h = sound_slot ready os fed b x byte h
   sound_step (Live fed ready os (gathering p (argument_of m w) n got)) b x byte h =

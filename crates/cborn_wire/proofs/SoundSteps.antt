@@ -14,7 +14,8 @@ use Rattle.cborn_model.specs.Placed.{Placed}
 use Rattle.cborn_wire.specs.declared.faults.WireReason.{WireReason}
 use Rattle.cborn_wire.specs.declared.faults.WireReason.TheVariants.{BadSimple}
 use Rattle.cborn_wire.specs.Slots.{Kind, OfBytes, OfText, major_of, Slot, item, value, element_or_end, key_or_end, chunk, Begun, begun_items, begun_pairs, begun_value, begun_tag, begun_chunks, beginnings, slot, open_depth, IsNoChunk, AreBegun}
-use Rattle.cborn_wire.specs.Faults.{Info, Now, Next, Unended, is_reserved, is_unended, is_always_bounded, is_other, is_container, is_of_kind, is_break, is_bad_chunk, needs_item, is_float, is_one, begins_low, reason_of}
+use Rattle.cborn_wire.specs.Faults.{needs_item, begins_low}
+use Rattle.cborn_wire.specs.InitialBytes.{Info, Now, Next, Unended, is_reserved, is_unended, is_always_bounded, is_other, is_container, is_of_kind, is_break, is_bad_chunk, is_float, is_one, head_reason}
 use Rattle.cborn_wire.specs.Machine.{content_of, nothing, gathering, Live, Failed, string_tree, chunks_tree, finished, string_done, ended, gather, after_head, front}
 use Rattle.cborn_wire.specs.HeadReading.{ArgumentFits}
 use Rattle.cborn_wire.proofs.TakesHeads.{info_for}
@@ -34,7 +35,7 @@ guarded : (c : Bool) (r : WireReason) (o : Option WireReason) → cond c (Some r
 guarded true r o e = cc
 guarded false r o e = (refl, e)
 
-pub is_clear : (s : Slot) (full : Bool) (m : Major) (i : Info) (y : List ℕ) → reason_of s full m i y ≡ None → Clear s full m i
+pub is_clear : (s : Slot) (full : Bool) (m : Major) (i : Info) (y : List ℕ) → head_reason s full m i y ≡ None → Clear s full m i
 is_clear s full m i y e =
     let a = guarded (is_reserved i) _ _ e in
     let b = guarded (is_unended i && is_always_bounded m) _ _ a.1 in
@@ -196,7 +197,7 @@ module _ (limit base : ℕ) where
   pub sound_here : (ready : Trees) (os : List Begun) → Ground limit base ready os → SoundLive limit base (front ready os) (base + length (front ready os)) ready os nothing
   sound_here ready os g = record { ground = g; bytes = nothing_more limit base _ _ refl; fed_is = refl; part_fits = tt }
 
-  low_reason : (s : Slot) (full : Bool) (n : ℕ) → Clear s full Other (Next One) → ltb n 32 ≡ true → reason_of s full Other (Next One) (n ∷ []) ≡ Some BadSimple
+  low_reason : (s : Slot) (full : Bool) (n : ℕ) → Clear s full Other (Next One) → ltb n 32 ≡ true → head_reason s full Other (Next One) (n ∷ []) ≡ Some BadSimple
   low_reason s full n c e = rw (c.chunked, e) refl
 
   -- a head is whole

@@ -12,7 +12,7 @@ use Rattle.cborn_model.specs.Tree.{Tree, Items, Pairs, trees, entries, depth, de
 use Rattle.cborn_model.specs.Spelled.{ending, chunk_bytes, spelled, spelled_all, ChunksFit, Fits, FitsAll, FitsEntries}
 use Rattle.cborn_model.specs.View.{tree_of}
 use Rattle.cborn_model.proofs.Trees.{spelled_all-trees, spelled_entries-entries, count-trees, count_entries-entries, spelled_pair}
-use Rattle.cborn_wire.specs.Faults.{major_at}
+use Rattle.cborn_wire.specs.HeadReading.{major_at}
 use Rattle.cborn_wire.proofs.SoundRuns.{code_at}
 
 pub chunk_fits : (cs : List Chunk) (i : ℕ) (c : Chunk) → ChunksFit cs → i < length cs → c ≡ get_or cs i c → Holds c.width (length c.bytes)

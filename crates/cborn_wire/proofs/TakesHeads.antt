@@ -6,9 +6,9 @@ use Rattle.cborn_model.specs.declared.heads.Width.{Width}
 use Rattle.cborn_model.specs.declared.heads.Width.TheVariants.{Direct, One, Two, Four, Eight}
 use Rattle.cborn_model.specs.Heads.{Major, Unsigned, Negative, ByteString, TextString, Array, Map, Tag, Other, Argument, Given, Unbounded, code, following, head}
 use Rattle.cborn_model.specs.Tree.{Trees}
-use Rattle.cborn_wire.specs.HeadReading.{ArgumentFits}
+use Rattle.cborn_wire.specs.HeadReading.{major_at, ArgumentFits}
 use Rattle.cborn_wire.specs.Slots.{Begun, slot, open_depth}
-use Rattle.cborn_wire.specs.Faults.{Info, Now, Next, Unended, major_at, info_at, reason_of}
+use Rattle.cborn_wire.specs.InitialBytes.{Info, Now, Next, Unended, info_at, head_reason}
 use Rattle.cborn_wire.specs.Machine.{width_bytes, number, Goal, argument_of, nothing, gathering, Live, gather, gathered, begin_head, after_head, at_slot, unless, step, run}
 
 pub quotient : (c i : ℕ) → i < 32 → (32 * c + i) / 32 ≡ c
@@ -39,7 +39,7 @@ gathers limit (b ∷ y) fed p ready os g n got x h =
 
 -- what an initial byte does at a slot that it suits
 pub first : (limit fed : ℕ) (ready : Trees) (os : List Begun) (m : Major) (i : ℕ) (info : Info) → i < 32 → info_at i ≡ info
-    → reason_of (slot os) (leb limit (open_depth os)) m info [] ≡ None
+    → head_reason (slot os) (leb limit (open_depth os)) m info [] ≡ None
     → step limit (Live fed ready os nothing) (32 * code m + i) ≡ begin_head fed ready os m info
 first limit fed ready os m i info h e r =
     ap (λ k. at_slot limit fed ready os (major_at k) (info_at ((32 * code m + i) % 32))) (quotient (code m) i h)
@@ -53,7 +53,7 @@ info_at-now n h = rw (lt-ltb n 24 h) refl
 
 -- a head whose argument follows the initial byte
 wide : (limit fed : ℕ) (ready : Trees) (os : List Begun) (m : Major) (w : Width) (i n : ℕ) (y x : List ℕ) → i < 32 → info_at i ≡ Next w
-    → reason_of (slot os) (leb limit (open_depth os)) m (Next w) [] ≡ None
+    → head_reason (slot os) (leb limit (open_depth os)) m (Next w) [] ≡ None
     → length y ≡ width_bytes w → number w y ≡ n
     → run limit (Live fed ready os nothing) ((32 * code m + i) ∷ (y ++ x)) ≡ run limit (after_head (fed + suc (length y)) fed ready os m (Given w n)) x
 wide limit fed ready os m w i n y x h e r l is =
@@ -74,7 +74,7 @@ info_for Unbounded = Unended
 
 -- The machine takes a head where it may stand.
 pub takes_head : (limit fed : ℕ) (ready : Trees) (os : List Begun) (m : Major) (a : Argument) (x : List ℕ) → ArgumentFits a
-    → reason_of (slot os) (leb limit (open_depth os)) m (info_for a) [] ≡ None
+    → head_reason (slot os) (leb limit (open_depth os)) m (info_for a) [] ≡ None
     → run limit (Live fed ready os nothing) (head m a ++ x) ≡ run limit (after_head (fed + length (head m a)) fed ready os m a) x
 takes_head limit fed ready os m (Given Direct n) x h r =
     ap (λ s. run limit s x) (first limit fed ready os m n (Now n) (omega arith) (info_at-now n h) r)

@@ -14,7 +14,7 @@ use Rattle.cborn_model.specs.Spelled.{ending, string, chunk_bytes, chunks, simpl
 use Rattle.cborn_model.specs.Placed.{ChunksPlaced, Placed, PlacedAll, PlacedEntries}
 use Rattle.cborn_wire.specs.declared.faults.WireReason.TheVariants.{BadSimple}
 use Rattle.cborn_wire.specs.Slots.{Kind, OfBytes, OfText, major_of, Slot, item, value, element_or_end, key_or_end, chunk, Begun, begun_items, begun_pairs, begun_value, begun_tag, begun_chunks, slot, slot_in, open_depth, IsNoChunk}
-use Rattle.cborn_wire.specs.Faults.{Info, Now, Next, Unended, is_reserved, is_unended, is_always_bounded, is_other, is_container, is_bad_chunk, reason_of}
+use Rattle.cborn_wire.specs.InitialBytes.{Info, Now, Next, Unended, is_reserved, is_unended, is_always_bounded, is_other, is_container, is_bad_chunk, head_reason}
 use Rattle.cborn_wire.specs.Machine.{append_trees, snoc, snoc_entry, content_of, nothing, gathering, Live, Failed, is_full, items_tree, pairs_tree, string_tree, chunks_tree, finished, items_at, pairs_at, string_done, gather, after_head, run}
 use Rattle.cborn_wire.specs.HeadReading.{ArgumentFits}
 use Rattle.cborn_wire.proofs.TakesHeads.{gathers, takes_head, info_for}
@@ -29,7 +29,7 @@ no_bad_chunk key_or_end m i h = refl
 no_bad_chunk (chunk k) m i h = absurd h
 
 pub clear : (s : Slot) (full : Bool) (m : Major) (i : Info) → IsNoChunk s → is_reserved i ≡ false → (is_unended i && is_always_bounded m) ≡ false → is_other m ≡ false → (is_container m && full) ≡ false
-    → reason_of s full m i [] ≡ None
+    → head_reason s full m i [] ≡ None
 clear s full m i h reserved bounded other room = rw (reserved, bounded, no_bad_chunk s m i h, other, room) refl
 
 given_reserved : (w : Width) (n : ℕ) → is_reserved (info_for (Given w n)) ≡ false
@@ -46,14 +46,14 @@ given_unended Two n = refl
 given_unended Four n = refl
 given_unended Eight n = refl
 
-pub clear_given : (s : Slot) (full : Bool) (m : Major) (w : Width) (n : ℕ) → IsNoChunk s → is_other m ≡ false → (is_container m && full) ≡ false → reason_of s full m (info_for (Given w n)) [] ≡ None
+pub clear_given : (s : Slot) (full : Bool) (m : Major) (w : Width) (n : ℕ) → IsNoChunk s → is_other m ≡ false → (is_container m && full) ≡ false → head_reason s full m (info_for (Given w n)) [] ≡ None
 clear_given s full m w n h other room = clear s full m _ h (given_reserved w n) (ap (λ b. b && is_always_bounded m) (given_unended w n)) other room
 
-pub clear_simple : (s : Slot) (full : Bool) (n : ℕ) → IsNoChunk s → reason_of s full Other (info_for (Given (simple_width n) n)) [] ≡ None
-clear_simple s full n h = elim (ltb n 24) as (λ b. reason_of s full Other (info_for (Given (cond b Direct One) n)) [] ≡ None)
+pub clear_simple : (s : Slot) (full : Bool) (n : ℕ) → IsNoChunk s → head_reason s full Other (info_for (Given (simple_width n) n)) [] ≡ None
+clear_simple s full n h = elim (ltb n 24) as (λ b. head_reason s full Other (info_for (Given (cond b Direct One) n)) [] ≡ None)
     [ true ↦ rw (no_bad_chunk s Other (Now n) h) refl | false ↦ rw (no_bad_chunk s Other (Next One) h) refl ]
 
-pub clear_chunk : (k : Kind) (full : Bool) (w : Width) (n : ℕ) → reason_of (chunk k) full (major_of k) (info_for (Given w n)) [] ≡ None
+pub clear_chunk : (k : Kind) (full : Bool) (w : Width) (n : ℕ) → head_reason (chunk k) full (major_of k) (info_for (Given w n)) [] ≡ None
 clear_chunk OfBytes full w n = rw (given_reserved w n, given_unended w n) refl
 clear_chunk OfText full w n = rw (given_reserved w n, given_unended w n) refl
 
@@ -65,7 +65,7 @@ starts_string fed p ready os OfBytes w n = refl
 starts_string fed p ready os OfText w n = refl
 
 pub takes_string : (limit fed : ℕ) (ready : Trees) (os : List Begun) (k : Kind) (w : Width) (bytes x : List ℕ) → Holds w (length bytes)
-    → reason_of (slot os) (leb limit (open_depth os)) (major_of k) (info_for (Given w (length bytes))) [] ≡ None
+    → head_reason (slot os) (leb limit (open_depth os)) (major_of k) (info_for (Given w (length bytes))) [] ≡ None
     → run limit (Live fed ready os nothing) (string (major_of k) w bytes ++ x) ≡ run limit (string_done (fed + length (string (major_of k) w bytes)) fed ready os k w bytes) x
 takes_string limit fed ready os k w bytes x h r =
     let start = head (major_of k) (Given w (length bytes)) in
@@ -179,11 +179,11 @@ up_to : (s : Size) (n : ℕ) → UpTo (argument s n) n
 up_to (Fixed w) n = omega arith
 up_to Endless n = tt
 
-pub clear_argument : (s : Slot) (full : Bool) (m : Major) (a : Argument) → IsNoChunk s → is_always_bounded m ≡ false → is_other m ≡ false → full ≡ false → reason_of s full m (info_for a) [] ≡ None
+pub clear_argument : (s : Slot) (full : Bool) (m : Major) (a : Argument) → IsNoChunk s → is_always_bounded m ≡ false → is_other m ≡ false → full ≡ false → head_reason s full m (info_for a) [] ≡ None
 clear_argument s full m (Given w n) free bounded other room = clear_given s full m w n free other (ap (λ b. is_container m && b) room ∙ and-false (is_container m))
 clear_argument s full m Unbounded free bounded other room = clear s full m Unended free refl bounded other (ap (λ b. is_container m && b) room ∙ and-false (is_container m))
 
-pub clear_unbounded : (s : Slot) (full : Bool) (k : Kind) → IsNoChunk s → reason_of s full (major_of k) Unended [] ≡ None
+pub clear_unbounded : (s : Slot) (full : Bool) (k : Kind) → IsNoChunk s → head_reason s full (major_of k) Unended [] ≡ None
 clear_unbounded s full OfBytes h = rw (no_bad_chunk s ByteString Unended h) refl
 clear_unbounded s full OfText h = rw (no_bad_chunk s TextString Unended h) refl
 

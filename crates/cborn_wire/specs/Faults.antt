@@ -1,140 +1,48 @@
 -- Faults: which bytes are not well-formed (RFC 8949 section 3 and appendix C; floats are left out), at which place, and why.
-use Rattle.std.specs.Prelude.{◌≡◌, ℕ, zero, suc, ◌/◌, ◌%◌, List, [], ◌∷◌, ◌++◌, length, Bool, true, false, ◌&&◌, ◌||◌, not, if◌then◌else◌, nat_lt, nat_le, ◌==◌, Option, Some, None, ◌⊎◌}
-use Rattle.cborn_model.specs.declared.heads.Width.{Width}
-use Rattle.cborn_model.specs.declared.heads.Width.TheVariants.{One, Two, Four, Eight}
-use Rattle.cborn_model.specs.Heads.{Major, Unsigned, Negative, ByteString, TextString, Array, Map, Tag, Other}
+use Rattle.std.specs.Prelude.{◌≡◌, ℕ, ◌/◌, ◌%◌, List, [], ◌∷◌, ◌++◌, length, Bool, true, false, ◌&&◌, ◌||◌, not, if◌then◌else◌, nat_lt, nat_le, ◌==◌, Option, Some, None, ◌⊎◌}
+use Rattle.cborn_model.specs.Heads.{code}
 use Rattle.cborn_model.specs.Tree.{Trees}
 use Rattle.cborn_model.specs.Spelled.{Wellformed}
 use Rattle.cborn_wire.specs.declared.faults.WireReason.{WireReason}
 use Rattle.cborn_wire.specs.declared.faults.WireReason.TheVariants.{ReservedInfo, EndlessNotAllowed, BadChunk, UnexpectedBreak, FloatLeftOut, BadSimple, TooDeep, Truncated}
-use Rattle.cborn_wire.specs.Slots.{Kind, OfBytes, OfText, Slot, item, value, element_or_end, key_or_end, chunk, Open}
+use Rattle.cborn_wire.specs.Slots.{major_of, Slot, item, value, chunk, Open}
 
--- An initial byte is its major type, the high three bits, and its information, the low five.
+-- An initial byte is its major type m, the high three bits, and its additional information i, the low five. 7 is the last major type: 7 ≤ m says that it is this one.
 
-abbrev pub major_at : ℕ → Major
-major_at zero = Unsigned
-major_at (suc zero) = Negative
-major_at (suc (suc zero)) = ByteString
-major_at (suc (suc (suc zero))) = TextString
-major_at (suc (suc (suc (suc zero)))) = Array
-major_at (suc (suc (suc (suc (suc zero))))) = Map
-major_at (suc (suc (suc (suc (suc (suc zero)))))) = Tag
-major_at (suc (suc (suc (suc (suc (suc (suc n))))))) = Other
-
--- What the information says: the argument itself, the width of the argument that follows, nothing (28 to 30), or that the length is indefinite (31).
-pub data Info : Type 0 where
-  Now : ℕ → Info
-  Next : Width → Info
-  Reserved Unended : Info
-
-abbrev pub info_at : ℕ → Info
-info_at i =
-    if nat_lt i 24 then Now i
-    else if i == 24 then Next One
-    else if i == 25 then Next Two
-    else if i == 26 then Next Four
-    else if i == 27 then Next Eight
-    else if i == 31 then Unended
-    else Reserved
-
-abbrev pub is_reserved : Info → Bool
-is_reserved (Now n) = false
-is_reserved (Next w) = false
-is_reserved Reserved = true
-is_reserved Unended = false
-
-abbrev pub is_unended : Info → Bool
-is_unended (Now n) = false
-is_unended (Next w) = false
-is_unended Reserved = false
-is_unended Unended = true
-
--- the major types that have no indefinite form (RFC 8949 section 3.2)
-abbrev pub is_always_bounded : Major → Bool
-is_always_bounded Unsigned = true
-is_always_bounded Negative = true
-is_always_bounded ByteString = false
-is_always_bounded TextString = false
-is_always_bounded Array = false
-is_always_bounded Map = false
-is_always_bounded Tag = true
-is_always_bounded Other = false
-
-abbrev pub is_other : Major → Bool
-is_other Unsigned = false
-is_other Negative = false
-is_other ByteString = false
-is_other TextString = false
-is_other Array = false
-is_other Map = false
-is_other Tag = false
-is_other Other = true
-
--- arrays, maps and tags
-abbrev pub is_container : Major → Bool
-is_container Unsigned = false
-is_container Negative = false
-is_container ByteString = false
-is_container TextString = false
-is_container Array = true
-is_container Map = true
-is_container Tag = true
-is_container Other = false
-
-abbrev pub is_of_kind : Kind → Major → Bool
-is_of_kind OfBytes ByteString = true
-is_of_kind OfText TextString = true
-is_of_kind _ _ = false
-
-abbrev pub is_break : Major → Info → Bool
-is_break m i = is_other m && is_unended i
+abbrev pub is_break : ℕ → ℕ → Bool
+is_break m i = nat_le 7 m && i == 31
 
 -- in an indefinite string neither a break nor a definite string of its kind (RFC 8949 section 3.2.3)
-abbrev pub is_bad_chunk : Slot → Major → Info → Bool
-is_bad_chunk item m i = false
-is_bad_chunk value m i = false
-is_bad_chunk element_or_end m i = false
-is_bad_chunk key_or_end m i = false
-is_bad_chunk (chunk k) m i = not (is_break m i || (is_of_kind k m && not (is_unended i)))
+abbrev pub is_bad_chunk : Slot → ℕ → ℕ → Bool
+is_bad_chunk (chunk k) m i = not (is_break m i || (m == code (major_of k) && not (i == 31)))
+is_bad_chunk _ m i = false
 
 -- an item has to stand here, and no break
 abbrev pub needs_item : Slot → Bool
 needs_item item = true
 needs_item value = true
-needs_item element_or_end = false
-needs_item key_or_end = false
-needs_item (chunk k) = false
-
-abbrev pub is_float : Info → Bool
-is_float (Next Two) = true
-is_float (Next Four) = true
-is_float (Next Eight) = true
-is_float _ = false
-
-abbrev pub is_one : Info → Bool
-is_one (Next One) = true
-is_one _ = false
+needs_item _ = false
 
 abbrev pub begins_low : List ℕ → Bool
 begins_low [] = false
 begins_low (b ∷ y) = nat_lt b 32
 
--- The table of faults: the first line that applies to an initial byte of this major type and information in the slot s, with y behind it. `full`: as many arrays, maps and tags are open around the slot as the limit allows. A simple value below 32 has no form of two bytes (RFC 8949 section 3.3).
-abbrev pub reason_of : Slot → Bool → Major → Info → List ℕ → Option WireReason
+-- The table of faults: the first line that applies to an initial byte in the slot s, with y behind it. `full`: as many arrays, maps and tags are open around the slot as the limit allows. Integers and tags have no indefinite form (RFC 8949 section 3.2), and a simple value below 32 none of two bytes (section 3.3).
+abbrev pub reason_of : Slot → Bool → ℕ → ℕ → List ℕ → Option WireReason
 reason_of s full m i y =
-    if is_reserved i then Some ReservedInfo
-    else if is_unended i && is_always_bounded m then Some EndlessNotAllowed
+    if nat_le 28 i && nat_le i 30 then Some ReservedInfo
+    else if i == 31 && (nat_le m 1 || m == 6) then Some EndlessNotAllowed
     else if is_bad_chunk s m i then Some BadChunk
     else if is_break m i && needs_item s then Some UnexpectedBreak
-    else if is_other m && is_float i then Some FloatLeftOut
-    else if is_other m && is_one i && begins_low y then Some BadSimple
-    else if is_container m && full then Some TooDeep
+    else if nat_le 7 m && (nat_le 25 i && nat_le i 27) then Some FloatLeftOut
+    else if nat_le 7 m && i == 24 && begins_low y then Some BadSimple
+    else if nat_le 4 m && nat_le m 6 && full then Some TooDeep
     else None
 
 -- the same for the head at the front of these bytes, in the slot s inside k arrays, maps and tags
 abbrev pub reason_at : ℕ → Slot → ℕ → List ℕ → Option WireReason
 reason_at limit s k [] = None
-reason_at limit s k (b ∷ y) = reason_of s (nat_le limit k) (major_at (b / 32)) (info_at (b % 32)) y
+reason_at limit s k (b ∷ y) = reason_of s (nat_le limit k) (b / 32) (b % 32) y
 
 abbrev pub IsWellformed : ℕ → List ℕ → Type 0
 IsWellformed limit x = (ts : Trees) × Wellformed limit ts x

@@ -1,8 +1,8 @@
 -- What stands at the front of some bytes, read as a head (RFC 8949 section 3).
-use Rattle.std.specs.Prelude.{◌≡◌, ℕ, ◌/◌, ◌%◌, ◌<◌, List, [], ◌∷◌, ◌++◌, length, Bool, true, false, Option, Some, None}
+use Rattle.std.specs.Prelude.{◌≡◌, ℕ, zero, suc, ◌<◌, List, ◌++◌, length, Bool, true, false, Option, Some, None}
 use Rattle.cborn_model.specs.declared.heads.Size.{Size}
 use Rattle.cborn_model.specs.declared.heads.Size.TheVariants.{Fixed, Endless}
-use Rattle.cborn_model.specs.Heads.{Major, Holds, Given, Unbounded, head}
+use Rattle.cborn_model.specs.Heads.{Major, Unsigned, Negative, ByteString, TextString, Array, Map, Tag, Other, Holds, Given, Unbounded, head}
 use Rattle.cborn_model.specs.Heads as heads
 use Rattle.cborn_wire.specs.declared.faults.WireReason.{WireReason}
 use Rattle.cborn_wire.specs.declared.heads.Argument.{Argument}
@@ -11,7 +11,18 @@ use Rattle.cborn_wire.specs.declared.heads.Head.{Head}
 use Rattle.cborn_wire.specs.declared.heads.HeadRead.{HeadRead}
 use Rattle.cborn_wire.specs.declared.heads.HeadRead.TheVariants.{Full, Short, Bad}
 use Rattle.cborn_wire.specs.Slots.{element_or_end}
-use Rattle.cborn_wire.specs.Faults.{major_at, info_at, reason_of}
+use Rattle.cborn_wire.specs.Faults.{reason_at}
+
+-- the major type with this number, 0 to 7
+abbrev pub major_at : ℕ → Major
+major_at zero = Unsigned
+major_at (suc zero) = Negative
+major_at (suc (suc zero)) = ByteString
+major_at (suc (suc (suc zero))) = TextString
+major_at (suc (suc (suc (suc zero)))) = Array
+major_at (suc (suc (suc (suc (suc zero))))) = Map
+major_at (suc (suc (suc (suc (suc (suc zero)))))) = Tag
+major_at (suc (suc (suc (suc (suc (suc (suc n))))))) = Other
 
 abbrev pub seen_argument : Argument → heads.Argument
 seen_argument (arguments.Given w n) = Given w n
@@ -32,8 +43,7 @@ ArgumentFits Unbounded = Unit {0}
 
 -- The first line of the table of faults that applies to these bytes wherever an item or a break may stand: a reserved information, an indefinite length that isn't allowed, a float, a bad simple value.
 abbrev pub reason_alone : List ℕ → Option WireReason
-reason_alone [] = None
-reason_alone (b ∷ y) = reason_of element_or_end false (major_at (b / 32)) (info_at (b % 32)) y
+reason_alone = reason_at 1 element_or_end 0
 
 -- The first n of the bytes x are this head.
 pub record IsHeadOf (x : List ℕ) (h : Head) (n : ℕ) : Type 0 where

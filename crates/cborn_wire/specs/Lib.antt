@@ -6,6 +6,7 @@ pub mod Feeding
 pub mod FeedingCode
 pub mod Reading
 pub mod HeadReading
+pub mod InitialBytes
 pub mod StackView
 pub mod FeederView
 pub mod Scanning

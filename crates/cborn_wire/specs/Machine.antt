@@ -14,7 +14,8 @@ use Rattle.cborn_wire.specs.declared.faults.WireFault.TheVariants as faults
 use Rattle.cborn_wire.specs.declared.faults.WireReason.{WireReason}
 use Rattle.cborn_wire.specs.declared.faults.WireReason.TheVariants.{ReservedInfo, EndlessNotAllowed, BadChunk, UnexpectedBreak, FloatLeftOut, BadSimple}
 use Rattle.cborn_wire.specs.Slots.{Kind, OfBytes, OfText, Begun, begun_items, begun_pairs, begun_value, begun_tag, begun_chunks, beginnings, major_of, slot, open_depth}
-use Rattle.cborn_wire.specs.Faults.{Info, Now, Next, Reserved, Unended, major_at, info_at, reason_of}
+use Rattle.cborn_wire.specs.InitialBytes.{Info, Now, Next, Reserved, Unended, info_at, head_reason}
+use Rattle.cborn_wire.specs.HeadReading.{major_at}
 
 -- one list of nodes after another, and a node or a pair at the end of a list
 
@@ -184,7 +185,7 @@ unless (Some r) ready p s = Failed ready p r
 
 -- an initial byte, in the slot that what is open leaves
 abbrev pub at_slot : ℕ → ℕ → Trees → List Begun → Major → Info → State
-at_slot limit fed ready os m i = unless (reason_of (slot os) (nat_le limit (open_depth os)) m i []) ready fed (begin_head fed ready os m i)
+at_slot limit fed ready os m i = unless (head_reason (slot os) (nat_le limit (open_depth os)) m i []) ready fed (begin_head fed ready os m i)
 
 -- one byte
 abbrev pub step : ℕ → State → ℕ → State

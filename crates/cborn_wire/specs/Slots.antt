@@ -42,24 +42,19 @@ beginnings [] = []
 beginnings (o ∷ os) = beginnings os ++ beginning o
 
 abbrev pub slot_in : Begun → Slot
-slot_in (begun_items p (Given w n) ts) = item
 slot_in (begun_items p Unbounded ts) = element_or_end
-slot_in (begun_pairs p (Given w n) es) = item
 slot_in (begun_pairs p Unbounded es) = key_or_end
 slot_in (begun_value p a es k) = value
-slot_in (begun_tag p w n) = item
 slot_in (begun_chunks p k cs) = chunk k
+slot_in _ = item
 
 abbrev pub slot : List Begun → Slot
 slot [] = item
 slot (o ∷ os) = slot_in o
 
 abbrev pub levels : Begun → ℕ
-levels (begun_items p a ts) = 1
-levels (begun_pairs p a es) = 1
-levels (begun_value p a es k) = 1
-levels (begun_tag p w n) = 1
 levels (begun_chunks p k cs) = 0
+levels _ = 1
 
 -- how many arrays, maps and tags are open
 abbrev pub open_depth : List Begun → ℕ
@@ -72,11 +67,8 @@ HasRoom (Given w n) k = Holds w n × (k < n)
 HasRoom Unbounded k = Unit {0}
 
 abbrev pub IsNoChunk : Slot → Type 0
-IsNoChunk item = Unit {0}
-IsNoChunk value = Unit {0}
-IsNoChunk element_or_end = Unit {0}
-IsNoChunk key_or_end = Unit {0}
 IsNoChunk (chunk k) = ⊥
+IsNoChunk _ = Unit {0}
 
 -- This may be open inside k arrays, maps and tags: it has room for a further part, and neither it nor what it has so far is too deep.
 abbrev pub MayBegin : ℕ → ℕ → Begun → Type 0

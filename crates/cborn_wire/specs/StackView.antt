@@ -13,10 +13,9 @@ use Rattle.cborn_wire.specs.declared.frames.Frame.TheVariants as frames
 use Rattle.cborn_wire.specs.declared.frames.Partial.{Partial}
 use Rattle.cborn_wire.specs.declared.frames.Partial.TheVariants as partials
 use Rattle.cborn_wire.specs.declared.stacks.Stack.{Stack}
-use Rattle.cborn_wire.specs.HeadReading.{seen_argument}
+use Rattle.cborn_wire.specs.HeadReading.{major_at, seen_argument}
 use Rattle.cborn_wire.specs.Slots as slots
 use Rattle.cborn_wire.specs.Slots.{OfBytes, OfText, Begun, begun_items, begun_pairs, begun_value, begun_tag, begun_chunks}
-use Rattle.cborn_wire.specs.Faults.{major_at}
 use Rattle.cborn_wire.specs.Machine as machine
 use Rattle.cborn_wire.specs.Machine.{argument_of, content_of, nothing, gathering, width_bytes, State, Live, Failed, finished, ended, run, IsReached, Stops, Settles}
 

@@ -2,7 +2,9 @@
 
 ghost use Rattle.std.specs.Prelude.{◌≡◌, ◌<◌, ◌%◌, ◌/◌, [], length, nat_le};
 ghost use Rattle.cborn_wire.specs.Slots.{slot, open_depth, AreBegun};
-ghost use Rattle.cborn_wire.specs.Faults.{major_at, info_at, is_bad_chunk, needs_item, reason_of};
+ghost use Rattle.cborn_wire.specs.Faults.{needs_item};
+ghost use Rattle.cborn_wire.specs.InitialBytes.{info_at, is_bad_chunk, head_reason};
+ghost use Rattle.cborn_wire.specs.HeadReading.{major_at};
 ghost use Rattle.cborn_wire.specs.StackView.{opened};
 
 use crate::WireReason;
@@ -15,7 +17,7 @@ impl Stack {
     #[inline(always)]
     pub(crate) fn refusal(&self, limit: u64, first: u8) -> Option<WireReason>
         requires { AreBegun limit (opened self.now) }
-        ensures { result ≡ reason_of (slot (opened self.now)) (nat_le limit (open_depth (opened self.now))) (major_at (first / 32)) (info_at (first % 32)) [] }
+        ensures { result ≡ head_reason (slot (opened self.now)) (nat_le limit (open_depth (opened self.now))) (major_at (first / 32)) (info_at (first % 32)) [] }
     {
         let major = first / 32;
         let information = first % 32;
@@ -30,7 +32,7 @@ impl Stack {
     #[inline(never)]
     fn refusal_in_order(&self, limit: u64, first: u8) -> Option<WireReason>
         requires { AreBegun limit (opened self.now) }
-        ensures { result ≡ reason_of (slot (opened self.now)) (nat_le limit (open_depth (opened self.now))) (major_at (first / 32)) (info_at (first % 32)) [] }
+        ensures { result ≡ head_reason (slot (opened self.now)) (nat_le limit (open_depth (opened self.now))) (major_at (first / 32)) (info_at (first % 32)) [] }
     {
         let major = first / 32;
         let information = first % 32;

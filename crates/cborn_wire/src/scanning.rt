@@ -5,8 +5,9 @@ ghost use Rattle.cborn_model.specs.Tree.{Trees};
 ghost use Rattle.cborn_model.specs.Spelled.{Wellformed};
 ghost use Rattle.cborn_model.specs.Placed.{PlacedAll};
 ghost use Rattle.cborn_wire.specs.Slots.{Begun, AreBegun, IsNoChunk};
-ghost use Rattle.cborn_wire.specs.Faults.{Fault, major_at, info_at, is_bad_chunk, needs_item, reason_of};
-ghost use Rattle.cborn_wire.specs.HeadReading.{seen_argument};
+ghost use Rattle.cborn_wire.specs.Faults.{Fault, needs_item};
+ghost use Rattle.cborn_wire.specs.InitialBytes.{info_at, is_bad_chunk, head_reason};
+ghost use Rattle.cborn_wire.specs.HeadReading.{major_at, seen_argument};
 ghost use Rattle.cborn_wire.specs.Scanning.{levels, levels_of, take_head, content_of, slot_at, AreSmall, Steps};
 ghost use Rattle.cborn_wire.specs.declared.scanning.Step.TheVariants.{Taken};
 
@@ -145,7 +146,7 @@ impl Levels {
     #[inline(always)]
     fn refusal(&self, limit: u64, first: u8) -> Option<WireReason>
         requires { self.now.len ≤ 1025 }
-        ensures { result ≡ reason_of (slot_at (levels self.now)) (nat_le limit (length (levels self.now))) (major_at (first / 32)) (info_at (first % 32)) [] }
+        ensures { result ≡ head_reason (slot_at (levels self.now)) (nat_le limit (length (levels self.now))) (major_at (first / 32)) (info_at (first % 32)) [] }
     {
         let major = first / 32;
         let information = first % 32;
@@ -160,7 +161,7 @@ impl Levels {
     #[inline(never)]
     fn refusal_in_order(&self, limit: u64, first: u8) -> Option<WireReason>
         requires { self.now.len ≤ 1025 }
-        ensures { result ≡ reason_of (slot_at (levels self.now)) (nat_le limit (length (levels self.now))) (major_at (first / 32)) (info_at (first % 32)) [] }
+        ensures { result ≡ head_reason (slot_at (levels self.now)) (nat_le limit (length (levels self.now))) (major_at (first / 32)) (info_at (first % 32)) [] }
     {
         let major = first / 32;
         let information = first % 32;

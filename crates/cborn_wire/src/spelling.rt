@@ -5,7 +5,7 @@ ghost use Rattle.cborn_model.specs.Heads.{Holds, SizeFits, head_bytes, head, arg
 ghost use Rattle.cborn_model.specs.Tree.{trees};
 ghost use Rattle.cborn_model.specs.Spelled.{spelled, spelled_all, chunks, ending, ChunksFit, Fits};
 ghost use Rattle.cborn_model.specs.declared.heads.Size.TheVariants.{Endless};
-ghost use Rattle.cborn_wire.specs.Faults.{major_at};
+ghost use Rattle.cborn_wire.specs.HeadReading.{major_at};
 
 use crate::push_head;
 use cborn_model::{ByteString, Chunk, Form, Node, Size, Spelled, Width};

@@ -4,9 +4,8 @@ ghost use Rattle.std.specs.Prelude.{◌≡◌, ◌∷◌, ◌+◌, ◌<◌, ◌�
 ghost use Rattle.cborn_model.specs.Tree.{no_item, no_entry};
 ghost use Rattle.cborn_model.specs.Heads as heads;
 ghost use Rattle.cborn_wire.specs.Slots.{major_of};
-ghost use Rattle.cborn_wire.specs.Faults.{major_at};
 ghost use Rattle.cborn_wire.specs.Machine.{nothing, Live, start, items_at, pairs_at, string_done, ended, after_head, IsReached};
-ghost use Rattle.cborn_wire.specs.HeadReading.{seen_argument, ArgumentFits};
+ghost use Rattle.cborn_wire.specs.HeadReading.{major_at, seen_argument, ArgumentFits};
 ghost use Rattle.cborn_wire.specs.StackView.{seen_kind, seen_frame, opened, ready_of, seen, seen_partial, seen_with, Advances, Runs, Becomes, IsMade};
 
 use crate::frames::{Frame, Kind, Partial, push_part};

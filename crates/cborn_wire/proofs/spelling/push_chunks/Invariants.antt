@@ -1,7 +1,7 @@
 use Rattle.std.proofs.Common.{◌≡◌, ◌++◌, take}
 use Rattle.std.specs.List.{flat_map}
 use Rattle.cborn_model.specs.Spelled.{chunk_bytes}
-use Rattle.cborn_wire.specs.Faults.{major_at}
+use Rattle.cborn_wire.specs.HeadReading.{major_at}
 use Rattle.cborn_wire.proofs.spelling.push_chunks.Given as goal
 
 abbrev pub invariant-loop-chunk : goal.invariant-loop-chunk

@@ -1,7 +1,9 @@
 use Rattle.std.proofs.Common.{◌≡◌, ◌/◌, ◌%◌, sym, ◌∙◌, true, false, ◌&&◌, arith, nat_le}
 use Rattle.std.proofs.lemmas.Bool.{le-leb, lt-leb}
 use Rattle.cborn_wire.specs.Slots.{slot, open_depth}
-use Rattle.cborn_wire.specs.Faults.{major_at, info_at, is_unended, is_always_bounded, is_break, needs_item, is_container, is_bad_chunk}
+use Rattle.cborn_wire.specs.Faults.{needs_item}
+use Rattle.cborn_wire.specs.InitialBytes.{info_at, is_unended, is_always_bounded, is_break, is_container, is_bad_chunk}
+use Rattle.cborn_wire.specs.HeadReading.{major_at}
 use Rattle.cborn_wire.specs.StackView.{opened}
 use Rattle.cborn_wire.proofs.Reached.{container_depth}
 use Rattle.cborn_wire.proofs.Refusing.{and_left, and_right, and_both, deep_reason, no_reason}

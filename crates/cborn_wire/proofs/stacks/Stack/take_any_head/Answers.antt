@@ -1,14 +1,15 @@
 use Rattle.std.proofs.Common.{rules, ◌≡◌, ◌+◌, ◌/◌, ◌%◌, [], refl, sym, ap, ◌∙◌, subst, get_or, nat_le, None}
 use Rattle.std.proofs.lemmas.Result.{err_from_is_err_and}
 use Rattle.cborn_wire.specs.Slots.{slot, open_depth}
-use Rattle.cborn_wire.specs.Faults.{major_at, info_at, reason_of}
-use Rattle.cborn_wire.specs.HeadReading.{seen_argument}
+use Rattle.cborn_wire.specs.InitialBytes.{info_at, head_reason}
+use Rattle.cborn_wire.specs.HeadReading.{major_at, seen_argument}
 use Rattle.cborn_wire.specs.Machine.{run, Settles}
 use Rattle.cborn_wire.specs.StackView.{seen, seen_partial, opened, ready_of}
 use Rattle.cborn_wire.proofs.Settling.{settles_head}
 use Rattle.cborn_wire.proofs.ByteLists.{are_bytes}
 use Rattle.cborn_wire.proofs.Reached.{reached_begun}
 use Rattle.cborn_wire.proofs.Advancing.{made_by, fails_on}
+use Rattle.cborn_wire.proofs.HeadFronts.{short_front}
 use Rattle.cborn_wire.proofs.HeadSteps.{first_refused, second_refused, head_fits}
 use Rattle.cborn_wire.proofs.HeadTaken.{from_nothing, goes_over}
 use Rattle.cborn_wire.proofs.stacks.Stack.take_any_head.Goals as goal
@@ -47,5 +48,10 @@ returns-in_ok-take-in-Full c =
 pub returns-in-Bad : goal.returns-in-Bad
 returns-in-Bad c =
     let s = c.args.self.now in
-    let none : None ≡ reason_of (slot (opened s)) (nat_le c.args.limit (open_depth (opened s))) (major_at (get_or c.args.piece.now 0 0 / 32)) (info_at (get_or c.args.piece.now 0 0 % 32)) [] = search rules in
+    let none : None ≡ head_reason (slot (opened s)) (nat_le c.args.limit (open_depth (opened s))) (major_at (get_or c.args.piece.now 0 0 / 32)) (info_at (get_or c.args.piece.now 0 0 % 32)) [] = search rules in
     (refl, ap (λ u. run c.args.limit u c.args.piece.now) (from_nothing s c.requires.nothing) ∙ second_refused c.args.limit s.at (ready_of s) (opened s) c.args.piece.now c.in-Bad.reason c.requires.some none c.in-Bad.ensures)
+
+pub wide_width-requires : goal.wide_width-requires
+wide_width-requires c =
+    let wide = short_front c.args.piece.now c.requires.some c.in-Short.ensures in
+    record { least = wide.0; most = wide.1 }

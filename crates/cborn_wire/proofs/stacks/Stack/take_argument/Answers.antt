@@ -3,7 +3,7 @@ use Rattle.std.proofs.lemmas.List.{take_more_set}
 use Rattle.std.proofs.lemmas.Result.{err_from_is_err_and}
 use Rattle.std.specs.Prelude.{slice_set}
 use Rattle.cborn_model.specs.Heads.{Given}
-use Rattle.cborn_wire.specs.Faults.{major_at}
+use Rattle.cborn_wire.specs.HeadReading.{major_at}
 use Rattle.cborn_wire.specs.Machine.{width_bytes, gathering, argument_of, after_head, run, Settles}
 use Rattle.cborn_wire.specs.StackView.{seen_with, opened, ready_of}
 use Rattle.cborn_wire.proofs.Settling.{settles_head}

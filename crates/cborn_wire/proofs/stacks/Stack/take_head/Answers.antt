@@ -3,8 +3,7 @@ use Rattle.std.proofs.lemmas.Result.{err_from_is_err_and}
 use Rattle.cborn_model.specs.declared.heads.Width.TheVariants.{Direct}
 use Rattle.cborn_wire.specs.declared.heads.Argument.TheVariants.{Given}
 use Rattle.cborn_wire.specs.declared.heads.Head.{Head}
-use Rattle.cborn_wire.specs.Faults.{major_at}
-use Rattle.cborn_wire.specs.HeadReading.{seen_argument, IsHeadOf}
+use Rattle.cborn_wire.specs.HeadReading.{major_at, seen_argument, IsHeadOf}
 use Rattle.cborn_wire.specs.Machine.{Settles}
 use Rattle.cborn_wire.specs.StackView.{seen, seen_partial, opened, ready_of}
 use Rattle.cborn_wire.proofs.Settling.{settles_head}

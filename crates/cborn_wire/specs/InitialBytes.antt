@@ -1,0 +1,111 @@
+-- A device of the proofs: the table of faults once more, by the major type and the information as data. No definition and no public contract cites it; the contracts of the crate's own functions do. That it says what the table of `Faults` says is proved in proofs/InitialBytes.antt.
+use Rattle.std.specs.Prelude.{ℕ, ◌/◌, ◌%◌, List, [], ◌∷◌, Bool, true, false, ◌&&◌, ◌||◌, not, if◌then◌else◌, nat_lt, nat_le, ◌==◌, Option, Some, None}
+use Rattle.cborn_model.specs.declared.heads.Width.{Width}
+use Rattle.cborn_model.specs.declared.heads.Width.TheVariants.{One, Two, Four, Eight}
+use Rattle.cborn_model.specs.Heads.{Major, Unsigned, Negative, ByteString, TextString, Array, Map, Tag, Other}
+use Rattle.cborn_wire.specs.declared.faults.WireReason.{WireReason}
+use Rattle.cborn_wire.specs.declared.faults.WireReason.TheVariants.{ReservedInfo, EndlessNotAllowed, BadChunk, UnexpectedBreak, FloatLeftOut, BadSimple, TooDeep}
+use Rattle.cborn_wire.specs.Slots.{Kind, OfBytes, OfText, Slot, item, value, element_or_end, key_or_end, chunk}
+use Rattle.cborn_wire.specs.Faults.{needs_item, begins_low}
+use Rattle.cborn_wire.specs.HeadReading.{major_at}
+
+-- What the information says: the argument itself, the width of the argument that follows, nothing (28 to 30), or that the length is indefinite (31).
+pub data Info : Type 0 where
+  Now : ℕ → Info
+  Next : Width → Info
+  Reserved Unended : Info
+
+abbrev pub info_at : ℕ → Info
+info_at i =
+    if nat_lt i 24 then Now i
+    else if i == 24 then Next One
+    else if i == 25 then Next Two
+    else if i == 26 then Next Four
+    else if i == 27 then Next Eight
+    else if i == 31 then Unended
+    else Reserved
+
+abbrev pub is_reserved : Info → Bool
+is_reserved (Now n) = false
+is_reserved (Next w) = false
+is_reserved Reserved = true
+is_reserved Unended = false
+
+abbrev pub is_unended : Info → Bool
+is_unended (Now n) = false
+is_unended (Next w) = false
+is_unended Reserved = false
+is_unended Unended = true
+
+-- the major types that have no indefinite form (RFC 8949 section 3.2)
+abbrev pub is_always_bounded : Major → Bool
+is_always_bounded Unsigned = true
+is_always_bounded Negative = true
+is_always_bounded ByteString = false
+is_always_bounded TextString = false
+is_always_bounded Array = false
+is_always_bounded Map = false
+is_always_bounded Tag = true
+is_always_bounded Other = false
+
+abbrev pub is_other : Major → Bool
+is_other Unsigned = false
+is_other Negative = false
+is_other ByteString = false
+is_other TextString = false
+is_other Array = false
+is_other Map = false
+is_other Tag = false
+is_other Other = true
+
+-- arrays, maps and tags
+abbrev pub is_container : Major → Bool
+is_container Unsigned = false
+is_container Negative = false
+is_container ByteString = false
+is_container TextString = false
+is_container Array = true
+is_container Map = true
+is_container Tag = true
+is_container Other = false
+
+abbrev pub is_of_kind : Kind → Major → Bool
+is_of_kind OfBytes ByteString = true
+is_of_kind OfText TextString = true
+is_of_kind _ _ = false
+
+abbrev pub is_break : Major → Info → Bool
+is_break m i = is_other m && is_unended i
+
+-- in an indefinite string neither a break nor a definite string of its kind (RFC 8949 section 3.2.3)
+abbrev pub is_bad_chunk : Slot → Major → Info → Bool
+is_bad_chunk item m i = false
+is_bad_chunk value m i = false
+is_bad_chunk element_or_end m i = false
+is_bad_chunk key_or_end m i = false
+is_bad_chunk (chunk k) m i = not (is_break m i || (is_of_kind k m && not (is_unended i)))
+
+abbrev pub is_float : Info → Bool
+is_float (Next Two) = true
+is_float (Next Four) = true
+is_float (Next Eight) = true
+is_float _ = false
+
+abbrev pub is_one : Info → Bool
+is_one (Next One) = true
+is_one _ = false
+
+abbrev pub head_reason : Slot → Bool → Major → Info → List ℕ → Option WireReason
+head_reason s full m i y =
+    if is_reserved i then Some ReservedInfo
+    else if is_unended i && is_always_bounded m then Some EndlessNotAllowed
+    else if is_bad_chunk s m i then Some BadChunk
+    else if is_break m i && needs_item s then Some UnexpectedBreak
+    else if is_other m && is_float i then Some FloatLeftOut
+    else if is_other m && is_one i && begins_low y then Some BadSimple
+    else if is_container m && full then Some TooDeep
+    else None
+
+abbrev pub front_reason : ℕ → Slot → ℕ → List ℕ → Option WireReason
+front_reason limit s k [] = None
+front_reason limit s k (b ∷ y) = head_reason s (nat_le limit k) (major_at (b / 32)) (info_at (b % 32)) y
