@@ -23,7 +23,7 @@ use Rattle.cborn_engine.specs.declared.faults.EngineFault.TheVariants as fault
 use Rattle.cborn_engine.specs.declared.kinds.Kind.{Kind}
 use Rattle.cborn_engine.specs.declared.kinds.Kind.TheVariants as kind
 use Rattle.cborn_engine.specs.Holding.{IsNotation, Spells, Holds}
-use Rattle.cborn_engine.specs.Refusing.{IsUnspelled, IsUntold, IsUnnotated, IsNoText, IsRefused, IsNoRefusal}
+use Rattle.cborn_engine.specs.Refusing.{IsWireFault, IsNotationFault, IsEdnFault, IsTextInputFault, IsRefused, IsNoRefusal}
 use Rattle.cborn_engine.specs.Loading.{LoadAnswers, IsNoFlaw}
 use Rattle.cborn_engine.proofs.Meant.{spells_once}
 use Rattle.cborn_engine.proofs.Notated.{no_stop, no_jam, no_slip}
@@ -48,26 +48,26 @@ flawless (n ∷ ns) (v ∷ vs) p r m (inl h) = no_flaw n v m.0 p r h.is
 flawless (n ∷ ns) (v ∷ vs) p r m (inr h) = flawless ns vs p r m.1 h.1
 
 -- a text that notates nodes isn't refused
-told : (p : Profile) (limit : ℕ) (x : List ℕ) (ns : List Tree) (why : EdnFault) → IsNotation p limit x ns → IsUntold p limit x why → ⊥
+told : (p : Profile) (limit : ℕ) (x : List ℕ) (ns : List Tree) (why : EdnFault) → IsNotation p limit x ns → IsNotationFault p limit x why → ⊥
 told p limit x ns (edn.Lex (lex.Refused q r)) h f = no_stop p limit x ns h q r f.1
-told p limit x ns (edn.Lex lex.OutOfMemory) h f = absurd f
+told p limit x ns (edn.Lex lex.OutOfMemory) h f = absurd f.1
 told p limit x ns (edn.Refused q r) h (u, inl f) = no_jam p limit x ns h q r f
 told p limit x ns (edn.Refused q r) h (u, inr f) = no_slip p limit x ns h q r f
 told p limit x ns edn.OutOfMemory h f = absurd f
 
 -- nodes that are spelled are read
-notated : (k : Kind) (limit : ℕ) (x : List ℕ) (ns : List Tree) (why : EdnFault) → Spells k limit x ns → IsUnnotated k limit x why → ⊥
+notated : (k : Kind) (limit : ℕ) (x : List ℕ) (ns : List Tree) (why : EdnFault) → Spells k limit x ns → IsEdnFault k limit x why → ⊥
 notated kind.Wire limit x ns why h f = absurd f
 notated kind.Notation limit x ns why h f = told profile.One limit x ns why h f
 notated kind.Notation2 limit x ns why h f = told profile.Two limit x ns why h f
 
-wellformed : (k : Kind) (limit : ℕ) (x : List ℕ) (ns : List Tree) (why : WireFault) → Spells k limit x ns → IsUnspelled k limit x why → ⊥
+wellformed : (k : Kind) (limit : ℕ) (x : List ℕ) (ns : List Tree) (why : WireFault) → Spells k limit x ns → IsWireFault k limit x why → ⊥
 wellformed kind.Wire limit x ns (wire.Refused p r) h f = not_both limit x p r (trees ns, h.0) f
 wellformed kind.Wire limit x ns wire.OutOfMemory h f = absurd f
 wellformed kind.Notation limit x ns why h f = absurd f
 wellformed kind.Notation2 limit x ns why h f = absurd f
 
-text : (k : Kind) (limit : ℕ) (x : List ℕ) (ns : List Tree) (p : ℕ) → Spells k limit x ns → IsNoText k x p → ⊥
+text : (k : Kind) (limit : ℕ) (x : List ℕ) (ns : List Tree) (p : ℕ) → Spells k limit x ns → IsTextInputFault k x p → ⊥
 text kind.Wire limit x ns p h f = absurd f
 text kind.Notation limit x ns p h f = f.0 h.0
 text kind.Notation2 limit x ns p h f = f.0 h.0

@@ -8,7 +8,6 @@ use Rattle.cborn_wire.specs.declared.faults.WireFault.TheVariants as wire
 use Rattle.cborn_wire.specs.Faults.{Fault}
 use Rattle.cborn_lex.specs.declared.classes.Profile.{Profile}
 use Rattle.cborn_lex.specs.declared.classes.Profile.TheVariants as profile
-use Rattle.cborn_lex.specs.declared.faults.LexFault.TheVariants as lex
 use Rattle.cborn_edn.specs.declared.faults.EdnFault.{EdnFault}
 use Rattle.cborn_edn.specs.declared.faults.EdnFault.TheVariants as edn
 use Rattle.cborn_edn.specs.Notates.{IsRefused as IsNoNotation}
@@ -23,32 +22,24 @@ use Rattle.cborn_engine.specs.declared.kinds.Kind.TheVariants as kind
 use Rattle.cborn_engine.specs.Holding.{Spells}
 
 -- the bytes are not well-formed, for this reason at this place
-abbrev pub IsUnspelled : Kind → ℕ → List ℕ → WireFault → Type 0
-IsUnspelled kind.Wire limit input (wire.Refused p r) = Fault limit input p r
-IsUnspelled kind.Wire limit input wire.OutOfMemory = ⊥
-IsUnspelled kind.Notation limit input why = ⊥
-IsUnspelled kind.Notation2 limit input why = ⊥
+abbrev pub IsWireFault : Kind → ℕ → List ℕ → WireFault → Type 0
+IsWireFault kind.Wire limit input (wire.Refused p r) = Fault limit input p r
+IsWireFault _ limit input why = ⊥
 
 -- the text notates nothing, for this reason
-abbrev pub IsUntold : Profile → ℕ → List ℕ → EdnFault → Type 0
-IsUntold p limit input (edn.Lex (lex.Refused q r)) = IsUtf8 input × IsNoNotation p limit input (edn.Lex (lex.Refused q r))
-IsUntold p limit input (edn.Lex lex.OutOfMemory) = ⊥
-IsUntold p limit input (edn.Refused q r) = IsUtf8 input × IsNoNotation p limit input (edn.Refused q r)
-IsUntold p limit input edn.OutOfMemory = ⊥
+abbrev pub IsNotationFault : Profile → ℕ → List ℕ → EdnFault → Type 0
+IsNotationFault p limit input edn.OutOfMemory = ⊥
+IsNotationFault p limit input why = IsUtf8 input × IsNoNotation p limit input why
 
-abbrev pub IsUnnotated : Kind → ℕ → List ℕ → EdnFault → Type 0
-IsUnnotated kind.Wire limit input why = ⊥
-IsUnnotated kind.Notation limit input why = IsUntold profile.One limit input why
-IsUnnotated kind.Notation2 limit input why = IsUntold profile.Two limit input why
+abbrev pub IsEdnFault : Kind → ℕ → List ℕ → EdnFault → Type 0
+IsEdnFault kind.Wire limit input why = ⊥
+IsEdnFault kind.Notation limit input why = IsNotationFault profile.One limit input why
+IsEdnFault kind.Notation2 limit input why = IsNotationFault profile.Two limit input why
 
 -- the input should be a text, and isn't UTF-8; this is the length of its longest front that is
-abbrev pub IsGarbled : List ℕ → ℕ → Type 0
-IsGarbled input p = (IsUtf8 input → ⊥) × IsValidUpTo input p
-
-abbrev pub IsNoText : Kind → List ℕ → ℕ → Type 0
-IsNoText kind.Wire input p = ⊥
-IsNoText kind.Notation input p = IsGarbled input p
-IsNoText kind.Notation2 input p = IsGarbled input p
+abbrev pub IsTextInputFault : Kind → List ℕ → ℕ → Type 0
+IsTextInputFault kind.Wire input p = ⊥
+IsTextInputFault _ input p = (IsUtf8 input → ⊥) × IsValidUpTo input p
 
 -- the input spells nodes, and the first of them that means nothing has this first flaw
 pub record IsFlawed (k : Kind) (limit : ℕ) (input : List ℕ) (p : ℕ) (r : InvalidReason) : Type 0 where
@@ -56,21 +47,20 @@ pub record IsFlawed (k : Kind) (limit : ℕ) (input : List ℕ) (p : ℕ) (r : I
   pub spelled : Spells k limit input nodes
   pub flaw : IsRefusalOfAll nodes (invalid.Refused p r)
 
-abbrev pub IsMeaningless : Kind → ℕ → List ℕ → Invalid → Type 0
-IsMeaningless k limit input (invalid.Refused p r) = IsFlawed k limit input p r
-IsMeaningless k limit input invalid.OutOfMemory = ⊥
+abbrev pub IsInvalidFault : Kind → ℕ → List ℕ → Invalid → Type 0
+IsInvalidFault k limit input (invalid.Refused p r) = IsFlawed k limit input p r
+IsInvalidFault k limit input invalid.OutOfMemory = ⊥
 
 -- The input, of which at most so many bytes are allowed, is refused for this: its content, or its length. What is read when a reader fails, or memory is refused, is no longer than allowed.
 abbrev pub IsRefused : Kind → ℕ → ℕ → List ℕ → EngineFault → Type 0
-IsRefused k limit most input (fault.Wire why) = (length input ≤ most) × IsUnspelled k limit input why
-IsRefused k limit most input (fault.Invalid why) = (length input ≤ most) × IsMeaningless k limit input why
-IsRefused k limit most input (fault.Edn why) = (length input ≤ most) × IsUnnotated k limit input why
-IsRefused k limit most input (fault.TextInput p) = (length input ≤ most) × IsNoText k input p
-IsRefused k limit most input (fault.Show why) = ⊥
+IsRefused k limit most input (fault.Wire why) = (length input ≤ most) × IsWireFault k limit input why
+IsRefused k limit most input (fault.Invalid why) = (length input ≤ most) × IsInvalidFault k limit input why
+IsRefused k limit most input (fault.Edn why) = (length input ≤ most) × IsEdnFault k limit input why
+IsRefused k limit most input (fault.TextInput p) = (length input ≤ most) × IsTextInputFault k input p
 IsRefused k limit most input fault.TooLong = length input ≡ most + 1
 IsRefused k limit most input fault.ReadFault = length input ≤ most
 IsRefused k limit most input fault.OutOfMemory = length input ≤ most
-IsRefused k limit most input fault.WriteFault = ⊥
+IsRefused k limit most input _ = ⊥
 
 -- the reader was read to its end before this fault was told
 abbrev pub IsReadBefore : EngineFault → Option (List ℕ) → Type 0
