@@ -1,6 +1,6 @@
 //! The encoder.
 
-ghost use Rattle.std.specs.Prelude.{◌≡◌, ℕ, List, ◌↔◌, ◌++◌, IfOk, IsTrue, MatchResult, map};
+ghost use Rattle.std.specs.Prelude.{◌≡◌, ℕ, List, ◌↔◌, ◌++◌, IfOk, OnOk, OnErr, IsTrue, MatchResult, map};
 ghost use Rattle.cborn_model.specs.ItemView.{item_value, pair_value};
 ghost use Rattle.cborn_model.specs.Valid.{IsProper, AreProper, HasProperPairs, HasNewKeys};
 ghost use Rattle.cborn_model.specs.Value.{Same, values_of, pairs_of, dict};
@@ -55,13 +55,27 @@ fn encode_item<O: KeyOrder>(alloc: Global, item: &Item) -> Result<Vec<u8>, Alloc
 
 /// Appends the deterministic encoding of `item` to `out`, the keys of its maps in the order `O` (RFC
 /// 8949 section 4.2). The item has to be valid but for its depth, as each item is that stands inside
-/// a `Valid`. An error says that memory was refused; `out` then still begins with what it had.
-#[cycle(encoder)]
+/// a `Valid`. An error says that memory was refused; `out` then stays as it was.
 pub fn push_encoding<O: KeyOrder>(
     alloc: Global,
     item: &Item,
     out: &mut Vec<u8>,
 ) -> Result<(), AllocError>
+    requires { IsProper (item_value item.now) }
+    ensures added { OnOk result (Appends (Det O.order (item_value item.now)) out.old.items out.new.items) }
+    ensures kept { OnErr result (out.new.items ≡ out.old.items) }
+{
+    let len = out.len();
+    let pushed = push_item::<O>(alloc, item, out);
+    if pushed.is_err() {
+        out.truncate(len);
+    }
+    pushed
+}
+
+/// Appends the encoding of `item`. Where memory is refused a front of it may stay behind.
+#[cycle(encoder)]
+fn push_item<O: KeyOrder>(alloc: Global, item: &Item, out: &mut Vec<u8>) -> Result<(), AllocError>
     requires { IsProper (item_value item.now) }
     ensures { Writes result (Det O.order (item_value item.now)) out.old.items out.new.items }
 {
@@ -84,7 +98,7 @@ pub fn push_encoding<O: KeyOrder>(
         }
         Item::Tagged(tag, content) => {
             push_shortest(6, *tag, out)?;
-            push_encoding::<O>(alloc, content.get(), out)?;
+            push_item::<O>(alloc, content.get(), out)?;
             Ok(())
         }
         Item::Simple(n) => push_simple(*n, out),
@@ -102,7 +116,7 @@ fn push_items<O: KeyOrder>(
     ensures { Writes result (DetSeq O.order (map item_value items.now)) out.old.items out.new.items }
 {
     for item in items {
-        push_encoding::<O>(alloc, item, out)?;
+        push_item::<O>(alloc, item, out)?;
     }
     Ok(())
 }
@@ -155,9 +169,9 @@ fn push_pair<O: KeyOrder>(
     ensures { MatchResult result (λ lengths. AppendsPair O.order (pair_value pair.now) lengths out.old.items out.new.items) (λ _. BeginsWith out.old.items out.new.items) }
 {
     let start = out.len();
-    push_encoding::<O>(alloc, &pair.0, out)?;
+    push_item::<O>(alloc, &pair.0, out)?;
     let middle = out.len();
-    push_encoding::<O>(alloc, &pair.1, out)?;
+    push_item::<O>(alloc, &pair.1, out)?;
     let end = out.len();
     Ok((middle - start, end - middle))
 }

@@ -10,23 +10,23 @@ use Rattle.cborn_det.proofs.Canon.{distinct_keys}
 use Rattle.cborn_det.proofs.Steps.{on_err, begins_more, items_done, items_step, pairs_step, laid, pair_done, map_done, proper_item, proper_pair}
 use Rattle.cborn_det.proofs.encoding.+encoder.Goals as goal
 
-pub push_encoding-returns-in_ok-push_items-in-Items :
-    goal.push_encoding-returns-in_ok-push_items-in-Items
-push_encoding-returns-in_ok-push_items-in-Items g t c =
+pub push_item-returns-in_ok-push_items-in-Items :
+    goal.push_item-returns-in_ok-push_items-in-Items
+push_item-returns-in_ok-push_items-in-Items g t c =
     let items = c.as_slice-items.result.now in
     let done : Appends (Det g.O.KeyOrder.order (array (values_of (map item_value items)))) c.args.out.now.items c.push_items.new.out.items = items_done g.O.KeyOrder.order (map item_value items) (length items) c.args.out.now.items c.push_shortest.new.out.items c.push_items.new.out.items (sym (length-map items item_value)) c.in_ok-push_shortest-in-Items.ensures c.in_ok-push_items-in-Items.ensures in
     let seen : array (values_of (map item_value items)) ≡ item_value c.args.item.now = search rules in
     subst (λ v. Appends (Det g.O.KeyOrder.order v) c.args.out.now.items c.push_items.new.out.items) seen done
 
-pub push_items-push_encoding-requires : goal.push_items-push_encoding-requires
-push_items-push_encoding-requires g t c κs within =
+pub push_items-push_item-requires : goal.push_items-push_item-requires
+push_items-push_item-requires g t c κs within =
     let proper = proper_item c.args.items.now c.loop-item.item-index c.item-item.result c.loop-item-test.true c.item-item.is c.requires in
     let lower = height_of_item c.args.items.now c.loop-item.item-index c.item-item.result c.loop-item-test.true c.item-item.is in
     search rules
 
 pub push_items-loop-item-preserved : goal.push_items-loop-item-preserved
 push_items-loop-item-preserved g t c =
-    items_step g.O.KeyOrder.order c.args.items.now c.loop-item.item-index c.item-item.result c.args.out.now.items c.loop-item.out.items c.push_encoding.new.out.items c.loop-item-test.true c.item-item.is c.loop-item.invariant c.in_ok-push_encoding.ensures
+    items_step g.O.KeyOrder.order c.args.items.now c.loop-item.item-index c.item-item.result c.args.out.now.items c.loop-item.out.items c.push_item.new.out.items c.loop-item-test.true c.item-item.is c.loop-item.invariant c.in_ok-push_item.ensures
 
 pub push_map-arrange-requires : goal.push_map-arrange-requires
 push_map-arrange-requires g t c =
@@ -44,9 +44,9 @@ push_map-returns g t c =
 
 pub push_pair-returns : goal.push_pair-returns
 push_pair-returns g t c =
-    let u = pair_done g.O.KeyOrder.order (item_value c.args.pair.now.0) (item_value c.args.pair.now.1) c.args.out.now.items c.push_encoding.new.out.items c.push_encoding-2.new.out.items c.in_ok-push_encoding.ensures c.in_ok-push_encoding-2.ensures in
-    let first : c.len-middle.result - c.len-start.result ≡ length c.push_encoding.new.out.items - length c.args.out.now.items = search rules in
-    let second : c.len-end.result - c.len-middle.result ≡ length c.push_encoding-2.new.out.items - length c.push_encoding.new.out.items = search rules in
+    let u = pair_done g.O.KeyOrder.order (item_value c.args.pair.now.0) (item_value c.args.pair.now.1) c.args.out.now.items c.push_item.new.out.items c.push_item-2.new.out.items c.in_ok-push_item.ensures c.in_ok-push_item-2.ensures in
+    let first : c.len-middle.result - c.len-start.result ≡ length c.push_item.new.out.items - length c.args.out.now.items = search rules in
+    let second : c.len-end.result - c.len-middle.result ≡ length c.push_item-2.new.out.items - length c.push_item.new.out.items = search rules in
     (u.0, u.1, u.2, first ∙ u.3, second ∙ u.4, u.5)
 
 pub push_pairs-push_pair-requires : goal.push_pairs-push_pair-requires
@@ -60,9 +60,9 @@ push_pairs-loop-pair-preserved g t c =
     let u = pairs_step g.O.KeyOrder.order c.args.pairs.now c.loop-pair.pair-index c.pair-item.result c.loop-pair.lengths.items c.in_ok-both.both c.args.out.now.items c.loop-pair.out.items c.push_pair.new.out.items c.loop-pair-test.true c.pair-item.is c.loop-pair.invariant c.in_ok-both.ensures in
     (u.0, u.1, (u.2.0, (c.in_ok-push.ensures.items ∙ u.2.1.0, u.2.1.1), u.2.2))
 
-pub push_items-returns-in_err-push_encoding : goal.push_items-returns-in_err-push_encoding
-push_items-returns-in_err-push_encoding g t c =
-    on_err c.from_residual.result _ _ c.from_residual.ensures.0 (λ _. begins_more c.args.out.now.items c.loop-item.out.items c.push_encoding.new.out.items (c.loop-item.invariant.0, c.loop-item.invariant.2) c.in_err-push_encoding.ensures)
+pub push_items-returns-in_err-push_item : goal.push_items-returns-in_err-push_item
+push_items-returns-in_err-push_item g t c =
+    on_err c.from_residual.result _ _ c.from_residual.ensures.0 (λ _. begins_more c.args.out.now.items c.loop-item.out.items c.push_item.new.out.items (c.loop-item.invariant.0, c.loop-item.invariant.2) c.in_err-push_item.ensures)
 
 pub push_pairs-returns-in_err-both : goal.push_pairs-returns-in_err-both
 push_pairs-returns-in_err-both g t c =

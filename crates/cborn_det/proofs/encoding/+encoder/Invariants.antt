@@ -15,8 +15,8 @@ invariant-push_items-loop-item g l = Appends (DetSeq g.O.KeyOrder.order (map ite
 abbrev pub invariant-push_pairs-loop-pair : goal.invariant-push_pairs-loop-pair
 invariant-push_pairs-loop-pair g l = AppendsPairs g.O.KeyOrder.order (map pair_value (take l.pair-index l.pairs)) l.lengths.items l.initial.out.items l.out.items
 
-abbrev pub decreases-push_encoding : goal.decreases-push_encoding
-decreases-push_encoding g l = 4 * height (item_value l.item.now)
+abbrev pub decreases-push_item : goal.decreases-push_item
+decreases-push_item g l = 4 * height (item_value l.item.now)
 
 abbrev pub decreases-push_items : goal.decreases-push_items
 decreases-push_items g l = 4 * height_all (values_of (map item_value l.items.now)) + 1

@@ -24,7 +24,7 @@ pub loop-i-preserved : goal.loop-i-preserved
 loop-i-preserved g c =
     let order = g.O.KeyOrder.order in
     let m = pair_means_at c.args.nodes.now c.args.pairs.now c.loop-i.i c.index-nodes-i.result c.index-pairs-i.result (omega arith) c.index-nodes-i.is c.index-pairs-i.is c.requires.mean c.requires.proper in
-    let e = c.in_ok-push_encoding.ensures in
+    let e = c.in_ok-push_encoding.ensures.added in
     let old = c.loop-i.bytes.items in
     let begin : c.len-start.result ≡ length old = search rules in
     let whole : c.deref.result.now ≡ old ++ e.0 = c.deref.ensures.value ∙ e.2 in

@@ -9,7 +9,7 @@ use Rattle.cborn_judge.proofs.keys.Keys.push.Goals.{then-self, else-self}
 
 pub returns : goal.returns
 returns c =
-    let e = c.in_ok-push_encoding.ensures in
+    let e = c.in_ok-push_encoding.ensures.added in
     let old = c.args.self.now.bytes.items in
     let begin : c.len-start.result ≡ length old = search rules in
     let whole : c.deref.result.now ≡ old ++ e.0 = c.deref.ensures.value ∙ e.2 in
