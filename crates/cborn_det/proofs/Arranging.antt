@@ -7,7 +7,8 @@ use Rattle.std.specs.List.Sorted.{IsSortedBy}
 use Rattle.std.proofs.lemmas.Map.Keys.{IsDistinct-IsPermutation}
 use Rattle.cborn_model.proofs.Rearranging.{weaker}
 use Rattle.cborn_model.specs.Orders.{IsKeyOrder, Rising}
-use Rattle.cborn_det.specs.Det.{Entry, keys, HasDistinctKeys}
+use Rattle.cborn_det.specs.Det.{Entry, keys}
+use Rattle.cborn_det.specs.Writing.{HasDistinctKeys}
 
 module _ (order : List ℕ → List ℕ → Ordering) (laws : IsKeyOrder order) where
   pub total : IsTotalOrder order

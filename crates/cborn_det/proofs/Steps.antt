@@ -12,7 +12,8 @@ use Rattle.cborn_model.specs.Heads.{IsLeastHead}
 use Rattle.cborn_model.specs.Orders.{Rising}
 use Rattle.cborn_model.proofs.Values.{value_count-values_of, pair_count-pairs_of}
 use Rattle.cborn_det.specs.Det.{Det, DetValues, DetPairs, DetSeq, Entry, joined, keys}
-use Rattle.cborn_det.specs.Appending.{Appends, AppendsPair, BeginsWith, IsWritten, lengths_of}
+use Rattle.cborn_det.specs.Appending.{Appends}
+use Rattle.cborn_det.specs.Writing.{AppendsPair, BeginsWith, IsWritten, lengths_of}
 
 -- ---- what is valid of all is valid of each
 

@@ -1,7 +1,6 @@
 -- The deterministic encoding of an item (RFC 8949 section 4.2).
 use Rattle.std.specs.Prelude.{◌≡◌, ℕ, ◌^◌, ◌<◌, ◌≤◌, ◌⊎◌, Bool, true, false, List, [], ◌∷◌, ◌++◌, map, flat_map, length, IsPermutation, ⊤}
 use Rattle.std.specs.declared.cmp.Ordering.{Ordering}
-use Rattle.std.specs.List.{AllByRecursion}
 use Rattle.cborn_model.specs.declared.heads.Width.TheVariants.{Direct, One}
 use Rattle.cborn_model.specs.Bytes.{big_endian}
 use Rattle.cborn_model.specs.Heads.{IsHead, IsLeastHead}
@@ -17,11 +16,6 @@ keys = map (λ e. e.0)
 
 abbrev pub joined : List Entry → List ℕ
 joined = flat_map (λ e. e.0 ++ e.1)
-
--- no two of the keys are equal
-abbrev pub HasDistinctKeys : List Entry → Type 0
-HasDistinctKeys [] = ⊤
-HasDistinctKeys (e ∷ es) = AllByRecursion (λ (g : Entry). e.0 ≡ g.0 → ⊥) es × HasDistinctKeys es
 
 -- x is the string b of the major type: its shortest head and its bytes
 abbrev pub IsString : ℕ → List ℕ → List ℕ → Type 0

@@ -3,8 +3,8 @@
 
 ghost use Rattle.std.specs.Prelude.{◌≡◌, ℕ, List, ◌++◌, IfOk, OnOk, IsPermutation, IsTrue, ◌≤◌, length, take, drop};
 ghost use Rattle.cborn_model.specs.Orders.{Rising};
-ghost use Rattle.cborn_det.specs.Appending.{BeginsWith, IsWritten, entries_of};
-ghost use Rattle.cborn_det.specs.Det.{Entry, HasDistinctKeys, joined, keys};
+ghost use Rattle.cborn_det.specs.Writing.{BeginsWith, IsWritten, entries_of, HasDistinctKeys};
+ghost use Rattle.cborn_det.specs.Det.{Entry, joined, keys};
 
 use cborn_model::KeyOrder;
 use std::alloc::{AllocError, Global};

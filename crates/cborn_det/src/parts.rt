@@ -2,7 +2,7 @@
 
 ghost use Rattle.std.specs.Prelude.{◌<◌, ◌≤◌, ◌⊎◌};
 ghost use Rattle.cborn_model.specs.Heads.{IsLeastHead};
-ghost use Rattle.cborn_det.specs.Appending.{Writes};
+ghost use Rattle.cborn_det.specs.Writing.{Writes};
 ghost use Rattle.cborn_det.specs.Det.{IsInteger, IsSimple, IsString};
 
 use cborn_model::{Magnitude, Number, shortest};

@@ -4,7 +4,7 @@ use Rattle.cborn_judge.specs.Flaws.{Within, WithinAll, WithinEntries}
 use Rattle.cborn_judge.specs.Defects.{IsLong, SizeDefect, NotAbove, Descends, HasDescent, DefectAt, Defect, SequenceDefect}
 use Rattle.cborn_judge.specs.declared.defects.DefectReason.{DefectReason}
 use Rattle.cborn_judge.specs.declared.defects.DefectReason.TheVariants.{LongHead, EndlessLength, LooseBignum, KeyOrder}
-use Rattle.cborn_judge.specs.Tidy.{spelled_pairs, SizeIsTidy, IsTidy, AllTidy, EntriesTidy}
+use Rattle.cborn_judge.proofs.Tidy.{spelled_pairs, SizeIsTidy, IsTidy, AllTidy, EntriesTidy}
 use Rattle.cborn_det.proofs.Canon.{one_of_same}
 use Rattle.cborn_model.proofs.Sameness.{same_itself}
 use Rattle.cborn_judge.proofs.Meanings.{same_count}

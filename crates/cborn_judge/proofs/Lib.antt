@@ -5,6 +5,7 @@ pub mod Repeating
 pub mod Neighbours
 pub mod Pushing
 pub mod Steps
+pub mod Tidy
 pub mod Tidying
 pub mod Checking
 pub mod Numbering

@@ -1,12 +1,16 @@
 -- Which keys tie, as a loop over neighbours meets them.
 use Rattle.std.proofs.Common.{◌≡◌, ℕ, suc, zero, ◌+◌, ◌-◌, ◌<◌, ◌≤◌, ◌⊎◌, inl, inr, List, [], ◌∷◌, length, get_or, take, min, refl, sym, ap, ◌∙◌, subst, arith, add-one, Option, None, Some, IsPermutation, is_lt}
 use Rattle.std.proofs.lemmas.Bool.{cases_lt}
-use Rattle.std.specs.Prelude.{◌↔◌}
+use Rattle.std.specs.Prelude.{◌↔◌, slice_index}
 use Rattle.std.specs.List.Sorted.{IsSortedBy}
 use Rattle.std.proofs.lemmas.List.{get_or_read, take_all}
-use Rattle.cborn_judge.specs.Repeats.{key_order, PositionsRise, IsAgain, IsTied}
-use Rattle.cborn_judge.specs.Places.{Key, key_bytes, key_position, IsLeast, IsRepeatAt, IsTieAt, lower_of}
-use Rattle.cborn_judge.proofs.Repeating.{again_tied, sorted_in_order}
+use Rattle.cborn_judge.specs.Repeats.{PositionsRise, IsAgain, IsTied}
+use Rattle.cborn_judge.specs.Places.{Key, key_bytes, key_position, IsLeast, IsRepeatAt, lower_of}
+use Rattle.cborn_judge.proofs.Repeating.{key_order, again_tied, sorted_in_order}
+
+-- a key at this place ties with the one before it
+abbrev pub IsTieAt : List Key → List ℕ → ℕ → Type 0
+IsTieAt ks places p = (z : Key) × IsTied key_bytes ks z × (slice_index places z.1 ≡ p)
 
 tied_step : (ys : List Key) (i : ℕ) (d : Key) (z : Key) → suc i < length ys → IsTied key_bytes (take (suc (suc i)) ys) z
     → IsTied key_bytes (take (suc i) ys) z ⊎ ((get_or ys (suc i) d ≡ z) × (key_bytes (get_or ys i d) ≡ key_bytes (get_or ys (suc i) d)))

@@ -12,7 +12,7 @@ use Rattle.cborn_model.specs.declared.items.Item.{Item}
 use Rattle.cborn_model.specs.declared.heads.Size.{Size}
 use Rattle.cborn_model.proofs.Values.{pair_count-pairs_of}
 use Rattle.cborn_judge.specs.Flaws.{Within, WithinEntries, FlawAt, Flaw, IsFirstFlaw, flaw_rank}
-use Rattle.cborn_judge.specs.Judged.{FindsFlaw, IsEarlierFlaw, IsEarliestFlaw, FlawAmong, MeansItem, ArePairsJudged, PairFlaw, RepeatFlaw, IsFirstWith, IsJudged}
+use Rattle.cborn_judge.specs.Judged.{FindsFlaw, IsEarlierFlaw, IsEarliestFlaw, FlawAmong, MeansItem, PairFlaw, RepeatFlaw, IsFirstWith, IsJudged}
 use Rattle.cborn_judge.specs.declared.judgments.Judged.{Judged}
 use Rattle.cborn_judge.specs.declared.judgments.Judged.TheVariants as judged
 use Rattle.cborn_judge.specs.Keeping.{code_bytes, code_position, AreKept, IsNextKey, KeepsKey}
@@ -26,6 +26,11 @@ use Rattle.cborn_judge.proofs.Judging.{sound_entries, no_flaw, new_keys}
 use Rattle.cborn_judge.proofs.Pushing.{keys_push, keys_skip}
 use Rattle.cborn_judge.proofs.Steps.{flaw_pairs}
 use Rattle.cborn_judge.proofs.Passing.{passed_one}
+
+-- the first flaw of these pairs, or without one what they mean
+abbrev pub ArePairsJudged : List (Tree × Tree) → Option flaw.Flaw → List (Item × Item) → Type 0
+ArePairsJudged ns None pairs = EntriesMean (entries ns) (pairs_of (map pair_value pairs)) × HasProperPairs (pairs_of (map pair_value pairs))
+ArePairsJudged ns (Some f) pairs = IsFirst flaw_rank (FlawAmong (entries ns)) f.place f.reason
 
 abbrev EarliestOf : Option flaw.Flaw → flaw.Flaw → Option flaw.Flaw → Type 0
 EarliestOf o f g = IsEarliestFlaw o (Some f) g

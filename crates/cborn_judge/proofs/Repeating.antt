@@ -1,14 +1,14 @@
 -- Keys are the same exactly if their encodings are equal; so after a sort the repeats are those that tie with their neighbour.
 use Rattle.std.proofs.Common.{◌≡◌, ◌≢◌, ℕ, suc, ◌<◌, ◌≤◌, ◌⊎◌, inl, inr, List, [], ◌∷◌, refl, sym, ap, ◌∙◌, subst, arith, true, false, Bool, true≢false, add-one, IsPermutation, Ordering, Less, Equal, Greater, is_lt, nat_cmp, eqb}
 use Rattle.std.specs.Prelude.{⊤, ◌↔◌}
-use Rattle.std.specs.Ordering.{ordering_then, ordering_reverse}
+use Rattle.std.specs.Ordering.{nat_cmp, ordering_then, ordering_reverse}
 use Rattle.std.specs.List.{AllByRecursion, IsDistinct}
 use Rattle.std.specs.List.Sorted.{IsSortedBy}
 use Rattle.std.proofs.lemmas.List.Sorted.{IsPermutation-sym}
 use Rattle.std.proofs.lemmas.Map.Keys.{IsDistinct-IsPermutation, ge_from_not_lt}
 use Rattle.std.proofs.lemmas.Bool.{eqb-true, eq-eqb, cases_eq}
 use Rattle.cborn_judge.specs.Flaws.{IsRepeated, HasRepeat}
-use Rattle.cborn_judge.specs.Repeats.{IsOneOf, key_order, PositionsRise, IsAgain, IsTied, AreKeys}
+use Rattle.cborn_judge.specs.Repeats.{IsOneOf, PositionsRise, IsAgain, IsTied, AreKeys}
 use Rattle.cborn_model.proofs.Rearranging.{All_moved, weaker, at_member}
 use Rattle.cborn_model.specs.OrderLaws.{bytewise_order}
 use Rattle.cborn_det.proofs.Canon.{same_of_one, one_of_same}
@@ -19,6 +19,11 @@ use Rattle.cborn_model.specs.Orders.{bytewise}
 use Rattle.cborn_det.specs.Det.{Det}
 use Rattle.cborn_model.specs.Tree.{Tree, Entries, no_entry, entry}
 use Rattle.cborn_model.specs.Meaning.{Means}
+
+module _ {X : Type 0} (bytes : X → List ℕ) (position : X → ℕ) where
+  -- by the encoding, and at equal encodings by the position
+  abbrev pub key_order : X → X → Ordering
+  key_order x y = ordering_then (bytewise (bytes x) (bytes y)) (nat_cmp (position x) (position y))
 
 -- ---- the same keys have one encoding
 

@@ -1,12 +1,13 @@
 -- The first flaw of a tag.
-use Rattle.std.proofs.Common.{◌≡◌, ◌≢◌, ℕ, inl, inr, refl, sym, subst, ap, arith}
+use Rattle.std.proofs.Common.{◌≡◌, ◌≢◌, ℕ, ◌⊎◌, List, inl, inr, refl, sym, subst, ap, arith}
 use Rattle.cborn_model.specs.First.{IsFirst}
 use Rattle.cborn_model.specs.ItemView.{item_value}
+use Rattle.cborn_model.specs.Meaning.{IsByteString}
 use Rattle.cborn_model.specs.Tree.{Tree, Tagged}
 use Rattle.cborn_model.specs.declared.items.Item.{Item}
 use Rattle.cborn_model.specs.declared.heads.Width.{Width}
 use Rattle.cborn_judge.specs.Flaws.{FlawAt, Flaw, IsFirstFlaw, flaw_rank}
-use Rattle.cborn_judge.specs.Judged.{IsEarlierFlaw, IsFirstWith, IsJudged, MeansItem, IsBadBignum}
+use Rattle.cborn_judge.specs.Judged.{IsEarlierFlaw, IsFirstWith, IsJudged, MeansItem}
 use Rattle.cborn_judge.specs.declared.judgments.Judged.{Judged}
 use Rattle.cborn_judge.specs.declared.judgments.Judged.TheVariants as judged
 use Rattle.cborn_judge.specs.declared.faults.Flaw as flaw
@@ -15,6 +16,10 @@ use Rattle.cborn_judge.proofs.Firsts.{earlier_of, found_alike}
 use Rattle.cborn_judge.proofs.Judging.{no_flaw}
 use Rattle.cborn_judge.proofs.Steps.{flaw_tagged}
 use Rattle.std.proofs.Common.{Some}
+
+-- the tag is 2 or 3, and its content no byte string
+abbrev IsBadBignum : ℕ → Tree → Type 0
+IsBadBignum n t = ((n ≡ 2) ⊎ (n ≡ 3)) × ((b : List ℕ) → IsByteString t b → ⊥)
 
 own_first : (p : ℕ) (w : Width) (n : ℕ) (t : Tree) → IsBadBignum n t → IsFirst flaw_rank (FlawAt (Tagged p w n t)) p BadBignum
 own_first p w n t b = record { is = (refl, refl, b.0, b.1); first = λ q s f. inr (sym f.0, (let e : flaw_rank BadBignum ≡ flaw_rank s = ap flaw_rank (sym f.1) in omega arith)) }

@@ -7,7 +7,7 @@ use Rattle.cborn_model.specs.declared.nodes.Chunk.{Chunk}
 use Rattle.cborn_model.specs.Meaning.{joined_chunks, ChunksAreText}
 use Rattle.cborn_model.specs.Tree.{TextChunks}
 use Rattle.cborn_judge.specs.Flaws.{HasBadChunk, FlawAt, IsFirstFlaw, flaw_rank}
-use Rattle.cborn_judge.specs.Judged.{ChunkFlaw, AreChunksJudged, IsEarliestFlaw, FindsFlaw}
+use Rattle.cborn_judge.specs.Judged.{ChunkFlaw, IsEarliestFlaw, FindsFlaw}
 use Rattle.cborn_judge.specs.declared.faults.Flaw as flaw
 use Rattle.cborn_judge.specs.declared.faults.InvalidReason.{InvalidReason}
 use Rattle.cborn_judge.specs.declared.faults.InvalidReason.TheVariants.{NotUtf8}
@@ -15,6 +15,11 @@ use Rattle.cborn_model.specs.First.{IsFirst}
 use Rattle.cborn_judge.proofs.Firsts.{Either, found_both, found_alike, none_of_both}
 use Rattle.cborn_judge.proofs.Judging.{no_bad_chunk}
 use Rattle.cborn_judge.proofs.Passing.{passed_one}
+
+-- the first flaw of these chunks, or without one the text that they are
+abbrev pub AreChunksJudged : List Chunk → Option flaw.Flaw → List ℕ → Type 0
+AreChunksJudged cs None b = ChunksAreText cs × (b ≡ joined_chunks cs)
+AreChunksJudged cs (Some f) b = IsFirst flaw_rank (ChunkFlaw cs) f.place f.reason
 
 abbrev OneBad : Chunk → ℕ → InvalidReason → Type 0
 OneBad c p r = (r ≡ NotUtf8) × (p ≡ c.place) × (IsUtf8 c.bytes → ⊥)

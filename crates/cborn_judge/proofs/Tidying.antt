@@ -4,7 +4,7 @@ use Rattle.std.specs.List.{AllByRecursion}
 use Rattle.std.proofs.lemmas.Bool.{cases_lt, le-ltb}
 use Rattle.std.proofs.lemmas.List.Sorted.{length_permutation, IsPermutation-refl}
 use Rattle.cborn_judge.specs.Defects.{IsLoose}
-use Rattle.cborn_judge.specs.Tidy.{spelled_pairs, SizeIsTidy, IsTidy, AllTidy, EntriesTidy}
+use Rattle.cborn_judge.proofs.Tidy.{spelled_pairs, SizeIsTidy, IsTidy, AllTidy, EntriesTidy}
 use Rattle.cborn_model.proofs.OneHead.{one_head, append_same}
 use Rattle.cborn_model.proofs.Rearranging.{All_moved}
 use Rattle.cborn_det.proofs.Canon.{string_one}

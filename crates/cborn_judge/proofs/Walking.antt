@@ -12,13 +12,18 @@ use Rattle.cborn_model.specs.declared.items.Item.{Item}
 use Rattle.cborn_model.specs.declared.heads.Size.{Size}
 use Rattle.cborn_model.proofs.Values.{value_count-values_of}
 use Rattle.cborn_judge.specs.Flaws.{Within, WithinAll, Flaw, IsFirstFlaw, flaw_rank}
-use Rattle.cborn_judge.specs.Judged.{FindsFlaw, IsEarliestFlaw, FlawIn, MeansItem, AreJudged}
+use Rattle.cborn_judge.specs.Judged.{FindsFlaw, IsEarliestFlaw, FlawIn, MeansItem}
 use Rattle.cborn_judge.specs.declared.faults.Flaw as flaw
 use Rattle.cborn_judge.specs.declared.faults.InvalidReason.{InvalidReason}
 use Rattle.cborn_judge.proofs.Firsts.{Either, found_both, found_alike, none_of_both}
 use Rattle.cborn_judge.proofs.Judging.{sound_all, no_flaw}
 use Rattle.cborn_judge.proofs.Steps.{flaw_items}
 use Rattle.cborn_judge.proofs.Passing.{passed_one}
+
+-- the first flaw of these nodes, or without one what they mean
+abbrev pub AreJudged : List Tree → Option flaw.Flaw → List Item → Type 0
+AreJudged ts None items = AllMean (trees ts) (values_of (map item_value items)) × AreProper (values_of (map item_value items))
+AreJudged ts (Some f) items = IsFirst flaw_rank (FlawIn (trees ts)) f.place f.reason
 
 abbrev EarliestOf : Option flaw.Flaw → flaw.Flaw → Option flaw.Flaw → Type 0
 EarliestOf o f g = IsEarliestFlaw o (Some f) g

@@ -1,13 +1,12 @@
 -- What the parts of the judge answer. No public contract cites it.
-use Rattle.std.specs.Prelude.{◌≡◌, ℕ, ◌^◌, ◌<◌, ◌⊎◌, Bool, List, length, map, Option, None, Some}
+use Rattle.std.specs.Prelude.{◌≡◌, ℕ, ◌^◌, ◌<◌, ◌⊎◌, Bool, List, length, Option, None, Some}
 use Rattle.cborn_model.specs.Bytes.{AreBytes, IsShortest, big_endian}
 use Rattle.cborn_model.specs.First.{NoLater, IsFirst}
-use Rattle.cborn_model.specs.ItemView.{item_value, pair_value}
-use Rattle.cborn_model.specs.Meaning.{joined_chunks, IsByteString, IsBignum, ChunksAreText, Means, AllMean, EntriesMean}
-use Rattle.cborn_model.specs.Tree.{Tree, Trees, Entries, trees, entries}
+use Rattle.cborn_model.specs.ItemView.{item_value}
+use Rattle.cborn_model.specs.Meaning.{IsByteString, IsBignum, Means}
+use Rattle.cborn_model.specs.Tree.{Tree, Trees, Entries}
 use Rattle.cborn_model.specs.Spelled.{Fits}
-use Rattle.cborn_model.specs.Valid.{IsProper, AreProper, HasProperPairs}
-use Rattle.cborn_model.specs.Value.{values_of, pairs_of}
+use Rattle.cborn_model.specs.Valid.{IsProper}
 use Rattle.cborn_model.specs.declared.items.Item.{Item}
 use Rattle.cborn_judge.specs.Flaws.{WithinAll, WithinEntries, flaw_rank, HasRepeat, HasBadChunk, FlawAt, Flaw, IsFirstFlaw}
 use Rattle.cborn_judge.specs.declared.faults.Flaw as flaw
@@ -79,22 +78,9 @@ abbrev pub IsJudgedPair : Tree × Tree → JudgedPair → Type 0
 IsJudgedPair n (judged_pair.Valid key value) = MeansItem n.0 key × MeansItem n.1 value
 IsJudgedPair n (judged_pair.Flawed f) = IsFirst flaw_rank (PairFlaw n) f.place f.reason
 
--- the first flaw of these nodes, or without one what they mean
-abbrev pub AreJudged : List Tree → Option flaw.Flaw → List Item → Type 0
-AreJudged ts None items = AllMean (trees ts) (values_of (map item_value items)) × AreProper (values_of (map item_value items))
-AreJudged ts (Some f) items = IsFirst flaw_rank (FlawIn (trees ts)) f.place f.reason
-
-abbrev pub ArePairsJudged : List (Tree × Tree) → Option flaw.Flaw → List (Item × Item) → Type 0
-ArePairsJudged ns None pairs = EntriesMean (entries ns) (pairs_of (map pair_value pairs)) × HasProperPairs (pairs_of (map pair_value pairs))
-ArePairsJudged ns (Some f) pairs = IsFirst flaw_rank (FlawAmong (entries ns)) f.place f.reason
-
--- the first flaw of these chunks of a text string, or without one the text that they are
+-- the flaws of these chunks of a text string
 abbrev pub ChunkFlaw : List Chunk → ℕ → InvalidReason → Type 0
 ChunkFlaw cs p r = (r ≡ NotUtf8) × HasBadChunk cs p
-
-abbrev pub AreChunksJudged : List Chunk → Option flaw.Flaw → List ℕ → Type 0
-AreChunksJudged cs None b = ChunksAreText cs × (b ≡ joined_chunks cs)
-AreChunksJudged cs (Some f) b = IsFirst flaw_rank (ChunkFlaw cs) f.place f.reason
 
 -- the integer of tag 2 or 3 over this node, or none where it is no byte string
 abbrev pub IsBignumItem : Bool → Tree → Option Item → Type 0
@@ -105,10 +91,6 @@ IsBignumItem negative t (Some item) = IsBignum negative t (item_value item) × I
 abbrev pub IsFirstWith : flaw.Flaw → Judged → flaw.Flaw → Type 0
 IsFirstWith f (judged.Valid item) g = g ≡ f
 IsFirstWith f (judged.Flawed next) g = IsEarlierFlaw f next g
-
--- the tag is 2 or 3, and its content no byte string
-abbrev pub IsBadBignum : ℕ → Tree → Type 0
-IsBadBignum n t = ((n ≡ 2) ⊎ (n ≡ 3)) × ((b : List ℕ) → IsByteString t b → ⊥)
 
 -- the bytes of the big-endian number of b, without leading zeros
 pub record IsMagnitudeOf (b m : List ℕ) : Type 0 where

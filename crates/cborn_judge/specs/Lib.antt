@@ -2,7 +2,6 @@ pub mod Flaws
 pub mod Defects
 pub mod Repeats
 pub mod Places
-pub mod Tidy
 pub mod Judged
 pub mod Keeping
 pub mod Recalled

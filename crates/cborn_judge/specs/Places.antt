@@ -2,7 +2,7 @@
 use Rattle.std.specs.Prelude.{◌≡◌, ℕ, ◌≤◌, List, slice_index, Option, None, Some, min, map}
 use Rattle.cborn_model.specs.Tree.{Tree, place}
 use Rattle.std.proofs.Common.{Bor}
-use Rattle.cborn_judge.specs.Repeats.{IsAgain, IsTied}
+use Rattle.cborn_judge.specs.Repeats.{IsAgain}
 
 -- a key: its encoding and its position in the map
 abbrev pub Key : Type 0
@@ -26,10 +26,6 @@ IsLeast P (Some p) = P p × ((q : ℕ) → P q → p ≤ q)
 abbrev pub lower_of : Option ℕ → ℕ → ℕ
 lower_of None p = p
 lower_of (Some a) p = min a p
-
--- a key at this place ties with the one before it
-abbrev pub IsTieAt : List Key → List ℕ → ℕ → Type 0
-IsTieAt ks places p = (z : Key) × IsTied key_bytes ks z × (slice_index places z.1 ≡ p)
 
 -- where the keys of these pairs stand
 abbrev pub key_places : List (Tree × Tree) → List ℕ

@@ -1,7 +1,5 @@
 -- Devices of the proofs on repeated keys: the keys that mean something, each with its encoding, its position and its place; and which of a list are repeats.
 use Rattle.std.specs.Prelude.{◌≡◌, ℕ, suc, ◌<◌, ◌⊎◌, List, [], ◌∷◌, ⊤}
-use Rattle.std.specs.declared.cmp.Ordering.{Ordering}
-use Rattle.std.specs.Ordering.{nat_cmp, ordering_then}
 use Rattle.cborn_model.specs.Value.{Value}
 use Rattle.cborn_model.specs.Valid.{IsProper}
 use Rattle.cborn_model.specs.Orders.{bytewise}
@@ -14,10 +12,6 @@ IsOneOf x [] = ⊥
 IsOneOf x (y ∷ ys) = (x ≡ y) ⊎ IsOneOf x ys
 
 module _ {X : Type 0} (bytes : X → List ℕ) (position : X → ℕ) where
-  -- by the encoding, and at equal encodings by the position
-  abbrev pub key_order : X → X → Ordering
-  key_order x y = ordering_then (bytewise (bytes x) (bytes y)) (nat_cmp (position x) (position y))
-
   -- each position is above those before it
   abbrev pub PositionsRise : ℕ → List X → Type 0
   PositionsRise n [] = ⊤

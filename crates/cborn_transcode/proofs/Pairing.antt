@@ -15,7 +15,8 @@ use Rattle.cborn_model.specs.Meaning.{Means, EntriesMean}
 use Rattle.cborn_model.specs.Orders.{IsKeyOrder, Rising}
 use Rattle.cborn_model.proofs.Values.{pair_count-pairs_of}
 use Rattle.cborn_judge.proofs.Meanings.{Short, left, right, meaning_valid, same_count_entries}
-use Rattle.cborn_det.specs.Det.{Det, DetPairs, Entry, joined, keys, HasDistinctKeys}
+use Rattle.cborn_det.specs.Det.{Det, DetPairs, Entry, joined, keys}
+use Rattle.cborn_det.specs.Writing.{HasDistinctKeys}
 use Rattle.cborn_det.specs.Appending.{Appends}
 use Rattle.cborn_det.proofs.Canon.{one_of_same}
 use Rattle.cborn_det.proofs.Steps.{map_done}

@@ -1,7 +1,8 @@
 use Rattle.std.proofs.Common.{◌≡◌, ◌+◌, ◌*◌, take, drop, length, max, vec_len}
 use Rattle.std.specs.Vec.Iter.{into_iter_items}
 use Rattle.cborn_model.specs.Tree.{trees, entries, depth, depth_all, depth_entries}
-use Rattle.cborn_judge.specs.Judged.{AreJudged, ArePairsJudged}
+use Rattle.cborn_judge.proofs.Walking.{AreJudged}
+use Rattle.cborn_judge.proofs.Pairing.{ArePairsJudged}
 use Rattle.cborn_judge.specs.Keeping.{AreKept}
 use Rattle.cborn_judge.specs.Places.{key_places}
 use Rattle.cborn_judge.proofs.owned.+judged.Given as goal

@@ -2,8 +2,8 @@ use Rattle.std.proofs.Common.{rules, arith, ℕ, ◌≡◌, ◌<◌, length, ◌
 use Rattle.std.proofs.lemmas.Slice.Eq.{bytes_eq-Decides}
 use Rattle.std.proofs.lemmas.List.Sorted.{All-permutation}
 use Rattle.std.proofs.lemmas.List.{get_or_default}
-use Rattle.cborn_judge.specs.Places.{Key, key_bytes, IsLeast, IsTieAt, lower_of}
-use Rattle.cborn_judge.proofs.Neighbours.{none-take_more, one-take_more, least_again}
+use Rattle.cborn_judge.specs.Places.{Key, key_bytes, IsLeast, lower_of}
+use Rattle.cborn_judge.proofs.Neighbours.{IsTieAt, none-take_more, one-take_more, least_again}
 use Rattle.cborn_judge.proofs.repeats.least_tie.Goals as goal
 use Rattle.cborn_judge.proofs.repeats.least_tie.Goals.{then-eq, else-eq}
 

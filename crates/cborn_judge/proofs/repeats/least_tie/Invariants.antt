@@ -1,5 +1,6 @@
 use Rattle.std.proofs.Common.{take}
-use Rattle.cborn_judge.specs.Places.{IsLeast, IsTieAt}
+use Rattle.cborn_judge.specs.Places.{IsLeast}
+use Rattle.cborn_judge.proofs.Neighbours.{IsTieAt}
 use Rattle.cborn_judge.proofs.repeats.least_tie.Given as goal
 
 abbrev pub invariant-loop-i : goal.invariant-loop-i

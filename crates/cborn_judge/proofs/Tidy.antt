@@ -1,4 +1,4 @@
--- A device of the proofs: a node that is spelled deterministically, by recursion. No definition cites it.
+-- A node that is spelled deterministically, by recursion.
 use Rattle.std.specs.Prelude.{◌≡◌, ℕ, ◌⊎◌, List, [], ◌∷◌, length, ⊤}
 use Rattle.std.specs.declared.cmp.Ordering.{Ordering}
 use Rattle.cborn_judge.specs.Defects.{IsLoose}
