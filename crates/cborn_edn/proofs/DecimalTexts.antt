@@ -15,7 +15,7 @@ use Rattle.cborn_lex.specs.declared.classes.Class.{Class}
 use Rattle.cborn_lex.specs.declared.classes.Class.TheVariants.{Number, TagOpen}
 use Rattle.cborn_lex.specs.Tokens.{Read, begins, is_numeral}
 use Rattle.cborn_lex.specs.Numbers.{are_digits, number, within, has_prefix, integer, number_front, signed}
-use Rattle.cborn_lex.specs.Forms.{Start, white, slash, hash, less, greater, paren, letter, minus, digit, other, single, opening, quote, start_of, ReadsFrom, ReadsNumber}
+use Rattle.cborn_lex.specs.Forms.{Start, white, slash, hash, less, greater, paren, letter, minus, digit, other, single, opening, double, simple as single_quote, start_of, ReadsFrom, ReadsNumber}
 use Rattle.cborn_model.specs.declared.heads.Width.TheVariants.{Direct, One, Two, Four, Eight}
 use Rattle.cborn_edn.specs.Syntax.{token}
 use Rattle.cborn_edn.specs.ReadingBack.{nowhere}
@@ -47,7 +47,8 @@ is_digit_start minus = false
 is_digit_start other = false
 is_digit_start (single k) = false
 is_digit_start (opening k) = false
-is_digit_start (quote q) = false
+is_digit_start double = false
+is_digit_start single_quote = false
 
 digit_start : (s : Start) → is_digit_start s ≡ true → s ≡ digit
 digit_start digit e = refl
@@ -62,7 +63,8 @@ digit_start minus e = cc
 digit_start other e = cc
 digit_start (single k) e = cc
 digit_start (opening k) e = cc
-digit_start (quote q) e = cc
+digit_start double e = cc
+digit_start single_quote e = cc
 
 pub starts : (c : ℕ) → digit_value c < 10 → start_of c ≡ digit
 starts c h = digit_start (start_of c) (digit_passes (λ d. is_digit_start (start_of d)) c refl h)

@@ -13,7 +13,7 @@ use Rattle.cborn_lex.specs.declared.classes.Class.TheVariants.{EmbedClose, Text,
 use Rattle.cborn_lex.specs.Tokens.{Front, is_word, is_numeral, is_not, begins, mark_of, marked}
 use Rattle.cborn_lex.specs.Numbers.{integer, number_front}
 use Rattle.cborn_lex.specs.Strings.{IsText, IsHex, IsBase64}
-use Rattle.cborn_lex.specs.Forms.{Through, Lacks, Stands, Closed, IsString, Prefix, hexadecimal, base64, unknown, prefix_of, IsPrefixed, IsAfterWord, ReadsWord, IsTag, ReadsNumber, double, simple, Start, white, slash, hash, less, greater, paren, letter, minus, digit, other, single, opening, quote, start_of, paren_front, ReadsFrom, Reads}
+use Rattle.cborn_lex.specs.Forms.{Through, Lacks, Stands, Closed, IsString, Prefix, hexadecimal, base64, unknown, prefix_of, IsPrefixed, IsAfterWord, ReadsWord, IsTag, ReadsNumber, double, simple, Start, white, slash, hash, less, greater, paren, letter, minus, digit, other, single, opening, start_of, paren_front, ReadsFrom, Reads}
 use Rattle.cborn_lex.proofs.Runs.{rest, one_run, one_indicator, Closer, plain}
 use Rattle.cborn_lex.proofs.Quotes.{quoted}
 use Rattle.cborn_lex.proofs.Texts.{text_one}
@@ -168,8 +168,8 @@ one_from greater profile c s z t w a b (inl (mark, h, i, j)) (inr k) e = absurd 
 one_from greater profile c s z t w a b (inr h) (inl (sign, k, l, m)) e = absurd (test_at (λ d. eqb d 62) 62 z (sign ++ w) h.1 (ap (λ x. x ++ z) (sym h.0) ∙ (e ∙ greater_text t w sign k)) refl)
 one_from greater profile c s z t w a b (inr h) (inr k) e = (h.0 ∙ sym k.0, h.2 ∙ sym k.2)
 one_from paren profile c s z t w a b h k e = let r = one_indicator s t z w h.0 k.0 e in (r, h.1 ∙ (ap paren_front r ∙ sym k.1))
-one_from (quote double) profile c s z t w a b h k e = string _ _ 34 (quoted 34 refl) (IsText 34) BadEscape Text s z t w a b (text_one 34) h k e
-one_from (quote simple) profile c s z t w a b h k e = string _ _ 39 (quoted 39 refl) (IsText 39) BadEscape (Bytes true) s z t w a b (text_one 39) h k e
+one_from double profile c s z t w a b h k e = string _ _ 34 (quoted 34 refl) (IsText 34) BadEscape Text s z t w a b (text_one 34) h k e
+one_from simple profile c s z t w a b h k e = string _ _ 39 (quoted 39 refl) (IsText 39) BadEscape (Bytes true) s z t w a b (text_one 39) h k e
 one_from minus profile c s z t w a b h k e = numbers true [] s z t w a b h k e
 one_from digit profile c s z t w a b h k e = numbers false (c ∷ []) s z t w a b h k e
 one_from letter profile c s z t w a b h k e = words c s z t w a b h k e

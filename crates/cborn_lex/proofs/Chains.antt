@@ -7,7 +7,7 @@ use Rattle.cborn_lex.specs.declared.classes.Profile.TheVariants.{One, Two}
 use Rattle.cborn_lex.specs.declared.faults.LexReason.{LexReason}
 use Rattle.cborn_lex.specs.declared.classes.Token.{Token}
 use Rattle.cborn_lex.specs.Tokens.{Front, Blank, Read, Bad}
-use Rattle.cborn_lex.specs.Forms.{Start, white, slash, hash, less, greater, paren, letter, minus, digit, other, single, opening, quote, double, simple, start_of, ReadsFrom, Reads}
+use Rattle.cborn_lex.specs.Forms.{Start, white, slash, hash, less, greater, paren, letter, minus, digit, other, single, opening, double, simple, start_of, ReadsFrom, Reads}
 use Rattle.cborn_lex.specs.Lex.{Piece, gap, token, slice, front_of, spelled, AreRead, tokens, Lex, HasNoPiece, Stop, SpansRise}
 use Rattle.std.proofs.Common.{drop, ◌≤◌, ◌+◌}
 use Rattle.cborn_lex.proofs.Pieces.{front_is}
@@ -181,8 +181,8 @@ two_from (opening l) c s z p h = h
 two_from less c s z p h = h
 two_from greater c s z p h = h
 two_from paren c s z p h = h
-two_from (quote double) c s z p h = h
-two_from (quote simple) c s z p h = h
+two_from double c s z p h = h
+two_from simple c s z p h = h
 two_from minus c s z p h = h
 two_from digit c s z p h = h
 two_from letter c s z p h = h

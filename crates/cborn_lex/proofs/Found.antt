@@ -14,7 +14,7 @@ use Rattle.cborn_lex.specs.declared.classes.Class.TheVariants.{EmbedClose, Embed
 use Rattle.cborn_lex.specs.Tokens.{Front, Read, Bad, is_word, is_numeral, is_not, mark_of, marked}
 use Rattle.cborn_lex.specs.Numbers.{integer, number_front, word_front}
 use Rattle.cborn_lex.specs.Strings.{IsText, IsHex, IsBase64}
-use Rattle.cborn_lex.specs.Forms.{IsRun, IsIndicator, Through, Lacks, Stands, IsString, Prefix, hexadecimal, base64, unknown, prefix_of, IsPrefixed, IsAfterWord, ReadsWord, IsTag, ReadsNumber, double, simple, Start, white, slash, hash, less, greater, paren, letter, minus, digit, other, single, opening, quote, start_of, paren_front, ReadsFrom, Reads}
+use Rattle.cborn_lex.specs.Forms.{IsRun, IsIndicator, Through, Lacks, Stands, IsString, Prefix, hexadecimal, base64, unknown, prefix_of, IsPrefixed, IsAfterWord, ReadsWord, IsTag, ReadsNumber, double, simple, Start, white, slash, hash, less, greater, paren, letter, minus, digit, other, single, opening, start_of, paren_front, ReadsFrom, Reads}
 use Rattle.cborn_lex.proofs.Runs.{cut, marks, Found, plain}
 use Rattle.cborn_lex.proofs.Quotes.{quoted}
 use Rattle.cborn_lex.proofs.Texts.{text_cases}
@@ -175,8 +175,8 @@ some_from less profile c (d ∷ y) h = less_from profile c d y (eqb d 60) refl
 some_from greater profile c [] h = record { s = []; z = []; a = Bad UnexpectedCharacter; whole = refl; reads = inr (refl, refl, refl) }
 some_from greater profile c (d ∷ y) h = greater_from profile c d y (eqb d 62) refl
 some_from paren profile c y h = indicated paren_front y
-some_from (quote double) profile c y h = string_from _ _ 34 (IsText 34) BadEscape Text y ((quoted 34 refl).find y) (λ x z e. text_cases 34 x)
-some_from (quote simple) profile c y h = string_from _ _ 39 (IsText 39) BadEscape (Bytes true) y ((quoted 39 refl).find y) (λ x z e. text_cases 39 x)
+some_from double profile c y h = string_from _ _ 34 (IsText 34) BadEscape Text y ((quoted 34 refl).find y) (λ x z e. text_cases 34 x)
+some_from simple profile c y h = string_from _ _ 39 (IsText 39) BadEscape (Bytes true) y ((quoted 39 refl).find y) (λ x z e. text_cases 39 x)
 some_from minus profile c y h = numbers true [] y
 some_from digit profile c y h = numbers false (c ∷ []) y
 some_from letter profile c y h = words c y h

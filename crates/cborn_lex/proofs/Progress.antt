@@ -10,7 +10,7 @@ use Rattle.cborn_lex.specs.declared.faults.LexFault.TheVariants.{Refused, OutOfM
 use Rattle.cborn_lex.specs.declared.classes.Class.{Class}
 use Rattle.cborn_lex.specs.declared.classes.Token.{Token}
 use Rattle.cborn_lex.specs.Tokens.{Front, Blank, Read, Bad, is_white}
-use Rattle.cborn_lex.specs.Forms.{Start, white, slash, hash, less, greater, paren, letter, minus, digit, other, single, opening, quote, start_of, ReadsFrom, Reads}
+use Rattle.cborn_lex.specs.Forms.{Start, white, slash, hash, less, greater, paren, letter, minus, digit, other, single, opening, double, simple, start_of, ReadsFrom, Reads}
 use Rattle.cborn_lex.specs.View.{single_class}
 use Rattle.cborn_lex.specs.Lex.{Piece, gap, token, slice, front_of, spelled, AreRead, tokens, Lex, Stop, Between, IsStopAt, IsStopFrom}
 use Rattle.cborn_lex.proofs.Chains.{bad_ends, some_long}
@@ -35,7 +35,8 @@ single_is minus k e = cc
 single_is digit k e = cc
 single_is other k e = cc
 single_is (opening f) k e = cc
-single_is (quote q) k e = cc
+single_is double k e = cc
+single_is simple k e = cc
 
 -- a character that is a token alone
 pub single_reads : (profile : Profile) (text : List ℕ) (k : Class) → 0 < length text → single_class (start_of (get_or text 0 0)) ≡ Some k → Reads profile (take 1 text) (drop 1 text) (Read k)

@@ -23,7 +23,7 @@ use Rattle.cborn_lex.specs.declared.faults.LexReason.TheVariants.{NumberTooLarge
 use Rattle.cborn_lex.specs.Tokens.{Front, Blank, Read, Bad, mark_of, marked, is_white, is_not}
 use Rattle.cborn_lex.specs.Numbers.{integer, within, signed, number_front, word_front}
 use Rattle.cborn_lex.specs.Strings.{Letter, raw, escaped, unit, pair, written, meant, is_letter, escape_code, are_hex, code, is_high, is_low, IsText, Mote, digit as digit_mote, space, comment, mote, digits, IsHex, to_standard, filled, IsBase64, is_content, is_unclosed}
-use Rattle.cborn_lex.specs.Forms.{IsString, Prefix, hexadecimal, base64, unknown, prefix_of, IsPrefixed, IsAfterWord, ReadsNumber, Quote, double, simple, Start, white, slash, hash, less, greater, paren, letter, minus, digit, other, single, opening, quote, start_of, paren_front, ReadsFrom, Reads}
+use Rattle.cborn_lex.specs.Forms.{IsString, Prefix, hexadecimal, base64, unknown, prefix_of, IsPrefixed, IsAfterWord, ReadsNumber, double, simple, Start, white, slash, hash, less, greater, paren, letter, minus, digit, other, single, opening, start_of, paren_front, ReadsFrom, Reads}
 use Rattle.cborn_lex.specs.Lex.{Piece, gap, token, spelled, AreRead, tokens, Lex, Between}
 use Rattle.cborn_lex.proofs.Decoded.{is_byte, are_bytes}
 use Rattle.cborn_lex.proofs.Base64s.{bytes_from}
@@ -263,7 +263,8 @@ reads_number_light negative first s z a (tagged, body, mark, tag, is, e) =
 data IsLightStart : Start → Type 0 where
   one : {k : Class} → IsModest k → weight k ≤ 1 → IsLightStart (single k)
   each : {k : Mark → Class} → ((m : Mark) → IsLight 1 (Read (k m))) → IsLightStart (opening k)
-  quoted : {q : Quote} → IsLightStart (quote q)
+  of_double : IsLightStart double
+  of_simple : IsLightStart simple
   of_white : IsLightStart white
   of_slash : IsLightStart slash
   of_hash : IsLightStart hash
@@ -287,7 +288,7 @@ start_light c =
     let paren_end : IsLightStart (single ParenClose) = one tt (omega arith) in
     let comma : IsLightStart (single Comma) = one tt (omega arith) in
     let colon : IsLightStart (single Colon) = one tt (omega arith) in
-    search (either_start, array, map, array_end, map_end, paren_end, comma, colon, quoted, of_white, of_slash, of_hash, of_less, of_greater, of_paren, of_letter, of_minus, of_digit, of_other) depth 24
+    search (either_start, array, map, array_end, map_end, paren_end, comma, colon, of_double, of_simple, of_white, of_slash, of_hash, of_less, of_greater, of_paren, of_letter, of_minus, of_digit, of_other) depth 24
 
 paren_light : (mark : List ℕ) → IsLight 1 (paren_front mark)
 paren_light mark = let chunks : IsLight 1 (Read ChunkOpen) = read tt (omega arith) in search (either_light 1, bad, chunks) depth 8
@@ -306,8 +307,8 @@ from_light less profile c s z a l h (inr is) = subst (IsLight _) (sym is.2) bad
 from_light greater profile c s z a l h (inl (mark, e, is, f)) = subst (IsLight _) (sym f) (marked_light _ EmbedClose (mark_of mark) (λ m. read tt (omega arith)))
 from_light greater profile c s z a l h (inr is) = subst (IsLight _) (sym is.2) bad
 from_light paren profile c s z a l h is = subst (IsLight _) (sym is.1) (lighter 1 _ (paren_front s) (omega arith) (paren_light s))
-from_light (quote double) profile c s z a l h is = string_light (is_content 34) (is_unclosed 34) 34 (IsText 34) _ Text s z a (text_spelled 34) is_of_text h is
-from_light (quote simple) profile c s z a l h is = string_light (is_content 39) (is_unclosed 39) 39 (IsText 39) _ (Bytes true) s z a (text_spelled 39) (is_of_bytes true) h is
+from_light double profile c s z a l h is = string_light (is_content 34) (is_unclosed 34) 34 (IsText 34) _ Text s z a (text_spelled 34) is_of_text h is
+from_light simple profile c s z a l h is = string_light (is_content 39) (is_unclosed 39) 39 (IsText 39) _ (Bytes true) s z a (text_spelled 39) (is_of_bytes true) h is
 from_light minus profile c s z a l h is = lighter 1 _ a (omega arith) (reads_number_light true [] s z a is)
 from_light digit profile c s z a l h is = lighter 1 _ a (omega arith) (reads_number_light false (c ∷ []) s z a is)
 from_light letter profile c s z a l h (word, after, run, e, is) =

@@ -102,15 +102,11 @@ abbrev pub ReadsNumber : Bool → List ℕ → List ℕ → List ℕ → Front �
 ReadsNumber negative first s z a =
     (tagged : Bool) × (body : List ℕ) × (mark : List ℕ) × (tag : List ℕ) × IsNumber negative tagged body mark tag s z × (a ≡ number_front negative tagged (mark_of mark) (integer negative (first ++ body)))
 
-pub data Quote : Type 0 where
-  double simple : Quote
-
 -- What a first character begins. Comments: RFC 8610 appendix G.6; `<<` and `>>`: appendix G.3.
 pub data Start : Type 0 where
-  white slash hash less greater paren letter minus digit other : Start
+  white slash hash less greater paren double simple letter minus digit other : Start
   single : Class → Start
   opening : (Mark → Class) → Start
-  quote : Quote → Start
 
 abbrev pub start_of : ℕ → Start
 start_of c =
@@ -127,8 +123,8 @@ start_of c =
     else if c == byte "<" then less
     else if c == byte ">" then greater
     else if c == byte "(" then paren
-    else if c == byte "\"" then quote double
-    else if c == byte "'" then quote simple
+    else if c == byte "\"" then double
+    else if c == byte "'" then simple
     else if c == byte "-" then minus
     else if is_ascii_digit c then digit
     else if is_ascii_alphabetic c then letter
@@ -152,8 +148,8 @@ ReadsFrom (opening k) profile c s z a = IsIndicator s z × (a ≡ marked k (mark
 ReadsFrom less profile c s z a = ((s ≡ byte "<" ∷ []) × (a ≡ Read EmbedOpen)) ⊎ ((s ≡ []) × (begins (λ d. d == byte "<") z ≡ false) × (a ≡ Bad UnexpectedCharacter))
 ReadsFrom greater profile c s z a = ((mark : List ℕ) × (s ≡ byte ">" ∷ mark) × IsIndicator mark z × (a ≡ marked EmbedClose (mark_of mark))) ⊎ ((s ≡ []) × (begins (λ d. d == byte ">") z ≡ false) × (a ≡ Bad UnexpectedCharacter))
 ReadsFrom paren profile c s z a = IsIndicator s z × (a ≡ paren_front s)
-ReadsFrom (quote double) profile c s z a = IsQuoted (byte "\"") Text s z a
-ReadsFrom (quote simple) profile c s z a = IsQuoted (byte "'") (Bytes true) s z a
+ReadsFrom double profile c s z a = IsQuoted (byte "\"") Text s z a
+ReadsFrom simple profile c s z a = IsQuoted (byte "'") (Bytes true) s z a
 ReadsFrom minus profile c s z a = ReadsNumber true [] s z a
 ReadsFrom digit profile c s z a = ReadsNumber false (c ∷ []) s z a
 ReadsFrom letter profile c s z a = ReadsWord c s z a

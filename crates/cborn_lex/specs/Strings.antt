@@ -101,8 +101,7 @@ is_mote (comment body) = list_all (is_not (byte "/")) body
 
 abbrev pub digits : Mote → List ℕ
 digits (digit c) = c ∷ []
-digits (space c) = []
-digits (comment body) = []
+digits _ = []
 
 pub record IsHex (content bytes : List ℕ) : Type 0 where
   pub motes : List Mote

@@ -7,7 +7,7 @@ use Rattle.cborn_lex.specs.declared.fronts.Front.TheVariants as fronts
 use Rattle.cborn_lex.specs.declared.fronts.Start.{Start as StartIn}
 use Rattle.cborn_lex.specs.declared.fronts.Start.TheVariants as starts
 use Rattle.cborn_lex.specs.Tokens.{Front, Blank, Read, Bad}
-use Rattle.cborn_lex.specs.Forms.{Start, slash, hash, less, greater, paren, letter, minus, digit, other, single, opening, quote, double, simple}
+use Rattle.cborn_lex.specs.Forms.{Start, slash, hash, less, greater, paren, letter, minus, digit, other, single, opening, double, simple}
 
 abbrev pub front_view : FrontIn → Front
 front_view fronts.Blank = Blank
@@ -27,8 +27,8 @@ start_view starts.Colon = single classes.Colon
 start_view starts.Less = less
 start_view starts.Greater = greater
 start_view starts.Paren = paren
-start_view starts.Double = quote double
-start_view starts.Simple = quote simple
+start_view starts.Double = double
+start_view starts.Simple = simple
 start_view starts.Minus = minus
 start_view starts.Digit = digit
 start_view starts.Letter = letter
