@@ -1,4 +1,4 @@
-use Rattle.std.proofs.Common.{◌≡◌, refl, sym, ap, ◌∙◌, ℕ, suc, ◌^◌, ◌<◌, ◌≤◌, List, [], ◌∷◌, ◌++◌, length, Bool, true, false, ◌&&◌, ltb, cond, Some, None, ◌⊎◌, inl, inr, arith, append_assoc}
+use Rattle.std.proofs.Common.{◌≡◌, refl, sym, ap, ◌∙◌, ℕ, suc, ◌^◌, ◌<◌, ◌≤◌, List, [], ◌∷◌, ◌++◌, length, Bool, true, false, ◌&&◌, ltb, ◌==◌, cond, Some, None, ◌⊎◌, inl, inr, arith, append_assoc}
 use Rattle.std.specs.Prelude.{max}
 use Rattle.std.specs.List.{flat_map}
 use Rattle.std.proofs.lemmas.Str.{is_utf8-from_IsUtf8}
@@ -9,7 +9,7 @@ use Rattle.cborn_model.specs.declared.heads.Size.{Size}
 use Rattle.cborn_model.specs.declared.heads.Size.TheVariants.{Fixed, Endless as Unending}
 use Rattle.cborn_model.specs.declared.nodes.Chunk.{Chunk}
 use Rattle.cborn_model.specs.Tree.{Tree, Uint, Nint, Bytes as ByteNode, Text as TextNode, ByteChunks, TextChunks, Items, Pairs as PairNode, Tagged, Simple, Trees, no_item as no_node, more, Entries, no_entry, entry, count, count_entries, depth as node_depth, depth_all, depth_entries}
-use Rattle.cborn_model.specs.Heads.{least, Holds, SizeFits, ByteString, TextString}
+use Rattle.cborn_model.specs.Heads.{following, least, Holds, SizeFits, ByteString, TextString}
 use Rattle.cborn_model.specs.Spelled.{ChunksFit, Fits, FitsAll, FitsEntries, spelled, spelled_all, spelled_entries, chunk_bytes}
 use Rattle.cborn_lex.specs.declared.classes.Mark.{Mark}
 use Rattle.cborn_lex.specs.declared.classes.Mark.TheVariants.{Absent, Endless, Wide}
@@ -18,7 +18,8 @@ use Rattle.cborn_edn.specs.Meaning.{and_then, when, holds, width_for, size_for, 
 use Rattle.cborn_edn.specs.declared.strings.Kind.{Kind}
 use Rattle.cborn_edn.specs.declared.strings.Kind.TheVariants.{Bytes as OfBytes, Text as OfText}
 use Rattle.cborn_edn.specs.ReadingBack.{nowhere, one_piece, chunk_pieces, chunk_row, chunk_item, simple_item, notated, notated_content, notated_row, notated_fields, notated_pairs, notated_input, unplaced_chunks, unplaced, unplaced_all, unplaced_entries}
-use Rattle.cborn_edn.specs.Shown.{same_width, mark_for, mark_for_size, AreTexts, IsShowable, AreShowable, ArePairsShowable}
+use Rattle.cborn_edn.specs.Shown.{mark_for, mark_for_size}
+use Rattle.cborn_edn.specs.devices.Texts.{AreTexts, IsShowable, EachShowable, ArePairsShowable}
 
 pub holds_true : (w : Width) (n : ℕ) → Holds w n → holds w n ≡ true
 holds_true Direct n h = lt-ltb n 24 h
@@ -38,26 +39,29 @@ pub simple_below : (n : ℕ) → (n < 24) ⊎ ((32 ≤ n) × (n < 256)) → n < 
 simple_below n (inl h) = omega arith
 simple_below n (inr h) = h.1
 
-same_width-is : (w v : Width) → same_width w v ≡ true → v ≡ w
-same_width-is Direct Direct e = refl
-same_width-is One One e = refl
-same_width-is Two Two e = refl
-same_width-is Four Four e = refl
-same_width-is Eight Eight e = refl
-same_width-is _ _ e = absurd (let f : false ≡ true = e in cc)
+abbrev as_long : Width → Width → ℕ → Bool
+as_long w v n = length (following w n) == length (following v n)
+
+as_long-same : (w v : Width) (n : ℕ) → as_long w v n ≡ true → v ≡ w
+as_long-same Direct Direct n e = refl
+as_long-same One One n e = refl
+as_long-same Two Two n e = refl
+as_long-same Four Four n e = refl
+as_long-same Eight Eight n e = refl
+as_long-same _ _ n e = absurd (let f : false ≡ true = e in cc)
 
 pub width_back : (w : Width) (n : ℕ) → Holds w n → width_for (mark_for w n) n ≡ Some w
-width_back w n h = go (same_width w (least n)) refl
+width_back w n h = go (as_long w (least n) n) refl
   where
-    go : (b : Bool) → same_width w (least n) ≡ b → width_for (cond b Absent (Wide w)) n ≡ Some w
-    go true e = rw (lt-ltb n (2 ^ 64) (below w n h)) (ap Some (same_width-is w (least n) e))
+    go : (b : Bool) → as_long w (least n) n ≡ b → width_for (cond b Absent (Wide w)) n ≡ Some w
+    go true e = rw (lt-ltb n (2 ^ 64) (below w n h)) (ap Some (as_long-same w (least n) n e))
     go false e = rw (holds_true w n h) refl
 
 size_wide : (w : Width) (n : ℕ) → Holds w n → size_for (mark_for w n) n ≡ Some (Fixed w)
-size_wide w n h = go (same_width w (least n)) refl
+size_wide w n h = go (as_long w (least n) n) refl
   where
-    go : (b : Bool) → same_width w (least n) ≡ b → size_for (cond b Absent (Wide w)) n ≡ Some (Fixed w)
-    go true e = rw (lt-ltb n (2 ^ 64) (below w n h)) (ap (λ v. Some (Fixed v)) (same_width-is w (least n) e))
+    go : (b : Bool) → as_long w (least n) n ≡ b → size_for (cond b Absent (Wide w)) n ≡ Some (Fixed w)
+    go true e = rw (lt-ltb n (2 ^ 64) (below w n h)) (ap (λ v. Some (Fixed v)) (as_long-same w (least n) n e))
     go false e = rw (holds_true w n h) refl
 
 size_back : (s : Size) (n k : ℕ) → k ≡ n → SizeFits s n → size_for (mark_for_size s n) k ≡ Some s
@@ -199,11 +203,11 @@ mutual
   back (Tagged p w n t) h s = rw (width_back w n h.0, back t h.1 s) refl
   back (Simple p n) h s = simple_back n h
 
-  back_content : (ts : Trees) → FitsAll ts → AreShowable ts → means_content (notated_content ts) ≡ Some (unplaced_all ts)
+  back_content : (ts : Trees) → FitsAll ts → EachShowable ts → means_content (notated_content ts) ≡ Some (unplaced_all ts)
   back_content no_node h s = refl
   back_content (more t ts) h s = back_row ts no_item (notated t) no_node (unplaced t) refl (back t h.0 s.0) h.1 s.1
 
-  pub back_row : (ts : Trees) (b : RowBefore) (i : Item) (us : Trees) (u : Tree) → means_row_before b ≡ Some us → means i ≡ Some u → FitsAll ts → AreShowable ts → means_row (notated_row ts b i) ≡ Some (append_trees (snoc us u) (unplaced_all ts))
+  pub back_row : (ts : Trees) (b : RowBefore) (i : Item) (us : Trees) (u : Tree) → means_row_before b ≡ Some us → means i ≡ Some u → FitsAll ts → EachShowable ts → means_row (notated_row ts b i) ≡ Some (append_trees (snoc us u) (unplaced_all ts))
   back_row no_node b i us u e f h s = rw (e, f) (ap Some (sym (append_trees-nil (snoc us u))))
   back_row (more t ts) b i us u e f h s = back_row ts (after_row (row b i) nowhere) (notated t) (snoc us u) (unplaced t) (rw (e, f) refl) (back t h.0 s.0) h.1 s.1 ∙ ap Some (append_trees-snoc (snoc us u) (unplaced t) (unplaced_all ts))
 
@@ -301,7 +305,7 @@ mutual
   same_depth_pairs (entry k v es) b i j h = omega (arith, same_depth_pairs es (after_pairs (pairs b i nowhere j) nowhere) (notated k) (notated v) h.2, same_depth k h.0, same_depth v h.1)
 
 -- LAW: what is shown says nodes that spell the same bytes, and is as deep
-pub says_back : (ts : Trees) → FitsAll ts → AreShowable ts → Says (notated_input ts) (unplaced_all ts)
+pub says_back : (ts : Trees) → FitsAll ts → EachShowable ts → Says (notated_input ts) (unplaced_all ts)
 says_back no_node h s = refl
 says_back (more t ts) h s = back_row ts no_item (notated t) no_node (unplaced t) refl (back t h.0 s.0) h.1 s.1
 

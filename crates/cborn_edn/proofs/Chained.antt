@@ -6,7 +6,9 @@ use Rattle.cborn_lex.specs.declared.classes.Class.{Class}
 use Rattle.cborn_lex.specs.declared.classes.Token.{Token}
 use Rattle.cborn_lex.specs.Tokens.{Blank, Read}
 use Rattle.cborn_lex.specs.Forms.{Reads}
-use Rattle.cborn_lex.specs.Lex.{Piece, gap, token as lexed, slice, front_of, spelled, AreRead, tokens, Lex}
+use Rattle.cborn_lex.specs.Lex.{Lex}
+use Rattle.cborn_lex.specs.Pieces.{Piece, gap, token as lexed, slice, front_of, spelled, AreRead, tokens}
+use Rattle.cborn_lex.proofs.Parts.{parted_lex}
 use Rattle.cborn_lex.proofs.Chains.{both_profiles}
 use Rattle.cborn_edn.specs.Syntax.{token}
 use Rattle.cborn_edn.specs.ReadingBack.{nowhere, bare}
@@ -70,7 +72,7 @@ abbrev pub HasBare : Profile → List ℕ → List Token → Type 0
 HasBare profile x bares = (ts : List Token) × Lex profile x ts × (list_map bare ts ≡ bares)
 
 lexed_one : (x : List ℕ) (ts : List Token) (h : Chained x [] ts) → Lex ProfileOne x (tokens 0 h.pieces)
-lexed_one x ts h = record { pieces = h.pieces; read = h.read; whole = h.whole; placed = refl }
+lexed_one x ts h = parted_lex ProfileOne x (tokens 0 h.pieces) (record { pieces = h.pieces; read = h.read; whole = h.whole; placed = refl })
 
 pub whole_text : (profile : Profile) (x : List ℕ) (ts : List Token) → Chained x [] ts → HasBare profile x ts
 whole_text ProfileOne x ts h = (tokens 0 h.pieces, lexed_one x ts h, bare-placed 0 h.pieces ∙ h.told)

@@ -1,5 +1,5 @@
 -- The text of the fixed notation is UTF-8.
-use Rattle.std.proofs.Common.{◌≡◌, refl, sym, ap, ◌∙◌, subst, ℕ, suc, ◌+◌, ◌^◌, ◌<◌, ◌≤◌, List, [], ◌∷◌, ◌++◌, length, get_or, take, Bool, true, false, ltb, eqb, cond, inl, inr, decimal, append-nil, arith}
+use Rattle.std.proofs.Common.{◌≡◌, refl, sym, ap, ◌∙◌, subst, ℕ, suc, ◌+◌, ◌^◌, ◌<◌, ◌≤◌, List, [], ◌∷◌, ◌++◌, length, get_or, take, Bool, true, false, ◌&&◌, ltb, eqb, cond, inl, inr, decimal, append-nil, arith}
 use Rattle.std.proofs.lemmas.Bool.{and_parts, cond-false, le-ltb, ltb-true, ne_eqb, cases_lt}
 use Rattle.std.proofs.lemmas.List.{take_more, take_all}
 use Rattle.std.proofs.lemmas.Str.{IsUtf8-append, IsUtf8-nil, IsUtf8-encode, IsUtf8-from_ascii, IsUtf8-from_is_utf8, is_utf8-from_IsUtf8, inside_one, encode_ascii}
@@ -21,29 +21,32 @@ use Rattle.cborn_lex.specs.declared.classes.Mark.{Mark}
 use Rattle.cborn_lex.specs.declared.classes.Mark.TheVariants.{Absent, Endless, Wide}
 use Rattle.cborn_edn.specs.declared.strings.Kind.{Kind}
 use Rattle.cborn_edn.specs.declared.strings.Kind.TheVariants.{Bytes as OfBytes, Text as OfText}
-use Rattle.cborn_edn.specs.Shown.{mark_for, mark_for_size, AreTexts, IsShowable, AreShowable, ArePairsShowable, escaped, indicator, opened, shown_string, shown_chunks, shown_more_chunks, shown_simple, shown, shown_all, shown_more, shown_entries, shown_more_entries, shown_lines, shown_more_lines, Shown}
+use Rattle.cborn_edn.specs.Shown.{mark_for, mark_for_size, escaped, indicator, opened, shown_string, shown_chunks, shown_more_chunks, shown_simple, shown, shown_all, shown_more, shown_entries, shown_more_entries, shown_lines, shown_more_lines, Shown}
+use Rattle.cborn_edn.specs.devices.Texts.{AreTexts, IsShowable, EachShowable, ArePairsShowable}
 use Rattle.cborn_edn.proofs.Back.{below, simple_below}
 use Rattle.cborn_edn.proofs.Tables.{passes, passes-at}
 
 -- Text with its escapes.
 
 -- ASCII, as a test
-abbrev is_low : List ℕ → Bool
+abbrev pub is_low : List ℕ → Bool
 is_low x = list_all (λ b. ltb b 128) x
 
-low_ascii : (x : List ℕ) → is_low x ≡ true → IsAscii x
+pub low_ascii : (x : List ℕ) → is_low x ≡ true → IsAscii x
 low_ascii [] h = IsAscii-nil
 low_ascii (b ∷ x) h = let hs = and_parts (ltb b 128) (is_low x) h in IsAscii-cons b x (ltb-true b 128 hs.0) (low_ascii x hs.1)
 
-each_low : passes (λ b. is_low (escaped b)) 0 128 ≡ true
+each_low : passes (λ b. ltb 0 (length (escaped b)) && is_low (escaped b)) 0 128 ≡ true
 unfolding encode_with
 each_low = refl
 
-escaped_low : (b : ℕ) → b < 128 → IsUtf8 (escaped b)
-escaped_low b h = IsUtf8-from_ascii (escaped b) (low_ascii (escaped b) (passes-at (λ b. is_low (escaped b)) 0 128 b each_low (omega arith) (omega arith)))
+pub escaped_low : (b : ℕ) → b < 128 → IsAscii (escaped b) × (0 < length (escaped b))
+escaped_low b h =
+    let e = and_parts (ltb 0 (length (escaped b))) (is_low (escaped b)) (passes-at (λ b. ltb 0 (length (escaped b)) && is_low (escaped b)) 0 128 b each_low (omega arith) (omega arith)) in
+    (low_ascii (escaped b) e.1, ltb-true 0 (length (escaped b)) e.0)
 
 -- a byte that isn't ASCII stands for itself
-plain : (b : ℕ) → 128 ≤ b → escaped b ≡ b ∷ []
+pub plain : (b : ℕ) → 128 ≤ b → escaped b ≡ b ∷ []
 plain b h =
     cond-false _ _ _ (ne_eqb b 34 (λ e. omega (arith, e)))
     ∙ (cond-false _ _ _ (ne_eqb b 92 (λ e. omega (arith, e)))
@@ -66,7 +69,7 @@ wide c h k l = elim (cases_lt (get_or (encode_utf8 c) k 0) 128) [
 
 escaped_char : (c : ℕ) → IsScalar c → IsUtf8 (flat_map escaped (encode_utf8 c))
 escaped_char c h = elim (cases_lt c 128) [
-  | inl low ↦ subst (λ (x : List ℕ). IsUtf8 (flat_map escaped x)) (sym (encode_ascii c low)) (subst IsUtf8 (sym (append-nil (escaped c))) (escaped_low c low))
+  | inl low ↦ subst (λ (x : List ℕ). IsUtf8 (flat_map escaped x)) (sym (encode_ascii c low)) (subst IsUtf8 (sym (append-nil (escaped c))) (IsUtf8-from_ascii (escaped c) (escaped_low c low).0))
   | inr high ↦ subst IsUtf8 (sym (stays (encode_utf8 c) (wide c high))) (IsUtf8-encode c h)
 ]
 
@@ -84,19 +87,29 @@ escaped_text x h = let u = IsUtf8-from_is_utf8 x h in subst (λ (y : List ℕ). 
 ascii : (x : List ℕ) → is_low x ≡ true → IsUtf8 x
 ascii x h = IsUtf8-from_ascii x (low_ascii x h)
 
+pub indicator_low : (m : Mark) → is_low (indicator m) ≡ true
+indicator_low Absent = refl
+indicator_low Endless = refl
+indicator_low (Wide Direct) = refl
+indicator_low (Wide One) = refl
+indicator_low (Wide Two) = refl
+indicator_low (Wide Four) = refl
+indicator_low (Wide Eight) = refl
+
+pub opened_low : (m : Mark) → is_low (opened m) ≡ true
+opened_low Absent = refl
+opened_low Endless = refl
+opened_low (Wide Direct) = refl
+opened_low (Wide One) = refl
+opened_low (Wide Two) = refl
+opened_low (Wide Four) = refl
+opened_low (Wide Eight) = refl
+
 indicator_text : (m : Mark) → IsUtf8 (indicator m)
-indicator_text Absent = ascii _ refl
-indicator_text Endless = ascii _ refl
-indicator_text (Wide Direct) = ascii _ refl
-indicator_text (Wide One) = ascii _ refl
-indicator_text (Wide Two) = ascii _ refl
-indicator_text (Wide Four) = ascii _ refl
-indicator_text (Wide Eight) = ascii _ refl
+indicator_text m = ascii (indicator m) (indicator_low m)
 
 opened_text : (m : Mark) → IsUtf8 (opened m)
-opened_text Absent = ascii _ refl
-opened_text Endless = ascii _ refl
-opened_text (Wide w) = IsUtf8-append _ _ (indicator_text (Wide w)) (ascii (codes " ") refl)
+opened_text m = ascii (opened m) (opened_low m)
 
 number_text : (n : ℕ) → n < 2 ^ 65 → IsUtf8 (decimal n)
 number_text n h = IsUtf8-from_ascii (decimal n) (IsAscii-decimal_wide n (omega arith))
@@ -163,11 +176,11 @@ mutual
       IsUtf8-append _ _ (number_text n (omega arith)) (IsUtf8-append _ _ (indicator_text (mark_for w n)) (IsUtf8-append _ _ (ascii (codes "(") refl) (IsUtf8-append _ _ (node_text t h.1 s) (ascii (codes ")") refl))))
   node_text (Simple p n) h s = simple_text n (simple_below n h)
 
-  all_text : (ts : Trees) → FitsAll ts → AreShowable ts → IsUtf8 (shown_all ts)
+  all_text : (ts : Trees) → FitsAll ts → EachShowable ts → IsUtf8 (shown_all ts)
   all_text no_node h s = IsUtf8-nil
   all_text (more t ts) h s = IsUtf8-append _ _ (node_text t h.0 s.0) (more_text ts h.1 s.1)
 
-  more_text : (ts : Trees) → FitsAll ts → AreShowable ts → IsUtf8 (shown_more ts)
+  more_text : (ts : Trees) → FitsAll ts → EachShowable ts → IsUtf8 (shown_more ts)
   more_text no_node h s = IsUtf8-nil
   more_text (more t ts) h s = IsUtf8-append _ _ (ascii (codes ", ") refl) (IsUtf8-append _ _ (node_text t h.0 s.0) (more_text ts h.1 s.1))
 
@@ -180,16 +193,16 @@ mutual
   more_entries (entry k v es) h s =
       IsUtf8-append _ _ (ascii (codes ", ") refl) (IsUtf8-append _ _ (node_text k h.0 s.0) (IsUtf8-append _ _ (ascii (codes ": ") refl) (IsUtf8-append _ _ (node_text v h.1 s.1) (more_entries es h.2 s.2))))
 
-more_lines : (ts : Trees) → FitsAll ts → AreShowable ts → IsUtf8 (shown_more_lines ts)
+more_lines : (ts : Trees) → FitsAll ts → EachShowable ts → IsUtf8 (shown_more_lines ts)
 more_lines no_node h s = ascii _ refl
 more_lines (more t ts) h s = IsUtf8-append _ _ (ascii (codes ",\n") refl) (IsUtf8-append _ _ (node_text t h.0 s.0) (more_lines ts h.1 s.1))
 
-pub lines_text : (ts : Trees) → FitsAll ts → AreShowable ts → IsUtf8 (shown_lines ts)
+pub lines_text : (ts : Trees) → FitsAll ts → EachShowable ts → IsUtf8 (shown_lines ts)
 lines_text no_node h s = IsUtf8-nil
 lines_text (more t ts) h s = IsUtf8-append _ _ (node_text t h.0 s.0) (more_lines ts h.1 s.1)
 
 pub is_text : (nodes : Trees) (text : List ℕ) → FitsAll nodes → Shown nodes text → is_utf8 text ≡ true
-is_text nodes text fits shown = is_utf8-from_IsUtf8 text (subst IsUtf8 (sym shown.1) (lines_text nodes fits shown.0))
+is_text nodes text fits shown = is_utf8-from_IsUtf8 text shown.0
 
 -- Nodes that fit, one after another.
 

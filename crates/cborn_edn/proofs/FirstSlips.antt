@@ -40,7 +40,8 @@ pieces_order i b k p c l =
     ∙ sym (earlier-assoc i p (earlier (earlier b c) (earlier k l)))
 
 mark_same : (e : Bool) (p : ℕ) (m : Mark) (o : Option (List ℕ)) → mark_slip e p m o ≡ first_slip (mark_slips e p m o)
-mark_same e p Absent o = refl
+mark_same e p Absent None = refl
+mark_same e p Absent (Some x) = refl
 mark_same e p Endless o = sym (first-unless e p IndicatorNotAllowed)
 mark_same e p (Wide w) None = refl
 mark_same e p (Wide w) (Some x) = refl

@@ -1,16 +1,16 @@
 -- Byte strings of the fixed notation, as pieces.
-use Rattle.std.proofs.Common.{◌≡◌, refl, sym, ap, ◌∙◌, ℕ, zero, suc, ◌/◌, ◌%◌, ◌<◌, List, [], ◌∷◌, ◌++◌, slice_index, map as list_map, Bool, true, false, ◌&&◌, inl, arith}
+use Rattle.std.proofs.Common.{◌≡◌, refl, sym, ap, ℕ, zero, suc, ◌/◌, ◌%◌, ◌<◌, List, [], ◌∷◌, ◌++◌, slice_index, Bool, true, false, ◌&&◌, inl, arith}
 use Rattle.std.proofs.lemmas.Bool.{and_parts, and_from}
 use Rattle.std.specs.Prelude.{codes}
-use Rattle.std.specs.List.{list_all, flat_map}
+use Rattle.std.specs.List.{list_all}
 use Rattle.std.specs.Char.{is_digit}
-use Rattle.hex.specs.Hex.{encode_lower, encode_with, lower_digits, decode_of, IsBytes}
+use Rattle.hex.specs.Hex.{encode_lower, encode_with, lower_digits, IsBytes}
 use Rattle.hex.proofs.HexLemmas.{decode_of-encode_lower}
 use Rattle.cborn_model.specs.Bytes.{AreBytes}
 use Rattle.cborn_lex.specs.declared.classes.Mark.{Mark}
 use Rattle.cborn_lex.specs.declared.classes.Class.TheVariants.{Bytes}
 use Rattle.cborn_lex.specs.Tokens.{is_not, marked}
-use Rattle.cborn_lex.specs.Strings.{digit, mote, is_mote, digits, IsHex}
+use Rattle.cborn_lex.specs.Strings.{HasDigits, nothing, digit, IsHex}
 use Rattle.cborn_edn.specs.Syntax.{token}
 use Rattle.cborn_edn.specs.ReadingBack.{nowhere}
 use Rattle.cborn_edn.specs.Shown.{indicator}
@@ -38,29 +38,16 @@ inside (b ∷ x) h =
     let k : b < 256 = h.0 in
     and_from _ _ (digit_inside (b / 16) (omega arith)) (and_from _ _ (digit_inside (b % 16) (omega arith)) (inside x h.1))
 
-all_digits : (ds : List ℕ) → list_all is_inside ds ≡ true → list_all is_mote (list_map digit ds) ≡ true
-all_digits [] h = refl
-all_digits (d ∷ ds) h = let hs = and_parts (is_inside d) (list_all is_inside ds) h in and_from _ _ (and_parts (is_digit d 16) (is_not 39 d) hs.0).0 (all_digits ds hs.1)
-
 no_quote : (ds : List ℕ) → list_all is_inside ds ≡ true → list_all (is_not 39) ds ≡ true
 no_quote [] h = refl
 no_quote (d ∷ ds) h = let hs = and_parts (is_inside d) (list_all is_inside ds) h in and_from _ _ (and_parts (is_digit d 16) (is_not 39 d) hs.0).1 (no_quote ds hs.1)
 
-written : (ds : List ℕ) → flat_map mote (list_map digit ds) ≡ ds
-written [] = refl
-written (d ∷ ds) = ap (λ x. d ∷ x) (written ds)
-
-kept : (ds : List ℕ) → flat_map digits (list_map digit ds) ≡ ds
-kept [] = refl
-kept (d ∷ ds) = ap (λ x. d ∷ x) (kept ds)
+are_digits : (ds : List ℕ) → list_all is_inside ds ≡ true → HasDigits ds ds
+are_digits [] h = nothing
+are_digits (d ∷ ds) h = let hs = and_parts (is_inside d) (list_all is_inside ds) h in digit d ds ds (and_parts (is_digit d 16) (is_not 39 d) hs.0).0 (are_digits ds hs.1)
 
 is_hex : (x : List ℕ) → AreBytes x → IsHex (encode_lower x) x
-is_hex x h = record {
-  motes = list_map digit (encode_lower x);
-  allowed = all_digits (encode_lower x) (inside x h);
-  whole = sym (written (encode_lower x));
-  value = ap decode_of (kept (encode_lower x)) ∙ decode_of-encode_lower x (bytes_at x h);
-}
+is_hex x h = (encode_lower x, are_digits (encode_lower x) (inside x h), decode_of-encode_lower x (bytes_at x h))
 
 pub bytes_text : (x : List ℕ) (m : Mark) (z : List ℕ) → AreBytes x → IsMark m → Closes z → Chained (codes "h'" ++ (encode_lower x ++ (codes "'" ++ indicator m))) z (token nowhere (Bytes false x m) ∷ [])
 bytes_text x m z h k close =

@@ -42,5 +42,6 @@ pub mod Joined
 pub mod NodeTexts
 pub mod ReadBack
 pub mod Characters
+pub mod Readable
 pub mod Unplaced
 pub mod SameText

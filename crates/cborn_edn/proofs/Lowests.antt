@@ -6,7 +6,8 @@ use Rattle.std.proofs.lemmas.List.{take_more}
 use Rattle.cborn_model.specs.declared.nodes.Chunk.{Chunk}
 use Rattle.cborn_model.specs.Tree.{Tree, Uint, Nint, Bytes as ByteNode, Text as TextNode, ByteChunks, TextChunks, Items, Pairs as PairNode, Tagged, Simple, Trees, no_item as no_node, more, Entries, no_entry, entry, trees, entries}
 use Rattle.cborn_edn.specs.devices.Lowest.{lower, bad_bytes, bad_chunk, bad_text, bad_item, bad_pair}
-use Rattle.cborn_edn.specs.Shown.{AreTexts, IsShowable, AreShowable, ArePairsShowable, IsBadChunk, IsBadText, IsBadAmong, IsBadInPairs, LowestBadText}
+use Rattle.cborn_edn.specs.Shown.{AreShowable, IsBadChunk, IsBadText, IsBadAmong, IsBadInPairs, LowestBadText}
+use Rattle.cborn_edn.specs.devices.Texts.{AreTexts, IsShowable, EachShowable, ArePairsShowable}
 
 lower-none : (a : Option ℕ) → lower a None ≡ a
 lower-none None = refl
@@ -45,16 +46,16 @@ pub chunk-take : (xs : List Chunk) (i : ℕ) (x : Chunk) → i < length xs → x
 chunk-take xs i x h e =
     ap bad_chunk (take_more xs i x h) ∙ chunk-push (take i xs) (get_or xs i x) ∙ ap (λ (y : Chunk). lower (bad_chunk (take i xs)) (bad_bytes y.place y.bytes)) (sym e)
 
--- What was found is a place of one, and no place of one is lower.
+-- What was found is a place of a bad one, and no place of one is lower; S says that none is bad.
 abbrev pub Found : (ℕ → Type 0) → Type 0 → Option ℕ → Type 0
 Found B S None = S × ((p : ℕ) → B p → ⊥)
-Found B S (Some p) = B p × ((q : ℕ) → B q → p ≤ q)
+Found B S (Some p) = B p × ((q : ℕ) → B q → p ≤ q) × (S → ⊥)
 
 found_lower : (A B : ℕ → Type 0) (S T : Type 0) (a b : Option ℕ) → Found A S a → Found B T b → Found (λ p. A p ⊎ B p) (S × T) (lower a b)
 found_lower A B S T None None f g = ((f.0, g.0), λ p h. elim h [ inl x ↦ f.1 p x | inr y ↦ g.1 p y ])
-found_lower A B S T None (Some b) f g = (inr g.0, λ q h. elim h [ inl x ↦ absurd (f.1 q x) | inr y ↦ g.1 q y ])
-found_lower A B S T (Some a) None f g = (inl f.0, λ q h. elim h [ inl x ↦ f.1 q x | inr y ↦ absurd (g.1 q y) ])
-found_lower A B S T (Some a) (Some b) f g = (which (low a b), λ q h. elim h [ inl x ↦ omega (arith, f.1 q x) | inr y ↦ omega (arith, g.1 q y) ])
+found_lower A B S T None (Some b) f g = (inr g.0, λ q h. elim h [ inl x ↦ absurd (f.1 q x) | inr y ↦ g.1 q y ], λ s. g.2 s.1)
+found_lower A B S T (Some a) None f g = (inl f.0, λ q h. elim h [ inl x ↦ f.1 q x | inr y ↦ absurd (g.1 q y) ], λ s. f.2 s.0)
+found_lower A B S T (Some a) (Some b) f g = (which (low a b), λ q h. elim h [ inl x ↦ omega (arith, f.1 q x) | inr y ↦ omega (arith, g.1 q y) ], λ s. f.2 s.0)
   where
     low : (m n : ℕ) → (min m n ≡ m) ⊎ (min m n ≡ n)
     low m n = grind arith
@@ -71,7 +72,7 @@ found_bytes q x = go (is_utf8 x) refl
   where
     go : (b : Bool) → is_utf8 x ≡ b → Found (λ p. (p ≡ q) × (is_utf8 x ≡ false)) (is_utf8 x ≡ true) (cond b None (Some q))
     go true e = (e, λ p h. let d : true ≡ false = sym e ∙ h.1 in cc)
-    go false e = ((refl, e), λ p h. omega (arith, h.0))
+    go false e = ((refl, e), λ p h. omega (arith, h.0), λ h. let d : true ≡ false = sym h ∙ e in cc)
 
 found_chunk : (cs : List Chunk) → Found (IsBadChunk cs) (AreTexts cs) (bad_chunk cs)
 found_chunk [] = found_nothing
@@ -90,7 +91,7 @@ mutual
   found_text (Tagged p w n t) = found_text t
   found_text (Simple p n) = found_nothing
 
-  pub found_item : (ts : Trees) → Found (IsBadAmong ts) (AreShowable ts) (bad_item ts)
+  pub found_item : (ts : Trees) → Found (IsBadAmong ts) (EachShowable ts) (bad_item ts)
   found_item no_node = found_nothing
   found_item (more t ts) = found_lower _ _ _ _ (bad_text t) (bad_item ts) (found_text t) (found_item ts)
 
@@ -103,16 +104,31 @@ mutual
         where
           flat : (o : Option ℕ) → Found (IsBadInPairs (entry k v es)) (IsShowable k × (IsShowable v × ArePairsShowable es)) o → Found (IsBadInPairs (entry k v es)) (ArePairsShowable (entry k v es)) o
           flat None g = ((g.0.0, g.0.1.0, g.0.1.1), g.1)
-          flat (Some p) g = g
+          flat (Some p) g = (g.0, g.1, λ s. g.2 (s.0, (s.1, s.2)))
 
 pub lowest_is : (ts : Trees) (p : ℕ) → bad_item ts ≡ Some p → LowestBadText ts p
 lowest_is ts p e =
-    let f : Found (IsBadAmong ts) (AreShowable ts) (Some p) = subst (Found (IsBadAmong ts) (AreShowable ts)) e (found_item ts) in
+    let f : Found (IsBadAmong ts) (EachShowable ts) (Some p) = subst (Found (IsBadAmong ts) (EachShowable ts)) e (found_item ts) in
     record { is = f.0; lowest = f.1 }
 
 pub none_bad : (ts : Trees) → bad_item ts ≡ None → AreShowable ts
 none_bad ts e =
-    let f : Found (IsBadAmong ts) (AreShowable ts) None = subst (Found (IsBadAmong ts) (AreShowable ts)) e (found_item ts) in f.0
+    let f : Found (IsBadAmong ts) (EachShowable ts) None = subst (Found (IsBadAmong ts) (EachShowable ts)) e (found_item ts) in f.1
+
+-- no bad text stands among nodes exactly if each of them is showable
+pub each_showable : (ts : Trees) → AreShowable ts → EachShowable ts
+each_showable ts h = go (bad_item ts) (found_item ts)
+  where
+    go : (o : Option ℕ) → Found (IsBadAmong ts) (EachShowable ts) o → EachShowable ts
+    go None f = f.0
+    go (Some p) f = absurd (h p f.0)
+
+pub are_showable : (ts : Trees) → EachShowable ts → AreShowable ts
+are_showable ts h = go (bad_item ts) (found_item ts)
+  where
+    go : (o : Option ℕ) → Found (IsBadAmong ts) (EachShowable ts) o → AreShowable ts
+    go None f = f.1
+    go (Some p) f = absurd (f.2 h)
 
 pub good_bytes : (p : ℕ) (x : List ℕ) → IsUtf8 x → None ≡ bad_bytes p x
 good_bytes p x h = let e : is_utf8 x ≡ true = is_utf8-from_IsUtf8 x h in rw e refl

@@ -1,12 +1,12 @@
 -- Indicators, brackets and separators of the fixed notation, as pieces.
-use Rattle.std.proofs.Common.{◌≡◌, refl, sym, ap, subst, ℕ, List, [], ◌∷◌, ◌++◌, Bool, true, false, eqb, cond, Some}
+use Rattle.std.proofs.Common.{◌≡◌, refl, sym, ap, subst, ℕ, List, [], ◌∷◌, ◌++◌, length, Bool, true, false, eqb, ◌==◌, cond, Some}
 use Rattle.std.specs.Prelude.{codes}
 use Rattle.std.proofs.lemmas.Bool.{lt-ltb, cond-true}
 use Rattle.cborn_model.specs.declared.heads.Width.{Width}
 use Rattle.cborn_model.specs.declared.heads.Width.TheVariants.{Direct, One, Two, Four, Eight}
 use Rattle.cborn_model.specs.declared.heads.Size.{Size}
 use Rattle.cborn_model.specs.declared.heads.Size.TheVariants.{Fixed, Endless as Unending}
-use Rattle.cborn_model.specs.Heads.{least, Holds, SizeFits}
+use Rattle.cborn_model.specs.Heads.{following, least, Holds, SizeFits}
 use Rattle.cborn_lex.specs.declared.classes.Profile.TheVariants.{One as ProfileOne}
 use Rattle.cborn_lex.specs.declared.classes.Mark.{Mark}
 use Rattle.cborn_lex.specs.declared.classes.Mark.TheVariants.{Absent, Endless, Wide}
@@ -17,7 +17,7 @@ use Rattle.cborn_lex.specs.Forms.{IsIndicator, Reads}
 use Rattle.cborn_lex.proofs.Spelling.{IsMark}
 use Rattle.cborn_edn.specs.Syntax.{token}
 use Rattle.cborn_edn.specs.ReadingBack.{nowhere}
-use Rattle.cborn_edn.specs.Shown.{same_width, mark_for, mark_for_size, indicator, opened}
+use Rattle.cborn_edn.specs.Shown.{mark_for, mark_for_size, indicator, opened}
 use Rattle.cborn_edn.proofs.Chained.{Chained, one_token, one_gap, both}
 
 -- what stands behind an item neither goes on its last token nor gives it an indicator
@@ -52,11 +52,11 @@ wide_or_none true w h = tt
 wide_or_none false w h = h
 
 pub is_mark : (w : Width) (n : ℕ) → Holds w n → IsMark (mark_for w n)
-is_mark Direct n h = let e : least n ≡ Direct = cond-true _ _ _ (lt-ltb n 24 h) in subst (λ (v : Width). IsMark (cond (same_width Direct v) Absent (Wide Direct))) (sym e) tt
-is_mark One n h = wide_or_none (same_width One (least n)) One tt
-is_mark Two n h = wide_or_none (same_width Two (least n)) Two tt
-is_mark Four n h = wide_or_none (same_width Four (least n)) Four tt
-is_mark Eight n h = wide_or_none (same_width Eight (least n)) Eight tt
+is_mark Direct n h = let e : least n ≡ Direct = cond-true _ _ _ (lt-ltb n 24 h) in subst (λ (v : Width). IsMark (cond (0 == length (following v n)) Absent (Wide Direct))) (sym e) tt
+is_mark One n h = wide_or_none (length (following One n) == length (following (least n) n)) One tt
+is_mark Two n h = wide_or_none (length (following Two n) == length (following (least n) n)) Two tt
+is_mark Four n h = wide_or_none (length (following Four n) == length (following (least n) n)) Four tt
+is_mark Eight n h = wide_or_none (length (following Eight n) == length (following (least n) n)) Eight tt
 
 pub is_size_mark : (s : Size) (n : ℕ) → SizeFits s n → IsMark (mark_for_size s n)
 is_size_mark Unending n h = tt

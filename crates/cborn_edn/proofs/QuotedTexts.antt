@@ -10,7 +10,9 @@ use Rattle.cborn_lex.specs.declared.classes.Mark.{Mark}
 use Rattle.cborn_lex.specs.declared.classes.Mark.TheVariants.{Endless}
 use Rattle.cborn_lex.specs.declared.classes.Class.TheVariants.{Bytes, Text}
 use Rattle.cborn_lex.specs.Tokens.{marked}
-use Rattle.cborn_lex.specs.Strings.{is_content, Letter, raw, escaped as behind_slash, unit, written, is_letter, meant, IsText}
+use Rattle.cborn_lex.specs.Strings.{is_content, IsText, nothing}
+use Rattle.cborn_lex.specs.Letters.{Letter, raw, escaped as behind_slash, unit, written, is_letter, meant}
+use Rattle.cborn_lex.proofs.Lettered as lettered
 use Rattle.cborn_lex.proofs.Ends.{content_then}
 use Rattle.cborn_edn.specs.Syntax.{token}
 use Rattle.cborn_edn.specs.ReadingBack.{nowhere}
@@ -69,7 +71,7 @@ letters (b ∷ x) h =
     )
 
 is_text : (x : List ℕ) → AreBytes x → IsText 34 (flat_map escaped x) x
-is_text x h = let r = letters x h in record { letters = list_map letter_of x; allowed = r.1; whole = r.0; value = r.2 }
+is_text x h = let r = letters x h in lettered.is_text 34 (flat_map escaped x) x (record { letters = list_map letter_of x; allowed = r.1; whole = r.0; value = r.2 })
 
 inside : (x : List ℕ) → AreBytes x → is_content 34 (flat_map escaped x) ≡ true
 inside [] h = refl
@@ -95,5 +97,5 @@ no_byte_chunks z close =
       [],
       codes "_",
       record { inside = refl; text = refl; indicator = indicates Endless z tt close.no_word close.no_mark },
-      inl ([], record { letters = []; allowed = refl; whole = refl; value = refl }, refl),
+      inl ([], nothing, refl),
     ))

@@ -1,5 +1,6 @@
 -- Texts of the notation: what they say is one thing, and what was shown reads back.
 use Rattle.std.proofs.Common.{◌≡◌, sym, ap, ◌∙◌, subst, ℕ, ◌≤◌, List, [], map as list_map, Some, arith}
+use Rattle.std.specs.Str.{IsUtf8}
 use Rattle.cborn_model.specs.Tree.{Trees, depth_all}
 use Rattle.cborn_model.specs.Spelled.{FitsAll, spelled_all}
 use Rattle.cborn_lex.specs.declared.classes.Profile.{Profile}
@@ -15,6 +16,7 @@ use Rattle.cborn_edn.specs.Shown.{Shown, shown_lines}
 use Rattle.cborn_edn.specs.Notates.{Notates}
 use Rattle.cborn_edn.proofs.Chained.{HasBare, whole_text}
 use Rattle.cborn_edn.proofs.NodeTexts.{lines_text}
+use Rattle.cborn_edn.proofs.Readable.{lines_show}
 use Rattle.cborn_edn.proofs.Retelling.{reads_same}
 use Rattle.cborn_edn.proofs.OneTree.{one_tree, both_profiles}
 
@@ -25,15 +27,22 @@ one_said t u us vs e f g =
 
 pub one_notation : (profile : Profile) (limit most : ℕ) (text : List ℕ) (us vs : Trees) → Notates profile limit text us → Notates profile most text vs → us ≡ vs
 one_notation profile limit most text us vs h k =
-    let e : h.tokens ≡ k.tokens = one_list profile text h.tokens k.tokens h.lex k.lex in
-    let parse : Parse profile k.tokens h.tree = subst (λ (ts : List Token). Parse profile ts h.tree) e h.parse in
-    one_said h.tree k.tree us vs (one_tree profile profile k.tokens h.tree k.tree parse k.parse) h.says k.says
+    let a = h.1 in
+    let b = k.1 in
+    let e : a.tokens ≡ b.tokens = one_list profile text a.tokens b.tokens a.lex b.lex in
+    let parse : Parse profile b.tokens h.0 = subst (λ (ts : List Token). Parse profile ts h.0) e a.parse in
+    one_said h.0 k.0 us vs (one_tree profile profile b.tokens h.0 k.0 parse b.parse) h.2 k.2
 
 pub larger : (profile : Profile) (limit most : ℕ) (text : List ℕ) (nodes : Trees) → limit ≤ most → Notates profile limit text nodes → Notates profile most text nodes
-larger profile limit most text nodes l h = let s = h.shallow in record { tokens = h.tokens; lex = h.lex; tree = h.tree; parse = h.parse; shallow = omega arith; says = h.says }
+larger profile limit most text nodes l h =
+    let a = h.1 in
+    let s = a.shallow in
+    (h.0, record { tokens = a.tokens; lex = a.lex; parse = a.parse; shallow = omega arith }, h.2)
 
 pub both_notate : (limit : ℕ) (text : List ℕ) (nodes : Trees) → Notates ProfileOne limit text nodes → Notates ProfileTwo limit text nodes
-both_notate limit text nodes h = record { tokens = h.tokens; lex = both_lexed text h.tokens h.lex; tree = h.tree; parse = both_profiles h.tokens h.tree h.parse; shallow = h.shallow; says = h.says }
+both_notate limit text nodes h =
+    let a = h.1 in
+    (h.0, record { tokens = a.tokens; lex = both_lexed text a.tokens a.lex; parse = both_profiles a.tokens h.0 a.parse; shallow = a.shallow }, h.2)
 
 pub shown_tokens : (profile : Profile) (nodes : Trees) (text : List ℕ) → FitsAll nodes → Shown nodes text → (tokens : List Token) × Lex profile text tokens × (list_map bare tokens ≡ tokens_of_input (notated_input nodes))
 shown_tokens profile nodes text fits shown = subst (λ (x : List ℕ). HasBare profile x (tokens_of_input (notated_input nodes))) (sym shown.1) (whole_text profile (shown_lines nodes) (tokens_of_input (notated_input nodes)) (lines_text nodes [] fits))
@@ -42,8 +51,8 @@ shown_tokens profile nodes text fits shown = subst (λ (x : List ℕ). HasBare p
 pub shown_back : (profile : Profile) (limit : ℕ) (nodes : Trees) (text : List ℕ) → FitsAll nodes → Shown nodes text → depth_all nodes ≤ limit → (says : Trees) × Notates profile limit text says × (unplaced_all says ≡ unplaced_all nodes) × (spelled_all says ≡ spelled_all nodes)
 shown_back profile limit nodes text fits shown low =
     let r = shown_tokens profile nodes text fits shown in
-    let b = reads_same profile limit nodes r.0 fits shown.0 low r.2 in
-    (b.0.says, record { tokens = r.0; lex = r.1; tree = b.0.tree; parse = b.0.parse; shallow = b.0.shallow; says = b.0.said }, b.1, b.0.bytes)
+    let b = reads_same profile limit nodes r.0 fits (lines_show nodes fits (subst IsUtf8 shown.1 shown.0)) low r.2 in
+    (b.0.says, (b.0.tree, record { tokens = r.0; lex = r.1; parse = b.0.parse; shallow = b.0.shallow }, b.0.said), b.1, b.0.bytes)
 
 pub shown_only : (profile : Profile) (limit : ℕ) (nodes : Trees) (text : List ℕ) (says : Trees) → FitsAll nodes → Shown nodes text → Notates profile limit text says → (unplaced_all says ≡ unplaced_all nodes) × (spelled_all says ≡ spelled_all nodes)
 shown_only profile limit nodes text says fits shown h =

@@ -95,7 +95,7 @@ module _ (profile : Profile) (limit : ℕ) (text : List ℕ) (tokens : List Toke
   met a e = subst (Meets profile limit (length text) tokens) e (parses profile limit (length text) tokens)
 
   jam_at : (p : ℕ) (r : EdnReason) → parse profile limit (length text) tokens start ≡ JamsAt p r → IsRefused profile limit text (Refused p r)
-  jam_at p r e = inl (record { tokens = tokens; lex = lex; jam = met (JamsAt p r) e })
+  jam_at p r e = inl (tokens, lex, met (JamsAt p r) e)
 
   pub jam_told : (e : EdnFault) → IsStuck (draft_run profile limit tokens first_state) e → IsRefused profile limit text e
   jam_told (LexPart f) h = absurd h
@@ -141,12 +141,12 @@ module _ (profile : Profile) (limit : ℕ) (text : List ℕ) (tokens : List Toke
   pub notated : (st : KeptState) (nodes : Trees) (slip : Option Slip) → IsParsed st → finished st ≡ Some (Some nodes, slip) → Notates profile limit text nodes
   notated st nodes slip g e =
       let w = whole st (Some nodes) slip g e in
-      record { tokens = tokens; lex = lex; tree = w.tree; parse = w.parse; shallow = w.shallow; says = w.says }
+      (w.tree, record { tokens = tokens; lex = lex; parse = w.parse; shallow = w.shallow }, w.says)
 
   pub slip_told : (st : KeptState) (items : Option Trees) (slip : Slip) → IsParsed st → finished st ≡ Some (items, Some slip) → IsRefused profile limit text (Refused slip.place slip.reason)
   slip_told st items slip g e =
       let w = whole st items (Some slip) g e in
-      inr (record { tokens = tokens; lex = lex; tree = w.tree; parse = w.parse; shallow = w.shallow; slip = subst (Tells (input_slips w.tree)) w.slips (tells (input_slips w.tree)) })
+      inr (w.tree, record { tokens = tokens; lex = lex; parse = w.parse; shallow = w.shallow }, subst (Tells (input_slips w.tree)) w.slips (tells (input_slips w.tree)))
 
   pub whole_told : (st : KeptState) (w : Option Trees × Option Slip) (e : EdnFault) → IsParsed st → finished st ≡ Some w → IsFirstSlip w e → IsRefused profile limit text e
   whole_told st w (LexPart f) h g i = absurd i

@@ -15,7 +15,9 @@ use Rattle.cborn_edn.specs.declared.strings.Kind.{Kind}
 use Rattle.cborn_edn.specs.declared.strings.Kind.TheVariants.{Bytes as OfBytes, Text as OfText}
 use Rattle.cborn_edn.specs.ReadingBack.{bare, ReadsBack, nowhere, chunk_pieces, chunk_row, chunk_item, simple_item, notated, notated_content, notated_row, notated_fields, notated_pairs, notated_input, unplaced_all}
 use Rattle.cborn_edn.specs.Shown.{AreShowable}
+use Rattle.cborn_edn.specs.devices.Texts.{EachShowable}
 use Rattle.cborn_edn.proofs.Trailing.{parse_of}
+use Rattle.cborn_edn.proofs.Lowests.{each_showable}
 use Rattle.cborn_edn.proofs.Back.{says_back, as_deep, spelled_all-unplaced}
 use Rattle.std.proofs.lemmas.Option.{same_Some}
 use Rattle.cborn_edn.proofs.Erase.{opt_map, clash, retold, Retold}
@@ -79,7 +81,7 @@ no_allowed ProfileOne n e = e
 no_allowed ProfileTwo n e = tt
 
 -- tokens of what is shown say the same nodes, places aside
-pub reads_same : (p : Profile) (limit : ℕ) (nodes : Trees) (ts : List Token) → FitsAll nodes → AreShowable nodes → depth_all nodes ≤ limit → list_map bare ts ≡ tokens_of_input (notated_input nodes) → (b : ReadsBack p limit nodes ts) × (unplaced_all b.says ≡ unplaced_all nodes)
+pub reads_same : (p : Profile) (limit : ℕ) (nodes : Trees) (ts : List Token) → FitsAll nodes → EachShowable nodes → depth_all nodes ≤ limit → list_map bare ts ≡ tokens_of_input (notated_input nodes) → (b : ReadsBack p limit nodes ts) × (unplaced_all b.says ≡ unplaced_all nodes)
 reads_same p limit nodes ts fits show low e =
     let r = retold ts (notated_input nodes) e in
     go r (means_input r.tree) refl (sym (input-erased r.tree) ∙ ap means_input r.same ∙ says_back nodes fits show)
@@ -100,4 +102,4 @@ reads_same p limit nodes ts fits show low e =
 
 -- LAW: tokens of what is shown read back
 pub reads_back : (p : Profile) (limit : ℕ) (nodes : Trees) (ts : List Token) → FitsAll nodes → AreShowable nodes → depth_all nodes ≤ limit → list_map bare ts ≡ tokens_of_input (notated_input nodes) → ReadsBack p limit nodes ts
-reads_back p limit nodes ts fits show low e = (reads_same p limit nodes ts fits show low e).0
+reads_back p limit nodes ts fits show low e = (reads_same p limit nodes ts fits (each_showable nodes show) low e).0

@@ -1,11 +1,10 @@
--- Whether nodes have a text, and which, doesn't turn on their places.
-use Rattle.std.proofs.Common.{◌≡◌, refl, sym, ap, ◌∙◌, subst, ℕ, List, [], ◌∷◌, ◌++◌, true, codes, decimal}
-use Rattle.std.specs.Str.{is_utf8}
+-- The text of nodes doesn't turn on their places.
+use Rattle.std.proofs.Common.{◌≡◌, refl, sym, ap, ◌∙◌, ℕ, List, [], ◌∷◌, ◌++◌, codes, decimal}
 use Rattle.cborn_model.specs.declared.nodes.Chunk.{Chunk}
 use Rattle.cborn_model.specs.Tree.{Tree, Uint, Nint, Bytes, Text, ByteChunks, TextChunks, Items, Pairs, Tagged, Simple, Trees, no_item, more, Entries, no_entry, entry}
 use Rattle.cborn_edn.specs.declared.strings.Kind.{Kind}
 use Rattle.cborn_edn.specs.declared.strings.Kind.TheVariants.{Bytes as OfBytes, Text as OfText}
-use Rattle.cborn_edn.specs.Shown.{AreTexts, IsShowable, AreShowable, ArePairsShowable, Shown, mark_for, mark_for_size, indicator, opened, shown_string, shown_more_chunks, shown_chunks, shown, shown_all, shown_more, shown_entries, shown_more_entries, shown_lines, shown_more_lines}
+use Rattle.cborn_edn.specs.Shown.{Shown, mark_for, mark_for_size, indicator, opened, shown_string, shown_more_chunks, shown_chunks, shown, shown_all, shown_more, shown_entries, shown_more_entries, shown_lines, shown_more_lines}
 use Rattle.cborn_edn.specs.ReadingBack.{unplaced_chunks, unplaced, unplaced_all, unplaced_entries}
 use Rattle.cborn_edn.proofs.Back.{count-unplaced, count-unplaced_entries}
 
@@ -56,38 +55,10 @@ told_lines : (ts : Trees) → shown_lines (unplaced_all ts) ≡ shown_lines ts
 told_lines no_item = refl
 told_lines (more t ts) = λ i. told t i ++ told_more_lines ts i
 
-texts : (cs : List Chunk) → AreTexts (unplaced_chunks cs) ≡ AreTexts cs
-texts [] = refl
-texts (c ∷ cs) = λ i. (is_utf8 c.bytes ≡ true) × texts cs i
-
-mutual
-  showable : (t : Tree) → IsShowable (unplaced t) ≡ IsShowable t
-  showable (Uint p w n) = refl
-  showable (Nint p w n) = refl
-  showable (Bytes p w b) = refl
-  showable (Text p w b) = refl
-  showable (ByteChunks p cs) = refl
-  showable (TextChunks p cs) = texts cs
-  showable (Items p s ts) = showable_all ts
-  showable (Pairs p s es) = showable_pairs es
-  showable (Tagged p w n t) = showable t
-  showable (Simple p n) = refl
-
-  showable_all : (ts : Trees) → AreShowable (unplaced_all ts) ≡ AreShowable ts
-  showable_all no_item = refl
-  showable_all (more t ts) = λ i. showable t i × showable_all ts i
-
-  showable_pairs : (es : Entries) → ArePairsShowable (unplaced_entries es) ≡ ArePairsShowable es
-  showable_pairs no_entry = refl
-  showable_pairs (entry k v es) = λ i. showable k i × showable v i × showable_pairs es i
-
 -- nodes that are one but for their places have one text
 pub same_text : (nodes others : Trees) → unplaced_all nodes ≡ unplaced_all others → shown_lines nodes ≡ shown_lines others
 same_text nodes others e = sym (told_lines nodes) ∙ ap shown_lines e ∙ told_lines others
 
-same_showable : (nodes others : Trees) → unplaced_all nodes ≡ unplaced_all others → AreShowable nodes → AreShowable others
-same_showable nodes others e h = subst (λ (X : Type 0). X) (sym (showable_all nodes) ∙ ap AreShowable e ∙ showable_all others) h
-
 -- LAW: they have one fixed notation
 pub same_notation : (nodes others : Trees) (text : List ℕ) → unplaced_all nodes ≡ unplaced_all others → Shown nodes text → Shown others text
-same_notation nodes others text e h = (same_showable nodes others e h.0, h.1 ∙ same_text nodes others e)
+same_notation nodes others text e h = (h.0, h.1 ∙ same_text nodes others e)

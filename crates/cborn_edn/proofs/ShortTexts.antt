@@ -25,18 +25,21 @@ use Rattle.cborn_edn.proofs.OneTree.{one_tree, answered}
 -- LAW: the nodes fit their widths and are within the limit
 pub notated_fits : (profile : Profile) (limit : ℕ) (text : List ℕ) (nodes : Trees) → AreBytes text → length text < 2 ^ 56 → Notates profile limit text nodes → FitsAll nodes × (depth_all nodes ≤ limit)
 notated_fits profile limit text nodes are short h =
-    let shallow = h.shallow in
-    let f = said_fits h.tree nodes (counted_text profile text h.tokens h.tree are short h.lex h.parse) h.says in
+    let a = h.1 in
+    let shallow = a.shallow in
+    let f = said_fits h.0 nodes (counted_text profile text a.tokens h.0 are short a.lex a.parse) h.2 in
     (f.0, omega (arith, f.1))
 
 -- LAW: never nodes and a slip, of whatever length the text is
 pub notated_or_slips : (profile : Profile) (limit most : ℕ) (text : List ℕ) (nodes : Trees) (p : ℕ) (r : EdnReason) → Notates profile limit text nodes → Slips profile most text p r → ⊥
 notated_or_slips profile limit most text nodes p r h k =
-    let e : k.tokens ≡ h.tokens = one_list profile text k.tokens h.tokens k.lex h.lex in
-    let parse : Parse profile h.tokens k.tree = subst (λ (ts : List Token). Parse profile ts k.tree) e k.parse in
-    let same : k.tree ≡ h.tree = one_tree profile profile h.tokens k.tree h.tree parse h.parse in
-    let slip : FirstSlip h.tree p r = subst (λ (t : Input). FirstSlip t p r) same k.slip in
-    nothing_among (input_slips h.tree) p r (no_slip h.tree nodes h.says) slip.is
+    let a = h.1 in
+    let b = k.1 in
+    let e : b.tokens ≡ a.tokens = one_list profile text b.tokens a.tokens b.lex a.lex in
+    let parse : Parse profile a.tokens k.0 = subst (λ (ts : List Token). Parse profile ts k.0) e b.parse in
+    let same : k.0 ≡ h.0 = one_tree profile profile a.tokens k.0 h.0 parse a.parse in
+    let slip : FirstSlip h.0 p r = subst (λ (t : Input). FirstSlip t p r) same k.2 in
+    nothing_among (input_slips h.0) p r (no_slip h.0 nodes h.2) slip.is
 
 abbrev pub Answered : Profile → ℕ → List ℕ → Type 0
 Answered profile limit text =
@@ -48,14 +51,14 @@ module _ (profile : Profile) (limit : ℕ) (text : List ℕ) (are : AreBytes tex
   of_tree : (ts : List Token) (tree : Input) → Lex profile text ts → Parse profile ts tree → depth_of_input tree ≤ limit → (l : List Slip) → input_slips tree ≡ l → Answered profile limit text
   of_tree ts tree lex parse shallow [] e =
       let s = says tree (counted_text profile text ts tree are short lex parse) e in
-      inl (s.0, record { tokens = ts; lex = lex; tree = tree; parse = parse; shallow = shallow; says = s.1 })
+      inl (s.0, (tree, record { tokens = ts; lex = lex; parse = parse; shallow = shallow }, s.1))
   of_tree ts tree lex parse shallow (x ∷ l) e =
       let f = first x l in
-      inr (inr (f.0.place, f.0.reason, inr (record { tokens = ts; lex = lex; tree = tree; parse = parse; shallow = shallow; slip = rw e f.1 })))
+      inr (inr (f.0.place, f.0.reason, inr (tree, record { tokens = ts; lex = lex; parse = parse; shallow = shallow }, rw e f.1)))
 
   of_tokens : (ts : List Token) → Lex profile text ts → HasTree profile limit ts ⊎ ((p : ℕ) × (r : EdnReason) × Jam profile limit (length text) ts p r) → Answered profile limit text
   of_tokens ts lex (inl (tree, parse, shallow)) = of_tree ts tree lex parse shallow (input_slips tree) refl
-  of_tokens ts lex (inr (p, r, jam)) = inr (inr (p, r, inl (record { tokens = ts; lex = lex; jam = jam })))
+  of_tokens ts lex (inr (p, r, jam)) = inr (inr (p, r, inl (ts, lex, jam)))
 
   of_text : ((ts : List Token) × Lex profile text ts) ⊎ ((p : ℕ) × (r : LexReason) × Stop profile text p r) → Answered profile limit text
   of_text (inl (ts, lex)) = of_tokens ts lex (answered profile limit (length text) ts)

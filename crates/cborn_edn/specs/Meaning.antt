@@ -48,8 +48,7 @@ size_for (Wide w) n = when (holds w n) (Some (Fixed w))
 
 abbrev pub is_absent : Mark → Bool
 is_absent Absent = true
-is_absent Endless = false
-is_absent (Wide w) = false
+is_absent _ = false
 
 -- one more at the end
 abbrev pub snoc : Trees → Tree → Trees
@@ -84,14 +83,12 @@ is_simple n v = not (is_below n v) && (nat_lt v 24 || (nat_le 32 v && nat_lt v 2
 
 abbrev pub same_kind : Kind → Kind → Bool
 same_kind OfBytes OfBytes = true
-same_kind OfBytes OfText = false
-same_kind OfText OfBytes = false
 same_kind OfText OfText = true
+same_kind _ _ = false
 
 abbrev pub kind_of : Piece → Kind
 kind_of (text at x m) = OfText
-kind_of (bytes at q x m) = OfBytes
-kind_of (embedded at c end m) = OfBytes
+kind_of _ = OfBytes
 
 abbrev pub start_of : Piece → ℕ
 start_of (text at x m) = at.start
@@ -164,8 +161,7 @@ chunked_node OfText p cs = TextChunks p cs
 
 abbrev pub marked_string : Mark → Pieces → List ℕ → Option Tree
 marked_string Endless ps x = when (is_empty_quote ps) (Some (chunked_node (kind ps) (place ps) []))
-marked_string Absent ps x = and_then (width_for Absent (length x)) (λ w. Some (string_node (kind ps) (place ps) w x))
-marked_string (Wide v) ps x = and_then (width_for (Wide v) (length x)) (λ w. Some (string_node (kind ps) (place ps) w x))
+marked_string m ps x = and_then (width_for m (length x)) (λ w. Some (string_node (kind ps) (place ps) w x))
 
 abbrev pub means_string : Pieces → List ℕ → Option Tree
 means_string ps x = when (is_string ps x) (marked_string (mark_of (last_piece ps)) ps x)
@@ -252,9 +248,8 @@ width_slips p Endless n = unless false p IndicatorNotAllowed
 width_slips p (Wide w) n = unless (holds w n) p IndicatorTooNarrow
 
 abbrev pub size_slips : ℕ → Mark → ℕ → List Slip
-size_slips p Absent n = []
 size_slips p Endless n = []
-size_slips p (Wide w) n = unless (holds w n) p IndicatorTooNarrow
+size_slips p m n = width_slips p m n
 
 abbrev pub number_slips : ℕ → Bool → ℕ → Mark → List Slip
 number_slips p n v m = if is_small n v then width_slips p m (argument_of n v) else unless (is_absent m) p IndicatorNotAllowed
@@ -276,10 +271,9 @@ kind_slips k (also ps p) = kind_slips k ps ++ unless (fits_kind k p) (start_of p
 
 -- the mark of the last piece; may_end is whether an Endless one may stand there
 abbrev pub mark_slips : Bool → ℕ → Mark → Option (List ℕ) → List Slip
-mark_slips may_end p Absent x = []
 mark_slips may_end p Endless x = unless may_end p IndicatorNotAllowed
-mark_slips may_end p (Wide w) None = []
-mark_slips may_end p (Wide w) (Some x) = unless (holds w (length x)) p IndicatorTooNarrow
+mark_slips may_end p m None = []
+mark_slips may_end p m (Some x) = width_slips p m (length x)
 
 abbrev pub text_slips : Kind → ℕ → Option (List ℕ) → List Slip
 text_slips k p None = []

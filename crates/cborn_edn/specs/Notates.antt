@@ -12,29 +12,24 @@ use Rattle.cborn_edn.specs.Syntax.{Input, depth_of_input}
 use Rattle.cborn_edn.specs.Parse.{Parse, Jam}
 use Rattle.cborn_edn.specs.Meaning.{Says, FirstSlip}
 
--- the text has tokens, these have a tree within the limit, and it says the nodes
-pub record Notates (profile : Profile) (limit : ℕ) (text : List ℕ) (nodes : Trees) : Type 0 where
+-- the text has tokens, and these have the tree, which is within the limit
+pub record Parses (profile : Profile) (limit : ℕ) (text : List ℕ) (tree : Input) : Type 0 where
   pub tokens : List Token
   pub lex : Lex profile text tokens
-  pub tree : Input
   pub parse : Parse profile tokens tree
   pub shallow : depth_of_input tree ≤ limit
-  pub says : Says tree nodes
 
--- the text has tokens and a tree within the limit, whose first slip this is
-pub record Slips (profile : Profile) (limit : ℕ) (text : List ℕ) (p : ℕ) (r : EdnReason) : Type 0 where
-  pub tokens : List Token
-  pub lex : Lex profile text tokens
-  pub tree : Input
-  pub parse : Parse profile tokens tree
-  pub shallow : depth_of_input tree ≤ limit
-  pub slip : FirstSlip tree p r
+-- the text has a tree, and it says the nodes
+abbrev pub Notates : Profile → ℕ → List ℕ → Trees → Type 0
+Notates profile limit text nodes = (tree : Input) × Parses profile limit text tree × Says tree nodes
+
+-- the text has a tree, whose first slip this is
+abbrev pub Slips : Profile → ℕ → List ℕ → ℕ → EdnReason → Type 0
+Slips profile limit text p r = (tree : Input) × Parses profile limit text tree × FirstSlip tree p r
 
 -- the text has tokens, with this jam
-pub record Jams (profile : Profile) (limit : ℕ) (text : List ℕ) (p : ℕ) (r : EdnReason) : Type 0 where
-  pub tokens : List Token
-  pub lex : Lex profile text tokens
-  pub jam : Jam profile limit (length text) tokens p r
+abbrev pub Jams : Profile → ℕ → List ℕ → ℕ → EdnReason → Type 0
+Jams profile limit text p r = (tokens : List Token) × Lex profile text tokens × Jam profile limit (length text) tokens p r
 
 -- All lexical faults come before all of syntax, and these before all of meaning. Memory that was refused is told as this reader's own want of memory, also where the reader of tokens wanted it; then nothing is said of the text.
 abbrev pub IsRefused : Profile → ℕ → List ℕ → EdnFault → Type 0

@@ -3,7 +3,7 @@ use Rattle.std.specs.Prelude.{◌≡◌, ℕ, ◌≤◌, List, [], ◌∷◌, �
 use Rattle.cborn_lex.specs.declared.classes.Profile.{Profile}
 use Rattle.cborn_lex.specs.declared.classes.Profile.TheVariants.{One as ProfileOne, Two as ProfileTwo}
 use Rattle.cborn_edn.specs.declared.faults.EdnReason.{EdnReason}
-use Rattle.cborn_edn.specs.declared.faults.EdnReason.TheVariants.{UnexpectedToken, UnexpectedEnd, TooDeep, IndicatorTooNarrow, IndicatorNotAllowed, MixedString, MixedChunks, TextNotUtf8, BadSimple, TagTooLarge}
+use Rattle.cborn_edn.specs.declared.faults.EdnReason.TheVariants.{UnexpectedToken, UnexpectedEnd, TooDeep}
 use Rattle.cborn_lex.specs.declared.classes.Class.{Class}
 use Rattle.cborn_lex.specs.declared.classes.Class.TheVariants.{ArrayClose, MapClose, EmbedClose, Comma}
 use Rattle.cborn_lex.specs.declared.classes.Token.{Token}
@@ -46,10 +46,4 @@ abbrev pub Jam : Profile → ℕ → ℕ → List Token → ℕ → EdnReason �
 Jam profile limit end tokens p UnexpectedEnd = (p ≡ end) × GoesOn profile limit tokens × (HasTree profile limit tokens → ⊥)
 Jam profile limit end tokens p UnexpectedToken = (f : List Token) × (t : Token) × StopsAt profile limit tokens f t × (p ≡ t.start) × (GoesOnAtAnyDepth profile (f ++ t ∷ []) → ⊥)
 Jam profile limit end tokens p TooDeep = (f : List Token) × (t : Token) × StopsAt profile limit tokens f t × (p ≡ t.start) × GoesOnAtAnyDepth profile (f ++ t ∷ [])
-Jam profile limit end tokens p IndicatorTooNarrow = ⊥
-Jam profile limit end tokens p IndicatorNotAllowed = ⊥
-Jam profile limit end tokens p MixedString = ⊥
-Jam profile limit end tokens p MixedChunks = ⊥
-Jam profile limit end tokens p TextNotUtf8 = ⊥
-Jam profile limit end tokens p BadSimple = ⊥
-Jam profile limit end tokens p TagTooLarge = ⊥
+Jam profile limit end tokens p _ = ⊥

@@ -1,15 +1,15 @@
 -- The fixed notation of nodes, as text, and why nodes have none.
-use Rattle.std.specs.Prelude.{◌≡◌, ℕ, suc, ◌≤◌, List, [], ◌∷◌, ◌++◌, length, Bool, codes, decimal, true, false, nat_lt, ◌==◌, ◌⊎◌, if◌then◌else◌}
+use Rattle.std.specs.Prelude.{◌≡◌, ℕ, suc, ◌≤◌, List, [], ◌∷◌, ◌++◌, length, codes, decimal, true, false, nat_lt, ◌==◌, ◌⊎◌, if◌then◌else◌}
 use Rattle.std.specs.List.{flat_map}
-use Rattle.std.specs.Str.{is_utf8}
+use Rattle.std.specs.Str.{is_utf8, IsUtf8}
 use Rattle.hex.specs.Hex.{encode_lower}
 use Rattle.cborn_model.specs.declared.heads.Width.{Width}
-use Rattle.cborn_model.specs.declared.heads.Width.TheVariants.{Direct, One, Two, Four, Eight}
+use Rattle.cborn_model.specs.declared.heads.Width.TheVariants.{One, Two, Four, Eight}
 use Rattle.cborn_model.specs.declared.heads.Size.{Size}
 use Rattle.cborn_model.specs.declared.heads.Size.TheVariants.{Fixed, Endless as Unending}
 use Rattle.cborn_model.specs.declared.nodes.Chunk.{Chunk}
 use Rattle.cborn_model.specs.Tree.{Tree, Uint, Nint, Bytes as ByteNode, Text as TextNode, ByteChunks, TextChunks, Items, Pairs as PairNode, Tagged, Simple, Trees, no_item as no_node, more, Entries, no_entry, entry, count, count_entries}
-use Rattle.cborn_model.specs.Heads.{least}
+use Rattle.cborn_model.specs.Heads.{following, least}
 use Rattle.cborn_lex.specs.declared.classes.Mark.{Mark}
 use Rattle.cborn_lex.specs.declared.classes.Mark.TheVariants.{Absent, Endless, Wide}
 use Rattle.cborn_edn.specs.declared.faults.ShowFault.{ShowFault}
@@ -17,47 +17,13 @@ use Rattle.cborn_edn.specs.declared.faults.ShowFault.TheVariants.{NotUtf8, OutOf
 use Rattle.cborn_edn.specs.declared.strings.Kind.{Kind}
 use Rattle.cborn_edn.specs.declared.strings.Kind.TheVariants.{Bytes as OfBytes, Text as OfText}
 
-abbrev pub same_width : Width → Width → Bool
-same_width Direct Direct = true
-same_width One One = true
-same_width Two Two = true
-same_width Four Four = true
-same_width Eight Eight = true
-same_width _ _ = false
-
--- an indicator only where the head isn't the shortest
+-- an indicator only where the head isn't the shortest: where the argument takes more bytes than it has to
 abbrev pub mark_for : Width → ℕ → Mark
-mark_for w n = if same_width w (least n) then Absent else Wide w
+mark_for w n = if length (following w n) == length (following (least n) n) then Absent else Wide w
 
 abbrev pub mark_for_size : Size → ℕ → Mark
 mark_for_size Unending n = Endless
 mark_for_size (Fixed w) n = mark_for w n
-
--- Each text and text chunk is UTF-8.
-abbrev pub AreTexts : List Chunk → Type 0
-AreTexts [] = Unit {0}
-AreTexts (c ∷ cs) = (is_utf8 c.bytes ≡ true) × AreTexts cs
-
-abbrev mutual
-  pub IsShowable : Tree → Type 0
-  IsShowable (Uint p w n) = Unit {0}
-  IsShowable (Nint p w n) = Unit {0}
-  IsShowable (ByteNode p w x) = Unit {0}
-  IsShowable (TextNode p w x) = is_utf8 x ≡ true
-  IsShowable (ByteChunks p cs) = Unit {0}
-  IsShowable (TextChunks p cs) = AreTexts cs
-  IsShowable (Items p s ts) = AreShowable ts
-  IsShowable (PairNode p s es) = ArePairsShowable es
-  IsShowable (Tagged p w n t) = IsShowable t
-  IsShowable (Simple p n) = Unit {0}
-
-  pub AreShowable : Trees → Type 0
-  AreShowable no_node = Unit {0}
-  AreShowable (more t ts) = IsShowable t × AreShowable ts
-
-  pub ArePairsShowable : Entries → Type 0
-  ArePairsShowable no_entry = Unit {0}
-  ArePairsShowable (entry k v es) = IsShowable k × IsShowable v × ArePairsShowable es
 
 -- The text. Numbers are in decimal, bytes in lower-case hexadecimal.
 
@@ -74,19 +40,17 @@ escaped b =
     else b ∷ []
 
 abbrev pub indicator : Mark → List ℕ
-indicator Absent = []
 indicator Endless = codes "_"
-indicator (Wide Direct) = []
 indicator (Wide One) = codes "_0"
 indicator (Wide Two) = codes "_1"
 indicator (Wide Four) = codes "_2"
 indicator (Wide Eight) = codes "_3"
+indicator _ = []
 
 -- behind an opening bracket a space follows
 abbrev pub opened : Mark → List ℕ
 opened Absent = []
-opened Endless = codes "_ "
-opened (Wide w) = indicator (Wide w) ++ codes " "
+opened m = indicator m ++ codes " "
 
 abbrev pub shown_string : Kind → Width → List ℕ → List ℕ
 shown_string OfBytes w x = codes "h'" ++ (encode_lower x ++ (codes "'" ++ indicator (mark_for w (length x))))
@@ -149,9 +113,6 @@ abbrev mutual
   shown_more_lines no_node = codes "\n"
   shown_more_lines (more t ts) = codes ",\n" ++ (shown t ++ shown_more_lines ts)
 
-abbrev pub Shown : Trees → List ℕ → Type 0
-Shown ts x = AreShowable ts × (x ≡ shown_lines ts)
-
 -- A text string or a text chunk at p isn't UTF-8.
 abbrev pub IsBadChunk : List Chunk → ℕ → Type 0
 IsBadChunk [] p = ⊥
@@ -159,16 +120,12 @@ IsBadChunk (c ∷ cs) p = ((p ≡ c.place) × (is_utf8 c.bytes ≡ false)) ⊎ I
 
 abbrev mutual
   pub IsBadText : Tree → ℕ → Type 0
-  IsBadText (Uint q w n) p = ⊥
-  IsBadText (Nint q w n) p = ⊥
-  IsBadText (ByteNode q w x) p = ⊥
   IsBadText (TextNode q w x) p = (p ≡ q) × (is_utf8 x ≡ false)
-  IsBadText (ByteChunks q cs) p = ⊥
   IsBadText (TextChunks q cs) p = IsBadChunk cs p
   IsBadText (Items q s ts) p = IsBadAmong ts p
   IsBadText (PairNode q s es) p = IsBadInPairs es p
   IsBadText (Tagged q w n t) p = IsBadText t p
-  IsBadText (Simple q n) p = ⊥
+  IsBadText _ p = ⊥
 
   pub IsBadAmong : Trees → ℕ → Type 0
   IsBadAmong no_node p = ⊥
@@ -178,7 +135,15 @@ abbrev mutual
   IsBadInPairs no_entry p = ⊥
   IsBadInPairs (entry k v es) p = IsBadText k p ⊎ (IsBadText v p ⊎ IsBadInPairs es p)
 
--- the lowest of them
+-- each text and text chunk is UTF-8
+abbrev pub AreShowable : Trees → Type 0
+AreShowable ts = (p : ℕ) → IsBadAmong ts p → ⊥
+
+-- a text is UTF-8, and so are all texts that it shows
+abbrev pub Shown : Trees → List ℕ → Type 0
+Shown ts x = IsUtf8 x × (x ≡ shown_lines ts)
+
+-- the lowest place of a text that isn't UTF-8
 pub record LowestBadText (ts : Trees) (p : ℕ) : Type 0 where
   pub is : IsBadAmong ts p
   pub lowest : (q : ℕ) → IsBadAmong ts q → p ≤ q

@@ -168,9 +168,8 @@ abbrev mutual
   depth (map at m f end) = suc (depth_of_fields f)
 
   pub depth_of_piece : Piece → ℕ
-  depth_of_piece (text at x m) = 0
-  depth_of_piece (bytes at q x m) = 0
   depth_of_piece (embedded at c end m) = suc (depth_of_content c)
+  depth_of_piece _ = 0
 
   pub depth_of_pieces : Pieces → ℕ
   depth_of_pieces (piece p) = depth_of_piece p

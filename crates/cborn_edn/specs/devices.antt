@@ -6,3 +6,4 @@ pub mod Between
 pub mod Escaping
 pub mod Levels
 pub mod Ready
+pub mod Texts

@@ -1,6 +1,6 @@
 //! Laws of the notation, over its definitions alone. Each function says one of them by its contract, and does nothing.
 
-ghost use Rattle.std.specs.Prelude.{◌≡◌, ℕ, ◌^◌, ◌<◌, ◌≤◌, Bool, true, List, [], map, length, ◌⊎◌};
+ghost use Rattle.std.specs.Prelude.{◌≡◌, ℕ, ◌^◌, ◌<◌, ◌≤◌, Bool, true, List, [], map, length, ◌⊎◌, ◌↔◌};
 ghost use Rattle.std.specs.Str.{is_utf8};
 ghost use Rattle.cborn_model.specs.Bytes.{AreBytes};
 ghost use Rattle.cborn_model.specs.Tree.{Trees, depth_all};
@@ -18,7 +18,7 @@ ghost use Rattle.cborn_edn.specs.Parse.{Parse, HasTree, Jam};
 ghost use Rattle.cborn_edn.specs.Meaning.{Says, HasSlip, FirstSlip};
 ghost use Rattle.cborn_edn.specs.Counted.{CountedInput};
 ghost use Rattle.cborn_edn.specs.ReadingBack.{bare, notated_input, ReadsBack, unplaced_all};
-ghost use Rattle.cborn_edn.specs.Shown.{AreShowable, Shown};
+ghost use Rattle.cborn_edn.specs.Shown.{AreShowable, Shown, shown_lines};
 ghost use Rattle.cborn_edn.specs.Notates.{Notates, Slips, Jams};
 
 /// Tokens have at most one tree, whatever the profiles.
@@ -57,8 +57,9 @@ pub fn reading_back()
     ensures { (profile : Profile) (limit : ℕ) (nodes : Trees) (tokens : List Token) → FitsAll nodes → AreShowable nodes → depth_all nodes ≤ limit → map bare tokens ≡ tokens_of_input (notated_input nodes) → ReadsBack profile limit nodes tokens }
 {}
 
-/// The text of the fixed notation of nodes is UTF-8 and has the tokens of the fixed notation, places aside. Under both profiles it notates the same nodes, places aside, which spell the same bytes, where the nodes are within the limit, and under no limit others.
+/// Nodes have a fixed notation exactly if each text and text chunk among them is UTF-8. The text of the fixed notation of nodes is UTF-8 and has the tokens of the fixed notation, places aside. Under both profiles it notates the same nodes, places aside, which spell the same bytes, where the nodes are within the limit, and under no limit others.
 pub fn shown_text_reads_back()
+    ensures texts { (nodes : Trees) → FitsAll nodes → (AreShowable nodes ↔ Shown nodes (shown_lines nodes)) }
     ensures utf8 { (nodes : Trees) (text : List ℕ) → FitsAll nodes → Shown nodes text → is_utf8 text ≡ true }
     ensures tokens { (profile : Profile) (nodes : Trees) (text : List ℕ) → FitsAll nodes → Shown nodes text → (tokens : List Token) × Lex profile text tokens × (map bare tokens ≡ tokens_of_input (notated_input nodes)) }
     ensures back { (profile : Profile) (limit : ℕ) (nodes : Trees) (text : List ℕ) → FitsAll nodes → Shown nodes text → depth_all nodes ≤ limit → (says : Trees) × Notates profile limit text says × (unplaced_all says ≡ unplaced_all nodes) × (spelled_all says ≡ spelled_all nodes) }

@@ -1,6 +1,5 @@
 -- The fixed notation of bytes is one text, and reads back as what the bytes hold.
 use Rattle.std.proofs.Common.{◌≡◌, ◌≤◌, ℕ, List, sym, ◌∙◌, subst, arith}
-use Rattle.std.specs.Prelude.{IsUtf8}
 use Rattle.std.specs.List.{AllZip}
 use Rattle.cborn_model.specs.Tree.{Tree, Trees, trees, depth_all}
 use Rattle.cborn_model.specs.Spelled.{spelled_all, FitsAll}
@@ -11,7 +10,6 @@ use Rattle.cborn_lex.specs.declared.classes.Profile.TheVariants as profile
 use Rattle.cborn_edn.specs.Notates.{Notates}
 use Rattle.cborn_edn.specs.ReadingBack.{unplaced_all}
 use Rattle.cborn_edn.specs.devices.TreesCode.{listed_trees, trees-listed}
-use Rattle.cborn_edn.proofs.Characters.{lines_text}
 use Rattle.cborn_edn.proofs.ReadBack.{shown_back, shown_only}
 use Rattle.cborn_edn.proofs.SameText.{same_text}
 use Rattle.cborn_edn.proofs.Unplaced.{same_depth, same_meaning}
@@ -46,6 +44,6 @@ text_back p limit x text ns items fit shallow spelled mean t =
     let means : AllMean back.0 (values_of items) = same_meaning (trees ns) back.0 (sym (back.2 ∙ same)) (values_of items) (all_mean ns items mean) in
     record {
       nodes = listed_trees back.0;
-      notated = (subst IsUtf8 (sym t.shown.1) (lines_text (trees t.nodes) t.fit t.shown.0), subst (Notates p limit text) (sym listed) back.1);
+      notated = (t.shown.0, subst (Notates p limit text) (sym listed) back.1);
       mean = zip_mean (listed_trees back.0) items (subst (λ (ts : Trees). AllMean ts (values_of items)) (sym listed) means);
     }

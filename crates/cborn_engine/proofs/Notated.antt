@@ -20,12 +20,13 @@ module _ (p : Profile) (limit : ℕ) (text : List ℕ) (ns : List Tree) (h : IsN
   fits l = notated_fits p limit text (trees ns) (utf8_bytes text h.0) (omega (arith, l)) h.1
 
   pub no_stop : (q : ℕ) (r : LexReason) → Stop p text q r → ⊥
-  no_stop q r s = not_stopped p text h.1.tokens q r h.1.lex s
+  no_stop q r s = not_stopped p text h.1.1.tokens q r h.1.1.lex s
 
   pub no_jam : (q : ℕ) (r : EdnReason) → Jams p limit text q r → ⊥
   no_jam q r j =
-      let same : j.tokens ≡ h.1.tokens = one_list p text j.tokens h.1.tokens j.lex h.1.lex in
-      not_both p limit (length text) h.1.tokens q r (h.1.tree, h.1.parse, h.1.shallow) (subst (λ (ts : List Token). Jam p limit (length text) ts q r) same j.jam)
+      let a = h.1.1 in
+      let same : j.0 ≡ a.tokens = one_list p text j.0 a.tokens j.1 a.lex in
+      not_both p limit (length text) a.tokens q r (h.1.0, a.parse, a.shallow) (subst (λ (ts : List Token). Jam p limit (length text) ts q r) same j.2)
 
   pub no_slip : (q : ℕ) (r : EdnReason) → Slips p limit text q r → ⊥
   no_slip q r s = notated_or_slips p limit limit text (trees ns) q r h.1 s

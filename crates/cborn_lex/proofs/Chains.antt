@@ -8,7 +8,9 @@ use Rattle.cborn_lex.specs.declared.faults.LexReason.{LexReason}
 use Rattle.cborn_lex.specs.declared.classes.Token.{Token}
 use Rattle.cborn_lex.specs.Tokens.{Front, Blank, Read, Bad}
 use Rattle.cborn_lex.specs.Forms.{Start, white, slash, hash, less, greater, paren, letter, minus, digit, other, single, opening, double, simple, start_of, ReadsFrom, Reads}
-use Rattle.cborn_lex.specs.Lex.{Piece, gap, token, slice, front_of, spelled, AreRead, tokens, Lex, HasNoPiece, Stop, SpansRise}
+use Rattle.cborn_lex.specs.Lex.{Lex, HasNoPiece, Stop, SpansRise}
+use Rattle.cborn_lex.specs.Pieces.{Piece, gap, token, slice, front_of, spelled, AreRead, tokens, BeginsNoPiece}
+use Rattle.cborn_lex.proofs.Parts.{lex_parted, parted_lex, stop_parted, parted_stop, has_no_piece}
 use Rattle.std.proofs.Common.{drop, ◌≤◌, ◌+◌}
 use Rattle.cborn_lex.proofs.Pieces.{front_is}
 use Rattle.cborn_lex.proofs.Runs.{rest}
@@ -41,7 +43,7 @@ first profile p q x y h k e =
 split : (p : Piece) (ps : List Piece) (z : List ℕ) → (slice p ++ spelled ps) ++ z ≡ slice p ++ (spelled ps ++ z)
 split p ps z = append_assoc (slice p) (spelled ps) z
 
-one_chain : (profile : Profile) (ps qs : List Piece) (z w : List ℕ) → AreRead profile ps z → AreRead profile qs w → HasNoPiece profile z → HasNoPiece profile w → spelled ps ++ z ≡ spelled qs ++ w → (ps ≡ qs) × (z ≡ w)
+one_chain : (profile : Profile) (ps qs : List Piece) (z w : List ℕ) → AreRead profile ps z → AreRead profile qs w → BeginsNoPiece profile z → BeginsNoPiece profile w → spelled ps ++ z ≡ spelled qs ++ w → (ps ≡ qs) × (z ≡ w)
 one_chain profile [] [] z w h k f g e = (refl, e)
 one_chain profile [] (q ∷ qs) z w h k f g e = absurd (f q (spelled qs ++ w) k.0 (e ∙ split q qs w))
 one_chain profile (p ∷ ps) [] z w h k f g e = absurd (g p (spelled ps ++ z) h.0 (sym e ∙ split p ps z))
@@ -50,10 +52,10 @@ one_chain profile (p ∷ ps) (q ∷ qs) z w h k f g e =
     let t = one_chain profile ps qs z w h.1 k.1 f g r.1 in
     (ap (λ x. x ∷ ps) r.0 ∙ ap (λ xs. q ∷ xs) t.0, t.1)
 
-end_ends : (profile : Profile) → HasNoPiece profile []
+end_ends : (profile : Profile) → BeginsNoPiece profile []
 end_ends profile p x h e = no_front profile (slice p) x (front_of p) h (sym e)
 
-pub bad_ends : (profile : Profile) (s z : List ℕ) (r : LexReason) → Reads profile s z (Bad r) → HasNoPiece profile (s ++ z)
+pub bad_ends : (profile : Profile) (s z : List ℕ) (r : LexReason) → Reads profile s z (Bad r) → BeginsNoPiece profile (s ++ z)
 bad_ends profile s z r h p x k e = not_bad p r (sym (one_front profile s z (slice p) x (Bad r) (front_of p) h k e).1)
 
 -- a whole text
@@ -61,21 +63,27 @@ whole_text : (text : List ℕ) (ps : List Piece) → text ≡ spelled ps → tex
 whole_text text ps e = e ∙ sym (append-nil (spelled ps))
 
 pub one_list : (profile : Profile) (text : List ℕ) (ts us : List Token) → Lex profile text ts → Lex profile text us → ts ≡ us
-one_list profile text ts us h k =
+one_list profile text ts us a b =
+    let h = lex_parted profile text ts a in
+    let k = lex_parted profile text us b in
     let r = one_chain profile h.pieces k.pieces [] [] h.read k.read (end_ends profile) (end_ends profile) (sym (whole_text text h.pieces h.whole) ∙ whole_text text k.pieces k.whole) in
     h.placed ∙ (ap (tokens 0) r.0 ∙ sym k.placed)
 
 pub not_both : (profile : Profile) (text : List ℕ) (ts : List Token) (p : ℕ) (r : LexReason) → Lex profile text ts → Stop profile text p r → ⊥
-not_both profile text ts p r h k =
-    let t = one_chain profile h.pieces k.pieces [] (k.front ++ k.rest) h.read k.read (end_ends profile) k.no_piece (sym (whole_text text h.pieces h.whole) ∙ k.whole) in
+not_both profile text ts p r a b =
+    let h = lex_parted profile text ts a in
+    let k = stop_parted profile text p r b in
+    let t = one_chain profile h.pieces k.pieces [] (k.front ++ k.rest) h.read k.read (end_ends profile) (bad_ends profile k.front k.rest r k.bad) (sym (whole_text text h.pieces h.whole) ∙ k.whole) in
     no_front profile k.front k.rest (Bad r) k.bad (sym t.1)
 
 bad_reason : (r s : LexReason) → Bad r ≡ Bad s → r ≡ s
 bad_reason r s e = cc
 
 pub one_stop : (profile : Profile) (text : List ℕ) (p q : ℕ) (r s : LexReason) → Stop profile text p r → Stop profile text q s → (p ≡ q) × (r ≡ s)
-one_stop profile text p q r s h k =
-    let t = one_chain profile h.pieces k.pieces (h.front ++ h.rest) (k.front ++ k.rest) h.read k.read h.no_piece k.no_piece (sym h.whole ∙ k.whole) in (
+one_stop profile text p q r s a b =
+    let h = stop_parted profile text p r a in
+    let k = stop_parted profile text q s b in
+    let t = one_chain profile h.pieces k.pieces (h.front ++ h.rest) (k.front ++ k.rest) h.read k.read (bad_ends profile h.front h.rest r h.bad) (bad_ends profile k.front k.rest s k.bad) (sym h.whole ∙ k.whole) in (
       h.place ∙ (ap (λ ps. length (spelled ps)) t.0 ∙ sym k.place),
       bad_reason r s (one_front profile h.front h.rest k.front k.rest (Bad r) (Bad s) h.bad k.bad t.1).1,
     )
@@ -85,12 +93,16 @@ shorter profile [] z text a h e = absurd h
 shorter profile (c ∷ s) z text a h e = omega (arith, ap length e, length-append s z)
 
 pub stop_inside : (profile : Profile) (text : List ℕ) (p : ℕ) (r : LexReason) → Stop profile text p r → p < length text
-stop_inside profile text p r h =
+stop_inside profile text p r a =
+    let h = stop_parted profile text p r a in
     let some = shorter profile h.front h.rest (h.front ++ h.rest) (Bad r) h.bad refl in
     omega (arith, ap length h.whole, h.place, length-append (spelled h.pieces) (h.front ++ h.rest))
 
 pub stop_no_piece : (profile : Profile) (text : List ℕ) (p : ℕ) (r : LexReason) → Stop profile text p r → HasNoPiece profile (drop p text)
-stop_no_piece profile text p r h = rw (front_is p text (spelled h.pieces) (h.front ++ h.rest) h.whole (sym h.place)).1 h.no_piece
+stop_no_piece profile text p r a =
+    let h = stop_parted profile text p r a in
+    let rest : drop p text ≡ h.front ++ h.rest = (front_is p text (spelled h.pieces) (h.front ++ h.rest) h.whole (sym h.place)).1 in
+    subst (HasNoPiece profile) (sym rest) (has_no_piece profile (h.front ++ h.rest) (bad_ends profile h.front h.rest r h.bad))
 
 -- Spans.
 
@@ -113,7 +125,8 @@ spans profile (token k s ∷ ps) n z h =
     (omega arith, omega arith, subst (λ (end : ℕ). SpansRise (n + length s) (tokens (n + length s) ps) end) size (spans profile ps (n + length s) z h.1))
 
 pub spans_rise : (profile : Profile) (text : List ℕ) (ts : List Token) → Lex profile text ts → SpansRise 0 ts (length text)
-spans_rise profile text ts h =
+spans_rise profile text ts a =
+    let h = lex_parted profile text ts a in
     let size : 0 + length (spelled h.pieces) ≡ length text = omega (arith, ap length h.whole) in
     rw h.placed (subst (λ (end : ℕ). SpansRise 0 (tokens 0 h.pieces) end) size (spans profile h.pieces 0 [] h.read))
 
@@ -164,8 +177,8 @@ chain_below profile (suc n) (c ∷ y) k h =
     step profile r.s r.z (c ∷ y) r.a r.reads r.whole (chain_below profile n r.z (omega arith) (bytes_after r.s r.z (c ∷ y) h r.whole))
 
 answered : (profile : Profile) (text : List ℕ) → Chain profile text ⊎ Broken profile text → ((ts : List Token) × Lex profile text ts) ⊎ ((p : ℕ) × (r : LexReason) × Stop profile text p r)
-answered profile text (inl r) = inl (tokens 0 r.pieces, record { pieces = r.pieces; read = r.read; whole = r.whole; placed = refl })
-answered profile text (inr r) = inr (length (spelled r.pieces), r.reason, record { pieces = r.pieces; front = r.front; rest = r.rest; read = r.read; no_piece = bad_ends profile r.front r.rest r.reason r.bad; bad = r.bad; whole = r.whole; place = refl })
+answered profile text (inl r) = inl (tokens 0 r.pieces, parted_lex profile text (tokens 0 r.pieces) (record { pieces = r.pieces; read = r.read; whole = r.whole; placed = refl }))
+answered profile text (inr r) = inr (length (spelled r.pieces), r.reason, parted_stop profile text (length (spelled r.pieces)) r.reason (record { pieces = r.pieces; front = r.front; rest = r.rest; read = r.read; bad = r.bad; whole = r.whole; place = refl }))
 
 pub some_answer : (profile : Profile) (text : List ℕ) → are_bytes text ≡ true → ((ts : List Token) × Lex profile text ts) ⊎ ((p : ℕ) × (r : LexReason) × Stop profile text p r)
 some_answer profile text h = answered profile text (chain_below profile (suc (length text)) text (omega arith) h)
@@ -197,4 +210,4 @@ two_chain [] z h = h
 two_chain (p ∷ ps) z h = (two_reads (slice p) (spelled ps ++ z) p h.0, two_chain ps z h.1)
 
 pub both_profiles : (text : List ℕ) (ts : List Token) → Lex One text ts → Lex Two text ts
-both_profiles text ts h = record { pieces = h.pieces; read = two_chain h.pieces [] h.read; whole = h.whole; placed = h.placed }
+both_profiles text ts a = let h = lex_parted One text ts a in parted_lex Two text ts (record { pieces = h.pieces; read = two_chain h.pieces [] h.read; whole = h.whole; placed = h.placed })

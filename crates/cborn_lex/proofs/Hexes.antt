@@ -2,13 +2,13 @@
 use Rattle.std.proofs.Common.{◌≡◌, refl, sym, ap, ◌∙◌, subst, ℕ, ◌+◌, ◌<◌, List, [], ◌∷◌, ◌++◌, length, drop, get_or, Bool, true, false, not, cond, eqb, ◌⊎◌, inl, inr, Option, Some, None, Result, Ok, Err, append_assoc}
 use Rattle.std.proofs.lemmas.List.{drop_more}
 use Rattle.std.proofs.lemmas.Bool.{cond-true, cond-false, and_parts, and_from, eq-eqb, eqb-true, not-true, or_cases, ne_eqb}
-use Rattle.std.specs.List.{list_all, flat_map}
+use Rattle.std.specs.List.{list_all}
 use Rattle.std.specs.Char.{is_digit}
 use Rattle.hex.specs.Hex.{decode_of}
 use Rattle.hex.specs.declared.error.FromHexError.{FromHexError}
 use Rattle.cborn_lex.specs.Tokens.{is_not, is_white}
 use Rattle.cborn_lex.specs.Scan.{onto, strip, behind}
-use Rattle.cborn_lex.specs.Strings.{Mote, digit, space, comment, mote, is_mote, digits, IsHex}
+use Rattle.cborn_lex.specs.Strings.{HasDigits, nothing, digit, space, comment, IsHex}
 
 at_char : (c k : ℕ) → is_digit k 16 ≡ false → eqb c k ≡ true → is_digit c 16 ≡ false
 at_char c k h e = ap (λ d. is_digit d 16) (eqb-true c k e) ∙ h
@@ -23,33 +23,23 @@ strip_comment : (body x : List ℕ) → list_all (is_not 47) body ≡ true → s
 strip_comment [] x h = refl
 strip_comment (c ∷ body) x h = let hs = and_parts (is_not 47 c) (list_all (is_not 47) body) h in cond-false (eqb c 47) _ _ (not-true _ hs.0) ∙ strip_comment body x hs.1
 
-pub strip_is : (ms : List Mote) → list_all is_mote ms ≡ true → strip false (flat_map mote ms) ≡ Some (flat_map digits ms)
-strip_is [] h = refl
-strip_is (digit c ∷ ms) h = let hs = and_parts (is_digit c 16) (list_all is_mote ms) h in cond-true (is_digit c 16) _ _ hs.0 ∙ ap (onto c) (strip_is ms hs.1)
-strip_is (space c ∷ ms) h =
-    let hs = and_parts (is_white c) (list_all is_mote ms) h in
-    cond-false (is_digit c 16) _ _ (white_no_digit c hs.0) ∙ (cond-true (is_white c) _ _ hs.0 ∙ strip_is ms hs.1)
-strip_is (comment body ∷ ms) h =
-    let hs = and_parts (list_all (is_not 47) body) (list_all is_mote ms) h in
-    ap (strip true) (append_assoc body (47 ∷ []) (flat_map mote ms)) ∙ (strip_comment body (flat_map mote ms) hs.0 ∙ strip_is ms hs.1)
+pub strip_is : {x ds : List ℕ} → HasDigits x ds → strip false x ≡ Some ds
+strip_is nothing = refl
+strip_is (digit c x ds h k) = cond-true (is_digit c 16) _ _ h ∙ ap (onto c) (strip_is k)
+strip_is (space c x ds h k) = cond-false (is_digit c 16) _ _ (white_no_digit c h) ∙ (cond-true (is_white c) _ _ h ∙ strip_is k)
+strip_is (comment body x ds h k) = strip_comment body x h ∙ strip_is k
 
--- what a strip says
-pub record Motes (x ds : List ℕ) : Type 0 where
-  pub motes : List Mote
-  pub allowed : list_all is_mote motes ≡ true
-  pub whole : x ≡ flat_map mote motes
-  pub value : ds ≡ flat_map digits motes
-
+-- what a strip says of what follows a slash
 pub record Inside (x ds : List ℕ) : Type 0 where
   pub body : List ℕ
   pub none : list_all (is_not 47) body ≡ true
   pub after : List ℕ
   pub whole : x ≡ body ++ 47 ∷ after
-  pub motes : Motes after ds
+  pub digits : HasDigits after ds
 
 abbrev pub Stripped : Bool → List ℕ → Option (List ℕ) → Type 0
 Stripped b x None = Unit {0}
-Stripped false x (Some ds) = Motes x ds
+Stripped false x (Some ds) = HasDigits x ds
 Stripped true x (Some ds) = Inside x ds
 
 chosen : (i : Bool) (x : List ℕ) (b : Bool) (r s : Option (List ℕ)) → (b ≡ true → Stripped i x r) → (b ≡ false → Stripped i x s) → Stripped i x (cond b r s)
@@ -58,32 +48,27 @@ chosen i x false r s f g = g refl
 
 digit_more : (c : ℕ) (x : List ℕ) (o : Option (List ℕ)) → is_digit c 16 ≡ true → Stripped false x o → Stripped false (c ∷ x) (onto c o)
 digit_more c x None h k = tt
-digit_more c x (Some ds) h k = record { motes = digit c ∷ k.motes; allowed = and_from _ _ h k.allowed; whole = ap (λ y. c ∷ y) k.whole; value = ap (λ y. c ∷ y) k.value }
+digit_more c x (Some ds) h k = digit c x ds h k
 
 space_more : (c : ℕ) (x : List ℕ) (o : Option (List ℕ)) → is_white c ≡ true → Stripped false x o → Stripped false (c ∷ x) o
 space_more c x None h k = tt
-space_more c x (Some ds) h k = record { motes = space c ∷ k.motes; allowed = and_from _ _ h k.allowed; whole = ap (λ y. c ∷ y) k.whole; value = k.value }
+space_more c x (Some ds) h k = space c x ds h k
 
 comment_begins : (c : ℕ) (x : List ℕ) (o : Option (List ℕ)) → eqb c 47 ≡ true → Stripped true x o → Stripped false (c ∷ x) o
 comment_begins c x None h k = tt
 comment_begins c x (Some ds) h k =
-    record {
-      motes = comment k.body ∷ k.motes.motes;
-      allowed = and_from _ _ k.none k.motes.allowed;
-      whole = ap (λ d. d ∷ x) (eqb-true c 47 h) ∙ ap (λ y. 47 ∷ y) (k.whole ∙ (ap (λ y. k.body ++ 47 ∷ y) k.motes.whole ∙ sym (append_assoc k.body (47 ∷ []) (flat_map mote k.motes.motes))));
-      value = k.motes.value;
-    }
+    subst (λ (y : List ℕ). HasDigits y ds) (sym (ap (λ d. d ∷ x) (eqb-true c 47 h) ∙ ap (λ y. 47 ∷ y) k.whole)) (comment k.body k.after ds k.none k.digits)
 
 comment_ends : (c : ℕ) (x : List ℕ) (o : Option (List ℕ)) → eqb c 47 ≡ true → Stripped false x o → Stripped true (c ∷ x) o
 comment_ends c x None h k = tt
-comment_ends c x (Some ds) h k = record { body = []; none = refl; after = x; whole = ap (λ d. d ∷ x) (eqb-true c 47 h); motes = k }
+comment_ends c x (Some ds) h k = record { body = []; none = refl; after = x; whole = ap (λ d. d ∷ x) (eqb-true c 47 h); digits = k }
 
 comment_more : (c : ℕ) (x : List ℕ) (o : Option (List ℕ)) → eqb c 47 ≡ false → Stripped true x o → Stripped true (c ∷ x) o
 comment_more c x None h k = tt
-comment_more c x (Some ds) h k = record { body = c ∷ k.body; none = and_from _ _ (ap not h) k.none; after = k.after; whole = ap (λ y. c ∷ y) k.whole; motes = k.motes }
+comment_more c x (Some ds) h k = record { body = c ∷ k.body; none = and_from _ _ (ap not h) k.none; after = k.after; whole = ap (λ y. c ∷ y) k.whole; digits = k.digits }
 
 pub strips : (i : Bool) (x : List ℕ) → Stripped i x (strip i x)
-strips false [] = record { motes = []; allowed = refl; whole = refl; value = refl }
+strips false [] = nothing
 strips true [] = tt
 strips true (c ∷ x) = chosen true _ (eqb c 47) _ _ (λ h. comment_ends c x _ h (strips false x)) (λ h. comment_more c x _ h (strips true x))
 strips false (c ∷ x) =
@@ -93,25 +78,28 @@ strips false (c ∷ x) =
 
 pub hex_one : (x b d : List ℕ) → IsHex x b → IsHex x d → b ≡ d
 hex_one x b d h k =
-    let l = ap (strip false) h.whole ∙ strip_is h.motes h.allowed in
-    let r = ap (strip false) k.whole ∙ strip_is k.motes k.allowed in
-    let e : flat_map digits h.motes ≡ flat_map digits k.motes = cc in
+    let l = strip_is h.1 in
+    let r = strip_is k.1 in
+    let e : h.0 ≡ k.0 = cc in
     let f = ap decode_of e in
-    let m = h.value in
-    let n = k.value in
+    let m = h.2 in
+    let n = k.2 in
     cc
 
 hex_none : (x : List ℕ) → strip false x ≡ None → (bytes : List ℕ) → IsHex x bytes → ⊥
-hex_none x e bytes h = let l = ap (strip false) h.whole ∙ strip_is h.motes h.allowed in cc
+hex_none x e bytes h = let l = strip_is h.1 in cc
 
-hex_decoded : (x ds : List ℕ) (r : Result (List ℕ) FromHexError) → strip false x ≡ Some ds → Motes x ds → decode_of ds ≡ r → ((bytes : List ℕ) × IsHex x bytes) ⊎ ((bytes : List ℕ) → IsHex x bytes → ⊥)
-hex_decoded x ds (Ok bytes) e k h = inl (bytes, record { motes = k.motes; allowed = k.allowed; whole = k.whole; value = ap decode_of (sym k.value) ∙ h })
-hex_decoded x ds (Err f) e k h = inr (λ bytes t.
-    let l = ap (strip false) t.whole ∙ strip_is t.motes t.allowed in
-    let same : flat_map digits t.motes ≡ ds = cc in
+pub hex_err : (x ds : List ℕ) (f : FromHexError) → strip false x ≡ Some ds → decode_of ds ≡ Err f → (bytes : List ℕ) → IsHex x bytes → ⊥
+hex_err x ds f e h bytes t =
+    let l = strip_is t.1 in
+    let same : t.0 ≡ ds = cc in
     let m = ap decode_of same in
-    let n = t.value in
-    cc)
+    let n = t.2 in
+    cc
+
+hex_decoded : (x ds : List ℕ) (r : Result (List ℕ) FromHexError) → strip false x ≡ Some ds → HasDigits x ds → decode_of ds ≡ r → ((bytes : List ℕ) × IsHex x bytes) ⊎ ((bytes : List ℕ) → IsHex x bytes → ⊥)
+hex_decoded x ds (Ok bytes) e k h = inl (bytes, (ds, k, h))
+hex_decoded x ds (Err f) e k h = inr (hex_err x ds f e h)
 
 hex_from : (x : List ℕ) (o : Option (List ℕ)) → strip false x ≡ o → Stripped false x o → ((bytes : List ℕ) × IsHex x bytes) ⊎ ((bytes : List ℕ) → IsHex x bytes → ⊥)
 hex_from x None e k = inr (hex_none x e)
@@ -125,22 +113,12 @@ hex_cases x = hex_from x (strip false x) refl (strips false x)
 pub hex_no_digits : (x : List ℕ) → strip false x ≡ None → (bytes : List ℕ) → IsHex x bytes → ⊥
 hex_no_digits x e = hex_none x e
 
-from_option : (x ds : List ℕ) (o : Option (List ℕ)) → o ≡ Some ds → Stripped false x o → Motes x ds
+from_option : (x ds : List ℕ) (o : Option (List ℕ)) → o ≡ Some ds → Stripped false x o → HasDigits x ds
 from_option x ds None e k = cc
-from_option x ds (Some d) e k = let same : d ≡ ds = cc in subst (λ (y : List ℕ). Motes x y) same k
+from_option x ds (Some d) e k = let same : d ≡ ds = cc in subst (HasDigits x) same k
 
 pub hex_ok : (x ds bytes : List ℕ) → strip false x ≡ Some ds → decode_of ds ≡ Ok bytes → IsHex x bytes
-hex_ok x ds bytes e h =
-    let k = from_option x ds (strip false x) e (strips false x) in
-    record { motes = k.motes; allowed = k.allowed; whole = k.whole; value = ap decode_of (sym k.value) ∙ h }
-
-pub hex_err : (x ds : List ℕ) (f : FromHexError) → strip false x ≡ Some ds → decode_of ds ≡ Err f → (bytes : List ℕ) → IsHex x bytes → ⊥
-hex_err x ds f e h bytes t =
-    let l = ap (strip false) t.whole ∙ strip_is t.motes t.allowed in
-    let same : flat_map digits t.motes ≡ ds = cc in
-    let m = ap decode_of same in
-    let n = t.value in
-    cc
+hex_ok x ds bytes e h = (ds, from_option x ds (strip false x) e (strips false x), h)
 
 -- One step of the loop.
 

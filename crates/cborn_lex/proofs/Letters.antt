@@ -4,7 +4,9 @@ use Rattle.std.proofs.lemmas.Bool.{cond-false, and_parts, and_from, eq-eqb, eqb-
 use Rattle.std.proofs.lemmas.Str.{encode_ascii}
 use Rattle.std.specs.Prelude.{encode_utf8}
 use Rattle.std.specs.List.{list_all, flat_map}
-use Rattle.cborn_lex.specs.Strings.{Letter, raw, escaped, unit, pair, written, meant, is_letter, is_escape, escape_code, are_hex, code, is_high, is_low, IsText}
+use Rattle.cborn_lex.specs.Strings.{is_escape, escape_code, are_hex, code, is_high, is_low, IsText}
+use Rattle.cborn_lex.specs.Letters.{Letter, raw, escaped, unit, pair, written, meant, is_letter}
+use Rattle.cborn_lex.proofs.Lettered.{has_letters, is_text}
 use Rattle.cborn_lex.specs.Scan.{is_raw, code_at, low_code, paired, unit_from, escape_of}
 use Rattle.cborn_lex.proofs.Texts.{low_at, unit_at, escape_at, LetterAt, MatchAt, letter_at_is, NoLetters, no_letters, no_more, longer}
 use Rattle.std.proofs.lemmas.List.{take-append-drop, drop_all, drop_more, drop-drop, length-drop}
@@ -203,7 +205,7 @@ none_behind q (l ∷ ls) rest h none =
     no_more q l _ (flat_map written ls ++ rest) (record { allowed = hs.0; whole = append_assoc (written l) (flat_map written ls) rest }) (none_behind q ls rest hs.1 none)
 
 never : (q : ℕ) (content rest bytes : List ℕ) → Decoded q content rest bytes → NoLetters q rest → (b : List ℕ) → IsText q content b → ⊥
-never q content rest bytes d none b t = none_behind q d.letters rest d.allowed none t.letters t.allowed (sym d.whole ∙ t.whole)
+never q content rest bytes d none b s = let t = has_letters q s in none_behind q d.letters rest d.allowed none t.letters t.allowed (sym d.whole ∙ t.whole)
 
 -- For the loop: n raw characters at the front of rest, which is left of content from at on.
 pub record Step (q : ℕ) (content rest bytes : List ℕ) (at n : ℕ) : Type 0 where
@@ -220,7 +222,7 @@ pub all_raw : (q : ℕ) (content rest bytes : List ℕ) (at n : ℕ) → Step q 
 all_raw q content rest bytes at n s e =
     let d = run_decoded q content rest bytes at n s in
     let ended : drop n rest ≡ [] = drop_all n rest (omega arith) in
-    record { letters = d.letters; allowed = d.allowed; whole = d.whole ∙ (ap (λ x. flat_map written d.letters ++ x) ended ∙ append-nil (flat_map written d.letters)); value = d.value }
+    is_text q content (bytes ++ take n rest) (record { letters = d.letters; allowed = d.allowed; whole = d.whole ∙ (ap (λ x. flat_map written d.letters ++ x) ended ∙ append-nil (flat_map written d.letters)); value = d.value })
 
 stops_at : (n : ℕ) (rest : List ℕ) → n < length rest → begins is_raw (drop n rest) ≡ false → is_raw (get_or rest n 0) ≡ false
 stops_at n rest h e = sym (ap (begins is_raw) (drop_more rest n 0 h)) ∙ e

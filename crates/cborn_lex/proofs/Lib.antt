@@ -1,11 +1,13 @@
 pub mod Runs
 pub mod Quotes
+pub mod Lettered
 pub mod Texts
 pub mod Hexes
 pub mod Decoded
 pub mod Base64s
 pub mod Alone
 pub mod Found
+pub mod Parts
 pub mod Chains
 pub mod Values
 pub mod Pieces

@@ -2,7 +2,9 @@
 use Rattle.std.proofs.Common.{◌≡◌, refl, sym, ap, ◌∙◌, subst, ℕ, zero, suc, ◌<◌, List, [], ◌∷◌, ◌++◌, length, Bool, true, false, ◌&&◌, ◌||◌, not, cond, eqb, leb, ◌⊎◌, inl, inr, Option, Some, None, arith}
 use Rattle.std.proofs.lemmas.Bool.{cond-true, cond-false, and_parts, and_from, eqb-true, not-true, or_parts, or_from}
 use Rattle.std.specs.List.{list_all, flat_map}
-use Rattle.cborn_lex.specs.Strings.{Letter, raw, escaped, unit, pair, written, meant, is_letter, is_escape, are_hex, is_high, is_low, code, four, IsText}
+use Rattle.cborn_lex.specs.Strings.{is_escape, are_hex, is_high, is_low, code, four, IsText}
+use Rattle.cborn_lex.specs.Letters.{Letter, raw, escaped, unit, pair, written, meant, is_letter}
+use Rattle.cborn_lex.proofs.Lettered.{has_letters, is_text}
 
 -- the letter at the front, and what follows it
 abbrev pub low_at : ℕ → ℕ → ℕ → ℕ → List ℕ → Option (Letter × List ℕ)
@@ -117,7 +119,10 @@ one_letters q (l ∷ ls) (m ∷ ms) h k e =
     ap (λ n. n ∷ ls) both.0 ∙ ap (λ ns. m ∷ ns) tails
 
 pub text_one : (q : ℕ) (x b d : List ℕ) → IsText q x b → IsText q x d → b ≡ d
-text_one q x b d h k = h.value ∙ (ap (flat_map meant) (one_letters q h.letters k.letters h.allowed k.allowed (sym h.whole ∙ k.whole)) ∙ sym k.value)
+text_one q x b d s t =
+    let h = has_letters q s in
+    let k = has_letters q t in
+    h.value ∙ (ap (flat_map meant) (one_letters q h.letters k.letters h.allowed k.allowed (sym h.whole ∙ k.whole)) ∙ sym k.value)
 
 pub record Letters (q : ℕ) (x : List ℕ) : Type 0 where
   pub letters : List Letter
@@ -157,8 +162,8 @@ letters_below q (suc n) [] h = inl (record { letters = []; allowed = refl; whole
 letters_below q (suc n) (c ∷ x) h = letters_from q c x (letter_at q (c ∷ x)) refl (letter_at_is q (c ∷ x)) (λ y k. letters_below q n y (omega arith))
 
 text_of : (q : ℕ) (x : List ℕ) → Letters q x ⊎ NoLetters q x → ((bytes : List ℕ) × IsText q x bytes) ⊎ ((bytes : List ℕ) → IsText q x bytes → ⊥)
-text_of q x (inl t) = inl (flat_map meant t.letters, record { letters = t.letters; allowed = t.allowed; whole = t.whole; value = refl })
-text_of q x (inr none) = inr (λ bytes t. none t.letters t.allowed t.whole)
+text_of q x (inl t) = inl (flat_map meant t.letters, is_text q x (flat_map meant t.letters) (record { letters = t.letters; allowed = t.allowed; whole = t.whole; value = refl }))
+text_of q x (inr none) = inr (λ bytes t. let h = has_letters q t in none h.letters h.allowed h.whole)
 
 pub text_cases : (q : ℕ) (x : List ℕ) → ((bytes : List ℕ) × IsText q x bytes) ⊎ ((bytes : List ℕ) → IsText q x bytes → ⊥)
 text_cases q x = text_of q x (letters_below q (suc (length x)) x (omega arith))

@@ -22,9 +22,13 @@ use Rattle.cborn_lex.specs.declared.faults.LexReason.{LexReason}
 use Rattle.cborn_lex.specs.declared.faults.LexReason.TheVariants.{NumberTooLarge}
 use Rattle.cborn_lex.specs.Tokens.{Front, Blank, Read, Bad, mark_of, marked, is_white, is_not}
 use Rattle.cborn_lex.specs.Numbers.{integer, within, signed, number_front, word_front}
-use Rattle.cborn_lex.specs.Strings.{Letter, raw, escaped, unit, pair, written, meant, is_letter, escape_code, are_hex, code, is_high, is_low, IsText, Mote, digit as digit_mote, space, comment, mote, digits, IsHex, to_standard, filled, IsBase64, is_content, is_unclosed}
+use Rattle.cborn_lex.specs.Strings.{escape_code, are_hex, code, is_high, is_low, IsText, HasDigits, nothing, digit as one_digit, space, comment, IsHex, to_standard, filled, IsBase64, is_content, is_unclosed}
+use Rattle.cborn_lex.proofs.Lettered.{has_letters}
+use Rattle.cborn_lex.specs.Letters.{Letter, raw, escaped, unit, pair, written, meant, is_letter}
 use Rattle.cborn_lex.specs.Forms.{IsString, Prefix, hexadecimal, base64, unknown, prefix_of, IsPrefixed, IsAfterWord, ReadsNumber, double, simple, Start, white, slash, hash, less, greater, paren, letter, minus, digit, other, single, opening, start_of, paren_front, ReadsFrom, Reads}
-use Rattle.cborn_lex.specs.Lex.{Piece, gap, token, spelled, AreRead, tokens, Lex, Between}
+use Rattle.cborn_lex.specs.Lex.{Lex, Between}
+use Rattle.cborn_lex.specs.Pieces.{Piece, gap, token, spelled, AreRead, tokens}
+use Rattle.cborn_lex.proofs.Parts.{parted, lex_parted}
 use Rattle.cborn_lex.proofs.Decoded.{is_byte, are_bytes}
 use Rattle.cborn_lex.proofs.Base64s.{bytes_from}
 
@@ -154,7 +158,8 @@ abbrev AreSpelled : (List ℕ → List ℕ → Type 0) → Type 0
 AreSpelled Is = (x bytes : List ℕ) → are_bytes x ≡ true → Is x bytes → AreFew (length x + 3) bytes
 
 text_spelled : (q : ℕ) → AreSpelled (IsText q)
-text_spelled q x bytes h is =
+text_spelled q x bytes h t =
+    let is = has_letters q t in
     let w = is.whole in
     let v = is.value in
     let l = letters_light q is.letters is.allowed (ap are_bytes (sym w) ∙ h) in
@@ -162,16 +167,16 @@ text_spelled q x bytes h is =
 
 -- Hexadecimal.
 
-few_digits : (ms : List Mote) → length (flat_map digits ms) ≤ length (flat_map mote ms)
-few_digits [] = omega arith
-few_digits (digit_mote c ∷ ms) = let l = few_digits ms in omega arith
-few_digits (space c ∷ ms) = let l = few_digits ms in omega arith
-few_digits (comment body ∷ ms) = let l = few_digits ms in omega (arith, length-append (mote (comment body)) (flat_map mote ms))
+few_digits : {x ds : List ℕ} → HasDigits x ds → length ds ≤ length x
+few_digits nothing = omega arith
+few_digits (one_digit c x ds h k) = let l = few_digits k in omega arith
+few_digits (space c x ds h k) = let l = few_digits k in omega arith
+few_digits (comment body x ds h k) = let l = few_digits k in omega (arith, length-append body (47 ∷ x))
 
 hex_spelled : AreSpelled IsHex
 hex_spelled x bytes h is =
-    let d = decode_of-ok (flat_map digits is.motes) bytes is.value in
-    (as_bytes bytes (bytes_from bytes d.3), omega (arith, d.2, few_digits is.motes, ap length is.whole))
+    let d = decode_of-ok is.0 bytes is.2 in
+    (as_bytes bytes (bytes_from bytes d.3), omega (arith, d.2, few_digits is.1))
 
 -- Base64.
 
@@ -339,14 +344,16 @@ tokens_light profile (token k s ∷ ps) n z h is =
 
 -- LAW: the tokens of a text are modest, and weigh four times its length at most
 pub text_light : (profile : Profile) (text : List ℕ) (ts : List Token) → AreBytes text → Lex profile text ts → AreModest ts × (weigh ts ≤ 4 * length text)
-text_light profile text ts h lex =
+text_light profile text ts h a =
+    let lex = lex_parted profile text ts a in
     let whole = lex.whole in
     let r = tokens_light profile lex.pieces 0 [] (ap are_bytes (sym whole) ∙ as_test text h) lex.read in
     rw lex.placed (r.0, omega (arith, r.1, ap length whole))
 
 -- LAW: tokens that stand between two places of a text are modest, also where the rest of it has none
 pub between_modest : (profile : Profile) (text : List ℕ) (n m : ℕ) (ts : List Token) → AreBytes text → Between profile text n m ts → AreModest ts
-between_modest profile text n m ts h b =
+between_modest profile text n m ts h a =
+    let b = parted profile a in
     let behind : are_bytes (drop n text) ≡ true = (split (take n text) (drop n text) (ap are_bytes (take-append-drop n text) ∙ as_test text h)).1 in
     let here = (split (spelled b.pieces) (drop m text) (ap are_bytes (sym b.whole) ∙ behind)).0 in
     rw b.placed (tokens_light profile b.pieces n (drop m text) here b.read).0

@@ -6,58 +6,26 @@ use Rattle.cborn_lex.specs.declared.classes.Token.{Token}
 use Rattle.cborn_lex.specs.declared.faults.LexFault.{LexFault}
 use Rattle.cborn_lex.specs.declared.faults.LexFault.TheVariants.{Refused, OutOfMemory}
 use Rattle.cborn_lex.specs.declared.faults.LexReason.{LexReason}
-use Rattle.cborn_lex.specs.Tokens.{Front, Blank, Read, Bad}
+use Rattle.cborn_lex.specs.Tokens.{Blank, Read, Bad}
 use Rattle.cborn_lex.specs.Forms.{Reads}
 
--- a character of white space, a comment or a token, each with its slice of the text
-pub data Piece : Type 0 where
-  gap : List ℕ → Piece
-  token : Class → List ℕ → Piece
-
-abbrev pub slice : Piece → List ℕ
-slice (gap s) = s
-slice (token k s) = s
-
-abbrev pub front_of : Piece → Front
-front_of (gap s) = Blank
-front_of (token k s) = Read k
-
-abbrev pub spelled : List Piece → List ℕ
-spelled [] = []
-spelled (p ∷ ps) = slice p ++ spelled ps
-
--- each piece is what it is, as the text goes on behind it
-abbrev pub AreRead : Profile → List Piece → List ℕ → Type 0
-AreRead profile [] z = Unit {0}
-AreRead profile (p ∷ ps) z = Reads profile (slice p) (spelled ps ++ z) (front_of p) × AreRead profile ps z
-
--- the tokens among pieces, the first of which starts at n
-abbrev pub tokens : ℕ → List Piece → List Token
-tokens n [] = []
-tokens n (gap s ∷ ps) = tokens (n + length s) ps
-tokens n (token k s ∷ ps) = record { start = n; stop = n + length s; class = k } ∷ tokens (n + length s) ps
+-- from the place n on, behind which x stands, up to m, behind which y stands, there are white space, comments and these tokens
+pub data Through (profile : Profile) : ℕ → List ℕ → List Token → ℕ → List ℕ → Type 0 where
+  here : (n : ℕ) (x : List ℕ) → Through profile n x [] n x
+  gap : (n m : ℕ) (s x y : List ℕ) (ts : List Token) → Reads profile s x Blank → Through profile (n + length s) x ts m y → Through profile n (s ++ x) ts m y
+  token : (n m : ℕ) (k : Class) (s x y : List ℕ) (ts : List Token) → Reads profile s x (Read k) → Through profile (n + length s) x ts m y → Through profile n (s ++ x) (record { start = n; stop = n + length s; class = k } ∷ ts) m y
 
 -- the tokens of a text
-pub record Lex (profile : Profile) (text : List ℕ) (ts : List Token) : Type 0 where
-  pub pieces : List Piece
-  pub read : AreRead profile pieces []
-  pub whole : text ≡ spelled pieces
-  pub placed : ts ≡ tokens 0 pieces
+abbrev pub Lex : Profile → List ℕ → List Token → Type 0
+Lex profile text ts = Through profile 0 text ts (length text) []
 
--- nothing begins the text z that is white space, a comment or a token
+-- at n, behind tokens, stands what the reason r is told of
+abbrev pub Stop : Profile → List ℕ → ℕ → LexReason → Type 0
+Stop profile text n r = (ts : List Token) × (s : List ℕ) × (x : List ℕ) × Through profile 0 text ts n (s ++ x) × Reads profile s x (Bad r)
+
+-- no white space, comment or token begins the text z
 abbrev pub HasNoPiece : Profile → List ℕ → Type 0
-HasNoPiece profile z = (p : Piece) (x : List ℕ) → Reads profile (slice p) x (front_of p) → z ≡ slice p ++ x → ⊥
-
--- behind gaps and tokens, at n, stands no further one, but what the reason r is told of
-pub record Stop (profile : Profile) (text : List ℕ) (n : ℕ) (r : LexReason) : Type 0 where
-  pub pieces : List Piece
-  pub front : List ℕ
-  pub rest : List ℕ
-  pub read : AreRead profile pieces (front ++ rest)
-  pub no_piece : HasNoPiece profile (front ++ rest)
-  pub bad : Reads profile front rest (Bad r)
-  pub whole : text ≡ spelled pieces ++ (front ++ rest)
-  pub place : n ≡ length (spelled pieces)
+HasNoPiece profile z = (s x : List ℕ) → z ≡ s ++ x → (Reads profile s x Blank → ⊥) × ((k : Class) → Reads profile s x (Read k) → ⊥)
 
 -- from n on up to end, tokens aren't empty, rise and don't overlap
 abbrev pub SpansRise : ℕ → List Token → ℕ → Type 0
@@ -69,13 +37,9 @@ abbrev pub IsStopAt : Profile → List ℕ → LexFault → Type 0
 IsStopAt profile text (Refused n r) = Stop profile text n r
 IsStopAt profile text OutOfMemory = Unit {0}
 
--- from n up to m the text is white space, comments and the tokens ts, as it goes on behind m
-pub record Between (profile : Profile) (text : List ℕ) (n m : ℕ) (ts : List Token) : Type 0 where
-  pub pieces : List Piece
-  pub read : AreRead profile pieces (drop m text)
-  pub whole : drop n text ≡ spelled pieces ++ drop m text
-  pub place : m ≡ n + length (spelled pieces)
-  pub placed : ts ≡ tokens n pieces
+-- the tokens from n up to m, as the text goes on behind m
+abbrev pub Between : Profile → List ℕ → ℕ → ℕ → List Token → Type 0
+Between profile text n m ts = Through profile n (drop n text) ts m (drop m text)
 
 -- the first token from n on, or none up to the end
 abbrev pub IsNext : Profile → List ℕ → ℕ → Option Token → Type 0

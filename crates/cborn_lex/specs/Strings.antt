@@ -1,5 +1,5 @@
 -- What the contents of strings stand for.
-use Rattle.std.specs.Prelude.{◌≡◌, ℕ, ◌+◌, ◌-◌, ◌*◌, ◌%◌, Bool, true, ◌||◌, ◌&&◌, not, List, [], ◌∷◌, ◌++◌, length, map, filter, replicate, flat_map, ◌==◌, nat_le, nat_lt, codes, Ok, if◌then◌else◌, encode_utf8}
+use Rattle.std.specs.Prelude.{◌≡◌, ℕ, ◌+◌, ◌-◌, ◌*◌, ◌%◌, Bool, true, ◌||◌, ◌&&◌, not, List, [], ◌∷◌, ◌++◌, length, map, filter, replicate, ◌==◌, nat_le, nat_lt, codes, Ok, if◌then◌else◌, encode_utf8}
 use Rattle.std.specs.List.{list_all, list_any}
 use Rattle.std.specs.Str.{byte}
 use Rattle.std.specs.Char.{is_digit, digit_value}
@@ -21,21 +21,8 @@ is_unclosed q [] = true
 is_unclosed q (c ∷ []) = is_not q c
 is_unclosed q (c ∷ d ∷ x) = if c == byte "\\" then is_unclosed q x else is_not q c && is_unclosed q (d ∷ x)
 
--- one character of a content, as it is written
-pub data Letter : Type 0 where
-  raw : ℕ → Letter
-  escaped : ℕ → Letter
-  unit : ℕ → ℕ → ℕ → ℕ → Letter  -- \uXXXX
-  pair : ℕ → ℕ → ℕ → ℕ → ℕ → ℕ → ℕ → ℕ → Letter  -- \uXXXX\uXXXX
-
 abbrev pub four : ℕ → ℕ → ℕ → ℕ → List ℕ
 four a b c d = byte "\\" ∷ byte "u" ∷ a ∷ b ∷ c ∷ d ∷ []
-
-abbrev pub written : Letter → List ℕ
-written (raw c) = c ∷ []
-written (escaped e) = byte "\\" ∷ e ∷ []
-written (unit a b c d) = four a b c d
-written (pair a b c d e f g h) = four a b c d ++ four e f g h
 
 -- the number of four hexadecimal digits
 abbrev pub code : ℕ → ℕ → ℕ → ℕ → ℕ
@@ -63,51 +50,29 @@ escape_code e =
     else if e == byte "t" then 9
     else e
 
-abbrev pub is_letter : ℕ → Letter → Bool
-is_letter q (raw c) = nat_le 32 c && not (c == byte "\\")
-is_letter q (escaped e) = is_escape q e
-is_letter q (unit a b c d) = are_hex a b c d && not (is_high (code a b c d) || is_low (code a b c d))
-is_letter q (pair a b c d e f g h) = (are_hex a b c d && is_high (code a b c d)) && (are_hex e f g h && is_low (code e f g h))
+-- the character of two surrogates
+abbrev pub paired : ℕ → ℕ → ℕ
+paired high low = 0x1_0000 + (high - 0xD800) * 0x400 + (low - 0xDC00)
 
--- its bytes in UTF-8. A raw character's are its own.
-abbrev pub meant : Letter → List ℕ
-meant (raw c) = c ∷ []
-meant (escaped e) = escape_code e ∷ []
-meant (unit a b c d) = encode_utf8 (code a b c d)
-meant (pair a b c d e f g h) = encode_utf8 (0x1_0000 + (code a b c d - 0xD800) * 0x400 + (code e f g h - 0xDC00))
-
-pub record IsText (q : ℕ) (content bytes : List ℕ) : Type 0 where
-  pub letters : List Letter
-  pub allowed : list_all (is_letter q) letters ≡ true
-  pub whole : content ≡ flat_map written letters
-  pub value : bytes ≡ flat_map meant letters
+-- What a content between quotes q stands for, from its front on: a byte for itself, an escape for the bytes of its character in UTF-8.
+pub data IsText (q : ℕ) : List ℕ → List ℕ → Type 0 where
+  nothing : IsText q [] []
+  raw : (c : ℕ) (x y : List ℕ) → (nat_le 32 c && not (c == byte "\\")) ≡ true → IsText q x y → IsText q (c ∷ x) (c ∷ y)
+  escaped : (e : ℕ) (x y : List ℕ) → is_escape q e ≡ true → IsText q x y → IsText q (byte "\\" ∷ e ∷ x) (escape_code e ∷ y)
+  unit : (a b c d : ℕ) (x y : List ℕ) → (are_hex a b c d && not (is_high (code a b c d) || is_low (code a b c d))) ≡ true → IsText q x y → IsText q (four a b c d ++ x) (encode_utf8 (code a b c d) ++ y)
+  pair : (a b c d e f g h : ℕ) (x y : List ℕ) → ((are_hex a b c d && is_high (code a b c d)) && (are_hex e f g h && is_low (code e f g h))) ≡ true → IsText q x y → IsText q (four a b c d ++ (four e f g h ++ x)) (encode_utf8 (paired (code a b c d) (code e f g h)) ++ y)
 
 -- Hexadecimal (RFC 4648 section 8): digits in either case, and between them white space and comments (RFC 8610 appendix G.1, G.6).
 
-pub data Mote : Type 0 where
-  digit : ℕ → Mote
-  space : ℕ → Mote
-  comment : List ℕ → Mote
+-- the digits of a content
+pub data HasDigits : List ℕ → List ℕ → Type 0 where
+  nothing : HasDigits [] []
+  digit : (c : ℕ) (x ds : List ℕ) → is_digit c 16 ≡ true → HasDigits x ds → HasDigits (c ∷ x) (c ∷ ds)
+  space : (c : ℕ) (x ds : List ℕ) → is_white c ≡ true → HasDigits x ds → HasDigits (c ∷ x) ds
+  comment : (body x ds : List ℕ) → list_all (is_not (byte "/")) body ≡ true → HasDigits x ds → HasDigits (byte "/" ∷ (body ++ byte "/" ∷ x)) ds
 
-abbrev pub mote : Mote → List ℕ
-mote (digit c) = c ∷ []
-mote (space c) = c ∷ []
-mote (comment body) = byte "/" ∷ (body ++ byte "/" ∷ [])
-
-abbrev pub is_mote : Mote → Bool
-is_mote (digit c) = is_digit c 16
-is_mote (space c) = is_white c
-is_mote (comment body) = list_all (is_not (byte "/")) body
-
-abbrev pub digits : Mote → List ℕ
-digits (digit c) = c ∷ []
-digits _ = []
-
-pub record IsHex (content bytes : List ℕ) : Type 0 where
-  pub motes : List Mote
-  pub allowed : list_all is_mote motes ≡ true
-  pub whole : content ≡ flat_map mote motes
-  pub value : decode_of (flat_map digits motes) ≡ Ok bytes
+abbrev pub IsHex : List ℕ → List ℕ → Type 0
+IsHex content bytes = (digits : List ℕ) × HasDigits content digits × (decode_of digits ≡ Ok bytes)
 
 -- Base64 (RFC 4648 sections 4 and 5): white space is dropped, both alphabets are one, and without padding it is filled up. It is the encoding of some bytes, so unused bits are 0.
 

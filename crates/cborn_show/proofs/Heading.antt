@@ -10,7 +10,8 @@ use Rattle.cborn_model.specs.Bytes.{AreBytes}
 use Rattle.cborn_model.specs.Heads.{Major, Given, head, Holds}
 use Rattle.cborn_model.specs.Spelled.{chunk_bytes, ChunksFit}
 use Rattle.cborn_edn.specs.declared.strings.Kind.{Kind}
-use Rattle.cborn_edn.specs.Shown.{AreTexts, shown_string, shown_more_chunks, shown_chunks, mark_for, indicator}
+use Rattle.cborn_edn.specs.Shown.{shown_string, shown_more_chunks, shown_chunks, mark_for, indicator}
+use Rattle.cborn_edn.specs.devices.Texts.{AreTexts}
 use Rattle.cborn_wire.specs.declared.heads.Head.{Head}
 use Rattle.cborn_wire.specs.declared.heads.Argument.{Argument}
 use Rattle.cborn_wire.specs.declared.heads.Argument.TheVariants as arguments

@@ -9,7 +9,8 @@ use Rattle.cborn_model.specs.Spelled.{spelled, spelled_all, spelled_entries, Fit
 use Rattle.cborn_model.specs.Tree.{Tree, Uint, Nint, Bytes, Text, ByteChunks, TextChunks, Items, Pairs, Tagged, Simple, trees, entries, depth, depth_all, depth_entries, count, count_entries}
 use Rattle.cborn_model.proofs.Trees.{count-trees, count_entries-entries}
 use Rattle.cborn_edn.specs.devices.Between.{between, separated}
-use Rattle.cborn_edn.specs.Shown.{mark_for, indicator, opened, shown, IsShowable, AreShowable, ArePairsShowable}
+use Rattle.cborn_edn.specs.Shown.{mark_for, indicator, opened, shown}
+use Rattle.cborn_edn.specs.devices.Texts.{IsShowable, EachShowable, ArePairsShowable}
 use Rattle.cborn_edn.proofs.Separated.{separated-push, all-separated, entries-separated, shown_items, shown_pairs}
 use Rattle.cborn_wire.specs.declared.heads.Argument.{Argument}
 use Rattle.cborn_wire.specs.declared.heads.Argument.TheVariants as arguments
@@ -113,7 +114,7 @@ depth_more : (ts : List Tree) (t : Tree) (d : ℕ) → depth_all (trees ts) ≤ 
 depth_more [] t d f g = omega (arith, g)
 depth_more (u ∷ ts) t d f g = omega (arith, depth_more ts t d (omega (arith, f)) g, f)
 
-showable_more : (ts : List Tree) (t : Tree) → AreShowable (trees ts) → IsShowable t → AreShowable (trees (ts ++ t ∷ []))
+showable_more : (ts : List Tree) (t : Tree) → EachShowable (trees ts) → IsShowable t → EachShowable (trees (ts ++ t ∷ []))
 showable_more [] t f g = (g, tt)
 showable_more (u ∷ ts) t f g = (f.0, showable_more ts t f.1 g)
 

@@ -1,6 +1,8 @@
 -- Whole texts, and nodes at their places.
 use Rattle.std.proofs.Common.{◌≡◌, ◌≤◌, ℕ, suc, ◌+◌, List, [], ◌∷◌, ◌++◌, length, codes, refl, sym, ap, ◌∙◌, subst, append-nil, arith, true, false, ◌==◌}
 use Rattle.std.proofs.lemmas.Bool.{eqb-true}
+use Rattle.std.proofs.lemmas.Str.{IsUtf8-nil}
+use Rattle.std.specs.Str.{IsUtf8}
 use Rattle.cborn_model.specs.declared.nodes.Chunk.{Chunk}
 use Rattle.cborn_model.specs.Heads.{Major, ByteString, TextString, Array, Map, Tag, Given, head, argument}
 use Rattle.cborn_model.specs.Tree.{Tree, Uint, Nint, Bytes, Text, ByteChunks, TextChunks, Items, Pairs, Tagged, Simple, Trees, no_item, more, Entries, no_entry, entry, trees, count, count_entries}
@@ -10,6 +12,7 @@ use Rattle.cborn_edn.specs.Shown.{Shown, shown, shown_lines}
 use Rattle.cborn_edn.specs.ReadingBack.{unplaced_chunks, unplaced, unplaced_all, unplaced_entries}
 use Rattle.cborn_edn.specs.devices.Between.{separated}
 use Rattle.cborn_edn.proofs.Separated.{lines-separated}
+use Rattle.cborn_edn.proofs.Characters.{lines_text}
 use Rattle.cborn_edn.proofs.SameText.{same_notation}
 use Rattle.cborn_wire.specs.Places.{chunks_from, placed_from, all_from, entries_from}
 use Rattle.cborn_wire.proofs.AsPlaced.{spelled_all-from, depth_all-from, fits_all-from, placed_all-from}
@@ -59,7 +62,7 @@ placed_text limit input text n =
 -- ---- the end of the input
 
 pub no_lines : (limit : ℕ) (input text : List ℕ) → input ≡ [] → text ≡ [] → PassShown limit input text
-no_lines limit input text e t = record { nodes = []; read = record { spells = sym e; fit = tt; shallow = omega arith }; shown = (tt, t) }
+no_lines limit input text e t = record { nodes = []; read = record { spells = sym e; fit = tt; shallow = omega arith }; shown = (subst IsUtf8 (sym t) IsUtf8-nil, t) }
 
 pub some_lines : (limit n : ℕ) (input rest out text : List ℕ) → NodesShown (codes ",\n") limit n input rest [] out → rest ≡ [] → (input ≡ [] → ⊥) → text ≡ out ++ codes "\n" → PassShown limit input text
 some_lines limit n input rest out text s r some t = go s.nodes refl
@@ -72,11 +75,14 @@ some_lines limit n input rest out text s r some t = go s.nodes refl
     go (x ∷ xs) e = record {
       nodes = s.nodes;
       read = record { spells = sym whole; fit = s.fits; shallow = s.shallow };
-      shown = (s.showable, t ∙ ap (λ l. l ++ codes "\n") s.written ∙ lines s.nodes x xs e);
+      shown = (subst IsUtf8 (sym same) (lines_text (trees s.nodes) s.fits s.showable), same);
     }
       where
         lines : (ns : List Tree) (x : Tree) (xs : List Tree) → ns ≡ x ∷ xs → separated (codes ",\n") shown ns ++ codes "\n" ≡ shown_lines (trees ns)
         lines ns x xs e = ap (λ (ts : List Tree). separated (codes ",\n") shown ts ++ codes "\n") e ∙ sym (lines-separated x xs) ∙ ap (λ (ts : List Tree). shown_lines (trees ts)) (sym e)
+
+        same : text ≡ shown_lines (trees s.nodes)
+        same = t ∙ ap (λ l. l ++ codes "\n") s.written ∙ lines s.nodes x xs e
 
 pub nothing_left : (l : List ℕ) → (length l == 0) ≡ true → l ≡ []
 nothing_left [] h = refl

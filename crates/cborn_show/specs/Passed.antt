@@ -15,7 +15,8 @@ use Rattle.hex.specs.Hex.{encode_lower}
 use Rattle.cborn_edn.specs.declared.strings.Kind.{Kind}
 use Rattle.cborn_edn.specs.declared.strings.Kind.TheVariants.{Bytes as OfBytes, Text as OfText}
 use Rattle.cborn_edn.specs.devices.Between.{between, separated}
-use Rattle.cborn_edn.specs.Shown.{Shown, IsShowable, AreShowable, ArePairsShowable, AreTexts, shown, shown_string, shown_more_chunks, shown_chunks, shown_simple, escaped}
+use Rattle.cborn_edn.specs.Shown.{Shown, shown, shown_string, shown_more_chunks, shown_chunks, shown_simple, escaped}
+use Rattle.cborn_edn.specs.devices.Texts.{AreTexts, IsShowable, EachShowable, ArePairsShowable}
 use Rattle.cborn_wire.specs.declared.heads.Argument.{Argument}
 use Rattle.cborn_wire.specs.declared.heads.Argument.TheVariants as arguments
 
@@ -103,7 +104,7 @@ pub record NodesShown (sep : List ℕ) (room n : ℕ) (input rest old new : List
   pub read : input ≡ spelled_all (trees nodes) ++ rest
   pub fits : FitsAll (trees nodes)
   pub shallow : depth_all (trees nodes) ≤ room
-  pub showable : AreShowable (trees nodes)
+  pub showable : EachShowable (trees nodes)
   pub written : new ≡ old ++ separated sep shown nodes
   pub count : length nodes ≡ n
 

@@ -1,6 +1,6 @@
 -- Text strings from their letters.
 use Rattle.std.proofs.Common.{◌≡◌, refl, sym, ap, ◌∙◌, subst, ℕ, zero, suc, ◌+◌, ◌<◌, ◌≤◌, ◌^◌, List, [], ◌∷◌, ◌++◌, length, take, drop, get_or, Bool, true, false, ◌&&◌, not, eqb, Some, inl, arith, take_at, append-nil, append_assoc, length-append}
-use Rattle.std.proofs.lemmas.Bool.{and_parts, and_from, lt-ltb, le-leb, ne_eqb, eqb-true, false≢true, not-true}
+use Rattle.std.proofs.lemmas.Bool.{and_parts, and_from, lt-ltb, le-leb, ne_eqb, eq-eqb, eqb-true, false≢true, not-true}
 use Rattle.std.proofs.lemmas.List.{take_more, drop_more, drop_all, length-take-le, take-append-drop}
 use Rattle.std.proofs.Math.Seq.{take-append_seam, drop-append_seam}
 use Rattle.std.proofs.lemmas.List.Folds.{list_all-append}
@@ -16,7 +16,9 @@ use Rattle.cborn_lex.specs.declared.classes.Mark.{Mark}
 use Rattle.cborn_lex.specs.declared.classes.Mark.TheVariants.{Absent, Endless, Wide}
 use Rattle.cborn_lex.specs.declared.classes.Class.TheVariants.{Text, Bytes}
 use Rattle.cborn_lex.specs.Tokens.{Read, begins}
-use Rattle.cborn_lex.specs.Strings.{is_content, IsText, Letter, raw, escaped, written, meant, is_letter, is_escape, escape_code}
+use Rattle.cborn_lex.specs.Strings.{is_content, IsText, is_escape, escape_code}
+use Rattle.cborn_lex.specs.Letters.{Letter, raw, escaped, written, meant, is_letter}
+use Rattle.cborn_lex.proofs.Lettered.{is_text}
 use Rattle.cborn_lex.specs.Scan.{is_raw}
 use Rattle.cborn_lex.specs.Forms.{Reads}
 use Rattle.cborn_lex.proofs.Quotes.{content_cons}
@@ -111,7 +113,7 @@ raws_meant [] = refl
 raws_meant (c ∷ x) = ap (λ l. c ∷ l) (raws_meant x)
 
 raw_text : (x : List ℕ) → list_all (λ c. is_raw c && not (eqb c 34)) x ≡ true → IsText 34 x x
-raw_text x h = record { letters = raws x; allowed = raws_allowed x h; whole = raws_written x; value = raws_meant x }
+raw_text x h = is_text 34 x x (record { letters = raws x; allowed = raws_allowed x h; whole = raws_written x; value = raws_meant x })
 
 pub plain_done : (profile : Profile) (text : List ℕ) (at len room : ℕ) (content old new : List ℕ) → (p : IsPlainText (drop at text) len) → content ≡ p.content → length content < 2 ^ 64 → IsUtf8 content → new ≡ (old ++ head_bytes 3 (least (length content)) (length content)) ++ content → ItemTaken profile text at (at + len + 2) room old new
 plain_done profile text at len room content old new p e s u a =
@@ -124,6 +126,9 @@ begins_not [] zero c h = refl
 begins_not [] (suc at) c h = refl
 begins_not (d ∷ x) zero c h = ne_eqb d c h
 begins_not (d ∷ x) (suc at) c h = begins_not x at c h
+
+pub begins_here : (x : List ℕ) (at c : ℕ) → at < length x → get_or x at 0 ≡ c → begins (λ d. eqb d c) (drop at x) ≡ true
+begins_here x at c h e = ap (begins (λ d. eqb d c)) (drop_more x at 0 h) ∙ eq-eqb (get_or x at 0) c e
 
 pub begins_none : (x : List ℕ) (at c : ℕ) → length x ≤ at → begins (λ d. eqb d c) (drop at x) ≡ false
 begins_none x at c h = ap (begins (λ d. eqb d c)) (drop_all at x h)
@@ -178,7 +183,7 @@ escape_more tail old mid new at c s h b e v w =
     letters_more tail old mid new at (at + 2) (escaped (get_or tail (at + 1) 0)) s e (two_more 34 at tail h s.inside b) both (w ∙ ap (λ d. mid ++ d ∷ []) v)
 
 pub letters_end : (tail old new : List ℕ) (at : ℕ) → LettersSoFar tail at old new → at < length tail → begins (λ d. eqb d 34) (drop at tail) ≡ true → LettersTaken tail at old new
-letters_end tail old new at s h q = record { within = h; inside = s.inside; quote = q; bytes = flat_map meant s.letters; meant = record { letters = s.letters; allowed = s.allowed; whole = s.whole; value = refl }; written = s.written }
+letters_end tail old new at s h q = record { within = h; inside = s.inside; quote = q; bytes = flat_map meant s.letters; meant = is_text 34 (take at tail) (flat_map meant s.letters) (record { letters = s.letters; allowed = s.allowed; whole = s.whole; value = refl }); written = s.written }
 
 pub escaped_done : (profile : Profile) (text tail : List ℕ) (at n len room : ℕ) (old half new : List ℕ) → begins (λ d. eqb d 34) (drop at text) ≡ true → tail ≡ drop 1 (drop at text) → (t : LettersTaken tail len half new) → begins (λ d. eqb d 95) (drop (len + 1) tail) ≡ false → length t.bytes ≡ n → n < 2 ^ 64 → IsUtf8 t.bytes → half ≡ old ++ head_bytes 3 (least n) n → ItemTaken profile text at (at + len + 2) room old new
 escaped_done profile text tail at n len room old half new h e t b s l u w =

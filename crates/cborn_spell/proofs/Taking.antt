@@ -356,27 +356,31 @@ module _ (profile : Profile) (text : List ℕ) where
       let list = tree_list r.nodes in
       record {
         nodes = list;
-        notated = record {
-          tokens = tokens_of_row r.row ++ [];
-          lex = whole_text profile text _ (subst (λ (m : ℕ). Between profile text 0 m (tokens_of_row r.row ++ [])) e lexed);
-          tree = items r.row;
-          parse = parse_of profile _ (items r.row) (sym (append-nil (tokens_of_row r.row))) r.allowed;
-          shallow = r.shallow;
-          says = r.says ∙ ap Some (sym (trees-tree_list r.nodes));
-        };
+        notated = (
+          items r.row,
+          record {
+            tokens = tokens_of_row r.row ++ [];
+            lex = whole_text profile text _ (subst (λ (m : ℕ). Between profile text 0 m (tokens_of_row r.row ++ [])) e lexed);
+            parse = parse_of profile _ (items r.row) (sym (append-nil (tokens_of_row r.row))) r.allowed;
+            shallow = r.shallow;
+          },
+          r.says ∙ ap Some (sym (trees-tree_list r.nodes)),
+        );
         spells = ap spelled_all (trees-tree_list r.nodes) ∙ sym (r.written ∙ ap (λ l. l ++ spelled_all r.nodes) nil);
       }
 
   pub nothing_all : (start limit : ℕ) (new : List ℕ) → new ≡ [] → Between profile text 0 start [] → start ≡ length text → IsSpelling profile limit text new
   nothing_all start limit new nil g e = record {
     nodes = [];
-    notated = record {
-      tokens = [];
-      lex = whole_text profile text [] (subst (λ (m : ℕ). Between profile text 0 m []) e g);
-      tree = nothing_there;
-      parse = parse_of profile [] nothing_there refl (allows_none profile);
-      shallow = omega arith;
-      says = refl;
-    };
+    notated = (
+      nothing_there,
+      record {
+        tokens = [];
+        lex = whole_text profile text [] (subst (λ (m : ℕ). Between profile text 0 m []) e g);
+        parse = parse_of profile [] nothing_there refl (allows_none profile);
+        shallow = omega arith;
+      },
+      refl,
+    );
     spells = sym nil;
   }

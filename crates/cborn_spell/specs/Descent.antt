@@ -11,7 +11,8 @@ use Rattle.cborn_lex.specs.declared.classes.Mark.{Mark}
 use Rattle.cborn_lex.specs.declared.classes.Mark.TheVariants.{Absent, Endless, Wide}
 use Rattle.cborn_lex.specs.Tokens.{begins}
 use Rattle.cborn_lex.specs.Numbers.{number}
-use Rattle.cborn_lex.specs.Strings.{is_content, IsText, Letter, is_letter, meant, written as letter}
+use Rattle.cborn_lex.specs.Strings.{is_content, IsText}
+use Rattle.cborn_lex.specs.Letters.{Letter, is_letter, meant, written as letter}
 use Rattle.cborn_lex.specs.Scan.{is_raw}
 use Rattle.cborn_model.specs.Heads.{Major, ByteString, TextString, head_bytes, least}
 use Rattle.cborn_model.specs.declared.nodes.Chunk.{Chunk}

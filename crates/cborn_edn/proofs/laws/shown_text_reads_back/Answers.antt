@@ -1,6 +1,7 @@
 use Rattle.cborn_edn.proofs.Characters.{is_text}
+use Rattle.cborn_edn.proofs.Readable.{readable}
 use Rattle.cborn_edn.proofs.ReadBack.{shown_tokens, shown_back, shown_only}
 use Rattle.cborn_edn.proofs.laws.shown_text_reads_back.Goals as goal
 
 pub returns : goal.returns
-returns c = record { utf8 = is_text; tokens = shown_tokens; back = shown_back; only = shown_only }
+returns c = record { texts = readable; utf8 = is_text; tokens = shown_tokens; back = shown_back; only = shown_only }

@@ -26,6 +26,12 @@ returns-in-Err-token_from-clause-refused c =
 pub step-requires : goal.step-requires
 step-requires c = is_ready c.args.profile c.args.limit c.args.text.now c.tokens.at c.tokens.state c.tokens.invariant.0 (omega arith) (omega arith)
 
+pub first_fault-requires : goal.first_fault-requires
+first_fault-requires c =
+    let t = c.in-Ok-Some.token in
+    let next = subst (IsNext c.args.profile c.args.text.now c.tokens.at) c.in-Ok-Some.field-0-is c.in-Ok-Some.ensures.ok in
+    (inside c.args.profile c.args.text.now c.tokens.at t.stop (t ∷ []) c.tokens.invariant.1 next).1
+
 pub tokens-smaller : goal.tokens-smaller
 tokens-smaller c =
     let t = c.in-Ok-Some.token in

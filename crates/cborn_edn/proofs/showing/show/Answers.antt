@@ -2,7 +2,7 @@ use Rattle.std.proofs.Common.{sym, ◌∙◌, subst, ap}
 use Rattle.std.specs.Str.{IsUtf8}
 use Rattle.cborn_model.specs.Tree.{trees}
 use Rattle.cborn_edn.proofs.Characters.{lines_text}
-use Rattle.cborn_edn.proofs.Lowests.{lowest_is, none_bad}
+use Rattle.cborn_edn.proofs.Lowests.{lowest_is, none_bad, each_showable}
 use Rattle.cborn_edn.proofs.showing.show.Goals as goal
 
 pub returns-in-Some-clause-refused : goal.returns-in-Some-clause-refused
@@ -11,9 +11,11 @@ returns-in-Some-clause-refused c =
 
 pub unwrap-requires : goal.unwrap-requires
 unwrap-requires c =
-    let text = lines_text (trees c.args.items.now) c.in-Ok.ensures.fits (none_bad (trees c.args.items.now) (sym c.lowest_bad_text.ensures ∙ c.in-None.is)) in
+    let text = lines_text (trees c.args.items.now) c.in-Ok.ensures.fits (each_showable (trees c.args.items.now) (none_bad (trees c.args.items.now) (sym c.lowest_bad_text.ensures ∙ c.in-None.is))) in
     c.from_utf8.ensures.succeeds (subst IsUtf8 (sym c.in-Ok.ensures.text) text)
 
 pub returns-in-Ok-clause-shown : goal.returns-in-Ok-clause-shown
 returns-in-Ok-clause-shown c =
-    (none_bad (trees c.args.items.now) (sym c.lowest_bad_text.ensures ∙ c.in-None.is), ap (λ v. v.items) (rw c.unwrap.ensures at c.from_utf8.ensures.ok) ∙ c.in-Ok.ensures.text)
+    let text = lines_text (trees c.args.items.now) c.in-Ok.ensures.fits (each_showable (trees c.args.items.now) (none_bad (trees c.args.items.now) (sym c.lowest_bad_text.ensures ∙ c.in-None.is))) in
+    let same = ap (λ v. v.items) (rw c.unwrap.ensures at c.from_utf8.ensures.ok) ∙ c.in-Ok.ensures.text in
+    (subst IsUtf8 (sym same) text, same)

@@ -1,8 +1,11 @@
 use Rattle.std.proofs.Common.{◌≡◌, ◌∙◌, ◌+◌, ◌-◌, sym, ap, arith, take, drop, get_or, length, length-drop, get_or-drop}
 use Rattle.std.proofs.lemmas.List.{drop-drop, take_rest}
-use Rattle.cborn_lex.proofs.Progress.{after_white}
+use Rattle.cborn_lex.proofs.Progress.{nothing, after_white}
 use Rattle.cborn_spell.proofs.Scanning.{after_comment}
 use Rattle.cborn_spell.proofs.scans.skip_gaps.Goals as goal
+
+pub gaps-init : goal.gaps-init
+gaps-init c = (c.requires, nothing c.args.profile c.args.bytes.now c.args.at)
 
 pub gaps-preserved-then-is_white : goal.gaps-preserved-then-is_white
 gaps-preserved-then-is_white c = (omega (arith, c.gaps-test.true), after_white c.args.profile c.args.bytes.now c.args.at c.gaps.place c.gaps.invariant.1 c.gaps-test.true (sym c.is_white.ensures ∙ c.if-is_white.true))

@@ -1,6 +1,10 @@
 use Rattle.std.proofs.Common.{rules, ◌≡◌, ◌∷◌, ◌++◌, [], get_or, arith}
-use Rattle.cborn_spell.proofs.Quoting.{raw_more, escape_more}
+use Rattle.cborn_spell.proofs.Quoting.{raw_more, escape_more, letters_end, begins_here}
 use Rattle.cborn_spell.proofs.strings.put_letters.Goals as goal
+
+pub returns-then-c-eq34 : goal.returns-then-c-eq34
+returns-then-c-eq34 c =
+    letters_end c.args.tail.now c.args.out.now.items c.letters.out.items c.letters.at c.letters.invariant.1 c.letters-test.true (begins_here c.args.tail.now c.letters.at 34 c.letters-test.true c.if-c-eq34.true)
 
 pub letters-preserved-then-c-eq92 : goal.letters-preserved-then-c-eq92
 letters-preserved-then-c-eq92 c =

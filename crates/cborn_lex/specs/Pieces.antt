@@ -1,0 +1,65 @@
+-- A device of the proofs: a text as a list of its pieces. No definition cites it.
+use Rattle.std.specs.Prelude.{◌≡◌, ℕ, ◌+◌, List, [], ◌∷◌, ◌++◌, length}
+use Rattle.cborn_lex.specs.declared.classes.Profile.{Profile}
+use Rattle.cborn_lex.specs.declared.classes.Class.{Class}
+use Rattle.cborn_lex.specs.declared.classes.Token.{Token}
+use Rattle.cborn_lex.specs.declared.faults.LexReason.{LexReason}
+use Rattle.cborn_lex.specs.Tokens.{Front, Blank, Read, Bad}
+use Rattle.cborn_lex.specs.Forms.{Reads}
+
+-- a character of white space, a comment or a token, each with its slice of the text
+pub data Piece : Type 0 where
+  gap : List ℕ → Piece
+  token : Class → List ℕ → Piece
+
+abbrev pub slice : Piece → List ℕ
+slice (gap s) = s
+slice (token k s) = s
+
+abbrev pub front_of : Piece → Front
+front_of (gap s) = Blank
+front_of (token k s) = Read k
+
+abbrev pub spelled : List Piece → List ℕ
+spelled [] = []
+spelled (p ∷ ps) = slice p ++ spelled ps
+
+-- each piece is what it is, as the text goes on behind it
+abbrev pub AreRead : Profile → List Piece → List ℕ → Type 0
+AreRead profile [] z = Unit {0}
+AreRead profile (p ∷ ps) z = Reads profile (slice p) (spelled ps ++ z) (front_of p) × AreRead profile ps z
+
+-- the tokens among pieces, the first of which starts at n
+abbrev pub tokens : ℕ → List Piece → List Token
+tokens n [] = []
+tokens n (gap s ∷ ps) = tokens (n + length s) ps
+tokens n (token k s ∷ ps) = record { start = n; stop = n + length s; class = k } ∷ tokens (n + length s) ps
+
+-- the pieces of a part of a text, from the place n up to m, behind which y stands
+pub record Parted (profile : Profile) (n : ℕ) (x : List ℕ) (ts : List Token) (m : ℕ) (y : List ℕ) : Type 0 where
+  pub pieces : List Piece
+  pub read : AreRead profile pieces y
+  pub whole : x ≡ spelled pieces ++ y
+  pub place : m ≡ n + length (spelled pieces)
+  pub placed : ts ≡ tokens n pieces
+
+-- no piece begins the text z
+abbrev pub BeginsNoPiece : Profile → List ℕ → Type 0
+BeginsNoPiece profile z = (p : Piece) (x : List ℕ) → Reads profile (slice p) x (front_of p) → z ≡ slice p ++ x → ⊥
+
+-- the pieces of a whole text
+pub record LexParted (profile : Profile) (text : List ℕ) (ts : List Token) : Type 0 where
+  pub pieces : List Piece
+  pub read : AreRead profile pieces []
+  pub whole : text ≡ spelled pieces
+  pub placed : ts ≡ tokens 0 pieces
+
+-- the pieces before what is bad
+pub record StopParted (profile : Profile) (text : List ℕ) (n : ℕ) (r : LexReason) : Type 0 where
+  pub pieces : List Piece
+  pub front : List ℕ
+  pub rest : List ℕ
+  pub read : AreRead profile pieces (front ++ rest)
+  pub bad : Reads profile front rest (Bad r)
+  pub whole : text ≡ spelled pieces ++ (front ++ rest)
+  pub place : n ≡ length (spelled pieces)

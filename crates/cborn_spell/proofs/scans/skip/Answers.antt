@@ -1,0 +1,5 @@
+use Rattle.cborn_lex.proofs.Progress.{nothing}
+use Rattle.cborn_spell.proofs.scans.skip.Goals as goal
+
+pub returns-then-bytes-at-gt47-clause-gap : goal.returns-then-bytes-at-gt47-clause-gap
+returns-then-bytes-at-gt47-clause-gap c = nothing c.args.profile c.args.text.now c.args.at
