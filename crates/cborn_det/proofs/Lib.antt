@@ -4,3 +4,4 @@ pub mod Canon
 pub mod Arranging
 pub mod Cutting
 pub mod Steps
+pub mod Room

@@ -1,9 +1,12 @@
 //! Laws of the deterministic encoding (RFC 8949 section 4.2), over the definitions alone. Each
 //! function does nothing: its contract is the law, for any order of keys.
 
-ghost use Rattle.std.specs.Prelude.{◌≡◌, ℕ, List, [], ◌++◌, ◌↔◌, All, IsPermutation};
+ghost use Rattle.std.specs.Prelude.{◌≡◌, ℕ, ◌+◌, ◌*◌, ◌≤◌, List, [], ◌++◌, ◌↔◌, All, IsPermutation, length};
 ghost use Rattle.std.specs.List.{AllZip};
+ghost use Rattle.cborn_model.specs.Meaning.{Means};
 ghost use Rattle.cborn_model.specs.Orders.{Rising};
+ghost use Rattle.cborn_model.specs.Spelled.{FitsAll, spelled_all};
+ghost use Rattle.cborn_model.specs.Tree.{Tree, trees};
 ghost use Rattle.cborn_model.specs.Valid.{IsProper};
 ghost use Rattle.cborn_model.specs.Value.{Value, Couples, dict, Same};
 ghost use Rattle.cborn_det.specs.Det.{Det, DetSeq, DetMap, Entry, keys};
@@ -47,4 +50,11 @@ pub fn one_sequence<O: KeyOrder>()
 /// Every sequence of valid items has an encoding.
 pub fn some_sequence<O: KeyOrder>()
     ensures { (vs : List Value) → All IsProper vs → (x : List ℕ) × DetSeq O.order vs x }
+{}
+
+/// The encodings of items take at most a third more bytes than any spelling of them: three for each
+/// four, and one less for each item. Only lists of indefinite length, and bignums that fit 64 bits,
+/// grow.
+pub fn room<O: KeyOrder>()
+    ensures { (nodes : List Tree) (vs : List Value) (x : List ℕ) → FitsAll (trees nodes) → AllZip Means nodes vs → DetSeq O.order vs x → 3 * length x + length nodes ≤ 4 * length (spelled_all (trees nodes)) }
 {}
