@@ -34,7 +34,7 @@ module _ (order : List ℕ → List ℕ → Ordering) (laws : IsKeyOrder order) 
 
 -- ---- what is encoded, as an output of a kind
 
-canon_of : (order : List ℕ → List ℕ → Ordering) (out : Kind) (vs : List Value) (x w : List ℕ) → DetSeq order vs x → IsWrittenAs out x w → Canon order out vs w
+pub canon_of : (order : List ℕ → List ℕ → Ordering) (out : Kind) (vs : List Value) (x w : List ℕ) → DetSeq order vs x → IsWrittenAs out x w → Canon order out vs w
 canon_of order kind.Wire vs x w d e = subst (DetSeq order vs) (sym e) d
 canon_of order kind.Notation vs x w d e = (x, d, e)
 canon_of order kind.Notation2 vs x w d e = (x, d, e)
@@ -134,28 +134,29 @@ pub record OwnEncoding (order : List ℕ → List ℕ → Ordering) (limit : ℕ
   pub own : IsEncoded order kind.Wire limit bytes bytes
   pub same : AllZip Same own.items items
 
--- what was encoded of what was read is its own encoding
-pub own_encoding : (order : List ℕ → List ℕ → Ordering) (laws : IsKeyOrder order) (k : Kind) (limit most : ℕ) (before after : Option (List ℕ)) (bytes : Vec ℕ Global) → most ≤ 2 ^ 30 → (h : Encodes order k limit most before after (Ok bytes)) → OwnEncoding order limit bytes.items h.answer.1.items
-own_encoding order laws k limit most before after bytes bounded h =
-    let e = h.answer.1 in
-    let sound : AreSound limit e.items = held_sound order k limit h.input e.items bytes.items (omega (arith, h.answer.0, bounded)) e.held e.encoded in
-    let back = sequence_back order laws limit 0 e.items bytes.items sound.proper sound.shallow e.encoded in
+-- what was encoded of an input is its own encoding
+pub own_bytes : (order : List ℕ → List ℕ → Ordering) (laws : IsKeyOrder order) (k : Kind) (limit : ℕ) (input bytes : List ℕ) → length input ≤ 2 ^ 30 → (e : IsEncoded order k limit input bytes) → OwnEncoding order limit bytes e.items
+own_bytes order laws k limit input bytes short e =
+    let sound : AreSound limit e.items = held_sound order k limit input e.items bytes short e.held e.encoded in
+    let back = sequence_back order laws limit 0 e.items bytes sound.proper sound.shallow e.encoded in
     record {
       own = record {
         items = back.items;
-        held = holds_back kind.Wire limit e.items bytes.items bytes.items back refl;
-        encoded = same_encoded order laws e.items back.items bytes.items sound.proper back.proper e.encoded (all_turned back.items e.items back.same);
+        held = holds_back kind.Wire limit e.items bytes bytes back refl;
+        encoded = same_encoded order laws e.items back.items bytes sound.proper back.proper e.encoded (all_turned back.items e.items back.same);
       };
       same = back.same;
     }
 
+-- likewise of what was read
+pub own_encoding : (order : List ℕ → List ℕ → Ordering) (laws : IsKeyOrder order) (k : Kind) (limit most : ℕ) (before after : Option (List ℕ)) (bytes : Vec ℕ Global) → most ≤ 2 ^ 30 → (h : Encodes order k limit most before after (Ok bytes)) → OwnEncoding order limit bytes.items h.answer.1.items
+own_encoding order laws k limit most before after bytes bounded h = own_bytes order laws k limit h.input bytes.items (omega (arith, h.answer.0, bounded)) h.answer.1
+
 -- what was encoded of what was read holds items
 pub encoded_held : (order : List ℕ → List ℕ → Ordering) (laws : IsKeyOrder order) (k : Kind) (limit most : ℕ) (before after : Option (List ℕ)) (bytes : Vec ℕ Global) → most ≤ 2 ^ 30 → Encodes order k limit most before after (Ok bytes) → (vs : List Value) × Holds kind.Wire limit bytes.items vs
 encoded_held order laws k limit most before after bytes bounded h =
-    let e = h.answer.1 in
-    let sound : AreSound limit e.items = held_sound order k limit h.input e.items bytes.items (omega (arith, h.answer.0, bounded)) e.held e.encoded in
-    let back = sequence_back order laws limit 0 e.items bytes.items sound.proper sound.shallow e.encoded in
-    (back.items, holds_back kind.Wire limit e.items bytes.items bytes.items back refl)
+    let o = own_encoding order laws k limit most before after bytes bounded h in
+    (o.own.items, o.own.held)
 
 -- what was encoded of what was read, written out
 pub normalised : (order : List ℕ → List ℕ → Ordering) (k out : Kind) (limit most : ℕ) (before after sent sent_after : Option (List ℕ)) (bytes : Vec ℕ Global) (zs ys : List ℕ) (r : Result Unit EngineFault) → Encodes order k limit most before after (Ok bytes) → IsWrittenAs out bytes.items zs → ys ≡ zs → Writes sent sent_after ys r → Normalises order k out limit most before after sent sent_after r

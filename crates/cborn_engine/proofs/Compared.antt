@@ -1,5 +1,5 @@
 -- What is answered where two inputs were encoded.
-use Rattle.std.proofs.Common.{◌≡◌, ◌≤◌, ◌^◌, ℕ, List, sym, subst, Option, Ok, Vec, Global, Ordering}
+use Rattle.std.proofs.Common.{◌≡◌, ◌≤◌, ◌^◌, ℕ, List, length, arith, sym, subst, Option, Ok, Vec, Global, Ordering}
 use Rattle.std.specs.List.{AllZip}
 use Rattle.cborn_model.specs.Orders.{IsKeyOrder}
 use Rattle.cborn_model.specs.Tree.{Tree, trees}
@@ -15,7 +15,7 @@ use Rattle.cborn_engine.specs.Comparing.{AreCompared, IsHeldWhole, Compares}
 use Rattle.cborn_engine.specs.Encoding.{IsEncoded, Encodes}
 use Rattle.cborn_engine.specs.Holding.{Holds}
 use Rattle.cborn_engine.proofs.Apart.{difference_too}
-use Rattle.cborn_engine.proofs.Canonicity.{own_encoding}
+use Rattle.cborn_engine.proofs.Canonicity.{own_bytes}
 use Rattle.cborn_engine.proofs.Known.{flawless}
 use Rattle.cborn_engine.proofs.Meant.{holds_once, spells_once}
 
@@ -29,28 +29,32 @@ pub held_whole : (order : List ℕ → List ℕ → Ordering) (k : Kind) (limit 
 held_whole order k limit most before after bytes h = record { input = h.input; items = h.answer.1.items; taken = h.taken; held = h.answer.1.held; at_end = h.to_end }
 
 module _ (order : List ℕ → List ℕ → Ordering) (laws : IsKeyOrder order) where
-  pub encodes_itself : (k : Kind) (limit most : ℕ) (before after : Option (List ℕ)) (bytes : Vec ℕ Global) (x : List ℕ) → most ≤ 2 ^ 30 → Encodes order k limit most before after (Ok bytes) → x ≡ bytes.items → IsEncoded order kind.Wire limit x x
-  encodes_itself k limit most before after bytes x bounded h e =
-      subst (λ (y : List ℕ). IsEncoded order kind.Wire limit y y) (sym e) (own_encoding order laws k limit most before after bytes bounded h).own
+  pub its_own : (k : Kind) (limit : ℕ) (input bytes x : List ℕ) → length input ≤ 2 ^ 30 → IsEncoded order k limit input bytes → x ≡ bytes → IsEncoded order kind.Wire limit x x
+  its_own k limit input bytes x short e f = subst (λ (y : List ℕ). IsEncoded order kind.Wire limit y y) (sym f) (own_bytes order laws k limit input bytes short e).own
 
-  -- the inputs differ where their encodings do
+  pub encodes_itself : (k : Kind) (limit most : ℕ) (before after : Option (List ℕ)) (bytes : Vec ℕ Global) (x : List ℕ) → most ≤ 2 ^ 30 → Encodes order k limit most before after (Ok bytes) → x ≡ bytes.items → IsEncoded order kind.Wire limit x x
+  encodes_itself k limit most before after bytes x bounded h e = its_own k limit h.input bytes.items x (omega (arith, h.answer.0, bounded)) h.answer.1 e
+
+  -- inputs differ where their encodings do
+  pub bytes_compared : (k l : Kind) (limit : ℕ) (first second ours theirs x y : List ℕ) (answer : Option ℕ) → length first ≤ 2 ^ 30 → length second ≤ 2 ^ 30
+      → IsEncoded order k limit first ours → IsEncoded order l limit second theirs → x ≡ ours → y ≡ theirs → AreCompared kind.Wire kind.Wire limit x y answer → AreCompared k l limit first second answer
+  bytes_compared k l limit first second ours theirs x y answer short short2 a b e f c =
+      let p = own_bytes order laws k limit first ours short a in
+      let q = own_bytes order laws l limit second theirs short2 b in
+      let held : Holds kind.Wire limit ours c.ours = subst (λ (z : List ℕ). Holds kind.Wire limit z c.ours) e c.held in
+      let held2 : Holds kind.Wire limit theirs c.theirs = subst (λ (z : List ℕ). Holds kind.Wire limit z c.theirs) f c.held2 in
+      let same : AllZip Same c.ours a.items = subst (λ (vs : List Value). AllZip Same vs a.items) (holds_once kind.Wire limit ours p.own.items c.ours p.own.held held) p.same in
+      let same2 : AllZip Same c.theirs b.items = subst (λ (vs : List Value). AllZip Same vs b.items) (holds_once kind.Wire limit theirs q.own.items c.theirs q.own.held held2) q.same in
+      record { ours = a.items; theirs = b.items; held = a.held; held2 = b.held; difference = difference_too c.ours c.theirs a.items b.items answer same same2 c.difference }
+
   pub compared : (k l : Kind) (limit most : ℕ) (before after before2 after2 : Option (List ℕ)) (ours theirs : Vec ℕ Global) (x y : List ℕ) (answer : Option ℕ) → most ≤ 2 ^ 30
       → Encodes order k limit most before after (Ok ours) → Encodes order l limit most before2 after2 (Ok theirs) → x ≡ ours.items → y ≡ theirs.items
       → AreCompared kind.Wire kind.Wire limit x y answer → Compares k l limit most before after before2 after2 (Ok answer)
-  compared k l limit most before after before2 after2 ours theirs x y answer bounded h g e f c =
-      let p = own_encoding order laws k limit most before after ours bounded h in
-      let q = own_encoding order laws l limit most before2 after2 theirs bounded g in
-      let a = h.answer.1 in
-      let b = g.answer.1 in
-      let held : Holds kind.Wire limit ours.items c.ours = subst (λ (z : List ℕ). Holds kind.Wire limit z c.ours) e c.held in
-      let held2 : Holds kind.Wire limit theirs.items c.theirs = subst (λ (z : List ℕ). Holds kind.Wire limit z c.theirs) f c.held2 in
-      let same : AllZip Same c.ours a.items = subst (λ (vs : List Value). AllZip Same vs a.items) (holds_once kind.Wire limit ours.items p.own.items c.ours p.own.held held) p.same in
-      let same2 : AllZip Same c.theirs b.items = subst (λ (vs : List Value). AllZip Same vs b.items) (holds_once kind.Wire limit theirs.items q.own.items c.theirs q.own.held held2) q.same in
-      record {
-        first = h.input;
-        second = g.input;
-        taken = h.taken;
-        taken2 = g.taken;
-        answer = (h.answer.0, g.answer.0, record { ours = a.items; theirs = b.items; held = a.held; held2 = b.held; difference = difference_too c.ours c.theirs a.items b.items answer same same2 c.difference });
-        to_end = (h.to_end, g.to_end);
-      }
+  compared k l limit most before after before2 after2 ours theirs x y answer bounded h g e f c = record {
+    first = h.input;
+    second = g.input;
+    taken = h.taken;
+    taken2 = g.taken;
+    answer = (h.answer.0, g.answer.0, bytes_compared k l limit h.input g.input ours.items theirs.items x y answer (omega (arith, h.answer.0, bounded)) (omega (arith, g.answer.0, bounded)) h.answer.1 g.answer.1 e f c);
+    to_end = (h.to_end, g.to_end);
+  }

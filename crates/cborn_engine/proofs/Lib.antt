@@ -22,3 +22,4 @@ pub mod TellingTexts
 pub mod Noted
 pub mod Apart
 pub mod Compared
+pub mod AtHand

@@ -81,16 +81,16 @@ no_flaw most input after (fault.Show w) h = tt
 no_flaw most input after (fault.TextInput p) h = tt
 no_flaw most input after fault.WriteFault h = tt
 
-pub not_collected : (out : Kind) (limit most : ℕ) (before after : Option (List ℕ)) (why : EngineFault) → Collects most before after (Err why) → Tells kind.Wire out limit most before after (Err why)
-not_collected out limit most before after why h =
-    let r = uncollected limit most h.input after why h.answer in
-    record { input = h.input; taken = h.taken; answer = refused kind.Wire out limit most h.input why r.0 (no_flaw most h.input after why h.answer); to_end = r.1 }
+pub not_collected : (k out : Kind) (limit most : ℕ) (before after : Option (List ℕ)) (why : EngineFault) → Collects most before after (Err why) → Tells k out limit most before after (Err why)
+not_collected k out limit most before after why h =
+    let r = uncollected k limit most h.input after why h.answer in
+    record { input = h.input; taken = h.taken; answer = refused k out limit most h.input why r.0 (no_flaw most h.input after why h.answer); to_end = r.1 }
 
-pub collected : (out : Kind) (limit most : ℕ) (before after : Option (List ℕ)) (bytes : Vec ℕ Global) (now : List ℕ) → Collects most before after (Ok bytes) → now ≡ bytes.items → (r : Result (Vec ℕ Global) EngineFault) → (length now ≤ most → TellAnswers kind.Wire out limit most now r) → Tells kind.Wire out limit most before after r
-collected out limit most before after bytes now h e r f =
+pub collected : (k out : Kind) (limit most : ℕ) (before after : Option (List ℕ)) (bytes : Vec ℕ Global) (now : List ℕ) → Collects most before after (Ok bytes) → now ≡ bytes.items → (r : Result (Vec ℕ Global) EngineFault) → (length now ≤ most → TellAnswers k out limit most now r) → Tells k out limit most before after r
+collected k out limit most before after bytes now h e r f =
     let same : now ≡ h.input = e ∙ h.answer.0 in
     let within : length now ≤ most = subst (λ (x : List ℕ). length x ≤ most) (sym same) h.answer.1 in
-    record { input = h.input; taken = h.taken; answer = subst (λ (x : List ℕ). TellAnswers kind.Wire out limit most x r) same (f within); to_end = read_ended r after h.answer.2 }
+    record { input = h.input; taken = h.taken; answer = subst (λ (x : List ℕ). TellAnswers k out limit most x r) same (f within); to_end = read_ended r after h.answer.2 }
 
 pub shown_at_once : (out : Kind) (limit most : ℕ) (input : List ℕ) (v : Vec ℕ Global) → length input ≤ most → IsShown kind.Wire out limit input v.items → TellAnswers kind.Wire out limit most input (Ok v)
 shown_at_once out limit most input v l s = (l, s)
@@ -105,17 +105,17 @@ pub as_fixed : (limit : ℕ) (input text : List ℕ) → IsShownText limit input
 as_fixed limit input text s = record { nodes = s.nodes; fit = s.read.fit; spelled = s.read.spells; shown = s.shown }
 
 -- well-formed bytes are what their nodes spell
-pub spells_itself : (limit most : ℕ) (now : List ℕ) (input : Vec ℕ Global) → now ≡ input.items → length input.items ≤ most → (ts : Trees) × Wellformed limit ts now × PlacedAll 0 ts → TellAnswers kind.Wire kind.Wire limit most input.items (Ok input)
-spells_itself limit most now input e l (ts, w, p) =
+pub own_spelling : (limit : ℕ) (input : List ℕ) → (ts : Trees) × Wellformed limit ts input × PlacedAll 0 ts → IsShown kind.Wire kind.Wire limit input input
+own_spelling limit input (ts, w, p) =
     let same : trees (tree_list ts) ≡ ts = trees-tree_list ts in
-    let read : Wellformed limit ts input.items = subst (λ (x : List ℕ). Wellformed limit ts x) e w in (
-      l,
-      record {
-        nodes = tree_list ts;
-        spelled = (subst (λ (us : Trees). Wellformed limit us input.items) (sym same) read, subst (PlacedAll 0) (sym same) p);
-        shown = sym (ap spelled_all same ∙ read.spells);
-      },
-    )
+    record {
+      nodes = tree_list ts;
+      spelled = (subst (λ (us : Trees). Wellformed limit us input) (sym same) w, subst (PlacedAll 0) (sym same) p);
+      shown = sym (ap spelled_all same ∙ w.spells);
+    }
+
+pub spells_itself : (limit most : ℕ) (now : List ℕ) (input : Vec ℕ Global) → now ≡ input.items → length input.items ≤ most → (ts : Trees) × Wellformed limit ts now × PlacedAll 0 ts → TellAnswers kind.Wire kind.Wire limit most input.items (Ok input)
+spells_itself limit most now input e l r = (l, subst (λ (x : List ℕ). IsShown kind.Wire kind.Wire limit x x) e (own_spelling limit now r))
 
 -- others are refused
 pub malformed : (out : Kind) (limit most : ℕ) (now : List ℕ) (input : Vec ℕ Global) (p : ℕ) (r : WireReason) → now ≡ input.items → length input.items ≤ most → Fault limit now p r → TellAnswers kind.Wire out limit most input.items (Err (fault.Wire (wire.Refused p r)))

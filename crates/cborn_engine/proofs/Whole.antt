@@ -21,12 +21,13 @@ use Rattle.cborn_transcode.specs.Transcoding.{IsTranscoded}
 use Rattle.cborn_transcode.proofs.Placing.{placements}
 use Rattle.cborn_engine.specs.declared.faults.EngineFault.{EngineFault}
 use Rattle.cborn_engine.specs.declared.faults.EngineFault.TheVariants as fault
+use Rattle.cborn_engine.specs.declared.kinds.Kind.{Kind}
 use Rattle.cborn_engine.specs.declared.kinds.Kind.TheVariants as kind
 use Rattle.cborn_engine.specs.Holding.{Holds}
 use Rattle.cborn_engine.specs.Refusing.{IsRefused, IsReadBefore, IsRead}
 use Rattle.cborn_engine.specs.Faults.{of_wire, of_invalid}
 use Rattle.cborn_engine.specs.Pieces.{Collects, CollectAnswers}
-use Rattle.cborn_engine.specs.Encoding.{EncodeAnswers, Encodes}
+use Rattle.cborn_engine.specs.Encoding.{IsEncoded, EncodeAnswers, Encodes}
 use Rattle.cborn_engine.specs.Checking.{CheckAnswers, Checks, Verdict}
 use Rattle.cborn_engine.specs.Defects.{Finds}
 use Rattle.cborn_search.specs.Searching.{IsFirstFlawOf, IsFirstDefectOf, DefectVerdict}
@@ -50,23 +51,23 @@ read_ended (Err why) rest h = ended why rest h
 
 -- ---- the reader stopped
 
-pub uncollected : (limit most : ℕ) (input : List ℕ) (after : Option (List ℕ)) (why : EngineFault) → CollectAnswers most input after (Err why) → IsRefused kind.Wire limit most input why × IsReadBefore why after
-uncollected limit most input after fault.TooLong h = (h, tt)
-uncollected limit most input after fault.ReadFault h = (h, tt)
-uncollected limit most input after fault.OutOfMemory h = (h, tt)
-uncollected limit most input after (fault.Wire w) h = absurd h
-uncollected limit most input after (fault.Invalid w) h = absurd h
-uncollected limit most input after (fault.Edn w) h = absurd h
-uncollected limit most input after (fault.Show w) h = absurd h
-uncollected limit most input after (fault.TextInput p) h = absurd h
-uncollected limit most input after fault.WriteFault h = absurd h
+pub uncollected : (k : Kind) (limit most : ℕ) (input : List ℕ) (after : Option (List ℕ)) (why : EngineFault) → CollectAnswers most input after (Err why) → IsRefused k limit most input why × IsReadBefore why after
+uncollected k limit most input after fault.TooLong h = (h, tt)
+uncollected k limit most input after fault.ReadFault h = (h, tt)
+uncollected k limit most input after fault.OutOfMemory h = (h, tt)
+uncollected k limit most input after (fault.Wire w) h = absurd h
+uncollected k limit most input after (fault.Invalid w) h = absurd h
+uncollected k limit most input after (fault.Edn w) h = absurd h
+uncollected k limit most input after (fault.Show w) h = absurd h
+uncollected k limit most input after (fault.TextInput p) h = absurd h
+uncollected k limit most input after fault.WriteFault h = absurd h
 
 module _ (order : List ℕ → List ℕ → Ordering) (limit most : ℕ) (before after : Option (List ℕ)) where
-  pub not_encoded : (why : EngineFault) → Collects most before after (Err why) → Encodes order kind.Wire limit most before after (Err why)
-  not_encoded why h = let r = uncollected limit most h.input after why h.answer in record { input = h.input; taken = h.taken; answer = r.0; to_end = r.1 }
+  pub not_encoded : (k : Kind) (why : EngineFault) → Collects most before after (Err why) → Encodes order k limit most before after (Err why)
+  not_encoded k why h = let r = uncollected k limit most h.input after why h.answer in record { input = h.input; taken = h.taken; answer = r.0; to_end = r.1 }
 
   pub not_checked : (why : EngineFault) → Collects most before after (Err why) → Checks order limit most before after (Err why)
-  not_checked why h = let r = uncollected limit most h.input after why h.answer in record { input = h.input; taken = h.taken; answer = r.0; to_end = r.1 }
+  not_checked why h = let r = uncollected kind.Wire limit most h.input after why h.answer in record { input = h.input; taken = h.taken; answer = r.0; to_end = r.1 }
 
   module _ (bytes : Vec ℕ Global) (now : List ℕ) (h : Collects most before after (Ok bytes)) (e : now ≡ bytes.items) where
     same : now ≡ h.input
@@ -75,11 +76,11 @@ module _ (order : List ℕ → List ℕ → Ordering) (limit most : ℕ) (before
     within : length now ≤ most
     within = subst (λ (x : List ℕ). length x ≤ most) (sym same) h.answer.1
 
-    pub encoded_whole : (r : Result (Vec ℕ Global) EngineFault) → (length now ≤ most → EncodeAnswers order kind.Wire limit most now r) → Encodes order kind.Wire limit most before after r
-    encoded_whole r f = record {
+    pub encoded_whole : (k : Kind) (r : Result (Vec ℕ Global) EngineFault) → (length now ≤ most → EncodeAnswers order k limit most now r) → Encodes order k limit most before after r
+    encoded_whole k r f = record {
       input = h.input;
       taken = h.taken;
-      answer = subst (λ (x : List ℕ). EncodeAnswers order kind.Wire limit most x r) same (f within);
+      answer = subst (λ (x : List ℕ). EncodeAnswers order k limit most x r) same (f within);
       to_end = read_ended r after h.answer.2;
     }
 
@@ -92,6 +93,12 @@ module _ (order : List ℕ → List ℕ → Ordering) (limit most : ℕ) (before
     }
 
 -- ---- the bytes
+
+transcoded_held : (order : List ℕ → List ℕ → Ordering) (limit : ℕ) (input output : List ℕ) (n : IsTranscoded order limit input output) → Holds kind.Wire limit input n.items
+transcoded_held order limit input output n = let p = placements order limit input output n in record { nodes = p.nodes; spelled = (p.read, p.placed); meant = p.meant }
+
+pub transcoded : (order : List ℕ → List ℕ → Ordering) (limit : ℕ) (input output : List ℕ) → IsTranscoded order limit input output → IsEncoded order kind.Wire limit input output
+transcoded order limit input output n = record { items = n.items; held = transcoded_held order limit input output n; encoded = n.encoded }
 
 module _ (limit most : ℕ) (input : List ℕ) (within : length input ≤ most) where
   -- they are not well-formed
@@ -107,14 +114,11 @@ module _ (limit most : ℕ) (input : List ℕ) (within : length input ≤ most) 
   pub encoded_trees : (order : List ℕ → List ℕ → Ordering) (nodes : List Tree) (items : List Value) (bytes : Vec ℕ Global) → Wellformed limit (trees nodes) input × PlacedAll 0 (trees nodes) → AllZip Means nodes items → DetSeq order items bytes.items → EncodeAnswers order kind.Wire limit most input (Ok bytes)
   encoded_trees order nodes items bytes s m d = (within, record { items = items; held = record { nodes = nodes; spelled = s; meant = m }; encoded = d })
 
-  held_whole : (order : List ℕ → List ℕ → Ordering) (output : List ℕ) (n : IsTranscoded order limit input output) → Holds kind.Wire limit input n.items
-  held_whole order output n = let p = placements order limit input output n in record { nodes = p.nodes; spelled = (p.read, p.placed); meant = p.meant }
-
   pub encoded_at_once : (order : List ℕ → List ℕ → Ordering) (bytes : Vec ℕ Global) → IsTranscoded order limit input bytes.items → EncodeAnswers order kind.Wire limit most input (Ok bytes)
-  encoded_at_once order bytes n = (within, record { items = n.items; held = held_whole order bytes.items n; encoded = n.encoded })
+  encoded_at_once order bytes n = (within, transcoded order limit input bytes.items n)
 
   pub deterministic : (order : List ℕ → List ℕ → Ordering) → IsTranscoded order limit input input → CheckAnswers order limit most input (Ok None)
-  deterministic order n = (within, record { items = n.items; held = held_whole order input n; verdict = n.encoded })
+  deterministic order n = (within, record { items = n.items; held = transcoded_held order limit input input n; verdict = n.encoded })
 
   pub checked_searched : (order : List ℕ → List ℕ → Ordering) → IsKeyOrder order → most ≤ 2 ^ 30 → (o : Option Defect) → IsFirstFlawOf limit input None → IsFirstDefectOf order limit input o → CheckAnswers order limit most input (Ok o)
   checked_searched order laws bounded o f d =

@@ -14,3 +14,4 @@ pub mod Encoding
 pub mod Pieces
 pub mod Sending
 pub mod Stopping
+pub mod Whole

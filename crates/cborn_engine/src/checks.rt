@@ -47,7 +47,7 @@ pub fn check<O: KeyOrder, R: Source>(
 }
 
 /// The first defect of these bytes, or the fault of their content. No fault is the reader's.
-fn check_input<O: KeyOrder>(
+pub fn check_input<O: KeyOrder>(
     alloc: Global,
     limit: Limit,
     input: &[u8],

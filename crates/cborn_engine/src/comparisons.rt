@@ -12,7 +12,7 @@ use cborn_model::{KeyOrder, Limit};
 use std::alloc::Global;
 
 impl CompareFault {
-    fn of_first(why: EngineFault) -> Self
+    pub fn of_first(why: EngineFault) -> Self
         ensures { result ≡ of_first why }
     {
         match why {
@@ -21,7 +21,7 @@ impl CompareFault {
         }
     }
 
-    fn of_second(why: EngineFault) -> Self
+    pub fn of_second(why: EngineFault) -> Self
         ensures { result ≡ of_second why }
     {
         match why {

@@ -84,7 +84,7 @@ fn written(alloc: Global, limit: Limit, kind: Kind, bytes: Vec<u8>) -> Result<Ve
 }
 
 /// Bytes that hold items, in notation: in one pass that keeps no tree, or else by trees.
-fn fixed_text(alloc: Global, limit: Limit, bytes: &[u8]) -> Result<Vec<u8>, AllocError>
+pub fn fixed_text(alloc: Global, limit: Limit, bytes: &[u8]) -> Result<Vec<u8>, AllocError>
     requires { (items : List Value) × Holds kinds.Wire limit bytes.now items }
     ensures { IfOk result (λ text. IsFixedText bytes.now text.items) }
 {

@@ -49,8 +49,21 @@ fn encode_text<O: KeyOrder, R: Source>(
     ensures failures { R.failed reader.new ≡ read_failures result (R.failed reader.old) }
     ensures calls { R.asked reader.new ≤ R.asked reader.old + 2 ^ 30 + 1 }
 {
-    let bytes = read_bytes(alloc, MOST, reader)?;
-    let text = match from_utf8(&bytes) {
+    let input = read_bytes(alloc, MOST, reader)?;
+    encode_notation::<O>(alloc, limit, profile, &input)
+}
+
+/// The deterministic encodings of what this text holds, or the fault of its content. No fault is the reader's.
+pub fn encode_notation<O: KeyOrder>(
+    alloc: Global,
+    limit: Limit,
+    profile: Profile,
+    input: &[u8],
+) -> Result<Vec<u8>, EngineFault>
+    ensures answers { length input.now ≤ 2 ^ 30 → EncodeAnswers O.order (kind_of profile) limit (2 ^ 30) input.now result }
+    ensures failures { (n : ℕ) → read_failures result n ≡ n }
+{
+    let text = match from_utf8(input) {
         Ok(text) => text,
         Err(why) => return Err(EngineFault::TextInput(why.valid_up_to() as u64)),
     };
@@ -104,7 +117,7 @@ fn encode_held<O: KeyOrder>(
 }
 
 /// The deterministic encodings of what these bytes hold, or the fault of their content. No fault is the reader's.
-fn encode_input<O: KeyOrder>(
+pub fn encode_input<O: KeyOrder>(
     alloc: Global,
     limit: Limit,
     input: &[u8],

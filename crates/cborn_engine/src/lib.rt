@@ -20,6 +20,7 @@ mod outputs;
 mod pieces;
 mod showings;
 mod sinks;
+mod slices;
 mod sources;
 mod texts;
 
@@ -31,6 +32,7 @@ pub use faults::{CompareFault, EngineFault};
 pub use inputs::{load, load_within};
 pub use kinds::Kind;
 pub use sinks::Sink;
+pub use slices::{check_slice, compare_slices, normalise_slice, show_slice};
 pub use sources::Source;
 
 #[cfg(test)]

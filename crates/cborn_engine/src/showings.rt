@@ -74,7 +74,7 @@ fn show_itself(limit: Limit, input: Vec<u8>) -> Result<Vec<u8>, EngineFault>
 }
 
 /// What these bytes hold, or the fault of their content. No fault is the reader's.
-fn show_input(
+pub fn show_input(
     alloc: Global,
     limit: Limit,
     out_kind: Kind,
@@ -143,8 +143,22 @@ fn show_text<R: Source>(
     ensures failures { R.failed reader.new ≡ read_failures result (R.failed reader.old) }
     ensures calls { R.asked reader.new ≤ R.asked reader.old + 2 ^ 30 + 1 }
 {
-    let bytes = read_bytes(alloc, MOST, reader)?;
-    let text = match from_utf8(&bytes) {
+    let input = read_bytes(alloc, MOST, reader)?;
+    show_notation(alloc, limit, profile, out_kind, &input)
+}
+
+/// What this text holds, or the fault of its content. No fault is the reader's.
+pub fn show_notation(
+    alloc: Global,
+    limit: Limit,
+    profile: Profile,
+    out_kind: Kind,
+    input: &[u8],
+) -> Result<Vec<u8>, EngineFault>
+    ensures answers { length input.now ≤ 2 ^ 30 → TellAnswers (kind_of profile) out_kind limit (2 ^ 30) input.now result }
+    ensures failures { (n : ℕ) → read_failures result n ≡ n }
+{
+    let text = match from_utf8(input) {
         Ok(text) => text,
         Err(why) => return Err(EngineFault::TextInput(why.valid_up_to() as u64)),
     };

@@ -8,3 +8,4 @@ mod memory;
 mod notations;
 mod prefixes;
 mod readers;
+mod slices;

@@ -1,0 +1,31 @@
+-- What is answered for an input that is held whole.
+use Rattle.std.specs.Prelude.{ℕ, ◌<◌, ◌≤◌, List, length}
+use Rattle.cborn_model.specs.Value.{Value}
+use Rattle.cborn_engine.specs.declared.faults.CompareFault.{CompareFault}
+use Rattle.cborn_engine.specs.declared.faults.CompareFault.TheVariants as compared
+use Rattle.cborn_engine.specs.declared.faults.EngineFault.{EngineFault}
+use Rattle.cborn_engine.specs.declared.faults.EngineFault.TheVariants as fault
+use Rattle.cborn_engine.specs.declared.kinds.Kind.{Kind}
+use Rattle.cborn_engine.specs.Comparing.{IsOfOneInput}
+use Rattle.cborn_engine.specs.Holding.{Holds}
+use Rattle.cborn_engine.specs.Loading.{IsNoFlaw}
+use Rattle.cborn_engine.specs.Refusing.{IsRefused}
+use Rattle.cborn_engine.specs.Showing.{IsUnshowable}
+
+-- Why such an input is refused. There is no reader that fails, and its length is known, however much longer than allowed it is.
+abbrev pub IsRefusedWhole : Kind → ℕ → ℕ → List ℕ → EngineFault → Type 0
+IsRefusedWhole k limit most input fault.TooLong = most < length input
+IsRefusedWhole k limit most input fault.ReadFault = ⊥
+IsRefusedWhole k limit most input why = IsRefused k limit most input why
+
+-- why it isn't shown: it is refused, but not for what it means, or what it spells has no notation
+abbrev pub IsUnshownWhole : Kind → Kind → ℕ → ℕ → List ℕ → EngineFault → Type 0
+IsUnshownWhole k out limit most input (fault.Show why) = (length input ≤ most) × IsUnshowable k out limit input why
+IsUnshownWhole k out limit most input why = IsRefusedWhole k limit most input why × IsNoFlaw why
+
+-- why two of them aren't compared: the first is refused, or it isn't, and the second is
+abbrev pub AreRefusedWhole : Kind → Kind → ℕ → ℕ → List ℕ → List ℕ → CompareFault → Type 0
+AreRefusedWhole k l limit most x y (compared.First why) = IsRefusedWhole k limit most x why × IsOfOneInput why
+AreRefusedWhole k l limit most x y (compared.Second why) =
+    (length x ≤ most) × ((items : List Value) × Holds k limit x items) × IsRefusedWhole l limit most y why × IsOfOneInput why
+AreRefusedWhole k l limit most x y compared.OutOfMemory = length x ≤ most

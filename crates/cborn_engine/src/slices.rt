@@ -1,0 +1,226 @@
+//! The calls over inputs that are held whole. Such an input is read where it lies, and where it is its own answer, that is lent and not copied.
+ghost use Rattle.std.specs.Prelude.{◌≡◌, ◌<◌, ◌≤◌, ◌*◌, ◌^◌, ◌↔◌, ℕ, List, length, IfOk, IfErr, IsTrue};
+ghost use Rattle.std.specs.Cow.{cow_slice_items};
+ghost use Rattle.cborn_model.specs.Value.{Value};
+ghost use Rattle.cborn_engine.specs.declared.kinds.Kind.TheVariants as kinds;
+ghost use Rattle.cborn_engine.specs.Canonical.{IsCanonical};
+ghost use Rattle.cborn_engine.specs.Checking.{IsChecked};
+ghost use Rattle.cborn_engine.specs.Comparing.{AreCompared};
+ghost use Rattle.cborn_engine.specs.Encoding.{EncodeAnswers, IsEncoded, IsWrittenAs};
+ghost use Rattle.cborn_engine.specs.Holding.{Holds};
+ghost use Rattle.cborn_engine.specs.Reading.{read_failures};
+ghost use Rattle.cborn_engine.specs.Showing.{IsShown, TellAnswers};
+ghost use Rattle.cborn_engine.specs.Whole.{IsRefusedWhole, IsUnshownWhole, AreRefusedWhole};
+
+use crate::checks::check_input;
+use crate::conversions::fixed_text;
+use crate::differences::difference;
+use crate::encodings::{encode_input, encode_notation};
+use crate::faults::{CompareFault, EngineFault};
+use crate::inputs::MOST;
+use crate::kinds::Kind;
+use crate::showings::{show_input, show_notation};
+use cborn_judge::Defect;
+use cborn_lex::Profile;
+use cborn_model::{KeyOrder, Limit};
+use cborn_transcode::is_deterministic;
+use cborn_wire::scan;
+use std::alloc::{AllocError, Global};
+use std::borrow::CowSlice;
+
+/// The canonical form of the items that an input holds: their deterministic encodings one after another, the keys of maps in the order `O` (RFC 8949 section 4.2), or the fixed notation of these. It is lent from the input where that is these bytes. From bytes to bytes it is at most a third longer than the input.
+///
+/// # Errors
+/// `TooLong` where the input has more than 2^30 bytes. Else the fault of its content, as `normalise` tells it, at its offset in bytes from the start of the input, or `OutOfMemory`.
+pub fn normalise_slice<'a, O: KeyOrder>(
+    alloc: Global,
+    limit: Limit,
+    in_kind: Kind,
+    out_kind: Kind,
+    input: &'a [u8],
+) -> Result<CowSlice<'a, u8, Global>, EngineFault>
+    ensures canonical { IfOk result (λ output. (length input.now ≤ 2 ^ 30) × IsCanonical O.order in_kind out_kind limit input.now (cow_slice_items output)) }
+    ensures room { IfOk result (λ output. in_kind ≡ kinds.Wire → out_kind ≡ kinds.Wire → 3 * length (cow_slice_items output) ≤ 4 * length input.now) }
+    ensures refused { IfErr result (IsRefusedWhole in_kind limit (2 ^ 30) input.now) }
+{
+    let bytes = encode_slice::<O>(alloc, limit, in_kind, input)?;
+    Ok(written(alloc, limit, out_kind, bytes)?)
+}
+
+/// The items of an input as they are spelled: as bytes (RFC 8949 section 3), which are lent from an input of bytes, or in the fixed notation (section 8).
+///
+/// # Errors
+/// `TooLong` where the input has more than 2^30 bytes. Else the fault of its content, as `show_all` tells it, at its offset in bytes from the start of the input, or `OutOfMemory`.
+pub fn show_slice<'a>(
+    alloc: Global,
+    limit: Limit,
+    in_kind: Kind,
+    out_kind: Kind,
+    input: &'a [u8],
+) -> Result<CowSlice<'a, u8, Global>, EngineFault>
+    ensures shown { IfOk result (λ output. (length input.now ≤ 2 ^ 30) × IsShown in_kind out_kind limit input.now (cow_slice_items output)) }
+    ensures refused { IfErr result (IsUnshownWhole in_kind out_kind limit (2 ^ 30) input.now) }
+{
+    if is_too_long(input) {
+        return Err(EngineFault::TooLong);
+    }
+    if is_own_spelling(limit, in_kind, out_kind, input) {
+        return Ok(CowSlice::Borrowed(input));
+    }
+    Ok(CowSlice::Owned(show_whole(alloc, limit, in_kind, out_kind, input)?))
+}
+
+/// The first defect of bytes, if they aren't the deterministic encodings of the items that they hold, the keys of maps in the order `O` (RFC 8949 section 4.2). None: they are.
+///
+/// # Errors
+/// `TooLong` where there are more than 2^30 bytes. Else the fault of their content, as `check` tells it, at its offset from their start, or `OutOfMemory`.
+pub fn check_slice<O: KeyOrder>(
+    alloc: Global,
+    limit: Limit,
+    input: &[u8],
+) -> Result<Option<Defect>, EngineFault>
+    ensures checked { IfOk result (λ defect. (length input.now ≤ 2 ^ 30) × IsChecked O.order limit input.now defect) }
+    ensures refused { IfErr result (IsRefusedWhole kinds.Wire limit (2 ^ 30) input.now) }
+{
+    if is_too_long(input) {
+        return Err(EngineFault::TooLong);
+    }
+    check_input::<O>(alloc, limit, input)
+}
+
+/// Compares what two inputs hold. None: they hold the same items. Else the least index, from 0, at which the items differ or only one input has an item. The answer doesn't depend on `O`.
+///
+/// # Errors
+/// `First`, where the first input gives no items, by the fault that `normalise_slice` tells of it. `Second`, likewise, where the first gives items and the second gives none. `OutOfMemory` is never inside of these.
+pub fn compare_slices<O: KeyOrder>(
+    alloc: Global,
+    limit: Limit,
+    kind_a: Kind,
+    first: &[u8],
+    kind_b: Kind,
+    second: &[u8],
+) -> Result<Option<u64>, CompareFault>
+    ensures compared { IfOk result (λ answer. (length first.now ≤ 2 ^ 30) × (length second.now ≤ 2 ^ 30) × AreCompared kind_a kind_b limit first.now second.now answer) }
+    ensures refused { IfErr result (AreRefusedWhole kind_a kind_b limit (2 ^ 30) first.now second.now) }
+{
+    let ours = match encode_slice::<O>(alloc, limit, kind_a, first) {
+        Ok(bytes) => bytes,
+        Err(why) => return Err(CompareFault::of_first(why)),
+    };
+    let theirs = match encode_slice::<O>(alloc, limit, kind_b, second) {
+        Ok(bytes) => bytes,
+        Err(why) => return Err(CompareFault::of_second(why)),
+    };
+    Ok(difference::<O>(alloc, limit, &ours, &theirs)?)
+}
+
+/// Whether an input is longer than allowed.
+fn is_too_long(input: &[u8]) -> bool
+    ensures { IsTrue result ↔ 2 ^ 30 < length input.now }
+{
+    input.len() as u64 > MOST
+}
+
+/// The deterministic encodings of what an input holds, one after another.
+fn encode_slice<'a, O: KeyOrder>(
+    alloc: Global,
+    limit: Limit,
+    kind: Kind,
+    input: &'a [u8],
+) -> Result<CowSlice<'a, u8, Global>, EngineFault>
+    ensures encoded { IfOk result (λ bytes. (length input.now ≤ 2 ^ 30) × IsEncoded O.order kind limit input.now (cow_slice_items bytes)) }
+    ensures refused { IfErr result (IsRefusedWhole kind limit (2 ^ 30) input.now) }
+{
+    if is_too_long(input) {
+        return Err(EngineFault::TooLong);
+    }
+    if is_own_encoding::<O>(limit, kind, input) {
+        return Ok(CowSlice::Borrowed(input));
+    }
+    Ok(CowSlice::Owned(encode_whole::<O>(alloc, limit, kind, input)?))
+}
+
+/// Whether an input is bytes that are the deterministic encodings of what they hold. No promises nothing.
+fn is_own_encoding<O: KeyOrder>(limit: Limit, kind: Kind, input: &[u8]) -> bool
+    ensures { IsTrue result → IsEncoded O.order kind limit input.now input.now }
+{
+    match kind {
+        Kind::Wire => is_deterministic::<O>(limit, input),
+        Kind::Notation => false,
+        Kind::Notation2 => false,
+    }
+}
+
+/// What `encode_slice` answers for other inputs, or the fault of their content. No fault is a reader's.
+fn encode_whole<O: KeyOrder>(
+    alloc: Global,
+    limit: Limit,
+    kind: Kind,
+    input: &[u8],
+) -> Result<Vec<u8>, EngineFault>
+    ensures answers { length input.now ≤ 2 ^ 30 → EncodeAnswers O.order kind limit (2 ^ 30) input.now result }
+    ensures failures { (n : ℕ) → read_failures result n ≡ n }
+{
+    match kind {
+        Kind::Wire => encode_input::<O>(alloc, limit, input),
+        Kind::Notation => encode_notation::<O>(alloc, limit, Profile::One, input),
+        Kind::Notation2 => encode_notation::<O>(alloc, limit, Profile::Two, input),
+    }
+}
+
+/// Whether an input is well-formed bytes that are to stay bytes. No promises nothing.
+fn is_own_spelling(limit: Limit, in_kind: Kind, out_kind: Kind, input: &[u8]) -> bool
+    ensures { IsTrue result → IsShown in_kind out_kind limit input.now input.now }
+{
+    match in_kind {
+        Kind::Wire => is_kept(limit, out_kind, input),
+        Kind::Notation => false,
+        Kind::Notation2 => false,
+    }
+}
+
+/// The same of an input of bytes.
+fn is_kept(limit: Limit, out_kind: Kind, input: &[u8]) -> bool
+    ensures { IsTrue result → IsShown kinds.Wire out_kind limit input.now input.now }
+{
+    match out_kind {
+        Kind::Wire => scan(limit, input).is_none(),
+        Kind::Notation => false,
+        Kind::Notation2 => false,
+    }
+}
+
+/// What `show_slice` answers for other inputs, or the fault of their content. No fault is a reader's.
+fn show_whole(
+    alloc: Global,
+    limit: Limit,
+    in_kind: Kind,
+    out_kind: Kind,
+    input: &[u8],
+) -> Result<Vec<u8>, EngineFault>
+    ensures answers { length input.now ≤ 2 ^ 30 → TellAnswers in_kind out_kind limit (2 ^ 30) input.now result }
+    ensures failures { (n : ℕ) → read_failures result n ≡ n }
+{
+    match in_kind {
+        Kind::Wire => show_input(alloc, limit, out_kind, input),
+        Kind::Notation => show_notation(alloc, limit, Profile::One, out_kind, input),
+        Kind::Notation2 => show_notation(alloc, limit, Profile::Two, out_kind, input),
+    }
+}
+
+/// Bytes that hold items, none deeper than `limit`; or their fixed notation.
+fn written<'a>(
+    alloc: Global,
+    limit: Limit,
+    kind: Kind,
+    bytes: CowSlice<'a, u8, Global>,
+) -> Result<CowSlice<'a, u8, Global>, AllocError>
+    requires { (items : List Value) × Holds kinds.Wire limit (cow_slice_items bytes) items }
+    ensures { IfOk result (λ answer. IsWrittenAs kind (cow_slice_items bytes.entry) (cow_slice_items answer)) }
+{
+    match kind {
+        Kind::Wire => Ok(bytes),
+        Kind::Notation => Ok(CowSlice::Owned(fixed_text(alloc, limit, &bytes)?)),
+        Kind::Notation2 => Ok(CowSlice::Owned(fixed_text(alloc, limit, &bytes)?)),
+    }
+}
