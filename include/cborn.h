@@ -124,7 +124,8 @@ uint32_t cborn_version(void);
 /* Writes the canonical form of the items that the input holds to the front of out:
  * their deterministic encodings, or these in notation. CBORN_OK: that, and the bytes
  * behind told->length are as they were. Any other number: out is as it was, and the
- * input has the fault that is told, the buffer is too small, or memory was refused. */
+ * input has the fault that is told, the buffer is too small, or memory was refused.
+ * From bytes to bytes a buffer of input_len + input_len / 3 bytes is never too small. */
 uint32_t cborn_normalise(uint32_t from, uint32_t to, uint32_t order, uint64_t depth,
                          const uint8_t *input, size_t input_len,
                          uint8_t *out, size_t out_len, cborn_told *told);

@@ -161,7 +161,7 @@ static bool is_bounded(const call *asked, size_t length)
 {
     size_t given = asked->first.length;
     bool is_of_bytes = is_called(asked, "normalise") && asked->from == CBORN_WIRE && asked->to == CBORN_WIRE;
-    return !is_of_bytes || length <= given + given / 256 + 8;
+    return !is_of_bytes || length <= given + given / 3;
 }
 
 /* The answer, and its bytes in a buffer that they fill. */

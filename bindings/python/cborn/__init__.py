@@ -240,7 +240,7 @@ def _tested(depth: int, *numbers: int) -> None:
 def _filled(call, numbers: tuple[int, ...], data: typing.Any, room_for: int) -> bytes:
     """The answer of a call that writes one."""
     address, length, lent = _address(data)
-    size = length * room_for + length // 256 + 64
+    size = length * room_for + length // 3 + 64
     try:
         room = _rooms.pop() if _rooms and size <= _SMALL else _Room(max(size, _SMALL))
     except IndexError:
@@ -276,7 +276,7 @@ def normalise(
     that is none.
     """
     _tested(depth, source, to, order)
-    return _filled(_normalise, (source, to, order, depth), data, 1)
+    return _filled(_normalise, (source, to, order, depth), data, 1 if to == _WIRE else 3)
 
 
 def show(data: typing.Any, source: int = Kind.WIRE, depth: int = 128) -> str:

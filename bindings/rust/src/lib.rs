@@ -85,7 +85,8 @@ pub struct Options {
 /// [`Fault::Refused`] where the input holds no items, [`Fault::TooLong`] where it has more than 2^30 bytes.
 pub fn normalise(input: &[u8], options: Options) -> Result<Vec<u8>, Fault> {
     let Options { from, to, order, depth } = options;
-    filled(input.len() + input.len() / 256 + 8, |out, room, told| unsafe {
+    let room = if to == Kind::Wire { input.len() + input.len() / 3 } else { 3 * input.len() + 64 };
+    filled(room, |out, room, told| unsafe {
         // SAFETY: as in `calls`
         calls::cborn_normalise(
             from as u32, to as u32, order as u32, depth.0, input.as_ptr(), input.len(), out, room, told,

@@ -1,6 +1,5 @@
 -- What a call from C answers.
-use Rattle.std.specs.Prelude.{◌≡◌, ℕ, ◌<◌, ◌≤◌, ◌⊎◌, ◌+◌, ◌++◌, List, length, drop, Option, None, Some, Result, Ok, Err, Vec}
-use Rattle.std.specs.Global.{Global}
+use Rattle.std.specs.Prelude.{◌≡◌, ℕ, ◌<◌, ◌≤◌, ◌⊎◌, ◌+◌, ◌++◌, List, length, drop, Option, None, Some, Result, Ok, Err}
 use Rattle.std.specs.declared.cmp.Ordering.{Ordering}
 use Rattle.cborn_judge.specs.declared.defects.Defect.{Defect}
 use Rattle.cborn_engine.specs.declared.faults.CompareFault.{CompareFault}
@@ -18,8 +17,8 @@ IsPut answer before after code =
     ((code ≡ 0) × (length answer ≤ length before) × (after ≡ answer ++ drop (length answer) before)) ⊎ ((code ≡ 1) × (length before < length answer) × (after ≡ before))
 
 -- an answer was put into the buffer and its length told, or the fault was told and the buffer is as it was
-abbrev pub Told : Result (Vec ℕ Global) EngineFault → List ℕ → List ℕ → CbornTold → ℕ → Type 0
-Told (Ok answer) before after told code = IsPut answer.items before after code × (told.length ≡ length answer.items) × (told.place ≡ 0)
+abbrev pub Told : Result (List ℕ) EngineFault → List ℕ → List ℕ → CbornTold → ℕ → Type 0
+Told (Ok answer) before after told code = IsPut answer before after code × (told.length ≡ length answer) × (told.place ≡ 0)
 Told (Err why) before after told code = (code ≡ fault_number why) × (told.place ≡ fault_place why) × (told.length ≡ 0) × (after ≡ before)
 
 -- a number that was handed in stands for nothing: the buffer, and what is told beside the number, are as they were
@@ -33,7 +32,7 @@ abbrev pub IsDepth : ℕ → Type 0
 IsDepth limit = (1 ≤ limit) × (limit ≤ 1024)
 
 pub record NormalisesInto (order : List ℕ → List ℕ → Ordering) (k out : Kind) (limit : ℕ) (x before after : List ℕ) (told : CbornTold) (code : ℕ) : Type 0 where
-  pub answer : Result (Vec ℕ Global) EngineFault
+  pub answer : Result (List ℕ) EngineFault
   pub normalised : Normalised order k out limit x answer
   pub put : Told answer before after told code
 
@@ -45,7 +44,7 @@ NormaliseCall (Some k) None order limit x before after untold told code = IsBad 
 NormaliseCall None out order limit x before after untold told code = IsBad before after untold told code
 
 pub record ShowsInto (k out : Kind) (limit : ℕ) (x before after : List ℕ) (told : CbornTold) (code : ℕ) : Type 0 where
-  pub answer : Result (Vec ℕ Global) EngineFault
+  pub answer : Result (List ℕ) EngineFault
   pub shown : Shown k out limit x answer
   pub put : Told answer before after told code
 

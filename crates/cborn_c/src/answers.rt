@@ -1,5 +1,6 @@
 //! How an answer is told to C.
 ghost use Rattle.std.specs.Prelude.{◌≡◌};
+ghost use Rattle.cborn_c.specs.Answers.{listed};
 ghost use Rattle.cborn_c.specs.Calls.{Told, CheckTold, CompareTold};
 
 use crate::numbers::{
@@ -7,6 +8,8 @@ use crate::numbers::{
 };
 use cborn_engine::{CompareFault, EngineFault};
 use cborn_judge::Defect;
+use std::alloc::Global;
+use std::borrow::CowSlice;
 
 /// What a call tells beside the number that it answers.
 #[repr(C)]
@@ -19,8 +22,12 @@ pub struct CbornTold {
 }
 
 /// Puts an answer to the front of `out`, or tells why there is none. Where `out` is too small, it is as it was.
-pub fn put(answer: Result<Vec<u8>, EngineFault>, out: &mut [u8], told: &mut CbornTold) -> u32
-    ensures { Told answer out.old out.new told.new result }
+pub fn put(
+    answer: Result<CowSlice<'_, u8, Global>, EngineFault>,
+    out: &mut [u8],
+    told: &mut CbornTold,
+) -> u32
+    ensures { Told (listed answer.entry) out.old out.new told.new result }
 {
     match answer {
         Ok(bytes) => {

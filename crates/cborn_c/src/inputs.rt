@@ -1,41 +1,42 @@
 //! The calls of the engine, over bytes that are wholly at hand.
-ghost use Rattle.cborn_c.specs.Answers.{Normalised, Shown, Checked, Compared};
+ghost use Rattle.std.specs.Prelude.{◌≡◌, ◌≤◌, ◌*◌, length, IfOk};
+ghost use Rattle.std.specs.Cow.{cow_slice_items};
+ghost use Rattle.cborn_engine.specs.declared.kinds.Kind.TheVariants as kinds;
+ghost use Rattle.cborn_c.specs.Answers.{Normalised, Shown, Checked, Compared, listed};
 
-use cborn_engine::{CompareFault, Counted, EngineFault, Kind, check, compare, normalise, show_all};
+use cborn_engine::{
+    CompareFault, EngineFault, Kind, check_slice, compare_slices, normalise_slice, show_slice,
+};
 use cborn_judge::Defect;
 use cborn_model::{Bytewise, KeyOrder, Limit};
 use std::alloc::Global;
+use std::borrow::CowSlice;
 
 /// The canonical form of what the input holds, the keys of maps in the order `O`.
-pub fn normalised<O: KeyOrder>(
+pub fn normalised<'a, O: KeyOrder>(
     alloc: Global,
     limit: Limit,
     from: Kind,
     to: Kind,
-    input: &[u8],
-) -> Result<Vec<u8>, EngineFault>
-    ensures { Normalised O.order from to limit input.now result }
+    input: &'a [u8],
+) -> Result<CowSlice<'a, u8, Global>, EngineFault>
+    ensures normalised { Normalised O.order from to limit input.now (listed result) }
+    ensures room { IfOk result (λ output. from ≡ kinds.Wire → to ≡ kinds.Wire → 3 * length (cow_slice_items output) ≤ 4 * length input.now) }
 {
-    let mut reader = Counted::new(input);
-    let mut writer = Counted::new(Vec::new(alloc));
-    normalise::<O, _, _>(alloc, limit, from, to, &mut reader, &mut writer)?;
-    Ok(writer.inner)
+    normalise_slice::<O>(alloc, limit, from, to, input)
 }
 
 /// What the input spells, as bytes or as notation.
-pub fn shown(
+pub fn shown<'a>(
     alloc: Global,
     limit: Limit,
     from: Kind,
     to: Kind,
-    input: &[u8],
-) -> Result<Vec<u8>, EngineFault>
-    ensures { Shown from to limit input.now result }
+    input: &'a [u8],
+) -> Result<CowSlice<'a, u8, Global>, EngineFault>
+    ensures { Shown from to limit input.now (listed result) }
 {
-    let mut reader = Counted::new(input);
-    let mut writer = Counted::new(Vec::new(alloc));
-    show_all(alloc, limit, from, to, &mut reader, &mut writer)?;
-    Ok(writer.inner)
+    show_slice(alloc, limit, from, to, input)
 }
 
 /// The first defect of the bytes, if they aren't their own canonical form under the order `O`.
@@ -46,8 +47,7 @@ pub fn checked<O: KeyOrder>(
 ) -> Result<Option<Defect>, EngineFault>
     ensures { Checked O.order limit input.now result }
 {
-    let mut reader = Counted::new(input);
-    check::<O, _>(alloc, limit, &mut reader)
+    check_slice::<O>(alloc, limit, input)
 }
 
 /// The least index at which the items of two inputs differ. The answer doesn't depend on the order of keys.
@@ -61,7 +61,5 @@ pub fn compared(
 ) -> Result<Option<u64>, CompareFault>
     ensures { Compared kind_a kind_b limit first.now second.now result }
 {
-    let mut ours = Counted::new(first);
-    let mut theirs = Counted::new(second);
-    compare::<Bytewise, _, _>(alloc, limit, kind_a, &mut ours, kind_b, &mut theirs)
+    compare_slices::<Bytewise>(alloc, limit, kind_a, first, kind_b, second)
 }

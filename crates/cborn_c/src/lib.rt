@@ -7,7 +7,7 @@ mod answers;
 mod inputs;
 mod numbers;
 
-ghost use Rattle.std.specs.Prelude.{◌≡◌};
+ghost use Rattle.std.specs.Prelude.{◌≡◌, ◌≢◌, ◌≤◌, ◌+◌, ◌/◌, length};
 ghost use Rattle.cborn_c.specs.Numbers.{numbered_kind, numbered_order};
 ghost use Rattle.cborn_c.specs.Calls.{NormaliseCall, ShowCall, CheckCall, CompareCall};
 
@@ -17,7 +17,7 @@ use inputs::{checked, compared, normalised, shown};
 use numbers::{BAD_ARGUMENT, KeyOrdering, kind_at, order_at};
 use std::alloc::Global;
 
-/// Writes the canonical form of the items that `input` holds to the front of `out`: their deterministic encodings (RFC 8949 section 4.2), or the fixed notation of these. `depth` is how many arrays, maps and tags may stand in one another, from 1 to 1,024. `told` gets the place of a fault, in bytes from the start of `input`, and the length of the answer in bytes.
+/// Writes the canonical form of the items that `input` holds to the front of `out`: their deterministic encodings (RFC 8949 section 4.2), or the fixed notation of these. `depth` is how many arrays, maps and tags may stand in one another, from 1 to 1,024. `told` gets the place of a fault, in bytes from the start of `input`, and the length of the answer in bytes. From bytes to bytes a buffer that is a third longer than the input is never too small.
 ///
 /// # Errors
 /// `TOO_SMALL` where the answer is longer than `out`, and its length is told. `BAD_ARGUMENT` where a number stands for nothing; then `told` is as it was. Else the number of the fault of `input`. At each of these `out` is as it was.
@@ -32,7 +32,8 @@ pub extern "C" fn cborn_normalise(
     out: &mut [u8],
     told: &mut CbornTold,
 ) -> u32
-    ensures { NormaliseCall (numbered_kind from) (numbered_kind to) (numbered_order order) depth input.now out.old out.new told.old told.new result }
+    ensures call { NormaliseCall (numbered_kind from) (numbered_kind to) (numbered_order order) depth input.now out.old out.new told.old told.new result }
+    ensures room { from ≡ 0 → to ≡ 0 → length input.now + length input.now / 3 ≤ length out.old → result ≢ 1 }
 {
     let Some(from) = kind_at(from) else {
         return BAD_ARGUMENT;
