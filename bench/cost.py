@@ -39,6 +39,8 @@ def shapes(n):
         "short strings": head(4, n // 4) + b"\x63abc" * (n // 4),
         "chunks of one byte": b"\x5f" + b"\x41a" * (n // 2) + b"\xff",
         "cut array": head(4, n + 1) + b"\x01" * n,
+        "array with no break": b"\x9f" + b"\x01" * n,
+        "flat, too deep last": head(4, n) + b"\x01" * (n - 1) + b"\x81" * 129 + b"\x00",
         "map of integers": head(5, len(keys)) + pairs,
         "map, repeated key last": head(5, len(keys) + 1) + pairs + keys[0] + b"\x00",
         "nests": (b"\x81" * 100 + b"\x00") * (n // 101),
