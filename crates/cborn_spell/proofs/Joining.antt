@@ -1,5 +1,5 @@
 -- Strings of pieces and of chunks.
-use Rattle.std.proofs.Common.{◌≡◌, refl, sym, ap, ◌∙◌, subst, ℕ, ◌+◌, ◌-◌, ◌*◌, ◌≤◌, List, [], ◌∷◌, ◌++◌, length, take, drop, Bool, true, Some, inl, inr, ◌⊎◌, arith, append_assoc, append-nil, length-append, take_at, drop_at}
+use Rattle.std.proofs.Common.{◌≡◌, refl, sym, ap, ◌∙◌, subst, ℕ, ◌+◌, ◌-◌, ◌*◌, ◌≤◌, List, [], ◌∷◌, ◌++◌, length, take, drop, Bool, true, Some, inl, inr, ◌⊎◌, eqb, arith, append_assoc, append-nil, length-append, take_at, drop_at}
 use Rattle.std.proofs.lemmas.Bool.{and_from}
 use Rattle.std.proofs.lemmas.List.Concat.{flat_map-append}
 use Rattle.std.proofs.lemmas.Str.{is_utf8-from_IsUtf8}
@@ -14,15 +14,19 @@ use Rattle.cborn_lex.specs.declared.classes.Profile.{Profile}
 use Rattle.cborn_lex.specs.declared.classes.Mark.{Mark}
 use Rattle.cborn_lex.specs.declared.classes.Mark.TheVariants.{Absent, Endless, Wide}
 use Rattle.cborn_lex.specs.declared.classes.Class.TheVariants.{Text, Bytes, EmbedOpen, EmbedClose, ChunkOpen, ParenClose, Comma}
+use Rattle.cborn_lex.specs.Tokens as lex
+use Rattle.cborn_lex.specs.Tokens.{begins}
+use Rattle.cborn_lex.specs.Forms.{IsIndicator}
+use Rattle.cborn_lex.specs.Lex.{Between}
 use Rattle.cborn_lex.proofs.Progress.{joins}
 use Rattle.cborn_edn.specs.declared.strings.Kind.{Kind}
 use Rattle.cborn_edn.specs.declared.strings.Kind.TheVariants.{Bytes as OfBytes, Text as OfText}
 use Rattle.cborn_edn.specs.Syntax.{Piece, text as text_piece, bytes as bytes_piece, embedded, Pieces, piece, also, strings, StringsBefore, no_string, after_strings, string, chunked, tokens_of_piece, tokens_of_pieces, tokens_of_strings, tokens_of_content}
 use Rattle.cborn_edn.specs.Meaning.{and_then, when, width_for, is_absent, is_bare, is_bare_before, same_kind, kind_of, mark_of, kind, kind_after, kind_of_strings, place, last_piece, fits_kind, is_of_kind, is_good, string_node, chunked_node, marked_string, means_string, means_chunk, joined, joined_piece, means_strings, means_strings_before}
-use Rattle.cborn_spell.specs.Descent.{AddsString, AddsEmpty, major_of, major_type, suits, ClosesString, ClosesChunks, TokenAt, Ends, ItemTaken, RowTaken, PieceTaken, PiecesTaken, StringTaken, ChunksTaken}
+use Rattle.cborn_spell.specs.Descent.{AddsString, AddsEmpty, major_of, major_type, suits, ClosesString, ClosesChunks, TokenAt, Ends, ItemTaken, RowTaken, PieceTaken, PiecesTaken, StringTaken, ChunksTaken, LettersTaken}
 use Rattle.cborn_spell.proofs.Allowing.{allows_none, allows_sum}
 use Rattle.cborn_spell.proofs.Taking.{set_head_done, Inner, no_inner, some_inner, comma_inner}
-use Rattle.cborn_spell.proofs.Quoting.{text_done, bytes_done}
+use Rattle.cborn_spell.proofs.Quoting.{text_done, bytes_done, text_token}
 
 suits_fits : (k : Kind) (p : Piece) → suits k (kind_of p) ≡ true → fits_kind k p ≡ true
 suits_fits OfText p h = refl
@@ -76,6 +80,25 @@ module _ (profile : Profile) (text : List ℕ) where
     says = refl;
     written = e;
   }
+
+  pub gap_piece : (n m l room : ℕ) (k : Kind) (mark : Mark) (old new : List ℕ) → Between profile text n m [] → PieceTaken profile text m l room k mark old new → PieceTaken profile text n l room k mark old new
+  gap_piece n m l room k mark old new g p = record {
+    piece = p.piece;
+    lexed = joins profile text n m l [] (tokens_of_piece p.piece) g p.lexed;
+    allowed = p.allowed;
+    shallow = p.shallow;
+    of_kind = p.of_kind;
+    marked = p.marked;
+    bytes = p.bytes;
+    says = p.says;
+    written = p.written;
+  }
+
+  -- a piece between double quotes
+  pub quoted_piece : (tail : List ℕ) (at len size room : ℕ) (mark : Mark) (old new : List ℕ) → begins (λ d. eqb d 34) (drop at text) ≡ true → tail ≡ drop 1 (drop at text) → LettersTaken tail len old new → size ≤ length (drop (len + 1) tail) → IsIndicator (take size (drop (len + 1) tail)) (drop size (drop (len + 1) tail)) → lex.mark_of (take size (drop (len + 1) tail)) ≡ Some mark
+      → PieceTaken profile text at (at + len + 2 + size) room OfText mark old new
+  quoted_piece tail at len size room mark old new h e t s i m =
+      text_piece_done at (at + len + 2 + size) room mark t.bytes old new (text_token profile text tail at len size t.bytes mark h e t.within t.quote t.inside t.meant s i m) t.written
 
   pub bytes_piece_done : (n m room : ℕ) (q : Bool) (mark : Mark) (x old new : List ℕ) → TokenAt profile text n m (Bytes q x mark) → new ≡ old ++ x → PieceTaken profile text n m room OfBytes mark old new
   bytes_piece_done n m room q mark x old new t e = record {

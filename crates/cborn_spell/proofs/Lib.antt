@@ -5,3 +5,5 @@ pub mod Reading
 pub mod Allowing
 pub mod Joining
 pub mod Integers
+pub mod Runs
+pub mod Escapes

@@ -11,7 +11,7 @@ use Rattle.cborn_lex.specs.declared.classes.Mark.{Mark}
 use Rattle.cborn_lex.specs.declared.classes.Mark.TheVariants.{Absent, Endless, Wide}
 use Rattle.cborn_lex.specs.Tokens.{begins}
 use Rattle.cborn_lex.specs.Numbers.{number}
-use Rattle.cborn_lex.specs.Strings.{is_content, IsText}
+use Rattle.cborn_lex.specs.Strings.{is_content, IsText, are_hex, code}
 use Rattle.cborn_lex.specs.Letters.{Letter, is_letter, meant, written as letter}
 use Rattle.cborn_lex.specs.Scan.{is_raw}
 use Rattle.cborn_model.specs.Heads.{Major, ByteString, TextString, head_bytes, least}
@@ -122,13 +122,20 @@ pub record IsPlain (tail : List ℕ) (n len : ℕ) : Type 0 where
   pub lone : ((len ≡ 1) → ⊥) → begins (λ c. c == 48) tail ≡ false
   pub ends : begins goes_on (drop len tail) ≡ false
 
--- a quote, len characters that stand for themselves, and a quote with no indicator
+-- the letter stands for itself, and closes no string
+abbrev pub is_plain : ℕ → Bool
+is_plain c = is_raw c && not (c == 34)
+
+abbrev pub is_special : ℕ → Bool
+is_special c = not (is_plain c)
+
+-- a quote, len plain letters, and a quote with no indicator
 pub record IsPlainText (tail : List ℕ) (len : ℕ) : Type 0 where
   pub content : List ℕ
   pub after : List ℕ
   pub whole : tail ≡ 34 ∷ (content ++ 34 ∷ after)
   pub size : length content ≡ len
-  pub raw : list_all (λ c. is_raw c && not (c == 34)) content ≡ true
+  pub raw : list_all is_plain content ≡ true
   pub bare : begins (λ c. c == 95) after ≡ false
 
 -- the first len characters are a content, and the bytes that it stands for are added
@@ -138,6 +145,27 @@ pub record LettersSoFar (tail : List ℕ) (len : ℕ) (old new : List ℕ) : Typ
   pub allowed : list_all (is_letter 34) letters ≡ true
   pub whole : take len tail ≡ flat_map letter letters
   pub written : new ≡ old ++ flat_map meant letters
+
+-- four hexadecimal digits stand at the place, and write the number n
+pub record HasUnit (tail : List ℕ) (at n : ℕ) : Type 0 where
+  pub a : ℕ
+  pub b : ℕ
+  pub c : ℕ
+  pub d : ℕ
+  pub digits : are_hex a b c d ≡ true
+  pub value : n ≡ code a b c d
+  pub within : at + 4 ≤ length tail
+  pub whole : drop at tail ≡ a ∷ b ∷ c ∷ d ∷ drop (at + 4) tail
+
+-- one letter stands between two places; the bytes that it stands for are added
+pub record LetterTaken (tail : List ℕ) (at end : ℕ) (old new : List ℕ) : Type 0 where
+  pub one : Letter
+  pub allowed : is_letter 34 one ≡ true
+  pub inside : is_content 34 (letter one) ≡ true
+  pub within : end ≤ length tail
+  pub whole : take end tail ≡ take at tail ++ letter one
+  pub further : at < end
+  pub written : new ≡ old ++ meant one
 
 -- the first len characters are a content that ends at a quote; the bytes that it stands for are added
 pub record LettersTaken (tail : List ℕ) (len : ℕ) (old new : List ℕ) : Type 0 where

@@ -29,7 +29,7 @@ fn is_piece(profile: Profile, text: &str, at: usize) -> bool
     }
 }
 
-/// Whether a string stands at the place that goes on in another piece.
+/// Whether a byte string stands at the place that goes on in another piece.
 #[inline(never)]
 pub(crate) fn is_joined(profile: Profile, text: &str, at: usize) -> bool
     requires { at ≤ length text.now }
@@ -40,12 +40,11 @@ pub(crate) fn is_joined(profile: Profile, text: &str, at: usize) -> bool
     }
 }
 
-/// The length of the string at the front, up to its closing quote.
+/// The length of the byte string at the front, up to its closing quote.
 fn string_len(tail: &[u8]) -> Option<usize>
     ensures { IfSome result (λ n. n ≤ length tail.now) }
 {
     match tail {
-        [b'"', rest @ ..] => Some(closing(b'"', true, rest)? + 2),
         [b'\'', rest @ ..] => Some(closing(b'\'', true, rest)? + 2),
         [b'h', b'\'', rest @ ..] => Some(closing(b'\'', false, rest)? + 3),
         [b'b', b'6', b'4', b'\'', rest @ ..] => Some(closing(b'\'', false, rest)? + 5),
@@ -68,6 +67,11 @@ fn closing(q: u8, has_escapes: bool, tail: &[u8]) -> Option<usize>
         }
     }
     None
+}
+
+/// Whether `""` with an indicator is at the front: a text string without chunks is no piece.
+pub(crate) fn is_chunkless(tail: &[u8]) -> bool {
+    matches!(tail, [b'"', b'"', b'_', ..])
 }
 
 /// Whether the number at the front is a tag's.

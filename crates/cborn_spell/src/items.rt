@@ -3,13 +3,13 @@
 ghost use Rattle.std.specs.Prelude.{◌≤◌, ◌<◌, length, IfSome};
 ghost use Rattle.cborn_spell.specs.Descent.{ItemTaken};
 
-use crate::guesses::{is_joined, is_tag, joins};
+use crate::guesses::{is_chunkless, is_joined, is_tag, joins};
 use crate::heads::put_head;
 use crate::numerals::{below_zero, decimal};
 use crate::pieces::{put_chunked, put_embedded_item, put_pieces_item};
 use crate::rows::{put_array, put_map};
 use crate::scans::{behind, skip};
-use crate::strings::{guess, plain_len, put_escaped, put_plain};
+use crate::strings::{plain_len, put_plain};
 use crate::tokens::{put_leaf, put_tag_head};
 use cborn_lex::Profile;
 use std::alloc::Global;
@@ -120,10 +120,8 @@ fn put_other(
 {
     match text.as_bytes()[at] {
         b'"' => {
-            if let Some((n, len)) = guess(&text.as_bytes()[at + 1..]) {
-                if !joins(profile, text, at + len + 2) {
-                    return put_escaped(n, text, at, out);
-                }
+            if !is_chunkless(&text.as_bytes()[at..]) {
+                return put_pieces_item(alloc, room, profile, text, at, out);
             }
         }
         b'0'..=b'9' => {

@@ -17,7 +17,8 @@
 //!
 //! In the code start with `passes`; `items`, `rows` (arrays and maps) and `pieces` (strings of several pieces) have the
 //! descent, `brackets` and `marks` what opens and closes, `scans` what stands between tokens, `tokens` what is read by
-//! `cborn_lex`, and `numerals`, `numbers`, `strings`, `leaves` and `heads` what has no items inside.
+//! `cborn_lex`, and `numerals`, `numbers`, `strings`, `leaves` and `heads` what has no items inside; `letters` and `units` have
+//! the letters of text strings, which are copied by sixteen at a time, and their escapes.
 #![tactic(auto)]
 
 mod brackets;
@@ -25,6 +26,7 @@ mod guesses;
 mod heads;
 mod items;
 mod leaves;
+mod letters;
 mod marks;
 mod numbers;
 mod numerals;
@@ -34,6 +36,7 @@ mod rows;
 mod scans;
 mod strings;
 mod tokens;
+mod units;
 
 pub use passes::spell_text;
 

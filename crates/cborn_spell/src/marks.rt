@@ -30,7 +30,7 @@ pub(crate) fn opening(c: u8, text: &str, at: usize) -> Option<(usize, Mark)>
 
 /// The length of the indicator at the front, and what it says.
 #[inline(always)]
-fn indicator(tail: &[u8]) -> Option<(usize, Mark)>
+pub(crate) fn indicator(tail: &[u8]) -> Option<(usize, Mark)>
     ensures within { IfSome result (λ r. r.0 ≤ length tail.now) }
     ensures is { IfSome result (λ r. IsIndicator (take r.0 tail.now) (drop r.0 tail.now) × (mark_of (take r.0 tail.now) ≡ Some r.1)) }
 {

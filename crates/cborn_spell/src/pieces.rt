@@ -10,6 +10,7 @@ use crate::guesses::{is_void, joins};
 use crate::leaves::{fits_kind, is_bare, is_same};
 use crate::rows::put_row;
 use crate::scans::{behind, skip, stands};
+use crate::strings::put_text_piece;
 use crate::tokens::{chunk_open, embed_open, put_string_piece};
 use cborn_edn::Kind;
 use cborn_lex::{Mark, Profile};
@@ -195,6 +196,10 @@ fn put_piece(
     if stands(b'<', text, place) {
         let (last, mark) = put_embedded(alloc, room, profile, text, at, out)?;
         return Some((last, Kind::Bytes, mark));
+    }
+    if stands(b'"', text, place) {
+        let (last, mark) = put_text_piece(text, place, out)?;
+        return Some((last, Kind::Text, mark));
     }
     put_string_piece(alloc, room, profile, text, at, out)
 }

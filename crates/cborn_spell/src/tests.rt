@@ -121,6 +121,79 @@ fn spells_strings(rt: HostRuntime) {
     }
 }
 
+/// Text strings with escapes, likewise. The first ones are of RFC 8259 section 7; the units stand around the lengths of UTF-8 and the surrogates.
+const ESCAPES: [(&str, &str); 16] = [
+    ("\"\\uD834\\uDD1E\"", "64f09d849e"),
+    ("\"\\u005C\", \"\\u005c\"", "615c615c"),
+    ("\"\\u0000\\u007F\\u0080\"", "64007fc280"),
+    ("\"\\u07ff\\u0800\\uFFFF\"", "68dfbfe0a080efbfbf"),
+    ("\"\\ud7ff\\uE000\"", "66ed9fbfee8080"),
+    ("\"\\ud800\\udc00\\uDBFF\\uDFFF\"", "68f0908080f48fbfbf"),
+    ("\"\\u00e9\\n\"_1", "790003c3a90a"),
+    ("\"a\\n\"_0, \"\\\"\"_3", "7802610a7b000000000000000122"),
+    ("\"\" \"\\t\" 'b'", "620962"),
+    ("\"a\" \"\\u0062\"_0", "78026162"),
+    ("'a' h'62' 'c'", "43616263"),
+    ("(_ \"\\u0061\", \"b\" \"\\n\")", "7f616162620aff"),
+    ("{\"\\\"\": \"\\\\\"}", "a16122615c"),
+    ("[\"\\n\"]", "81610a"),
+    ("\"\\u12345\"", "64e188b435"),
+    ("\"é\\né\"", "65c3a90ac3a9"),
+];
+
+/// Catches an escape that stands for another character, a surrogate pair of the wrong character, and an indicator lost behind escapes.
+#[test]
+fn spells_escapes(rt: HostRuntime) {
+    for (text, digits) in ESCAPES {
+        spells(&rt, rt.alloc(), Profile::One, text, digits);
+        spells(&rt, rt.alloc(), Profile::Two, text, digits);
+    }
+}
+
+/// The escape of a line feed, behind `front` letters and before `back`.
+fn broken_line(alloc: Global, front: usize, back: usize) -> Result<String, Fail> {
+    let mut text = String::new(alloc);
+    text.push_str("\"")?;
+    for _ in 0..front {
+        text.push_str("a")?;
+    }
+    text.push_str("\\n")?;
+    for _ in 0..back {
+        text.push_str("b")?;
+    }
+    text.push_str("\"")?;
+    Ok(text)
+}
+
+/// Catches a letter that is lost, repeated or taken from behind where a block of letters ends.
+#[test]
+fn spells_an_escape_at_each_place_of_a_block(rt: HostRuntime) -> Result<(), Fail> {
+    for front in 0..36 {
+        for back in [0, 1, 14, 15, 16, 17, 32] {
+            let text = broken_line(rt.alloc(), front, back)?;
+            let bytes = spell_text(rt.alloc(), Limit::USUAL, Profile::One, &text).ok_or("none")?;
+            let len = front + 1 + back;
+            let content = &bytes[bytes.len() - len..];
+            assert_eq!(rt;
+                bytes.len(),
+                len + if len < 24 { 1 } else { 2 },
+                "{front}, {back}"
+            );
+            for (i, c) in content.iter().enumerate() {
+                let want = if i < front {
+                    b'a'
+                } else if i == front {
+                    b'\n'
+                } else {
+                    b'b'
+                };
+                assert_eq!(rt; *c, want, "at {i} of {front}, {back}");
+            }
+        }
+    }
+    Ok(())
+}
+
 /// Arrays, maps, tags and simple values, likewise.
 const OTHERS: [(&str, &str); 20] = [
     (
@@ -167,7 +240,7 @@ fn spells_others(rt: HostRuntime) {
 }
 
 /// Texts that notate no items under either profile.
-const REFUSED: [&str; 63] = [
+const REFUSED: [&str; 75] = [
     "007",
     "256_0",
     "1.5",
@@ -192,6 +265,18 @@ const REFUSED: [&str; 63] = [
     "\"\\u12\"",
     "\"\\ud800\"",
     "\"a\nb\"",
+    "\"0123456789abcdef\u{1f}\"",
+    "\"0123456789abcdef\u{1f}0123456789abcdef\"",
+    "\"0123456789abcdef\\x0123456789abcdef\"",
+    "\"0123456789abcdef\\\"",
+    "\"\\'\"",
+    "\"\\udc00\"",
+    "\"\\ud800\\u0041\"",
+    "\"\\ud800\\ud800\"",
+    "\"\\ud800x\\udc00\"",
+    "\"\\u00e\"",
+    "\"\\u00g0\"",
+    "\"\\n\"_4",
     "\"a\"_",
     "h'4'",
     "h'0g'",

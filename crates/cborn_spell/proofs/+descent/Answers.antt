@@ -2,10 +2,10 @@ use Rattle.std.proofs.Common.{rules, ◌≡◌, ◌+◌, ◌++◌, ◌∷◌, []
 use Rattle.cborn_lex.specs.declared.classes.Mark.TheVariants.{Absent}
 use Rattle.cborn_lex.specs.declared.classes.Class.TheVariants.{ArrayOpen, MapOpen, ArrayClose, MapClose, ParenClose, Comma, Colon}
 use Rattle.cborn_edn.specs.declared.strings.Kind.{Kind}
-use Rattle.cborn_edn.specs.declared.strings.Kind.TheVariants.{Bytes as OfBytes}
+use Rattle.cborn_edn.specs.declared.strings.Kind.TheVariants.{Bytes as OfBytes, Text as OfText}
 use Rattle.cborn_spell.specs.Descent.{StringTaken}
 use Rattle.cborn_spell.proofs.Taking.{gap_item, before_none, row_more, row_comma, pairs_none, pairs_more, pairs_comma, array_done, no_array_done, map_done, no_map_done, tag_done, number_done, plain_number, below_number}
-use Rattle.cborn_spell.proofs.Joining.{embedded_done, no_embedded_done, one_piece, more_pieces, string_done, string_item, one_chunk, more_chunks, chunked_done}
+use Rattle.cborn_spell.proofs.Joining.{gap_piece, embedded_done, no_embedded_done, one_piece, more_pieces, string_done, string_item, one_chunk, more_chunks, chunked_done}
 use Rattle.cborn_spell.proofs.Reading.{under}
 use Rattle.cborn_spell.proofs.+descent.Goals as goal
 
@@ -122,6 +122,10 @@ pieces::put_further-pieces-preserved t c = (
   c.in_ok-next.ensures.within,
   λ n start p. more_pieces c.args.profile c.args.text.now n c.pieces.place c.in_ok-next.next c.args.room c.args.kind c.in_ok-next.other c.pieces.last_mark c.in_ok-next.next_mark start c.pieces.out.items c.put_piece.new.out.items (c.pieces.invariant.1 n start p) (sym c.is_bare.ensures ∙ c.if-not-is_bare.false) c.in_ok-next.ensures.taken (sym c.fits_kind.ensures ∙ c.if-not-fits_kind.false),
 )
+
+pub pieces::put_piece-returns-then-stands-2-clause-taken : goal.pieces::put_piece-returns-then-stands-2-clause-taken
+pieces::put_piece-returns-then-stands-2-clause-taken t c =
+    gap_piece c.args.profile c.args.text.now c.args.at c.in_ok-place.place c.in_ok-last-2.last c.args.room OfText c.in_ok-last-2.mark c.args.out.now.items c.put_text_piece.new.out.items c.in_ok-place.ensures.gap (c.in_ok-last-2.ensures.taken c.args.profile c.args.room)
 
 pub pieces::put_embedded-returns-then-is_void-clause-taken : goal.pieces::put_embedded-returns-then-is_void-clause-taken
 pieces::put_embedded-returns-then-is_void-clause-taken t c =

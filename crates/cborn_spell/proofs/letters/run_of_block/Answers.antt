@@ -1,0 +1,11 @@
+use Rattle.cborn_spell.proofs.Runs.{none_found, first_found}
+use Rattle.cborn_spell.proofs.letters.run_of_block.Goals as goal
+
+pub returns-then-found-eq0-clause-plain : goal.returns-then-found-eq0-clause-plain
+returns-then-found-eq0-clause-plain c = none_found c.args.tail.now c.args.at c.specials-found.result c.requires c.specials-found.ensures c.if-found-eq0.true
+
+pub returns-else-found-eq0-clause-within : goal.returns-else-found-eq0-clause-within
+returns-else-found-eq0-clause-within c = (first_found c.args.tail.now c.args.at c.specials-found.result c.requires c.specials-found.ensures c.if-found-eq0.false).0
+
+pub returns-else-found-eq0-clause-plain : goal.returns-else-found-eq0-clause-plain
+returns-else-found-eq0-clause-plain c = (first_found c.args.tail.now c.args.at c.specials-found.result c.requires c.specials-found.ensures c.if-found-eq0.false).1
