@@ -1,13 +1,12 @@
 -- Escapes of UTF-16 units.
-use Rattle.std.proofs.Common.{◌≡◌, refl, sym, ap, ◌∙◌, subst, ℕ, ◌+◌, ◌-◌, ◌*◌, ◌<◌, ◌≤◌, List, [], ◌∷◌, ◌++◌, length, take, drop, get_or, Bool, true, false, ◌&&◌, ◌||◌, not, cond, eqb, leb, ltb, inl, inr, arith, take_at, length-append, encode_utf8}
+use Rattle.std.proofs.Common.{◌≡◌, refl, sym, ap, ◌∙◌, subst, ℕ, ◌+◌, ◌-◌, ◌*◌, ◌<◌, ◌≤◌, List, [], ◌∷◌, ◌++◌, length, take, drop, get_or, Bool, true, false, ◌&&◌, ◌||◌, not, eqb, leb, ltb, inl, inr, arith, take_at, encode_utf8}
 use Rattle.std.proofs.lemmas.Bool.{and_parts, and_from, false≢true, lt-ltb, le-leb, ne_eqb, cond-true}
 use Rattle.std.proofs.lemmas.Bool.Decides.{leb_tells}
-use Rattle.std.proofs.lemmas.List.{drop_more, drop-drop, length-drop}
+use Rattle.std.proofs.lemmas.List.{drop_more}
 use Rattle.std.proofs.Math.Seq.{take-add}
-use Rattle.std.specs.Char.{is_digit, digit_value}
-use Rattle.std.specs.List.{list_all}
+use Rattle.std.specs.Char.{is_digit}
 use Rattle.cborn_lex.specs.Strings.{is_content, four, are_hex, code, is_high, is_low}
-use Rattle.cborn_lex.specs.Letters.{unit, pair, written}
+use Rattle.cborn_lex.specs.Letters.{unit, pair}
 use Rattle.cborn_lex.proofs.Ends.{content_then}
 use Rattle.cborn_spell.specs.Descent.{is_plain, HasUnit, LetterTaken}
 use Rattle.cborn_spell.proofs.Quoting.{raw_content}

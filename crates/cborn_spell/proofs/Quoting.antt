@@ -1,10 +1,8 @@
 -- Text strings from their letters.
-use Rattle.std.proofs.Common.{◌≡◌, refl, sym, ap, ◌∙◌, subst, ℕ, zero, suc, ◌+◌, ◌<◌, ◌≤◌, ◌^◌, List, [], ◌∷◌, ◌++◌, length, take, drop, get_or, Bool, true, false, ◌&&◌, not, eqb, Some, inl, arith, take_at, append-nil, append_assoc, length-append}
-use Rattle.std.proofs.lemmas.Bool.{and_parts, and_from, lt-ltb, le-leb, ne_eqb, eqb-true, false≢true, not-true}
-use Rattle.std.proofs.lemmas.List.{take_more, drop_more, drop_all, length-take-le, take-append-drop}
+use Rattle.std.proofs.Common.{◌≡◌, refl, sym, ap, ◌∙◌, subst, ℕ, ◌+◌, ◌<◌, ◌≤◌, ◌^◌, List, [], ◌∷◌, ◌++◌, length, take, drop, get_or, Bool, true, false, ◌&&◌, not, eqb, Some, inl, arith, take_at, append_assoc, length-append}
+use Rattle.std.proofs.lemmas.Bool.{and_parts, and_from, lt-ltb, eqb-true, false≢true, not-true}
+use Rattle.std.proofs.lemmas.List.{drop_more, length-take-le, take-append-drop}
 use Rattle.std.proofs.Math.Seq.{take-append_seam, drop-append_seam}
-use Rattle.std.proofs.lemmas.List.Folds.{list_all-append}
-use Rattle.std.proofs.lemmas.List.Concat.{flat_map-append}
 use Rattle.std.proofs.lemmas.Str.{is_utf8-from_IsUtf8}
 use Rattle.std.specs.List.{list_all, flat_map}
 use Rattle.std.specs.Str.{IsUtf8, is_utf8}
@@ -16,13 +14,12 @@ use Rattle.cborn_lex.specs.declared.classes.Mark.{Mark}
 use Rattle.cborn_lex.specs.declared.classes.Mark.TheVariants.{Absent, Endless, Wide}
 use Rattle.cborn_lex.specs.declared.classes.Class.TheVariants.{Text, Bytes}
 use Rattle.cborn_lex.specs.Tokens.{Read, begins, marked, mark_of}
-use Rattle.cborn_lex.specs.Strings.{is_content, IsText, is_escape, escape_code}
-use Rattle.cborn_lex.specs.Letters.{Letter, raw, escaped, written, meant, is_letter}
+use Rattle.cborn_lex.specs.Strings.{is_content, IsText}
+use Rattle.cborn_lex.specs.Letters.{Letter, raw, written, meant, is_letter}
 use Rattle.cborn_lex.proofs.Lettered.{is_text}
 use Rattle.cborn_lex.specs.Scan.{is_raw}
 use Rattle.cborn_lex.specs.Forms.{Reads, IsIndicator}
 use Rattle.cborn_lex.proofs.Quotes.{content_cons}
-use Rattle.cborn_lex.proofs.Ends.{one_more, two_more}
 use Rattle.cborn_lex.proofs.Progress.{nothing, then_token}
 use Rattle.cborn_edn.specs.Syntax.{Span, text as text_piece, bytes as bytes_piece, piece, string}
 use Rattle.cborn_edn.specs.Meaning.{means, and_then, when, width_for}

@@ -1,17 +1,17 @@
 -- Letters between quotes: runs of plain ones, and escapes.
-use Rattle.std.proofs.Common.{◌≡◌, refl, sym, ap, ap₂, ◌∙◌, subst, ℕ, zero, suc, ◌+◌, ◌<◌, ◌≤◌, ◌^◌, ◌%◌, List, [], ◌∷◌, ◌++◌, length, take, drop, get_or, map, replicate, Bool, true, false, ◌&&◌, ◌||◌, not, cond, eqb, leb, ltb, inl, inr, arith, append-nil, append_assoc, length-append}
+use Rattle.std.proofs.Common.{◌≡◌, refl, sym, ap, ap₂, ◌∙◌, subst, ℕ, zero, suc, ◌+◌, ◌<◌, ◌≤◌, ◌^◌, ◌%◌, List, [], ◌∷◌, ◌++◌, length, take, drop, get_or, map, replicate, Bool, true, false, ◌&&◌, ◌||◌, not, cond, eqb, leb, ltb, inl, inr, arith, append-nil, append_assoc}
 use Rattle.std.proofs.lemmas.Bool.{and_parts, and_from, or_cases, eq-eqb, eqb-true, ne_eqb, cond-true, cond-false}
 use Rattle.std.proofs.lemmas.Bool.Decides.{leb_tells}
 use Rattle.std.proofs.lemmas.List.Sums.{prefix_len-le-length}
-use Rattle.std.proofs.lemmas.List.{take-take, take-append-le, length-map, length-take, take_more, drop_more}
+use Rattle.std.proofs.lemmas.List.{take-take, length-map, take_more}
 use Rattle.std.proofs.lemmas.List.Folds.{list_all-append}
 use Rattle.std.proofs.lemmas.List.Concat.{flat_map-append}
 use Rattle.std.proofs.lemmas.Simd.{zip2_splat, zip2_of_maps, map-map, mask_l-mod, first_set_mask_l, length-chunk}
-use Rattle.std.proofs.Math.Seq.{take-add, take-append_seam, take-append-add}
+use Rattle.std.proofs.Math.Seq.{take-add, take-append-add}
 use Rattle.std.specs.List.{list_all, flat_map, prefix_len}
 use Rattle.std.specs.Simd.Lanes.{zip2, mask_l, top}
 use Rattle.cborn_lex.specs.Strings.{is_content, is_escape, escape_code}
-use Rattle.cborn_lex.specs.Letters.{Letter, escaped, unit, pair, written, meant, is_letter}
+use Rattle.cborn_lex.specs.Letters.{Letter, escaped, written, meant, is_letter}
 use Rattle.cborn_lex.proofs.Lettered.{is_text}
 use Rattle.cborn_lex.proofs.Ends.{content_then}
 use Rattle.cborn_lex.specs.Tokens.{begins}

@@ -1,6 +1,6 @@
 use Rattle.std.proofs.Common.{◌+◌, ◌<◌, length, arith}
 use Rattle.cborn_spell.proofs.Reading.{begins_at}
-use Rattle.cborn_spell.proofs.Runs.{letters_none, run_more, letter_more, letters_end}
+use Rattle.cborn_spell.proofs.Runs.{run_more, letter_more, letters_end}
 use Rattle.cborn_spell.proofs.letters.put_letters.Goals as goal
 
 pub returns-in-34 : goal.returns-in-34
