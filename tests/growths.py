@@ -5,10 +5,14 @@
     growths.py --tests TESTS [WORD..]
                                     each test of a crate's built tests, crates/NAME/out/NAME_tests, or each
                                     whose name has one of the words
+    growths.py --passes TESTS [WORD..]
+                                    the same of a crate of passes
 
 A command line has to answer as it does with ample memory, or to answer want of memory: status 4, nothing on
 standard output, and one line on standard error. A test has to pass with ample memory; with a growth refused it
-has to pass too, or to fail by want of memory: by the error that a call answered, and not by an answer that differs. refuse.c, which is compiled by $CC or cc, refuses.
+has to pass too, or to fail by want of memory: by the error that a call answered, and not by an answer that differs.
+A pass over bytes or a text answers nothing in place of that error, so a test of passes may also stop where an answer
+is missing. refuse.c, which is compiled by $CC or cc, refuses.
 """
 import os
 import pathlib
@@ -21,7 +25,8 @@ from run import Outcome, cases
 
 WANT = re.compile(rb"AllocError|AllocFailed|OutOfMemory|[Oo]ut of memory")
 # a test that stops: by an error that it hands on, or by a failed assertion, which names the answer
-STOPPED = (101, -6)
+FAILED, ABORTED = 101, -6
+STOPPED_AT = re.compile(rb"^test stopped at src/", re.MULTILINE)
 
 
 def refused_in_turn(library, run):
@@ -62,10 +67,22 @@ def run_test(tests, name, **how):
 
 
 def passes_or_wants(outcome):
-    return outcome.status == 0 or (outcome.status in STOPPED and WANT.search(outcome.stderr))
+    return outcome.status == 0 or (outcome.status in (FAILED, ABORTED) and WANT.search(outcome.stderr))
 
 
-def built_tests(library, tests, words, *which):
+def passes_or_stops(outcome):
+    return outcome.status in (0, FAILED) or (outcome.status == ABORTED and STOPPED_AT.search(outcome.stdout))
+
+
+def tests_of_libraries(*given):
+    return built_tests(passes_or_wants, *given)
+
+
+def tests_of_passes(*given):
+    return built_tests(passes_or_stops, *given)
+
+
+def built_tests(is_allowed, library, tests, words, *which):
     """Each test of a share: its name, the outcomes of its runs, and which outcomes it may have."""
     listed = subprocess.run([tests, "--list"], capture_output=True, text=True, check=True).stdout
     names = re.findall(r"^(.*): test$", listed, re.MULTILINE)
@@ -73,7 +90,7 @@ def built_tests(library, tests, words, *which):
         ample = run_test(tests, name)
         if ample.status == 0:
             outcomes = refused_in_turn(library, lambda **how: run_test(tests, name, **how))
-            yield name, list(outcomes), passes_or_wants
+            yield name, list(outcomes), is_allowed
         else:
             yield f"{name}, with ample memory", [ample], lambda _: False
 
@@ -90,10 +107,12 @@ def tried(find, library, program, words, *which):
     return growths, runs, wrong
 
 
+TESTS = {"--tests": tests_of_libraries, "--passes": tests_of_passes}
+
+
 def main():
-    are_tests = sys.argv[1] == "--tests"
-    program, *words = sys.argv[2:] if are_tests else sys.argv[1:]
-    find = built_tests if are_tests else command_lines
+    find = TESTS.get(sys.argv[1], command_lines)
+    program, *words = sys.argv[1:] if find is command_lines else sys.argv[2:]
     with shared.library("refuse.c") as library:
         found = shared.over_processors(tried, find, library, str(pathlib.Path(program).resolve()), words)
     growths, runs, wrong = found
