@@ -150,46 +150,45 @@ fn spells_escapes(rt: HostRuntime) {
     }
 }
 
-/// The escape of a line feed, behind `front` letters and before `back`.
-fn broken_line(alloc: Global, front: usize, back: usize) -> Result<String, Fail> {
+/// How many letters stand before an escape and how many behind it, and the head of the string.
+const BLOCKS: [(usize, usize, &str); 13] = [
+    (0, 0, "61"),
+    (15, 0, "70"),
+    (16, 0, "71"),
+    (17, 0, "72"),
+    (14, 1, "70"),
+    (1, 14, "70"),
+    (15, 16, "7820"),
+    (16, 15, "7820"),
+    (14, 17, "7820"),
+    (0, 31, "7820"),
+    (31, 0, "7820"),
+    (32, 0, "7821"),
+    (16, 16, "7821"),
+];
+
+/// Each part so many times, one after another.
+fn repeated(alloc: Global, parts: &[(&str, usize)]) -> Result<String, Fail> {
     let mut text = String::new(alloc);
-    text.push_str("\"")?;
-    for _ in 0..front {
-        text.push_str("a")?;
+    for (part, count) in parts {
+        for _ in 0..*count {
+            text.push_str(part)?;
+        }
     }
-    text.push_str("\\n")?;
-    for _ in 0..back {
-        text.push_str("b")?;
-    }
-    text.push_str("\"")?;
     Ok(text)
 }
 
 /// Catches a letter that is lost, repeated or taken from behind where a block of letters ends.
 #[test]
-fn spells_an_escape_at_each_place_of_a_block(rt: HostRuntime) -> Result<(), Fail> {
-    for front in 0..36 {
-        for back in [0, 1, 14, 15, 16, 17, 32] {
-            let text = broken_line(rt.alloc(), front, back)?;
-            let bytes = spell_text(rt.alloc(), Limit::USUAL, Profile::One, &text).ok_or("none")?;
-            let len = front + 1 + back;
-            let content = &bytes[bytes.len() - len..];
-            assert_eq!(rt;
-                bytes.len(),
-                len + if len < 24 { 1 } else { 2 },
-                "{front}, {back}"
-            );
-            for (i, c) in content.iter().enumerate() {
-                let want = if i < front {
-                    b'a'
-                } else if i == front {
-                    b'\n'
-                } else {
-                    b'b'
-                };
-                assert_eq!(rt; *c, want, "at {i} of {front}, {back}");
-            }
-        }
+fn spells_an_escape_at_the_places_of_a_block(rt: HostRuntime) -> Result<(), Fail> {
+    for (front, back, head) in BLOCKS {
+        let letters = [("\"", 1), ("a", front), ("\\n", 1), ("b", back), ("\"", 1)];
+        let text = repeated(rt.alloc(), &letters)?;
+        let digits = repeated(
+            rt.alloc(),
+            &[(head, 1), ("61", front), ("0a", 1), ("62", back)],
+        )?;
+        spells(&rt, rt.alloc(), Profile::One, &text, &digits);
     }
     Ok(())
 }
