@@ -1,11 +1,12 @@
 #!/usr/bin/env python3
-"""Find equal items in CBOR sequences (RFC 8742), in parts, on the workers of a Dask cluster.
+"""Find equal items in CBOR sequences (RFC 8742) on the workers of a Dask cluster.
 
     dask_digest.py [--scheduler ADDRESS | --workers N] [--part BYTES] FILE..
 
-Each file is cut into parts at the ends of items, files side by side. A worker normalises the items of its part, so
-that equal items are equal bytes however they were spelled, and gives a digest (SHA-256) and the offset of each.
-Digests that occur more than once are printed with where they occur, each on a line: DIGEST FILE:OFFSET FILE:OFFSET ..
+A task is a file, or, of one longer than --part, a part of it that ends where an item does. One call of the library
+gives the canonical form of a part in notation, with each item on a line, so that equal items are equal lines however
+they were spelled. A worker gives the digest (SHA-256) of each line. Digests that occur more than once are printed with
+where they occur, each on a line: DIGEST FILE:INDEX FILE:INDEX .., where INDEX counts the items of a file from 0.
 
 With --scheduler every machine needs the files at the same paths, and the packages cborn and distributed. Without it
 N worker processes are started on this machine.
@@ -14,10 +15,13 @@ import argparse
 import collections
 import hashlib
 import mmap
+import os
 import time
 
 import cborn
 import distributed
+
+SIZE = hashlib.sha256().digest_size
 
 
 def head(data, at):
@@ -57,37 +61,34 @@ def end_of_item(data, at):
     return at
 
 
-def items(data):
-    """The offsets of the items of a sequence, and its length."""
-    at = 0
+def cut(data, size):
+    """Parts of a sequence of at least so many bytes, each of whole items: offset, length, and index of the first item."""
+    start = first = index = at = 0
     while at < len(data):
-        yield at
         at = end_of_item(data, at)
-    yield len(data)
+        index += 1
+        if at - start >= size or at == len(data):
+            yield start, at - start, first
+            start, first = at, index
 
 
 def parts(name, size):
-    """Pieces of a file of at least so many bytes, each of whole items: offset and length."""
-    found, start = [], 0
+    """What of a file is one task each. Only a longer file is cut, since to find where items end takes a loop in Python."""
+    length = os.path.getsize(name)
+    if length <= size:
+        return [(0, length, 0)]
     with open(name, "rb") as file, mmap.mmap(file.fileno(), 0, access=mmap.ACCESS_READ) as data:
         cborn.check(data)  # CbornError, if it holds no items
-        for at in items(data):
-            if at - start >= size or (at == len(data) and at > start):
-                found.append((start, at - start))
-                start = at
-    return found
+        return list(cut(data, size))
 
 
 def digests(name, start, length):
-    """The digest of the canonical form of each item of a part, with its offset in the file."""
+    """The digests of the items of a part, one after another."""
     with open(name, "rb") as file:
         file.seek(start)
-        data = memoryview(file.read(length))
-    ends = list(items(data))
-    return [
-        (hashlib.sha256(cborn.normalise(data[at:end])).digest(), start + at)
-        for at, end in zip(ends, ends[1:])
-    ]
+        lines = cborn.normalise(file.read(length), to=cborn.Kind.NOTATION)
+    # a line that ends in a comma is followed by another; in an item no line ends
+    return b"".join(hashlib.sha256(line).digest() for line in lines[:-1].split(b",\n") if line)
 
 
 def main():
@@ -95,24 +96,27 @@ def main():
     words.add_argument("files", nargs="+")
     words.add_argument("--scheduler")
     words.add_argument("--workers", type=int, default=2)
-    words.add_argument("--part", type=int, default=1 << 20)
+    words.add_argument("--part", type=int, default=1 << 26)
     given = words.parse_args()
     how = {"address": given.scheduler} if given.scheduler else {
         "n_workers": given.workers, "threads_per_worker": 1, "processes": True, "dashboard_address": None}
     with distributed.Client(**how) as client:
-        start = time.perf_counter()
+        begun = time.perf_counter()
         cuts = client.gather([client.submit(parts, name, given.part) for name in given.files])
-        tasks = {client.submit(digests, name, *part): name for name, cut in zip(given.files, cuts) for part in cut}
-        places = collections.defaultdict(list)
+        tasks = {client.submit(digests, name, start, length): (name, first)
+                 for name, found in zip(given.files, cuts) for start, length, first in found}
+        count, places, repeated = 0, {}, collections.defaultdict(list)
         for task, found in distributed.as_completed(list(tasks), with_results=True):
-            for digest, offset in found:
-                places[digest].append((tasks[task], offset))
+            name, first = tasks[task]
+            count += len(found) // SIZE
+            for at in range(0, len(found), SIZE):
+                digest, here = found[at : at + SIZE], (name, first + at // SIZE)
+                if places.setdefault(digest, here) is not here:
+                    repeated[digest].append(here)
         done = time.perf_counter()
-    for digest, where in sorted(places.items()):
-        if len(where) > 1:
-            print(digest.hex(), *(f"{name}:{offset}" for name, offset in sorted(where)))
-    count = sum(map(len, places.values()))
-    print(f"{count} items, {len(places)} of them different, in {done - start:.2f} s")
+    for digest, others in sorted(repeated.items()):
+        print(digest.hex(), *(f"{name}:{index}" for name, index in sorted([places[digest], *others])))
+    print(f"{count} items, {len(places)} of them different, in {done - begun:.2f} s")
 
 
 if __name__ == "__main__":
