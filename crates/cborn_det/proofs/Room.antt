@@ -12,7 +12,7 @@ use Rattle.cborn_model.specs.declared.heads.Size.{Size}
 use Rattle.cborn_model.specs.declared.heads.Size.TheVariants.{Fixed, Endless}
 use Rattle.cborn_model.specs.declared.nodes.Chunk.{Chunk}
 use Rattle.cborn_model.specs.Bytes.{AreBytes, big_endian, IsShortest}
-use Rattle.cborn_model.specs.Heads.{Major, Unsigned, Negative, ByteString, TextString, Array, Map, Tag, Other, Holds, following, least, IsLeastHead, Given, Unbounded, head, argument}
+use Rattle.cborn_model.specs.Heads.{Major, Unsigned, Negative, ByteString, TextString, Array, Map, Tag, Other, WidthFits, following, least, IsLeastHead, Given, Unbounded, head, argument}
 use Rattle.cborn_model.specs.Spelled.{ending, string, chunk_bytes, chunks, simple_width, spelled, spelled_all, spelled_entries, ChunksFit, Fits, FitsAll, FitsEntries}
 use Rattle.cborn_model.specs.Tree.{Tree, Uint, Nint, Bytes, Text, ByteChunks, TextChunks, Items, Pairs, Tagged, Simple, Trees, no_item, more, Entries, no_entry, entry, trees, count, count_entries}
 use Rattle.cborn_model.specs.Meaning.{joined_chunks, IsNumber, IsBignum, Means, AllMean, EntriesMean}
@@ -48,7 +48,7 @@ length-following Two n = refl
 length-following Four n = refl
 length-following Eight n = refl
 
-least_is_least : (w : Width) (n : ℕ) → Holds w n → bytes_in (least n) ≤ bytes_in w
+least_is_least : (w : Width) (n : ℕ) → WidthFits w n → bytes_in (least n) ≤ bytes_in w
 unfolding bytes_in
 least_is_least Direct n h = by_least (λ v. bytes_in v ≤ 0) n (λ _. omega arith) (λ a b. omega (arith, h, a)) (λ a b. omega (arith, h, a)) (λ a b. omega (arith, h, a)) (λ a. omega (arith, h, a))
 least_is_least One n h = by_least (λ v. bytes_in v ≤ 1) n (λ _. omega arith) (λ a b. omega arith) (λ a b. omega (arith, h, a)) (λ a b. omega (arith, h, a)) (λ a. omega (arith, h, a))
@@ -126,14 +126,14 @@ joined_are_bytes (c ∷ cs) h = are_joined c.bytes (joined_chunks cs) h.0.1 (joi
 abbrev IsRoomFor : List ℕ → List ℕ → Type 0
 IsRoomFor s x = 3 * length x + 1 ≤ 4 * length s
 
-below_64 : (w : Width) (n : ℕ) → Holds w n → n < 2 ^ 64
+below_64 : (w : Width) (n : ℕ) → WidthFits w n → n < 2 ^ 64
 below_64 Direct n h = omega (arith, h)
 below_64 One n h = omega (arith, h)
 below_64 Two n h = omega (arith, h)
 below_64 Four n h = omega (arith, h)
 below_64 Eight n h = h
 
-integer_room : (order : List ℕ → List ℕ → Ordering) (s : Bool) (j : Major) (w : Width) (n : ℕ) (v : Value) (x : List ℕ) → Holds w n → IsNumber s n v → Det order v x → IsRoomFor (head j (Given w n)) x
+integer_room : (order : List ℕ → List ℕ → Ordering) (s : Bool) (j : Major) (w : Width) (n : ℕ) (v : Value) (x : List ℕ) → WidthFits w n → IsNumber s n v → Det order v x → IsRoomFor (head j (Given w n)) x
 integer_room order s j w n v x h m d =
     let e : IsInteger s m.0 x = subst (λ (u : Value). Det order u x) m.4 d in
     elim e [

@@ -14,7 +14,7 @@ use Rattle.cborn_lex.specs.declared.classes.Mark.TheVariants.{Absent, Endless, W
 use Rattle.cborn_edn.specs.Syntax.{Item, number, word, tag, simple, string, chunked, array, map, Piece, text, bytes, embedded, Pieces, piece, also, Strings, strings, StringsBefore, no_string, after_strings, Row, row, RowBefore, no_item, after_row, Content, loose, tight, Pairs, pairs, PairsBefore, no_pair, after_pairs, Fields, loose_fields, tight_fields, Input, nothing, items, is_below, argument_of}
 use Rattle.cborn_edn.specs.Meaning.{and_then, when, holds, width_for, size_for, is_absent, snoc, snoc_entry, integer, bignum, means_number, is_simple, same_kind, start_of, mark_of, mark_place, kind, place, last_piece, is_bare, is_bare_before, fits_kind, is_of_kind, is_empty_quote, is_good, is_string, string_node, chunked_node, marked_string, means_string, means_chunk, kind_of_strings, kind_after, means, joined_piece, joined, means_strings, means_strings_before, means_row, means_row_before, means_content, means_pairs, means_pairs_before, means_fields, means_input, Says, unless, width_slips, size_slips, number_slips, tag_slips, bare_slips, bare_slips_before, kind_slips, mark_slips, string_slips, row_length, row_length_before, content_length, pairs_length, pairs_length_before, fields_length, slips, piece_slips, inner_slips, strings_slips, strings_slips_before, row_slips, row_slips_before, content_slips, pairs_slips, pairs_slips_before, fields_slips, input_slips}
 use Rattle.cborn_edn.specs.Counted.{IsShort, Counted, CountedPiece, CountedPieces, CountedStrings, CountedStringsBefore, CountedRow, CountedRowBefore, CountedContent, CountedPairs, CountedPairsBefore, CountedFields, CountedInput}
-use Rattle.cborn_edn.specs.declared.strings.Kind.{Kind}
+use Rattle.cborn_edn.specs.declared.strings.StringKind.{StringKind}
 use Rattle.cborn_edn.specs.declared.faults.EdnReason.{EdnReason}
 use Rattle.cborn_edn.specs.declared.faults.EdnReason.TheVariants.{IndicatorTooNarrow, IndicatorNotAllowed, MixedString, MixedChunks, TextNotUtf8, BadSimple, TagTooLarge}
 use Rattle.cborn_edn.specs.declared.slips.Slip.{Slip}
@@ -105,7 +105,7 @@ nil-bare_before : (ps : Pieces) → is_nil (bare_slips_before ps) ≡ is_bare_be
 nil-bare_before (piece p) = refl
 nil-bare_before (also ps p) = nil-bare ps
 
-nil-kind : (k : Kind) (ps : Pieces) → is_nil (kind_slips k ps) ≡ is_of_kind k ps
+nil-kind : (k : StringKind) (ps : Pieces) → is_nil (kind_slips k ps) ≡ is_of_kind k ps
 nil-kind k (piece p) = nil-unless (fits_kind k p) (start_of p) MixedString
 nil-kind k (also ps p) = nil-append (kind_slips k ps) _ ∙ ap (λ b. b && is_nil (unless (fits_kind k p) (start_of p) MixedString)) (nil-kind k ps) ∙ ap (λ b. is_of_kind k ps && b) (nil-unless (fits_kind k p) (start_of p) MixedString)
 

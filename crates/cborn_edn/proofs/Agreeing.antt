@@ -9,8 +9,8 @@ use Rattle.cborn_lex.specs.declared.classes.Mark.{Mark}
 use Rattle.cborn_lex.specs.declared.classes.Mark.TheVariants.{Absent, Endless, Wide}
 use Rattle.cborn_edn.specs.declared.slips.Slip.{Slip}
 use Rattle.cborn_edn.specs.declared.faults.EdnReason.TheVariants.{IndicatorNotAllowed, IndicatorTooNarrow, TextNotUtf8}
-use Rattle.cborn_edn.specs.declared.strings.Kind.{Kind}
-use Rattle.cborn_edn.specs.declared.strings.Kind.TheVariants.{Bytes as OfBytes, Text as OfText}
+use Rattle.cborn_edn.specs.declared.strings.StringKind.{StringKind}
+use Rattle.cborn_edn.specs.declared.strings.StringKind.TheVariants.{Bytes as OfBytes, Text as OfText}
 use Rattle.cborn_edn.specs.declared.strings.Pieces.{Pieces as Kept}
 use Rattle.cborn_edn.specs.declared.contents.Sequence.{Sequence}
 use Rattle.cborn_edn.specs.declared.contents.Fields.{Fields as KeptFields}
@@ -56,7 +56,7 @@ bare-last : (ps : Pieces) → is_bare ps ≡ (is_bare_before ps && is_absent (ma
 bare-last (piece p) = refl
 bare-last (also ps p) = refl
 
-pub admits-fits : (k : Kind) (p : Piece) → admits k (kind_of p) ≡ fits_kind k p
+pub admits-fits : (k : StringKind) (p : Piece) → admits k (kind_of p) ≡ fits_kind k p
 admits-fits OfText p = refl
 admits-fits OfBytes (text at x m) = refl
 admits-fits OfBytes (bytes at q x m) = refl
@@ -69,7 +69,7 @@ sound-more true false false f = refl
 sound-more false o a f = refl
 
 -- the mark and the text of a string, whose bytes there are
-marked_same : (k : Kind) (p mp : ℕ) (m : Mark) (x : List ℕ) (quote b o : Bool) (marked : Option Tree)
+marked_same : (k : StringKind) (p mp : ℕ) (m : Mark) (x : List ℕ) (quote b o : Bool) (marked : Option Tree)
     → (m ≡ Endless → marked ≡ when quote (Some (chunked_node k p []))) → ((m ≡ Endless → ⊥) → marked ≡ and_then (width_for m (length x)) (λ w. Some (string_node k p w x)))
     → when ((b && o) && is_none (earlier (mark_slip quote mp m (Some x)) (text_slip k p (Some x)))) (marked_node k p m x) ≡ when (b && (o && is_good k x)) marked
 marked_same k p mp m x quote false o marked e f = refl
@@ -123,7 +123,7 @@ string_same d ps s = rw (s.kind_is, s.place_is, s.bytes_is, s.mark_is, s.mark_pl
     go (Some x) =
         marked_same (kind ps) (place ps) (mark_place (last_piece ps)) (mark_of (last_piece ps)) x (is_empty_quote ps) (is_bare_before ps) (is_of_kind (kind ps) ps) (marked_string (mark_of (last_piece ps)) ps x) (marked_ends ps x (mark_of (last_piece ps))) (marked_width ps x (mark_of (last_piece ps)))
 
-chunk_parts : {A : Type 0} (k : Kind) (p mp : ℕ) (m : Mark) (x : List ℕ) (b o : Bool) (f : Width → Option A)
+chunk_parts : {A : Type 0} (k : StringKind) (p mp : ℕ) (m : Mark) (x : List ℕ) (b o : Bool) (f : Width → Option A)
     → when ((b && o) && is_none (earlier (mark_slip false mp m (Some x)) (text_slip k p (Some x)))) (and_then (width_for m (length x)) f) ≡ when (b && (o && is_good k x)) (and_then (width_for m (length x)) f)
 chunk_parts k p mp m x false o f = refl
 chunk_parts k p mp m x true false f = refl
@@ -196,7 +196,7 @@ chunks_swap (Some l) (Some x) f s = go (f x) s
     go (Some c) true = refl
     go (Some c) false = refl
 
-chunked_same : (p : ℕ) (cs : Chunks) (k : Kind) (o : Option (List Chunk)) → cs.kind ≡ Some k → cs.chunks ≡ o → chunked_item p cs ≡ and_then o (λ l. Some (chunked_node k p l))
+chunked_same : (p : ℕ) (cs : Chunks) (k : StringKind) (o : Option (List Chunk)) → cs.kind ≡ Some k → cs.chunks ≡ o → chunked_item p cs ≡ and_then o (λ l. Some (chunked_node k p l))
 chunked_same p cs k o e f = rw (e, f) refl
 
 also_same : (d e : Kept) (ps : Pieces) (p : Piece) → Same d ps → Same e (piece p) → Same (with_next d e) (also ps p)
@@ -237,7 +237,7 @@ mutual
   kind_strings : (ss : Strings) → (kept_strings ss).kind ≡ Some (kind_of_strings ss)
   kind_strings (strings b ps) = ap Some (ap (kind_or (kept_strings_before b).kind) (agree_pieces ps).kind_is ∙ kind_before b (kind ps))
 
-  pub kind_before : (b : StringsBefore) (k : Kind) → kind_or (kept_strings_before b).kind k ≡ kind_after b k
+  pub kind_before : (b : StringsBefore) (k : StringKind) → kind_or (kept_strings_before b).kind k ≡ kind_after b k
   kind_before no_string k = refl
   kind_before (after_strings ss c) k = ap (λ o. kind_or o k) (kind_strings ss)
 

@@ -9,26 +9,26 @@ use Rattle.cborn_model.specs.declared.heads.Size.{Size}
 use Rattle.cborn_model.specs.declared.heads.Size.TheVariants.{Fixed, Endless as Unending}
 use Rattle.cborn_model.specs.declared.nodes.Chunk.{Chunk}
 use Rattle.cborn_model.specs.Tree.{Tree, Uint, Nint, Bytes as ByteNode, Text as TextNode, ByteChunks, TextChunks, Items, Pairs as PairNode, Tagged, Simple, Trees, no_item as no_node, more, Entries, no_entry, entry, count, count_entries, depth as node_depth, depth_all, depth_entries}
-use Rattle.cborn_model.specs.Heads.{following, least, Holds, SizeFits, ByteString, TextString}
+use Rattle.cborn_model.specs.Heads.{following, least, WidthFits, SizeFits, ByteString, TextString}
 use Rattle.cborn_model.specs.Spelled.{ChunksFit, Fits, FitsAll, FitsEntries, spelled, spelled_all, spelled_entries, chunk_bytes}
 use Rattle.cborn_lex.specs.declared.classes.Mark.{Mark}
 use Rattle.cborn_lex.specs.declared.classes.Mark.TheVariants.{Absent, Endless, Wide}
 use Rattle.cborn_edn.specs.Syntax.{Item, word, simple, string, Pieces, strings, StringsBefore, no_string, after_strings, row, RowBefore, no_item, after_row, pairs, PairsBefore, no_pair, after_pairs, depth, depth_of_strings, depth_of_strings_before, depth_of_row, depth_of_row_before, depth_of_content, depth_of_pairs, depth_of_pairs_before, depth_of_fields, depth_of_input}
 use Rattle.cborn_edn.specs.Meaning.{and_then, when, holds, width_for, size_for, snoc, snoc_entry, is_simple, kind, place, is_good, string_node, chunked_node, marked_string, means_chunk, kind_of_strings, kind_after, same_kind, means, joined, means_strings, means_strings_before, means_row, means_row_before, means_content, means_pairs, means_pairs_before, means_fields, Says}
-use Rattle.cborn_edn.specs.declared.strings.Kind.{Kind}
-use Rattle.cborn_edn.specs.declared.strings.Kind.TheVariants.{Bytes as OfBytes, Text as OfText}
+use Rattle.cborn_edn.specs.declared.strings.StringKind.{StringKind}
+use Rattle.cborn_edn.specs.declared.strings.StringKind.TheVariants.{Bytes as OfBytes, Text as OfText}
 use Rattle.cborn_edn.specs.ReadingBack.{nowhere, one_piece, chunk_pieces, chunk_row, chunk_item, simple_item, notated, notated_content, notated_row, notated_fields, notated_pairs, notated_input, unplaced_chunks, unplaced, unplaced_all, unplaced_entries}
 use Rattle.cborn_edn.specs.Shown.{mark_for, mark_for_size}
 use Rattle.cborn_edn.specs.devices.Texts.{AreTexts, IsShowable, EachShowable, ArePairsShowable}
 
-pub holds_true : (w : Width) (n : ℕ) → Holds w n → holds w n ≡ true
+pub holds_true : (w : Width) (n : ℕ) → WidthFits w n → holds w n ≡ true
 holds_true Direct n h = lt-ltb n 24 h
 holds_true One n h = lt-ltb n 256 h
 holds_true Two n h = lt-ltb n (2 ^ 16) h
 holds_true Four n h = lt-ltb n (2 ^ 32) h
 holds_true Eight n h = lt-ltb n (2 ^ 64) h
 
-pub below : (w : Width) (n : ℕ) → Holds w n → n < 2 ^ 64
+pub below : (w : Width) (n : ℕ) → WidthFits w n → n < 2 ^ 64
 below Direct n h = omega arith
 below One n h = omega arith
 below Two n h = omega arith
@@ -50,14 +50,14 @@ as_long-same Four Four n e = refl
 as_long-same Eight Eight n e = refl
 as_long-same _ _ n e = absurd (let f : false ≡ true = e in cc)
 
-pub width_back : (w : Width) (n : ℕ) → Holds w n → width_for (mark_for w n) n ≡ Some w
+pub width_back : (w : Width) (n : ℕ) → WidthFits w n → width_for (mark_for w n) n ≡ Some w
 width_back w n h = go (as_long w (least n) n) refl
   where
     go : (b : Bool) → as_long w (least n) n ≡ b → width_for (cond b Absent (Wide w)) n ≡ Some w
     go true e = rw (lt-ltb n (2 ^ 64) (below w n h)) (ap Some (as_long-same w (least n) n e))
     go false e = rw (holds_true w n h) refl
 
-size_wide : (w : Width) (n : ℕ) → Holds w n → size_for (mark_for w n) n ≡ Some (Fixed w)
+size_wide : (w : Width) (n : ℕ) → WidthFits w n → size_for (mark_for w n) n ≡ Some (Fixed w)
 size_wide w n h = go (as_long w (least n) n) refl
   where
     go : (b : Bool) → as_long w (least n) n ≡ b → size_for (cond b Absent (Wide w)) n ≡ Some (Fixed w)
@@ -76,18 +76,18 @@ marked_back Endless ps x w e = absurd (clash e)
     clash e = cc
 marked_back (Wide v) ps x w e = rw e refl
 
-string_back : (k : Kind) (w : Width) (x : List ℕ) → Holds w (length x) → is_good k x ≡ true → means (string (one_piece k x (mark_for w (length x)))) ≡ Some (string_node k 0 w x)
+string_back : (k : StringKind) (w : Width) (x : List ℕ) → WidthFits w (length x) → is_good k x ≡ true → means (string (one_piece k x (mark_for w (length x)))) ≡ Some (string_node k 0 w x)
 string_back OfBytes w x h g = marked_back (mark_for w (length x)) (one_piece OfBytes x (mark_for w (length x))) x w (width_back w (length x) h)
 string_back OfText w x h g = ap (λ b. when b (marked_string (mark_for w (length x)) (one_piece OfText x (mark_for w (length x))) x)) g ∙ marked_back (mark_for w (length x)) (one_piece OfText x (mark_for w (length x))) x w (width_back w (length x) h)
 
 abbrev made_chunk : Width → List ℕ → Chunk
 made_chunk w x = record { place = 0; width = w; bytes = x }
 
-chunk_back : (k : Kind) (w : Width) (x : List ℕ) → Holds w (length x) → is_good k x ≡ true → means_chunk (one_piece k x (mark_for w (length x))) x ≡ Some (made_chunk w x)
+chunk_back : (k : StringKind) (w : Width) (x : List ℕ) → WidthFits w (length x) → is_good k x ≡ true → means_chunk (one_piece k x (mark_for w (length x))) x ≡ Some (made_chunk w x)
 chunk_back OfBytes w x h g = ap (λ o. and_then o (λ v. Some (made_chunk v x))) (width_back w (length x) h)
 chunk_back OfText w x h g = ap (λ b. when b (and_then (width_for (mark_for w (length x)) (length x)) (λ v. Some (made_chunk v x)))) g ∙ ap (λ o. and_then o (λ v. Some (made_chunk v x))) (width_back w (length x) h)
 
-abbrev AreGood : Kind → List Chunk → Type 0
+abbrev AreGood : StringKind → List Chunk → Type 0
 AreGood k [] = Unit {0}
 AreGood k (c ∷ cs) = (is_good k c.bytes ≡ true) × AreGood k cs
 
@@ -99,15 +99,15 @@ texts_good : (cs : List Chunk) → AreTexts cs → AreGood OfText cs
 texts_good [] h = tt
 texts_good (c ∷ cs) h = (h.0, texts_good cs h.1)
 
-kind-one : (k : Kind) (x : List ℕ) (m : Mark) → kind (one_piece k x m) ≡ k
+kind-one : (k : StringKind) (x : List ℕ) (m : Mark) → kind (one_piece k x m) ≡ k
 kind-one OfBytes x m = refl
 kind-one OfText x m = refl
 
-joined-one : (k : Kind) (x : List ℕ) (m : Mark) → joined (one_piece k x m) ≡ Some x
+joined-one : (k : StringKind) (x : List ℕ) (m : Mark) → joined (one_piece k x m) ≡ Some x
 joined-one OfBytes x m = refl
 joined-one OfText x m = refl
 
-same_kind-same : (k : Kind) → same_kind k k ≡ true
+same_kind-same : (k : StringKind) → same_kind k k ≡ true
 same_kind-same OfBytes = refl
 same_kind-same OfText = refl
 
@@ -120,7 +120,7 @@ chunk_step b ps ds x c e j f g =
     ∙ ap (λ o. and_then o (λ d. Some (ds ++ (d ∷ [])))) g
 
 -- one chunk more
-chunk_more : (k : Kind) (b : StringsBefore) (c : Chunk) (ds : List Chunk) → means_strings_before b ≡ Some ds → kind_after b k ≡ k → Holds c.width (length c.bytes) → is_good k c.bytes ≡ true
+chunk_more : (k : StringKind) (b : StringsBefore) (c : Chunk) (ds : List Chunk) → means_strings_before b ≡ Some ds → kind_after b k ≡ k → WidthFits c.width (length c.bytes) → is_good k c.bytes ≡ true
     → means_strings (strings b (chunk_pieces k c)) ≡ Some (ds ++ (made_chunk c.width c.bytes ∷ []))
 chunk_more k b c ds e f h g =
     let m = mark_for c.width (length c.bytes) in
@@ -128,14 +128,14 @@ chunk_more k b c ds e f h g =
     (ap (λ l. same_kind (kind_after b l) l) (kind-one k c.bytes m) ∙ ap (λ l. same_kind l k) f ∙ same_kind-same k)
     (chunk_back k c.width c.bytes h g)
 
-chunks_back : (k : Kind) (cs : List Chunk) (b : StringsBefore) (c : Chunk) (ds : List Chunk) → means_strings_before b ≡ Some ds → kind_after b k ≡ k → Holds c.width (length c.bytes) → is_good k c.bytes ≡ true → ChunksFit cs → AreGood k cs
+chunks_back : (k : StringKind) (cs : List Chunk) (b : StringsBefore) (c : Chunk) (ds : List Chunk) → means_strings_before b ≡ Some ds → kind_after b k ≡ k → WidthFits c.width (length c.bytes) → is_good k c.bytes ≡ true → ChunksFit cs → AreGood k cs
     → (means_strings (chunk_row k cs b c) ≡ Some (ds ++ unplaced_chunks (c ∷ cs))) × (kind_of_strings (chunk_row k cs b c) ≡ k)
 chunks_back k [] b c ds e f h g fits good = (chunk_more k b c ds e f h g, ap (kind_after b) (kind-one k c.bytes (mark_for c.width (length c.bytes))) ∙ f)
 chunks_back k (d ∷ cs) b c ds e f h g fits good =
     let r = chunks_back k cs (after_strings (strings b (chunk_pieces k c)) nowhere) d (ds ++ (made_chunk c.width c.bytes ∷ [])) (chunk_more k b c ds e f h g) (ap (kind_after b) (kind-one k c.bytes (mark_for c.width (length c.bytes))) ∙ f) fits.0.0 good.0 fits.1 good.1 in
     (r.0 ∙ ap Some (append_assoc ds (made_chunk c.width c.bytes ∷ []) _), r.1)
 
-chunk_item_back : (k : Kind) (cs : List Chunk) → ChunksFit cs → AreGood k cs → means (chunk_item k cs) ≡ Some (chunked_node k 0 (unplaced_chunks cs))
+chunk_item_back : (k : StringKind) (cs : List Chunk) → ChunksFit cs → AreGood k cs → means (chunk_item k cs) ≡ Some (chunked_node k 0 (unplaced_chunks cs))
 chunk_item_back OfBytes [] fits good = refl
 chunk_item_back OfText [] fits good = rw (is_utf8-from_IsUtf8 [] ([], (refl, refl))) refl
 chunk_item_back k (c ∷ cs) fits good =
@@ -249,13 +249,13 @@ mutual
   spelled_entries-unplaced (entry k v es) = rw (spelled-unplaced k, spelled-unplaced v, spelled_entries-unplaced es) refl
 
 -- How deep what is shown is.
-depth-chunks : (k : Kind) (cs : List Chunk) (b : StringsBefore) (c : Chunk) → depth_of_strings (chunk_row k cs b c) ≡ depth_of_strings_before b
+depth-chunks : (k : StringKind) (cs : List Chunk) (b : StringsBefore) (c : Chunk) → depth_of_strings (chunk_row k cs b c) ≡ depth_of_strings_before b
 depth-chunks OfBytes [] b c = omega arith
 depth-chunks OfText [] b c = omega arith
 depth-chunks OfBytes (d ∷ cs) b c = depth-chunks OfBytes cs (after_strings (strings b (chunk_pieces OfBytes c)) nowhere) d ∙ omega arith
 depth-chunks OfText (d ∷ cs) b c = depth-chunks OfText cs (after_strings (strings b (chunk_pieces OfText c)) nowhere) d ∙ omega arith
 
-depth-chunk_item : (k : Kind) (cs : List Chunk) → depth (chunk_item k cs) ≡ 0
+depth-chunk_item : (k : StringKind) (cs : List Chunk) → depth (chunk_item k cs) ≡ 0
 depth-chunk_item OfBytes [] = refl
 depth-chunk_item OfText [] = refl
 depth-chunk_item k (c ∷ cs) = depth-chunks k cs no_string c

@@ -19,8 +19,8 @@ use Rattle.cborn_model.specs.Tree.{Tree, Uint, Nint, Bytes as ByteNode, Text as 
 use Rattle.cborn_model.specs.Spelled.{Fits, FitsAll, FitsEntries}
 use Rattle.cborn_lex.specs.declared.classes.Mark.{Mark}
 use Rattle.cborn_lex.specs.declared.classes.Mark.TheVariants.{Absent, Endless, Wide}
-use Rattle.cborn_edn.specs.declared.strings.Kind.{Kind}
-use Rattle.cborn_edn.specs.declared.strings.Kind.TheVariants.{Bytes as OfBytes, Text as OfText}
+use Rattle.cborn_edn.specs.declared.strings.StringKind.{StringKind}
+use Rattle.cborn_edn.specs.declared.strings.StringKind.TheVariants.{Bytes as OfBytes, Text as OfText}
 use Rattle.cborn_edn.specs.Shown.{mark_for, mark_for_size, escaped, indicator, opened, shown_string, shown_chunks, shown_more_chunks, shown_simple, shown, shown_all, shown_more, shown_entries, shown_more_entries, shown_lines, shown_more_lines, Shown}
 use Rattle.cborn_edn.specs.devices.Texts.{AreTexts, IsShowable, EachShowable, ArePairsShowable}
 use Rattle.cborn_edn.proofs.Back.{below, simple_below}
@@ -118,15 +118,15 @@ hex_text : (x : List ℕ) → IsUtf8 (encode_lower x)
 hex_text x = IsUtf8-from_ascii _ (IsAscii-encode_with lower_digits x (low_ascii lower_digits refl))
 
 -- a text is UTF-8 if its kind has to be
-abbrev IsSound : Kind → List ℕ → Type 0
+abbrev IsSound : StringKind → List ℕ → Type 0
 IsSound OfBytes x = Unit {0}
 IsSound OfText x = is_utf8 x ≡ true
 
-string_text : (k : Kind) (w : Width) (x : List ℕ) → IsSound k x → IsUtf8 (shown_string k w x)
+string_text : (k : StringKind) (w : Width) (x : List ℕ) → IsSound k x → IsUtf8 (shown_string k w x)
 string_text OfBytes w x h = IsUtf8-append _ _ (ascii (codes "h'") refl) (IsUtf8-append _ _ (hex_text x) (IsUtf8-append _ _ (ascii (codes "'") refl) (indicator_text (mark_for w (length x)))))
 string_text OfText w x h = IsUtf8-append _ _ (ascii (codes "\"") refl) (IsUtf8-append _ _ (escaped_text x h) (IsUtf8-append _ _ (ascii (codes "\"") refl) (indicator_text (mark_for w (length x)))))
 
-abbrev AreSound : Kind → List Chunk → Type 0
+abbrev AreSound : StringKind → List Chunk → Type 0
 AreSound k [] = Unit {0}
 AreSound k (c ∷ cs) = IsSound k c.bytes × AreSound k cs
 
@@ -138,14 +138,14 @@ texts_sound : (cs : List Chunk) → AreTexts cs → AreSound OfText cs
 texts_sound [] h = tt
 texts_sound (c ∷ cs) h = (h.0, texts_sound cs h.1)
 
-more_chunks : (k : Kind) (cs : List Chunk) → AreSound k cs → IsUtf8 (shown_more_chunks k cs)
+more_chunks : (k : StringKind) (cs : List Chunk) → AreSound k cs → IsUtf8 (shown_more_chunks k cs)
 more_chunks k [] h = IsUtf8-nil
 more_chunks k (c ∷ cs) h = IsUtf8-append _ _ (ascii (codes ", ") refl) (IsUtf8-append _ _ (string_text k c.width c.bytes h.0) (more_chunks k cs h.1))
 
-some_chunks : (k : Kind) (c : Chunk) (cs : List Chunk) → AreSound k (c ∷ cs) → IsUtf8 (codes "(_ " ++ (shown_string k c.width c.bytes ++ (shown_more_chunks k cs ++ codes ")")))
+some_chunks : (k : StringKind) (c : Chunk) (cs : List Chunk) → AreSound k (c ∷ cs) → IsUtf8 (codes "(_ " ++ (shown_string k c.width c.bytes ++ (shown_more_chunks k cs ++ codes ")")))
 some_chunks k c cs h = IsUtf8-append _ _ (ascii (codes "(_ ") refl) (IsUtf8-append _ _ (string_text k c.width c.bytes h.0) (IsUtf8-append _ _ (more_chunks k cs h.1) (ascii (codes ")") refl)))
 
-chunks_text : (k : Kind) (cs : List Chunk) → AreSound k cs → IsUtf8 (shown_chunks k cs)
+chunks_text : (k : StringKind) (cs : List Chunk) → AreSound k cs → IsUtf8 (shown_chunks k cs)
 chunks_text OfBytes [] h = ascii _ refl
 chunks_text OfText [] h = ascii _ refl
 chunks_text OfBytes (c ∷ cs) h = some_chunks OfBytes c cs h

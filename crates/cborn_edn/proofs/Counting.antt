@@ -21,8 +21,8 @@ use Rattle.cborn_lex.specs.declared.classes.Class.TheVariants.{Text, Bytes, Arra
 use Rattle.cborn_lex.specs.declared.classes.Token.{Token}
 use Rattle.cborn_lex.specs.Lex.{Lex}
 use Rattle.cborn_lex.proofs.Weights.{weight, weigh, AreModest, text_light}
-use Rattle.cborn_edn.specs.declared.strings.Kind.{Kind}
-use Rattle.cborn_edn.specs.declared.strings.Kind.TheVariants.{Bytes as OfBytes, Text as OfText}
+use Rattle.cborn_edn.specs.declared.strings.StringKind.{StringKind}
+use Rattle.cborn_edn.specs.declared.strings.StringKind.TheVariants.{Bytes as OfBytes, Text as OfText}
 use Rattle.cborn_edn.specs.Syntax.{Item, number, word, tag, simple, string, chunked, array, map, Piece, text, bytes, embedded, Pieces, piece, also, Strings, strings, StringsBefore, no_string, after_strings, Row, row, RowBefore, no_item, after_row, Content, loose, tight, Pairs, pairs, PairsBefore, no_pair, after_pairs, Fields, loose_fields, tight_fields, Input, nothing, items, token, tokens_of, tokens_of_piece, tokens_of_pieces, tokens_of_strings, tokens_of_strings_before, tokens_of_row, tokens_of_row_before, tokens_of_content, tokens_of_pairs, tokens_of_pairs_before, tokens_of_fields, tokens_of_input, is_below, argument_of, is_small}
 use Rattle.cborn_edn.specs.Parse.{Parse}
 use Rattle.cborn_edn.specs.Meaning.{and_then, when, width_for, size_for, is_absent, snoc, snoc_entry, integer, bignum, means_number, is_simple, kind, place, last_piece, mark_of, is_string, is_empty_quote, string_node, chunked_node, marked_string, means_string, means_chunk, kind_of_strings, kind_after, same_kind, means, joined, joined_piece, means_strings, means_strings_before, means_row, means_row_before, means_content, means_pairs, means_pairs_before, means_fields, row_length, row_length_before, content_length, pairs_length, pairs_length_before, fields_length}
@@ -124,11 +124,11 @@ number_short p n v m t h e = go (is_small n v) e
 
 -- Strings.
 
-node_short : (k : Kind) (p : ℕ) (w : Width) (x : List ℕ) → length (spelled (string_node k p w x)) ≤ length x + 9
+node_short : (k : StringKind) (p : ℕ) (w : Width) (x : List ℕ) → length (spelled (string_node k p w x)) ≤ length x + 9
 node_short OfBytes p w x = omega (arith, head_short ByteString (Given w (length x)), length-append (head ByteString (Given w (length x))) x)
 node_short OfText p w x = omega (arith, head_short TextString (Given w (length x)), length-append (head TextString (Given w (length x))) x)
 
-empty_short : (k : Kind) (p : ℕ) (x : List ℕ) → length (spelled (chunked_node k p [])) ≤ length x + 9
+empty_short : (k : StringKind) (p : ℕ) (x : List ℕ) → length (spelled (chunked_node k p [])) ≤ length x + 9
 empty_short OfBytes p x = omega arith
 empty_short OfText p x = omega arith
 
@@ -144,7 +144,7 @@ chunk_short major ps x c e =
     let m = made (width_for mark (length x)) (λ w. Some (record { place = place ps; width = w; bytes = x })) c d.then in
     subst (λ (d : Chunk). length (chunk_bytes major d) ≤ length x + 9) (some_is m.then) (omega (arith, head_short major (Given m.first (length x)), length-append (head major (Given m.first (length x))) x))
 
-chunked_short : (k : Kind) (p n : ℕ) (cs : List Chunk) → ((major : Major) → length (flat_map (chunk_bytes major) cs) ≤ n) → length (spelled (chunked_node k p cs)) ≤ n + 2
+chunked_short : (k : StringKind) (p n : ℕ) (cs : List Chunk) → ((major : Major) → length (flat_map (chunk_bytes major) cs) ≤ n) → length (spelled (chunked_node k p cs)) ≤ n + 2
 chunked_short OfBytes p n cs h = omega (arith, h ByteString, length-append (flat_map (chunk_bytes ByteString) cs) (ending Unending))
 chunked_short OfText p n cs h = omega (arith, h TextString, length-append (flat_map (chunk_bytes TextString) cs) (ending Unending))
 

@@ -11,8 +11,8 @@ use Rattle.cborn_lex.specs.declared.classes.Mark.TheVariants.{Absent, Endless, W
 use Rattle.cborn_edn.specs.Syntax.{Item, number, word, tag, simple, string, chunked, array, map as map_item, Piece, text, bytes, embedded, Pieces, piece, also, Strings, strings, StringsBefore, no_string, after_strings, Row, row, RowBefore, no_item, after_row, Content, loose, tight, Pairs, pairs, PairsBefore, no_pair, after_pairs, Fields, loose_fields, tight_fields, Input, nothing, items, argument_of, depth, depth_of_piece, depth_of_pieces, depth_of_strings, depth_of_strings_before, depth_of_row, depth_of_row_before, depth_of_content, depth_of_pairs, depth_of_pairs_before, depth_of_fields, depth_of_input, is_below}
 use Rattle.cborn_edn.specs.devices.Commas.{commas, commas_of_piece, commas_of_pieces, commas_of_strings, commas_of_strings_before, commas_of_row, commas_of_row_before, commas_of_content, commas_of_pairs, commas_of_pairs_before, commas_of_fields, last_comma, last_pair_comma, commas_of_input}
 use Rattle.cborn_edn.specs.Meaning.{and_then, when, width_for, size_for, snoc, snoc_entry, means_number, is_simple, kind, place, last_piece, mark_of, is_string, string_node, chunked_node, marked_string, means_string, means_chunk, kind_of_strings, kind_after, same_kind, means, joined, means_strings, means_strings_before, means_row, means_row_before, means_content, means_pairs, means_pairs_before, means_fields, means_input, joined_piece, start_of, kind_of, is_of_kind, is_bare, is_bare_before, fits_kind, is_empty_quote, integer, bignum, is_absent}
-use Rattle.cborn_edn.specs.declared.strings.Kind.{Kind}
-use Rattle.cborn_edn.specs.declared.strings.Kind.TheVariants.{Bytes as OfBytes, Text as OfText}
+use Rattle.cborn_edn.specs.declared.strings.StringKind.{StringKind}
+use Rattle.cborn_edn.specs.declared.strings.StringKind.TheVariants.{Bytes as OfBytes, Text as OfText}
 use Rattle.cborn_edn.specs.ReadingBack.{unplaced_chunks, unplaced, unplaced_all, unplaced_entries}
 use Rattle.cborn_edn.proofs.Back.{count-unplaced, count-unplaced_entries, spelled_all-unplaced}
 use Rattle.cborn_edn.proofs.Erase.{opt_map, erase, erase_piece, erase_pieces, erase_strings, erase_strings_before, erase_row, erase_row_before, erase_content, erase_pairs, erase_pairs_before, erase_fields, erase_input}
@@ -168,11 +168,11 @@ bare_before-erased : (ps : Pieces) → is_bare_before (erase_pieces ps) ≡ is_b
 bare_before-erased (piece p) = refl
 bare_before-erased (also ps p) = bare-erased ps
 
-fits_kind-erased : (k : Kind) (p : Piece) → fits_kind k (erase_piece p) ≡ fits_kind k p
+fits_kind-erased : (k : StringKind) (p : Piece) → fits_kind k (erase_piece p) ≡ fits_kind k p
 fits_kind-erased OfText p = refl
 fits_kind-erased OfBytes p = ap (λ k. same_kind k OfBytes) (kind_of-erased p)
 
-of_kind-erased : (k : Kind) (ps : Pieces) → is_of_kind k (erase_pieces ps) ≡ is_of_kind k ps
+of_kind-erased : (k : StringKind) (ps : Pieces) → is_of_kind k (erase_pieces ps) ≡ is_of_kind k ps
 of_kind-erased k (piece p) = fits_kind-erased k p
 of_kind-erased k (also ps p) = rw (of_kind-erased k ps, fits_kind-erased k p) refl
 
@@ -188,11 +188,11 @@ empty-erased (also ps p) = refl
 is_string-erased : (ps : Pieces) (x : List ℕ) → is_string (erase_pieces ps) x ≡ is_string ps x
 is_string-erased ps x = rw (kind-erased ps, bare_before-erased ps, of_kind-erased (kind ps) ps) refl
 
-unplaced_string : (k : Kind) (p : ℕ) (w : Width) (x : List ℕ) → unplaced (string_node k p w x) ≡ string_node k 0 w x
+unplaced_string : (k : StringKind) (p : ℕ) (w : Width) (x : List ℕ) → unplaced (string_node k p w x) ≡ string_node k 0 w x
 unplaced_string OfBytes p w x = refl
 unplaced_string OfText p w x = refl
 
-unplaced_chunked : (k : Kind) (p : ℕ) (cs : List Chunk) → unplaced (chunked_node k p cs) ≡ chunked_node k 0 (unplaced_chunks cs)
+unplaced_chunked : (k : StringKind) (p : ℕ) (cs : List Chunk) → unplaced (chunked_node k p cs) ≡ chunked_node k 0 (unplaced_chunks cs)
 unplaced_chunked OfBytes p cs = refl
 unplaced_chunked OfText p cs = refl
 
@@ -303,7 +303,7 @@ mutual
   kind-erased_strings : (ss : Strings) → kind_of_strings (erase_strings ss) ≡ kind_of_strings ss
   kind-erased_strings (strings b ps) = ap (kind_after (erase_strings_before b)) (kind-erased ps) ∙ kind-erased_after b (kind ps)
 
-  kind-erased_after : (b : StringsBefore) (k : Kind) → kind_after (erase_strings_before b) k ≡ kind_after b k
+  kind-erased_after : (b : StringsBefore) (k : StringKind) → kind_after (erase_strings_before b) k ≡ kind_after b k
   kind-erased_after no_string k = refl
   kind-erased_after (after_strings ss c) k = kind-erased_strings ss
 

@@ -4,7 +4,7 @@ use Rattle.cborn_lex.specs.declared.classes.Mark.{Mark}
 use Rattle.cborn_lex.specs.declared.classes.Mark.TheVariants.{Absent, Endless, Wide}
 use Rattle.cborn_edn.specs.declared.slips.Slip.{Slip}
 use Rattle.cborn_edn.specs.declared.faults.EdnReason.TheVariants.{IndicatorNotAllowed, MixedString, MixedChunks, TextNotUtf8, BadSimple}
-use Rattle.cborn_edn.specs.declared.strings.Kind.{Kind}
+use Rattle.cborn_edn.specs.declared.strings.StringKind.{StringKind}
 use Rattle.cborn_edn.specs.declared.strings.Pieces.{Pieces as Kept}
 use Rattle.cborn_edn.specs.Syntax.{Item, number, word, tag, simple, string, chunked, array, map, Piece, text, bytes, embedded, Pieces, piece, also, Strings, strings, StringsBefore, no_string, after_strings, Row, row, RowBefore, no_item, after_row, Content, loose, tight, Pairs, pairs, PairsBefore, no_pair, after_pairs, Fields, loose_fields, tight_fields}
 use Rattle.cborn_edn.specs.Meaning.{is_absent, is_simple, is_good, same_kind, kind_of, start_of, mark_of, mark_place, kind, place, last_piece, fits_kind, is_empty_quote, kind_after, joined, unless, size_slips, tag_slips, bare_slips, bare_slips_before, kind_slips, mark_slips, text_slips, string_slips, content_length, fields_length, slips, piece_slips, inner_slips, strings_slips, strings_slips_before, row_slips, row_slips_before, content_slips, pairs_slips, pairs_slips_before, fields_slips}
@@ -46,7 +46,7 @@ mark_same e p Endless o = sym (first-unless e p IndicatorNotAllowed)
 mark_same e p (Wide w) None = refl
 mark_same e p (Wide w) (Some x) = refl
 
-text_same : (k : Kind) (p : ℕ) (o : Option (List ℕ)) → text_slip k p o ≡ first_slip (text_slips k p o)
+text_same : (k : StringKind) (p : ℕ) (o : Option (List ℕ)) → text_slip k p o ≡ first_slip (text_slips k p o)
 text_same k p None = refl
 text_same k p (Some x) = sym (first-unless (is_good k x) p TextNotUtf8)
 

@@ -7,15 +7,15 @@ use Rattle.cborn_model.specs.declared.heads.Size.{Size}
 use Rattle.cborn_model.specs.declared.heads.Size.TheVariants.{Fixed}
 use Rattle.cborn_model.specs.declared.nodes.Chunk.{Chunk}
 use Rattle.cborn_model.specs.Tree.{Tree, Uint, Nint, Bytes as ByteNode, Items, Pairs as PairNode, Tagged, Simple, Trees, no_item as no_node, more, Entries, no_entry, entry, count, count_entries, depth as node_depth, depth_all, depth_entries}
-use Rattle.cborn_model.specs.Heads.{least, Holds, SizeFits}
+use Rattle.cborn_model.specs.Heads.{least, WidthFits, SizeFits}
 use Rattle.cborn_model.specs.Spelled.{ChunksFit, Fits, FitsAll, FitsEntries}
 use Rattle.cborn_lex.specs.declared.classes.Mark.{Mark}
 use Rattle.cborn_lex.specs.declared.classes.Mark.TheVariants.{Absent, Endless, Wide}
 use Rattle.cborn_edn.specs.Syntax.{Item, number, word, tag, simple, string, chunked, array, map as map_item, Piece, text, bytes, embedded, Pieces, piece, also, Strings, strings, StringsBefore, no_string, after_strings, Row, row, RowBefore, no_item, after_row, Content, loose, tight, Pairs, pairs, PairsBefore, no_pair, after_pairs, Fields, loose_fields, tight_fields, Input, nothing, items, argument_of, is_small, depth_of_number, depth, depth_of_row, depth_of_row_before, depth_of_content, depth_of_pairs, depth_of_pairs_before, depth_of_fields, depth_of_input, is_below}
 use Rattle.cborn_edn.specs.Meaning.{and_then, when, holds, width_for, size_for, is_absent, snoc, snoc_entry, integer, bignum, means_number, is_simple, kind, place, last_piece, mark_of, is_string, is_empty_quote, string_node, chunked_node, marked_string, means_string, means_chunk, kind_of_strings, kind_after, same_kind, means, joined, joined_piece, means_strings, means_strings_before, means_row, means_row_before, means_content, means_pairs, means_pairs_before, means_fields, Says}
 use Rattle.cborn_edn.specs.Counted.{Counted, CountedPiece, CountedPieces, CountedStrings, CountedStringsBefore, CountedRow, CountedRowBefore, CountedContent, CountedPairs, CountedPairsBefore, CountedFields, CountedInput}
-use Rattle.cborn_edn.specs.declared.strings.Kind.{Kind}
-use Rattle.cborn_edn.specs.declared.strings.Kind.TheVariants.{Bytes as OfBytes, Text as OfText}
+use Rattle.cborn_edn.specs.declared.strings.StringKind.{StringKind}
+use Rattle.cborn_edn.specs.declared.strings.StringKind.TheVariants.{Bytes as OfBytes, Text as OfText}
 use Rattle.cborn_model.specs.Bytes.{AreBytes}
 use Rattle.cborn_model.specs.Spelled.{spelled_all}
 use Rattle.std.proofs.lemmas.Int.Digits.{all_below_base_digits_of}
@@ -35,30 +35,30 @@ chosen false o y e = absurd (clash e)
     clash : None ≡ Some y → ⊥
     clash e = cc
 
-holds_is : (w : Width) (n : ℕ) → holds w n ≡ true → Holds w n
+holds_is : (w : Width) (n : ℕ) → holds w n ≡ true → WidthFits w n
 holds_is Direct n e = ltb-true _ _ e
 holds_is One n e = ltb-true _ _ e
 holds_is Two n e = ltb-true _ _ e
 holds_is Four n e = ltb-true _ _ e
 holds_is Eight n e = ltb-true _ _ e
 
-least_holds : (n : ℕ) → n < 2 ^ 64 → Holds (least n) n
+least_holds : (n : ℕ) → n < 2 ^ 64 → WidthFits (least n) n
 least_holds n h = go (ltb n 24) refl (ltb n 256) refl (ltb n (2 ^ 16)) refl (ltb n (2 ^ 32)) refl
   where
-    go : (a : Bool) → ltb n 24 ≡ a → (b : Bool) → ltb n 256 ≡ b → (c : Bool) → ltb n (2 ^ 16) ≡ c → (d : Bool) → ltb n (2 ^ 32) ≡ d → Holds (cond a Direct (cond b One (cond c Two (cond d Four Eight)))) n
+    go : (a : Bool) → ltb n 24 ≡ a → (b : Bool) → ltb n 256 ≡ b → (c : Bool) → ltb n (2 ^ 16) ≡ c → (d : Bool) → ltb n (2 ^ 32) ≡ d → WidthFits (cond a Direct (cond b One (cond c Two (cond d Four Eight)))) n
     go true e b f c g d i = ltb-true _ _ e
     go false e true f c g d i = ltb-true _ _ f
     go false e false f true g d i = ltb-true _ _ g
     go false e false f false g true i = ltb-true _ _ i
     go false e false f false g false i = h
 
-pub width_holds : (m : Mark) (n : ℕ) (w : Width) → width_for m n ≡ Some w → Holds w n
-width_holds Absent n w e = let c = chosen (ltb n (2 ^ 64)) (Some (least n)) w e in subst (λ v. Holds v n) (some_is c.then) (least_holds n (ltb-true _ _ c.test))
+pub width_holds : (m : Mark) (n : ℕ) (w : Width) → width_for m n ≡ Some w → WidthFits w n
+width_holds Absent n w e = let c = chosen (ltb n (2 ^ 64)) (Some (least n)) w e in subst (λ v. WidthFits v n) (some_is c.then) (least_holds n (ltb-true _ _ c.test))
 width_holds Endless n w e = absurd (clash e)
   where
     clash : None ≡ Some w → ⊥
     clash e = cc
-width_holds (Wide v) n w e = let c = chosen (holds v n) (Some v) w e in subst (λ u. Holds u n) (some_is c.then) (holds_is v n c.test)
+width_holds (Wide v) n w e = let c = chosen (holds v n) (Some v) w e in subst (λ u. WidthFits u n) (some_is c.then) (holds_is v n c.test)
 
 size_holds : (m : Mark) (n : ℕ) (s : Size) → size_for m n ≡ Some s → SizeFits s n
 size_holds Absent n s e = let c = chosen (ltb n (2 ^ 64)) (Some (Fixed (least n))) s e in subst (λ v. SizeFits v n) (some_is c.then) (least_holds n (ltb-true _ _ c.test))
@@ -70,7 +70,7 @@ pub record Sound (k : ℕ) (t : Tree) : Type 0 where
   pub fits : Fits t
   pub low : node_depth t ≤ k
 
-integer_sound : (p : ℕ) (n : Bool) (v : ℕ) (w : Width) (k : ℕ) → Holds w (argument_of n v) → Sound k (integer p n v w)
+integer_sound : (p : ℕ) (n : Bool) (v : ℕ) (w : Width) (k : ℕ) → WidthFits w (argument_of n v) → Sound k (integer p n v w)
 integer_sound p n v w k h = go (is_below n v)
   where
     go : (b : Bool) → Sound k (cond b (Nint p w (argument_of n v)) (Uint p w (argument_of n v)))
@@ -94,11 +94,11 @@ number_sound p n v m t e = go (is_small n v) e
     go true f = let d = made (width_for m (argument_of n v)) (λ w. Some (integer p n v w)) t f in subst (Sound 0) (some_is d.then) (integer_sound p n v d.first 0 (width_holds m _ d.first d.was))
     go false f = big_sound p n v t (chosen (is_absent m) (bignum p n v) t f).then
 
-string_sound : (k : Kind) (p : ℕ) (w : Width) (x : List ℕ) (d : ℕ) → Holds w (length x) × AreBytes x → Sound d (string_node k p w x)
+string_sound : (k : StringKind) (p : ℕ) (w : Width) (x : List ℕ) (d : ℕ) → WidthFits w (length x) × AreBytes x → Sound d (string_node k p w x)
 string_sound OfBytes p w x d h = record { fits = h; low = omega arith }
 string_sound OfText p w x d h = record { fits = h; low = omega arith }
 
-chunked_sound : (k : Kind) (p : ℕ) (cs : List Chunk) (d : ℕ) → ChunksFit cs → Sound d (chunked_node k p cs)
+chunked_sound : (k : StringKind) (p : ℕ) (cs : List Chunk) (d : ℕ) → ChunksFit cs → Sound d (chunked_node k p cs)
 chunked_sound OfBytes p cs d h = record { fits = h; low = omega arith }
 chunked_sound OfText p cs d h = record { fits = h; low = omega arith }
 
@@ -107,16 +107,16 @@ marked_sound Endless ps x d t b e = let c = chosen (is_empty_quote ps) (Some (ch
 marked_sound Absent ps x d t b e = let c = made (width_for Absent (length x)) (λ w. Some (string_node (kind ps) (place ps) w x)) t e in subst (Sound d) (some_is c.then) (string_sound (kind ps) (place ps) c.first x d (width_holds Absent _ c.first c.was, b))
 marked_sound (Wide v) ps x d t b e = let c = made (width_for (Wide v) (length x)) (λ w. Some (string_node (kind ps) (place ps) w x)) t e in subst (Sound d) (some_is c.then) (string_sound (kind ps) (place ps) c.first x d (width_holds (Wide v) _ c.first c.was, b))
 
-fits_chunk : (cs : List Chunk) (c : Chunk) → ChunksFit cs → Holds c.width (length c.bytes) × AreBytes c.bytes → ChunksFit (cs ++ (c ∷ []))
+fits_chunk : (cs : List Chunk) (c : Chunk) → ChunksFit cs → WidthFits c.width (length c.bytes) × AreBytes c.bytes → ChunksFit (cs ++ (c ∷ []))
 fits_chunk [] c h g = (g, tt)
 fits_chunk (d ∷ cs) c h g = (h.0, fits_chunk cs c h.1 g)
 
-chunk_sound : (ps : Pieces) (x : List ℕ) (c : Chunk) → AreBytes x → means_chunk ps x ≡ Some c → Holds c.width (length c.bytes) × AreBytes c.bytes
+chunk_sound : (ps : Pieces) (x : List ℕ) (c : Chunk) → AreBytes x → means_chunk ps x ≡ Some c → WidthFits c.width (length c.bytes) × AreBytes c.bytes
 chunk_sound ps x c b e =
     let mark = mark_of (last_piece ps) in
     let d = chosen (is_string ps x) (and_then (width_for mark (length x)) (λ w. Some (record { place = place ps; width = w; bytes = x }))) c e in
     let m = made (width_for mark (length x)) (λ w. Some (record { place = place ps; width = w; bytes = x })) c d.then in
-    subst (λ (d : Chunk). Holds d.width (length d.bytes) × AreBytes d.bytes) (some_is m.then) (width_holds mark _ m.first m.was, b)
+    subst (λ (d : Chunk). WidthFits d.width (length d.bytes) × AreBytes d.bytes) (some_is m.then) (width_holds mark _ m.first m.was, b)
 
 -- a row of nodes
 pub record SoundAll (k : ℕ) (ts : Trees) : Type 0 where

@@ -5,7 +5,7 @@ use Rattle.cborn_model.specs.Tree.{Trees, no_item as no_node, more, Entries, no_
 use Rattle.cborn_lex.specs.declared.classes.Class.TheVariants.{Comma, Colon}
 use Rattle.cborn_lex.specs.declared.classes.Token.{Token}
 use Rattle.cborn_edn.specs.Syntax.{Item, StringsBefore, strings, after_strings, RowBefore, row, after_row, PairsBefore, pairs, after_pairs, token, tokens_of, tokens_of_pieces, tokens_of_strings, tokens_of_strings_before, tokens_of_row, tokens_of_row_before, tokens_of_pairs, tokens_of_pairs_before}
-use Rattle.cborn_edn.specs.declared.strings.Kind.{Kind}
+use Rattle.cborn_edn.specs.declared.strings.StringKind.{StringKind}
 use Rattle.cborn_edn.specs.ReadingBack.{nowhere, chunk_pieces, chunk_row, notated, notated_row, notated_pairs}
 
 abbrev comma : Token
@@ -21,7 +21,7 @@ abbrev pub more_pair_tokens : Entries → List Token
 more_pair_tokens no_entry = []
 more_pair_tokens (entry k v es) = token nowhere Comma ∷ (tokens_of (notated k) ++ (token nowhere Colon ∷ (tokens_of (notated v) ++ more_pair_tokens es)))
 
-abbrev pub more_chunk_tokens : Kind → List Chunk → List Token
+abbrev pub more_chunk_tokens : StringKind → List Chunk → List Token
 more_chunk_tokens k [] = []
 more_chunk_tokens k (c ∷ cs) = token nowhere Comma ∷ (tokens_of_pieces (chunk_pieces k c) ++ more_chunk_tokens k cs)
 
@@ -32,7 +32,7 @@ pub row_tokens : (ts : Trees) (b : RowBefore) (i : Item) → tokens_of_row (nota
 row_tokens no_node b i = ap (λ x. tokens_of_row_before b ++ x) (sym (append-nil (tokens_of i)))
 row_tokens (more t ts) b i = row_tokens ts (after_row (row b i) nowhere) (notated t) ∙ regroup (tokens_of_row_before b) (tokens_of i) (tokens_of (notated t) ++ more_tokens ts) comma
 
-pub chunk_tokens : (k : Kind) (cs : List Chunk) (b : StringsBefore) (c : Chunk) → tokens_of_strings (chunk_row k cs b c) ≡ tokens_of_strings_before b ++ (tokens_of_pieces (chunk_pieces k c) ++ more_chunk_tokens k cs)
+pub chunk_tokens : (k : StringKind) (cs : List Chunk) (b : StringsBefore) (c : Chunk) → tokens_of_strings (chunk_row k cs b c) ≡ tokens_of_strings_before b ++ (tokens_of_pieces (chunk_pieces k c) ++ more_chunk_tokens k cs)
 chunk_tokens k [] b c = ap (λ x. tokens_of_strings_before b ++ x) (sym (append-nil (tokens_of_pieces (chunk_pieces k c))))
 chunk_tokens k (d ∷ cs) b c = chunk_tokens k cs (after_strings (strings b (chunk_pieces k c)) nowhere) d ∙ regroup (tokens_of_strings_before b) (tokens_of_pieces (chunk_pieces k c)) (tokens_of_pieces (chunk_pieces k d) ++ more_chunk_tokens k cs) comma
 

@@ -7,8 +7,8 @@ use Rattle.cborn_edn.specs.declared.contents.Row.{Row as KeptRow}
 use Rattle.cborn_edn.specs.declared.contents.Sequence.{Sequence}
 use Rattle.cborn_edn.specs.declared.contents.Fields.{Fields as KeptFields}
 use Rattle.cborn_edn.specs.declared.contents.Chunks.{Chunks}
-use Rattle.cborn_edn.specs.declared.frames.Frame.{Frame}
-use Rattle.cborn_edn.specs.declared.frames.Frame.TheVariants.{Top, Array, Embedded, Chunked, Key, Value, Tagged}
+use Rattle.cborn_edn.specs.declared.brackets.Bracket.{Bracket}
+use Rattle.cborn_edn.specs.declared.brackets.Bracket.TheVariants.{Top, Array, Embedded, Chunked, Key, Value, Tagged}
 use Rattle.cborn_edn.specs.declared.states.Phase.TheVariants.{Wants, Has, Builds, WantsChunk, WantsNumber, HasNumber}
 use Rattle.cborn_edn.specs.declared.states.State.{State as KeptState}
 use Rattle.cborn_edn.specs.Syntax.{Item, number, word, tag, simple, string, chunked, array, map, Piece, text, bytes, embedded, Pieces, piece, also, Strings, strings, StringsBefore, no_string, after_strings, Row, row, RowBefore, no_item, after_row, Content, loose, tight, Pairs, pairs, PairsBefore, no_pair, after_pairs, Fields, loose_fields, tight_fields}
@@ -129,7 +129,7 @@ slip_before_some s (Some ps) = slip_in_pieces s ps
 
 -- the open brackets
 abbrev mutual
-  pub frames_of : Stack → List Frame
+  pub frames_of : Stack → List Bracket
   frames_of (in_row at_top b) = Top (kept_row_before b) ∷ []
   frames_of (in_row (in_array st s m) b) = Array s.start m (row_of (kept_row_before b)) ∷ frames_of st
   frames_of (in_row (in_embed h o s) b) = Embedded (kept_before o) s.start (kept_row_before b) ∷ frames_home h
@@ -137,7 +137,7 @@ abbrev mutual
   frames_of (in_value st s m b k c) = Value s.start m (kept_pairs_before b) (kept k) ∷ frames_of st
   frames_of (in_tag st s n m) = Tagged s.start (tag_head n m) ∷ frames_of st
 
-  pub frames_home : Home → List Frame
+  pub frames_home : Home → List Bracket
   frames_home (as_item st) = frames_of st
   frames_home (as_chunk st s b) = Chunked s.start (kept_strings_before b) ∷ frames_of st
 

@@ -6,7 +6,7 @@ use Rattle.cborn_model.specs.declared.heads.Width.{Width}
 use Rattle.cborn_model.specs.declared.heads.Width.TheVariants.{Direct, One, Two, Four, Eight}
 use Rattle.cborn_model.specs.declared.heads.Size.{Size}
 use Rattle.cborn_model.specs.declared.heads.Size.TheVariants.{Fixed, Endless as Unending}
-use Rattle.cborn_model.specs.Heads.{following, least, Holds, SizeFits}
+use Rattle.cborn_model.specs.Heads.{following, least, WidthFits, SizeFits}
 use Rattle.cborn_lex.specs.declared.classes.Profile.TheVariants.{One as ProfileOne}
 use Rattle.cborn_lex.specs.declared.classes.Mark.{Mark}
 use Rattle.cborn_lex.specs.declared.classes.Mark.TheVariants.{Absent, Endless, Wide}
@@ -51,7 +51,7 @@ wide_or_none : (b : Bool) (w : Width) → IsMark (Wide w) → IsMark (cond b Abs
 wide_or_none true w h = tt
 wide_or_none false w h = h
 
-pub is_mark : (w : Width) (n : ℕ) → Holds w n → IsMark (mark_for w n)
+pub is_mark : (w : Width) (n : ℕ) → WidthFits w n → IsMark (mark_for w n)
 is_mark Direct n h = let e : least n ≡ Direct = cond-true _ _ _ (lt-ltb n 24 h) in subst (λ (v : Width). IsMark (cond (0 == length (following v n)) Absent (Wide Direct))) (sym e) tt
 is_mark One n h = wide_or_none (length (following One n) == length (following (least n) n)) One tt
 is_mark Two n h = wide_or_none (length (following Two n) == length (following (least n) n)) Two tt

@@ -5,15 +5,15 @@ use Rattle.cborn_model.specs.Bytes.{AreBytes}
 use Rattle.cborn_model.specs.declared.heads.Width.{Width}
 use Rattle.cborn_model.specs.declared.nodes.Chunk.{Chunk}
 use Rattle.cborn_model.specs.Tree.{Tree, Uint, Nint, Bytes as ByteNode, Text as TextNode, ByteChunks, TextChunks, Items, Pairs as PairNode, Tagged, Simple, Trees, no_item as no_node, more, Entries, no_entry, entry, count, count_entries}
-use Rattle.cborn_model.specs.Heads.{Holds}
+use Rattle.cborn_model.specs.Heads.{WidthFits}
 use Rattle.cborn_model.specs.Spelled.{ChunksFit, Fits, FitsAll, FitsEntries}
 use Rattle.cborn_lex.specs.declared.classes.Mark.{Mark}
 use Rattle.cborn_lex.specs.declared.classes.Class.TheVariants.{ArrayOpen, ArrayClose, MapOpen, MapClose, ParenClose, Comma, Colon, ChunkOpen, TagOpen}
 use Rattle.cborn_lex.specs.declared.classes.Token.{Token}
 use Rattle.cborn_lex.specs.Tokens.{begins}
 use Rattle.cborn_edn.specs.Syntax.{no_string, no_item, no_pair, token, tokens_of, tokens_of_pieces, tokens_of_strings, tokens_of_content, tokens_of_fields, tokens_of_input}
-use Rattle.cborn_edn.specs.declared.strings.Kind.{Kind}
-use Rattle.cborn_edn.specs.declared.strings.Kind.TheVariants.{Bytes as OfBytes, Text as OfText}
+use Rattle.cborn_edn.specs.declared.strings.StringKind.{StringKind}
+use Rattle.cborn_edn.specs.declared.strings.StringKind.TheVariants.{Bytes as OfBytes, Text as OfText}
 use Rattle.cborn_edn.specs.ReadingBack.{nowhere, chunk_pieces, chunk_row, chunk_item, notated, notated_content, notated_fields, notated_input}
 use Rattle.cborn_edn.specs.Shown.{mark_for, mark_for_size, indicator, opened, shown_string, shown_chunks, shown_more_chunks, shown, shown_all, shown_more, shown_entries, shown_more_entries, shown_lines, shown_more_lines}
 use Rattle.cborn_edn.proofs.Back.{below, simple_below}
@@ -27,25 +27,25 @@ use Rattle.cborn_edn.proofs.WordTexts.{simple_text, simple_begins}
 
 -- Strings.
 
-string_text : (k : Kind) (w : Width) (x : List ℕ) (p : ℕ) (z : List ℕ) → Holds w (length x) → AreBytes x → Closes z → Chained (shown_string k w x) z (tokens_of_pieces (chunk_pieces k (record { place = p; width = w; bytes = x })))
+string_text : (k : StringKind) (w : Width) (x : List ℕ) (p : ℕ) (z : List ℕ) → WidthFits w (length x) → AreBytes x → Closes z → Chained (shown_string k w x) z (tokens_of_pieces (chunk_pieces k (record { place = p; width = w; bytes = x })))
 string_text OfBytes w x p z h b close = bytes_text x (mark_for w (length x)) z b (is_mark w (length x) h) close
 string_text OfText w x p z h b close = text_text x (mark_for w (length x)) z b (is_mark w (length x) h) close
 
-chunk_text : (k : Kind) (c : Chunk) (z : List ℕ) → Holds c.width (length c.bytes) → AreBytes c.bytes → Closes z → Chained (shown_string k c.width c.bytes) z (tokens_of_pieces (chunk_pieces k c))
+chunk_text : (k : StringKind) (c : Chunk) (z : List ℕ) → WidthFits c.width (length c.bytes) → AreBytes c.bytes → Closes z → Chained (shown_string k c.width c.bytes) z (tokens_of_pieces (chunk_pieces k c))
 chunk_text k c z h b close = string_text k c.width c.bytes c.place z h b close
 
-chunks_close : (k : Kind) (cs : List Chunk) (z : List ℕ) → Closes z → Closes (shown_more_chunks k cs ++ z)
+chunks_close : (k : StringKind) (cs : List Chunk) (z : List ℕ) → Closes z → Closes (shown_more_chunks k cs ++ z)
 chunks_close k [] z h = h
 chunks_close k (c ∷ cs) z h = comma_closes _
 
-more_chunks : (k : Kind) (cs : List Chunk) (z : List ℕ) → ChunksFit cs → Closes z → Chained (shown_more_chunks k cs) z (more_chunk_tokens k cs)
+more_chunks : (k : StringKind) (cs : List Chunk) (z : List ℕ) → ChunksFit cs → Closes z → Chained (shown_more_chunks k cs) z (more_chunk_tokens k cs)
 more_chunks k [] z h close = no_text z
 more_chunks k (c ∷ cs) z h close =
     both (codes ", ") (shown_string k c.width c.bytes ++ shown_more_chunks k cs) z (token nowhere Comma ∷ []) (tokens_of_pieces (chunk_pieces k c) ++ more_chunk_tokens k cs) (comma_space _)
     (both (shown_string k c.width c.bytes) (shown_more_chunks k cs) z (tokens_of_pieces (chunk_pieces k c)) (more_chunk_tokens k cs) (chunk_text k c _ h.0.0 h.0.1 (chunks_close k cs z close)) (more_chunks k cs z h.1 close))
 
 -- one chunk or more
-chunks_text : (k : Kind) (c : Chunk) (cs : List Chunk) (z : List ℕ) → ChunksFit (c ∷ cs) → Chained (codes "(_ " ++ (shown_string k c.width c.bytes ++ (shown_more_chunks k cs ++ codes ")"))) z (tokens_of (chunk_item k (c ∷ cs)))
+chunks_text : (k : StringKind) (c : Chunk) (cs : List Chunk) (z : List ℕ) → ChunksFit (c ∷ cs) → Chained (codes "(_ " ++ (shown_string k c.width c.bytes ++ (shown_more_chunks k cs ++ codes ")"))) z (tokens_of (chunk_item k (c ∷ cs)))
 chunks_text k c cs z h =
     let rest = both (shown_more_chunks k cs) (codes ")") z (more_chunk_tokens k cs) (token nowhere ParenClose ∷ []) (more_chunks k cs (41 ∷ z) h.1 (paren_closes z)) (paren_close z) in
     let ends : Closes ((shown_more_chunks k cs ++ codes ")") ++ z) = rw append_assoc (chunks_close k cs (41 ∷ z) (paren_closes z)) in
@@ -67,7 +67,7 @@ chunked_text (c ∷ cs) z h close = chunks_text OfText c cs z h
 abbrev Unmarked : List ℕ → Type 0
 Unmarked z = begins (λ c. eqb c 95) z ≡ false
 
-chunks_begin : (k : Kind) (cs : List Chunk) (z : List ℕ) → Unmarked (shown_chunks k cs ++ z)
+chunks_begin : (k : StringKind) (cs : List Chunk) (z : List ℕ) → Unmarked (shown_chunks k cs ++ z)
 chunks_begin OfBytes [] z = refl
 chunks_begin OfText [] z = refl
 chunks_begin OfBytes (c ∷ cs) z = refl

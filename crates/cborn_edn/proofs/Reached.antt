@@ -213,7 +213,7 @@ home_room : (g : Home) → length (held_home g) < 2 ^ 64 → HaveRoom (frames_ho
 home_room (as_item st) l = stack_room st l
 home_room (as_chunk st s b) l = tt
 
-have_room : (s : State) → length (held s) < 2 ^ 64 → HaveRoom (kept_state s).frames
+have_room : (s : State) → length (held s) < 2 ^ 64 → HaveRoom (kept_state s).brackets
 have_room (wants st) l = stack_room st l
 have_room (has st i) l = stack_room st (omega (arith, length-append (held_stack st) (tokens_of i)))
 have_room (builds g ps) l = home_room g (omega (arith, length-append (held_home g) (tokens_of_pieces ps)))
@@ -245,7 +245,7 @@ module _ (limit : ℕ) (ts : List Token) (d : KeptState) (r : Reached limit ts d
   short_state : IsHeld d.phase → ShortState r.state
   short_state h = short_from r.state (subst (λ (x : KeptState). IsHeld x.phase) (sym r.same) h)
 
-  pub next_reached : (t : Token) (e : KeptState) → length ts < 2 ^ 64 → IsModest t.class → IsHeld d.phase → draft_step d t ≡ Some e → kept_reach d.frames t.class ≤ limit → Reached limit (ts ++ (t ∷ [])) e
+  pub next_reached : (t : Token) (e : KeptState) → length ts < 2 ^ 64 → IsModest t.class → IsHeld d.phase → draft_step d t ≡ Some e → kept_reach d.brackets t.class ≤ limit → Reached limit (ts ++ (t ∷ [])) e
   next_reached t e few modest whole steps low = go (step r.state t) refl (grows r.state t.class (span t)) (counted_step r.state t.class (span t) (omega (arith, ap length r.took)) modest r.counted (short_state whole))
     where
       onto : (o : Option State) → step r.state t ≡ o → kept_option o ≡ Some e
@@ -256,7 +256,7 @@ module _ (limit : ℕ) (ts : List Token) (d : KeptState) (r : Reached limit ts d
       go (Some u) f g h =
           let same : Some (kept_state u) ≡ Some e = onto (Some u) f in
           let reaches = reach_same r.state t.class in
-          let moved : kept_reach d.frames t.class ≡ kept_reach (kept_state r.state).frames t.class = ap (λ (x : KeptState). kept_reach x.frames t.class) (sym r.same) in
+          let moved : kept_reach d.brackets t.class ≡ kept_reach (kept_state r.state).brackets t.class = ap (λ (x : KeptState). kept_reach x.brackets t.class) (sym r.same) in
           record { state = u; same = cc; took = g.held ∙ ap (λ l. l ++ (t ∷ [])) r.took; low = omega (arith, g.deep, r.low); counted = h }
 
   pub ready : limit ≤ 1024 → length ts < 2 ^ 64 → IsReady d

@@ -15,7 +15,7 @@ use Rattle.cborn_model.specs.declared.nodes.Chunk.{Chunk}
 use Rattle.cborn_model.specs.declared.heads.Width.{Width}
 use Rattle.cborn_model.specs.Tree.{Tree, Uint, Nint, Bytes as ByteNode, Text as TextNode, ByteChunks, TextChunks, Items, Pairs as PairNode, Tagged, Simple, Trees, no_item as no_node, more, Entries, no_entry, entry, count, count_entries}
 use Rattle.cborn_model.specs.Spelled.{Fits, FitsAll, FitsEntries}
-use Rattle.cborn_edn.specs.declared.strings.Kind.TheVariants.{Text as OfText}
+use Rattle.cborn_edn.specs.declared.strings.StringKind.TheVariants.{Text as OfText}
 use Rattle.cborn_edn.specs.Shown.{AreShowable, Shown, mark_for, mark_for_size, escaped, indicator, opened, shown_string, shown_more_chunks, shown, shown_all, shown_more, shown_entries, shown_more_entries, shown_lines, shown_more_lines}
 use Rattle.cborn_edn.specs.devices.Texts.{AreTexts, IsShowable, EachShowable, ArePairsShowable}
 use Rattle.cborn_edn.proofs.Back.{below}

@@ -13,7 +13,7 @@ use Rattle.cborn_edn.specs.declared.faults.EdnFault.TheVariants.{Lex as LexPart,
 use Rattle.cborn_edn.specs.Syntax.{Input, depth_of_input}
 use Rattle.cborn_edn.specs.Parse.{Parse}
 use Rattle.cborn_edn.specs.Meaning.{means_input, input_slips}
-use Rattle.cborn_edn.specs.Notates.{Notates, IsRefused}
+use Rattle.cborn_edn.specs.Notates.{Notates, IsNoNotation}
 use Rattle.cborn_edn.specs.devices.Draft.{IsFirstSlip, Run, Done, Stuck, draft_run, first_state, IsStuck, is_one, is_behind_comma, reach as kept_reach, finished, first_slip}
 use Rattle.cborn_edn.proofs.Machine.{State, start, step}
 use Rattle.cborn_edn.proofs.Takes.{finish}
@@ -65,8 +65,8 @@ module _ (profile : Profile) (limit end : ℕ) where
   run_is : (t : Token) (rest : List Token) (s : State) (o : Option State) (b c : Bool) → step s t ≡ o → forbids profile (comma_at s t.class) ≡ b → leb (reach (open_levels s) t.class) limit ≡ c → draft_run profile limit (t ∷ rest) (kept_state s) ≡ run_by profile limit t rest (kept_option o) b c
   run_is t rest s o b c e f g =
       let d = kept_state s in
-      let low = leb (kept_reach d.frames t.class) limit in
-      let comma = is_one profile && is_behind_comma d.phase d.frames t.class in
+      let low = leb (kept_reach d.brackets t.class) limit in
+      let comma = is_one profile && is_behind_comma d.phase d.brackets t.class in
       ap (λ x. run_by profile limit t rest x comma low) (kept_step s t ∙ ap kept_option e)
       ∙ ap (λ x. run_by profile limit t rest (kept_option o) x low) (comma_same profile s t.class ∙ f)
       ∙ ap (λ x. run_by profile limit t rest (kept_option o) b x) (ap (λ n. leb n limit) (reach_same s t.class) ∙ g)
@@ -94,10 +94,10 @@ module _ (profile : Profile) (limit : ℕ) (text : List ℕ) (tokens : List Toke
   met : (a : Answer) → parse profile limit (length text) tokens start ≡ a → Meets profile limit (length text) tokens a
   met a e = subst (Meets profile limit (length text) tokens) e (parses profile limit (length text) tokens)
 
-  jam_at : (p : ℕ) (r : EdnReason) → parse profile limit (length text) tokens start ≡ JamsAt p r → IsRefused profile limit text (Refused p r)
+  jam_at : (p : ℕ) (r : EdnReason) → parse profile limit (length text) tokens start ≡ JamsAt p r → IsNoNotation profile limit text (Refused p r)
   jam_at p r e = inl (tokens, lex, met (JamsAt p r) e)
 
-  pub jam_told : (e : EdnFault) → IsStuck (draft_run profile limit tokens first_state) e → IsRefused profile limit text e
+  pub jam_told : (e : EdnFault) → IsStuck (draft_run profile limit tokens first_state) e → IsNoNotation profile limit text e
   jam_told (LexPart f) h = absurd h
   jam_told (Refused p r) h = jam_at p r (subst (λ x. Tied (length text) x (parse profile limit (length text) tokens start)) h (runs profile limit (length text) tokens start))
   jam_told OutOfMemory h = tt
@@ -108,13 +108,13 @@ module _ (profile : Profile) (limit : ℕ) (text : List ℕ) (tokens : List Toke
   ended : (st : KeptState) → IsParsed st → Tied (length text) (Done st) (parse profile limit (length text) tokens start)
   ended st h = subst (λ x. Tied (length text) x (parse profile limit (length text) tokens start)) h (runs profile limit (length text) tokens start)
 
-  pub no_end : (st : KeptState) → IsParsed st → finished st ≡ None → IsRefused profile limit text (Refused (length text) UnexpectedEnd)
+  pub no_end : (st : KeptState) → IsParsed st → finished st ≡ None → IsNoNotation profile limit text (Refused (length text) UnexpectedEnd)
   no_end st h e = go (ended st h)
     where
-      go : Tied (length text) (Done st) (parse profile limit (length text) tokens start) → IsRefused profile limit text (Refused (length text) UnexpectedEnd)
+      go : Tied (length text) (Done st) (parse profile limit (length text) tokens start) → IsNoNotation profile limit text (Refused (length text) UnexpectedEnd)
       go (u, same, on) = choose (finish u) refl (finishes u)
         where
-          choose : (o : Option Input) → finish u ≡ o → Finishes u o → IsRefused profile limit text (Refused (length text) UnexpectedEnd)
+          choose : (o : Option Input) → finish u ≡ o → Finishes u o → IsNoNotation profile limit text (Refused (length text) UnexpectedEnd)
           choose None f k = jam_at (length text) UnexpectedEnd (on ∙ ap (at_end (length text)) f)
           choose (Some t) f k = absurd (clash (means_input t, first_slip (input_slips t)) (sym k ∙ ap finished same ∙ e))
 
@@ -143,12 +143,12 @@ module _ (profile : Profile) (limit : ℕ) (text : List ℕ) (tokens : List Toke
       let w = whole st (Some nodes) slip g e in
       (w.tree, record { tokens = tokens; lex = lex; parse = w.parse; shallow = w.shallow }, w.says)
 
-  pub slip_told : (st : KeptState) (items : Option Trees) (slip : Slip) → IsParsed st → finished st ≡ Some (items, Some slip) → IsRefused profile limit text (Refused slip.place slip.reason)
+  pub slip_told : (st : KeptState) (items : Option Trees) (slip : Slip) → IsParsed st → finished st ≡ Some (items, Some slip) → IsNoNotation profile limit text (Refused slip.place slip.reason)
   slip_told st items slip g e =
       let w = whole st items (Some slip) g e in
       inr (w.tree, record { tokens = tokens; lex = lex; parse = w.parse; shallow = w.shallow }, subst (Tells (input_slips w.tree)) w.slips (tells (input_slips w.tree)))
 
-  pub whole_told : (st : KeptState) (w : Option Trees × Option Slip) (e : EdnFault) → IsParsed st → finished st ≡ Some w → IsFirstSlip w e → IsRefused profile limit text e
+  pub whole_told : (st : KeptState) (w : Option Trees × Option Slip) (e : EdnFault) → IsParsed st → finished st ≡ Some w → IsFirstSlip w e → IsNoNotation profile limit text e
   whole_told st w (LexPart f) h g i = absurd i
   whole_told st w (Refused p r) h g i = slip_told st w.0 (record { place = p; reason = r }) h (g ∙ ap (λ s. Some (w.0, s)) i)
   whole_told st w OutOfMemory h g i = absurd i

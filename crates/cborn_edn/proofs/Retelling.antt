@@ -11,8 +11,8 @@ use Rattle.cborn_lex.specs.declared.classes.Profile.TheVariants.{One as ProfileO
 use Rattle.cborn_edn.specs.Syntax.{Item, word, simple, strings, StringsBefore, no_string, after_strings, row, RowBefore, no_item, after_row, pairs, PairsBefore, no_pair, after_pairs, tokens_of_input, depth_of_input}
 use Rattle.cborn_edn.specs.devices.Commas.{commas, commas_of_strings, commas_of_strings_before, commas_of_row, commas_of_row_before, commas_of_content, commas_of_pairs, commas_of_pairs_before, commas_of_fields, commas_of_input, AllowsCount}
 use Rattle.cborn_edn.specs.Meaning.{means_input}
-use Rattle.cborn_edn.specs.declared.strings.Kind.{Kind}
-use Rattle.cborn_edn.specs.declared.strings.Kind.TheVariants.{Bytes as OfBytes, Text as OfText}
+use Rattle.cborn_edn.specs.declared.strings.StringKind.{StringKind}
+use Rattle.cborn_edn.specs.declared.strings.StringKind.TheVariants.{Bytes as OfBytes, Text as OfText}
 use Rattle.cborn_edn.specs.ReadingBack.{bare, ReadsBack, nowhere, chunk_pieces, chunk_row, chunk_item, simple_item, notated, notated_content, notated_row, notated_fields, notated_pairs, notated_input, unplaced_all}
 use Rattle.cborn_edn.specs.Shown.{AreShowable}
 use Rattle.cborn_edn.specs.devices.Texts.{EachShowable}
@@ -24,13 +24,13 @@ use Rattle.cborn_edn.proofs.Erase.{opt_map, clash, retold, Retold}
 use Rattle.cborn_edn.proofs.ErasedMeaning.{depth-erased_input, commas-erased_input, input-erased}
 
 -- What is shown has no comma before a bracket.
-none-chunks : (k : Kind) (cs : List Chunk) (b : StringsBefore) (c : Chunk) → commas_of_strings (chunk_row k cs b c) ≡ commas_of_strings_before b
+none-chunks : (k : StringKind) (cs : List Chunk) (b : StringsBefore) (c : Chunk) → commas_of_strings (chunk_row k cs b c) ≡ commas_of_strings_before b
 none-chunks OfBytes [] b c = omega arith
 none-chunks OfText [] b c = omega arith
 none-chunks OfBytes (d ∷ cs) b c = none-chunks OfBytes cs (after_strings (strings b (chunk_pieces OfBytes c)) nowhere) d ∙ omega arith
 none-chunks OfText (d ∷ cs) b c = none-chunks OfText cs (after_strings (strings b (chunk_pieces OfText c)) nowhere) d ∙ omega arith
 
-none-chunk_item : (k : Kind) (cs : List Chunk) → commas (chunk_item k cs) ≡ 0
+none-chunk_item : (k : StringKind) (cs : List Chunk) → commas (chunk_item k cs) ≡ 0
 none-chunk_item OfBytes [] = refl
 none-chunk_item OfText [] = refl
 none-chunk_item k (c ∷ cs) = none-chunks k cs no_string c

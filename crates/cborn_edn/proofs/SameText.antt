@@ -2,17 +2,17 @@
 use Rattle.std.proofs.Common.{◌≡◌, refl, sym, ap, ◌∙◌, ℕ, List, [], ◌∷◌, ◌++◌, codes, decimal}
 use Rattle.cborn_model.specs.declared.nodes.Chunk.{Chunk}
 use Rattle.cborn_model.specs.Tree.{Tree, Uint, Nint, Bytes, Text, ByteChunks, TextChunks, Items, Pairs, Tagged, Simple, Trees, no_item, more, Entries, no_entry, entry}
-use Rattle.cborn_edn.specs.declared.strings.Kind.{Kind}
-use Rattle.cborn_edn.specs.declared.strings.Kind.TheVariants.{Bytes as OfBytes, Text as OfText}
+use Rattle.cborn_edn.specs.declared.strings.StringKind.{StringKind}
+use Rattle.cborn_edn.specs.declared.strings.StringKind.TheVariants.{Bytes as OfBytes, Text as OfText}
 use Rattle.cborn_edn.specs.Shown.{Shown, mark_for, mark_for_size, indicator, opened, shown_string, shown_more_chunks, shown_chunks, shown, shown_all, shown_more, shown_entries, shown_more_entries, shown_lines, shown_more_lines}
 use Rattle.cborn_edn.specs.ReadingBack.{unplaced_chunks, unplaced, unplaced_all, unplaced_entries}
 use Rattle.cborn_edn.proofs.Back.{count-unplaced, count-unplaced_entries}
 
-more_chunks : (k : Kind) (cs : List Chunk) → shown_more_chunks k (unplaced_chunks cs) ≡ shown_more_chunks k cs
+more_chunks : (k : StringKind) (cs : List Chunk) → shown_more_chunks k (unplaced_chunks cs) ≡ shown_more_chunks k cs
 more_chunks k [] = refl
 more_chunks k (c ∷ cs) = λ i. codes ", " ++ (shown_string k c.width c.bytes ++ more_chunks k cs i)
 
-chunks : (k : Kind) (cs : List Chunk) → shown_chunks k (unplaced_chunks cs) ≡ shown_chunks k cs
+chunks : (k : StringKind) (cs : List Chunk) → shown_chunks k (unplaced_chunks cs) ≡ shown_chunks k cs
 chunks OfBytes [] = refl
 chunks OfText [] = refl
 chunks OfBytes (c ∷ cs) = λ i. codes "(_ " ++ (shown_string OfBytes c.width c.bytes ++ (more_chunks OfBytes cs i ++ codes ")"))

@@ -5,7 +5,7 @@ use Rattle.cborn_model.specs.declared.nodes.Chunk.{Chunk}
 use Rattle.cborn_model.specs.Tree.{Tree, Items, Pairs, trees, entries}
 use Rattle.cborn_model.specs.declared.heads.Size.{Size}
 use Rattle.cborn_model.proofs.Trees.{count-trees, count_entries-entries}
-use Rattle.cborn_edn.specs.declared.strings.Kind.{Kind}
+use Rattle.cborn_edn.specs.declared.strings.StringKind.{StringKind}
 use Rattle.cborn_edn.specs.devices.Between.{between, others, separated}
 use Rattle.cborn_edn.specs.Shown.{mark_for_size, opened, shown, shown_all, shown_more, shown_entries, shown_more_entries, shown_lines, shown_more_lines, shown_string}
 
@@ -56,7 +56,7 @@ more_lines-others (x ∷ xs) = ap (λ l. codes ",\n" ++ (shown x ++ l)) (more_li
 pub lines-separated : (x : Tree) (xs : List Tree) → shown_lines (trees (x ∷ xs)) ≡ separated (codes ",\n") shown (x ∷ xs) ++ codes "\n"
 lines-separated x xs = ap (λ l. shown x ++ l) (more_lines-others xs) ∙ simp append_assoc
 
-abbrev pub shown_chunk : Kind → Chunk → List ℕ
+abbrev pub shown_chunk : StringKind → Chunk → List ℕ
 shown_chunk k c = shown_string k c.width c.bytes
 
 -- a turn of a loop

@@ -304,7 +304,7 @@ more_kept h ps SimpleOpen a = string_kept h ps SimpleOpen a
 more_kept h ps (Text x z) a = refl
 more_kept h ps (Bytes q x z) a = refl
 
-step_kept : (s : State) (c : Class) (a : Span) → step_in (kept_state s).frames (kept_state s).slip (kept_state s).phase a.start c ≡ kept_option (step_by s c a)
+step_kept : (s : State) (c : Class) (a : Span) → step_in (kept_state s).brackets (kept_state s).slip (kept_state s).phase a.start c ≡ kept_option (step_by s c a)
 step_kept (wants st) c a = begin_kept st c a
 step_kept (has st i) c a = after_kept st i c a
 step_kept (builds h ps) c a = more_kept h ps c a

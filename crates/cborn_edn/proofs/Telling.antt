@@ -5,7 +5,7 @@ use Rattle.cborn_lex.specs.declared.classes.Profile.{Profile}
 use Rattle.cborn_lex.specs.declared.classes.Profile.TheVariants.{One as ProfileOne, Two as ProfileTwo}
 use Rattle.cborn_lex.specs.declared.classes.Class.{Class}
 use Rattle.cborn_lex.specs.declared.classes.Class.TheVariants.{ArrayOpen, MapOpen, ArrayClose, MapClose, ParenClose, Comma, Colon, EmbedOpen, EmbedClose, ChunkOpen, Number, TagOpen, Word, SimpleOpen, Text, Bytes}
-use Rattle.cborn_edn.specs.declared.frames.Frame.{Frame}
+use Rattle.cborn_edn.specs.declared.brackets.Bracket.{Bracket}
 use Rattle.cborn_edn.specs.Syntax.{is_small, string, row, no_item, after_row, pairs, no_pair, after_pairs, Input}
 use Rattle.cborn_edn.specs.Meaning.{means_input, input_slips}
 use Rattle.cborn_edn.specs.devices.Levels.{levels_in}
@@ -31,7 +31,7 @@ mutual
   levels_home_same (as_item st) = levels_same st
   levels_home_same (as_chunk st s b) = levels_same st
 
-open_same : (s : State) → levels_in (kept_state s).frames ≡ open_levels s
+open_same : (s : State) → levels_in (kept_state s).brackets ≡ open_levels s
 open_same (wants st) = levels_same st
 open_same (has st i) = levels_same st
 open_same (builds h ps) = levels_home_same h
@@ -43,7 +43,7 @@ number_reach : (b : Bool) (k : ℕ) → cond b k (suc k) ≡ k + cond b 0 1
 number_reach true k = omega arith
 number_reach false k = omega arith
 
-reach_from : (fs : List Frame) (k : ℕ) (c : Class) → levels_in fs ≡ k → kept_reach fs c ≡ reach k c
+reach_from : (fs : List Bracket) (k : ℕ) (c : Class) → levels_in fs ≡ k → kept_reach fs c ≡ reach k c
 reach_from fs k (ArrayOpen z) e = ap suc e
 reach_from fs k (MapOpen z) e = ap suc e
 reach_from fs k ArrayClose e = refl
@@ -61,13 +61,13 @@ reach_from fs k SimpleOpen e = refl
 reach_from fs k (Text x z) e = refl
 reach_from fs k (Bytes q x z) e = refl
 
-pub reach_same : (s : State) (c : Class) → kept_reach (kept_state s).frames c ≡ reach (open_levels s) c
-reach_same s c = reach_from (kept_state s).frames (open_levels s) c (open_same s)
+pub reach_same : (s : State) (c : Class) → kept_reach (kept_state s).brackets c ≡ reach (open_levels s) c
+reach_same s c = reach_from (kept_state s).brackets (open_levels s) c (open_same s)
 
 some : (n : ℕ) → ltb 0 (suc n) ≡ true
 some n = lt-ltb 0 (suc n) (omega arith)
 
-comma_one : (s : State) (c : Class) → is_behind_comma (kept_state s).phase (kept_state s).frames c ≡ forbids ProfileOne (comma_at s c)
+comma_one : (s : State) (c : Class) → is_behind_comma (kept_state s).phase (kept_state s).brackets c ≡ forbids ProfileOne (comma_at s c)
 comma_one (wants (in_row at_top no_item)) (ArrayOpen z) = refl
 comma_one (wants (in_row at_top no_item)) (MapOpen z) = refl
 comma_one (wants (in_row at_top no_item)) ArrayClose = refl
@@ -266,7 +266,7 @@ comma_one (wants_chunk st s b) c = refl
 comma_one (wants_number st s) c = refl
 comma_one (has_number st s b i j m) c = refl
 
-pub comma_same : (p : Profile) (s : State) (c : Class) → (is_one p && is_behind_comma (kept_state s).phase (kept_state s).frames c) ≡ forbids p (comma_at s c)
+pub comma_same : (p : Profile) (s : State) (c : Class) → (is_one p && is_behind_comma (kept_state s).phase (kept_state s).brackets c) ≡ forbids p (comma_at s c)
 comma_same ProfileOne s c = comma_one s c
 comma_same ProfileTwo s c = refl
 

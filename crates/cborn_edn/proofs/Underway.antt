@@ -14,7 +14,7 @@ use Rattle.cborn_edn.specs.declared.states.State.{State}
 use Rattle.cborn_edn.specs.declared.faults.EdnReason.{EdnReason}
 use Rattle.cborn_edn.specs.declared.faults.EdnFault.{EdnFault}
 use Rattle.cborn_edn.specs.declared.faults.EdnFault.TheVariants.{Refused}
-use Rattle.cborn_edn.specs.Notates.{IsRefused}
+use Rattle.cborn_edn.specs.Notates.{IsNoNotation}
 use Rattle.cborn_edn.specs.devices.Ready.{IsReady, IsHeld, IsTold, Steps}
 use Rattle.cborn_edn.specs.devices.Draft.{Done, draft_run, finished, first_state, lexical}
 use Rattle.cborn_edn.proofs.Reached.{Reached, first_reached, next_reached, ready, told}
@@ -31,7 +31,7 @@ pub begins : (profile : Profile) (limit : ℕ) (text : List ℕ) → Underway pr
 begins profile limit text = record { tokens = []; between = nothing profile text 0; reached = first_reached limit; runs = λ more. refl }
 
 -- what is told of a text without tokens
-pub lexical_told : (profile : Profile) (limit : ℕ) (text : List ℕ) (e : LexFault) → IsStopAt profile text e → IsRefused profile limit text (lexical e)
+pub lexical_told : (profile : Profile) (limit : ℕ) (text : List ℕ) (e : LexFault) → IsStopAt profile text e → IsNoNotation profile limit text (lexical e)
 lexical_told profile limit text (LexRefused p r) h = h
 lexical_told profile limit text LexOutOfMemory h = tt
 
@@ -60,14 +60,14 @@ module _ (profile : Profile) (limit : ℕ) (text : List ℕ) (at : ℕ) (d : Sta
   pub ends : Between profile text at (length text) [] → (tokens : List Token) × Lex profile text tokens × (draft_run profile limit tokens first_state ≡ Done d)
   ends last = (u.tokens ++ [], whole_text profile text (u.tokens ++ []) (joins profile text 0 at (length text) u.tokens [] u.between last), u.runs [])
 
-  pub stopped : (e : LexFault) → IsStopFrom profile text at e → IsRefused profile limit text (lexical e)
+  pub stopped : (e : LexFault) → IsStopFrom profile text at e → IsNoNotation profile limit text (lexical e)
   stopped e h = lexical_told profile limit text e (whole_stop profile text e (stops profile text 0 at u.tokens e u.between h))
 
   -- a token that is refused, unless a later part of the text isn't made of tokens
   pub jams : (t : Token) (e : State) (o : Option EdnReason) (r : EdnReason) (fault : EdnFault) → Between profile text at t.stop (t ∷ []) → Steps profile limit d t e o → o ≡ Some r
-      → ((more : List Token) × Between profile text t.stop (length text) more × (fault ≡ Refused t.start r)) ⊎ ((stop : LexFault) × IsStopFrom profile text t.stop stop × (fault ≡ lexical stop)) → IsRefused profile limit text fault
+      → ((more : List Token) × Between profile text t.stop (length text) more × (fault ≡ Refused t.start r)) ⊎ ((stop : LexFault) × IsStopFrom profile text t.stop stop × (fault ≡ lexical stop)) → IsNoNotation profile limit text fault
   jams t e o r fault next steps some (inl (more, rest, f)) =
       let all = joins profile text 0 at (length text) u.tokens (t ∷ more) u.between (joins profile text at t.stop (length text) (t ∷ []) more next rest) in
       let ends = subst (Steps profile limit d t e) some steps in
-      subst (IsRefused profile limit text) (sym f) (jam_told profile limit text (u.tokens ++ (t ∷ more)) (whole_text profile text (u.tokens ++ (t ∷ more)) all) (Refused t.start r) (u.runs (t ∷ more) ∙ ends more))
-  jams t e o r fault next steps some (inr (stop, h, f)) = subst (IsRefused profile limit text) (sym f) (stopped stop (stops profile text at t.stop (t ∷ []) stop next h))
+      subst (IsNoNotation profile limit text) (sym f) (jam_told profile limit text (u.tokens ++ (t ∷ more)) (whole_text profile text (u.tokens ++ (t ∷ more)) all) (Refused t.start r) (u.runs (t ∷ more) ∙ ends more))
+  jams t e o r fault next steps some (inr (stop, h, f)) = subst (IsNoNotation profile limit text) (sym f) (stopped stop (stops profile text at t.stop (t ∷ []) stop next h))

@@ -3,7 +3,7 @@ use Rattle.std.proofs.Common.{◌≡◌, refl, sym, ap, ◌∙◌, subst, ℕ, s
 use Rattle.std.specs.Prelude.{◌≢◌, max, IsUtf8}
 use Rattle.cborn_model.specs.declared.nodes.Chunk.{Chunk}
 use Rattle.cborn_model.specs.Tree.{Tree, Uint, Nint, Bytes, Text, ByteChunks, TextChunks, Items, Pairs, Tagged, Simple, Trees, no_item, more, Entries, no_entry, entry, depth, depth_all, depth_entries}
-use Rattle.cborn_model.specs.Heads.{Holds, SizeFits}
+use Rattle.cborn_model.specs.Heads.{WidthFits, SizeFits}
 use Rattle.cborn_model.specs.Bytes.{AreBytes, big_endian}
 use Rattle.cborn_model.specs.Spelled.{ChunksFit, Fits, FitsAll, FitsEntries, spelled_all}
 use Rattle.cborn_model.specs.Value.{Value, Values, Couples, bytes, text, array, dict, tagged, no_values, value, no_pairs, pair}
@@ -16,7 +16,7 @@ use Rattle.cborn_edn.proofs.Back.{count-unplaced, count-unplaced_entries, flat-u
 
 chunks_fit : (cs : List Chunk) → ChunksFit (unplaced_chunks cs) ≡ ChunksFit cs
 chunks_fit [] = refl
-chunks_fit (c ∷ cs) = λ i. (Holds c.width (length c.bytes) × AreBytes c.bytes) × chunks_fit cs i
+chunks_fit (c ∷ cs) = λ i. (WidthFits c.width (length c.bytes) × AreBytes c.bytes) × chunks_fit cs i
 
 mutual
   fits : (t : Tree) → Fits (unplaced t) ≡ Fits t
@@ -28,7 +28,7 @@ mutual
   fits (TextChunks p cs) = chunks_fit cs
   fits (Items p s ts) = λ i. SizeFits s (count-unplaced ts i) × fit_all ts i
   fits (Pairs p s es) = λ i. SizeFits s (count-unplaced_entries es i) × fit_entries es i
-  fits (Tagged p w n t) = λ i. Holds w n × fits t i
+  fits (Tagged p w n t) = λ i. WidthFits w n × fits t i
   fits (Simple p n) = refl
 
   fit_all : (ts : Trees) → FitsAll (unplaced_all ts) ≡ FitsAll ts

@@ -3,8 +3,8 @@ use Rattle.std.specs.Prelude.{◌≡◌, ◌⊎◌, ℕ, suc, ◌^◌, List, [],
 use Rattle.cborn_edn.specs.declared.faults.EdnReason.{EdnReason}
 use Rattle.cborn_edn.specs.declared.faults.EdnReason.TheVariants.{UnexpectedToken, UnexpectedEnd, TooDeep, IndicatorTooNarrow, IndicatorNotAllowed, MixedString, MixedChunks, TextNotUtf8, BadSimple, TagTooLarge}
 use Rattle.cborn_edn.specs.declared.slips.Slip.{Slip}
-use Rattle.cborn_edn.specs.declared.strings.Kind.{Kind}
-use Rattle.cborn_edn.specs.declared.strings.Kind.TheVariants.{Bytes as OfBytes, Text as OfText}
+use Rattle.cborn_edn.specs.declared.strings.StringKind.{StringKind}
+use Rattle.cborn_edn.specs.declared.strings.StringKind.TheVariants.{Bytes as OfBytes, Text as OfText}
 use Rattle.std.specs.Str.{is_utf8}
 use Rattle.std.specs.Int.Digits.{digits_of}
 use Rattle.cborn_model.specs.declared.heads.Width.{Width}
@@ -81,12 +81,12 @@ is_simple n v = not (is_below n v) && (nat_lt v 24 || (nat_le 32 v && nat_lt v 2
 
 -- Strings.
 
-abbrev pub same_kind : Kind → Kind → Bool
+abbrev pub same_kind : StringKind → StringKind → Bool
 same_kind OfBytes OfBytes = true
 same_kind OfText OfText = true
 same_kind _ _ = false
 
-abbrev pub kind_of : Piece → Kind
+abbrev pub kind_of : Piece → StringKind
 kind_of (text at x m) = OfText
 kind_of _ = OfBytes
 
@@ -107,7 +107,7 @@ mark_place (bytes at q x m) = at.start
 mark_place (embedded at c end m) = end.start
 
 -- the first piece gives the kind and the place, the last one the mark
-abbrev pub kind : Pieces → Kind
+abbrev pub kind : Pieces → StringKind
 kind (piece p) = kind_of p
 kind (also ps p) = kind ps
 
@@ -129,11 +129,11 @@ is_bare_before (piece p) = true
 is_bare_before (also ps p) = is_bare ps
 
 -- byte pieces may stand in a text string, text pieces in no byte string
-abbrev pub fits_kind : Kind → Piece → Bool
+abbrev pub fits_kind : StringKind → Piece → Bool
 fits_kind OfText p = true
 fits_kind OfBytes p = same_kind (kind_of p) OfBytes
 
-abbrev pub is_of_kind : Kind → Pieces → Bool
+abbrev pub is_of_kind : StringKind → Pieces → Bool
 is_of_kind k (piece p) = fits_kind k p
 is_of_kind k (also ps p) = is_of_kind k ps && fits_kind k p
 
@@ -143,7 +143,7 @@ is_empty_quote (piece (text at [] m)) = true
 is_empty_quote (piece (bytes at true [] m)) = true
 is_empty_quote _ = false
 
-abbrev pub is_good : Kind → List ℕ → Bool
+abbrev pub is_good : StringKind → List ℕ → Bool
 is_good OfBytes x = true
 is_good OfText x = is_utf8 x
 
@@ -151,11 +151,11 @@ is_good OfText x = is_utf8 x
 abbrev pub is_string : Pieces → List ℕ → Bool
 is_string ps x = is_bare_before ps && (is_of_kind (kind ps) ps && is_good (kind ps) x)
 
-abbrev pub string_node : Kind → ℕ → Width → List ℕ → Tree
+abbrev pub string_node : StringKind → ℕ → Width → List ℕ → Tree
 string_node OfBytes p w x = ByteNode p w x
 string_node OfText p w x = TextNode p w x
 
-abbrev pub chunked_node : Kind → ℕ → List Chunk → Tree
+abbrev pub chunked_node : StringKind → ℕ → List Chunk → Tree
 chunked_node OfBytes p cs = ByteChunks p cs
 chunked_node OfText p cs = TextChunks p cs
 
@@ -171,10 +171,10 @@ means_chunk ps x = when (is_string ps x) (and_then (width_for (mark_of (last_pie
 
 -- the first chunk gives the kind
 abbrev mutual
-  pub kind_of_strings : Strings → Kind
+  pub kind_of_strings : Strings → StringKind
   kind_of_strings (strings b ps) = kind_after b (kind ps)
 
-  pub kind_after : StringsBefore → Kind → Kind
+  pub kind_after : StringsBefore → StringKind → StringKind
   kind_after no_string k = k
   kind_after (after_strings ss c) k = kind_of_strings ss
 
@@ -265,7 +265,7 @@ abbrev pub bare_slips_before : Pieces → List Slip
 bare_slips_before (piece p) = []
 bare_slips_before (also ps p) = bare_slips ps
 
-abbrev pub kind_slips : Kind → Pieces → List Slip
+abbrev pub kind_slips : StringKind → Pieces → List Slip
 kind_slips k (piece p) = unless (fits_kind k p) (start_of p) MixedString
 kind_slips k (also ps p) = kind_slips k ps ++ unless (fits_kind k p) (start_of p) MixedString
 
@@ -275,7 +275,7 @@ mark_slips may_end p Endless x = unless may_end p IndicatorNotAllowed
 mark_slips may_end p m None = []
 mark_slips may_end p m (Some x) = width_slips p m (length x)
 
-abbrev pub text_slips : Kind → ℕ → Option (List ℕ) → List Slip
+abbrev pub text_slips : StringKind → ℕ → Option (List ℕ) → List Slip
 text_slips k p None = []
 text_slips k p (Some x) = unless (is_good k x) p TextNotUtf8
 

@@ -32,8 +32,8 @@ abbrev pub Jams : Profile → ℕ → List ℕ → ℕ → EdnReason → Type 0
 Jams profile limit text p r = (tokens : List Token) × Lex profile text tokens × Jam profile limit (length text) tokens p r
 
 -- All lexical faults come before all of syntax, and these before all of meaning. Memory that was refused is told as this reader's own want of memory, also where the reader of tokens wanted it; then nothing is said of the text.
-abbrev pub IsRefused : Profile → ℕ → List ℕ → EdnFault → Type 0
-IsRefused profile limit text (LexPart (LexRefused p r)) = Stop profile text p r
-IsRefused profile limit text (LexPart LexOutOfMemory) = ⊥
-IsRefused profile limit text (Refused p r) = Jams profile limit text p r ⊎ Slips profile limit text p r
-IsRefused profile limit text OutOfMemory = Unit {0}
+abbrev pub IsNoNotation : Profile → ℕ → List ℕ → EdnFault → Type 0
+IsNoNotation profile limit text (LexPart (LexRefused p r)) = Stop profile text p r
+IsNoNotation profile limit text (LexPart LexOutOfMemory) = ⊥
+IsNoNotation profile limit text (Refused p r) = Jams profile limit text p r ⊎ Slips profile limit text p r
+IsNoNotation profile limit text OutOfMemory = Unit {0}

@@ -7,8 +7,8 @@ use Rattle.cborn_lex.specs.declared.classes.Mark.{Mark}
 use Rattle.cborn_lex.specs.declared.classes.Mark.TheVariants.{Absent, Endless}
 use Rattle.cborn_lex.specs.declared.classes.Token.{Token}
 use Rattle.cborn_lex.specs.declared.classes.Profile.{Profile}
-use Rattle.cborn_edn.specs.declared.strings.Kind.{Kind}
-use Rattle.cborn_edn.specs.declared.strings.Kind.TheVariants.{Bytes as OfBytes, Text as OfText}
+use Rattle.cborn_edn.specs.declared.strings.StringKind.{StringKind}
+use Rattle.cborn_edn.specs.declared.strings.StringKind.TheVariants.{Bytes as OfBytes, Text as OfText}
 use Rattle.cborn_edn.specs.Syntax.{Span, Item, number, word, tag, simple, string, chunked, array, map as map_item, text, bytes, Pieces, piece, Strings, strings, StringsBefore, no_string, after_strings, Row, row, RowBefore, no_item, after_row, Content, loose, tight, Pairs, pairs, PairsBefore, no_pair, after_pairs, Fields, loose_fields, tight_fields, Input, nothing, items, token, depth_of_input}
 use Rattle.cborn_edn.specs.Parse.{Parse}
 use Rattle.cborn_edn.specs.Meaning.{Says}
@@ -17,22 +17,22 @@ use Rattle.cborn_edn.specs.Shown.{mark_for, mark_for_size}
 abbrev pub nowhere : Span
 nowhere = record { start = 0; stop = 0 }
 
-abbrev pub one_piece : Kind → List ℕ → Mark → Pieces
+abbrev pub one_piece : StringKind → List ℕ → Mark → Pieces
 one_piece OfBytes x m = piece (bytes nowhere false x m)
 one_piece OfText x m = piece (text nowhere x m)
 
-abbrev pub empty_quote : Kind → Pieces
+abbrev pub empty_quote : StringKind → Pieces
 empty_quote OfBytes = piece (bytes nowhere true [] Endless)
 empty_quote OfText = piece (text nowhere [] Endless)
 
-abbrev pub chunk_pieces : Kind → Chunk → Pieces
+abbrev pub chunk_pieces : StringKind → Chunk → Pieces
 chunk_pieces k c = one_piece k c.bytes (mark_for c.width (length c.bytes))
 
-abbrev pub chunk_row : Kind → List Chunk → StringsBefore → Chunk → Strings
+abbrev pub chunk_row : StringKind → List Chunk → StringsBefore → Chunk → Strings
 chunk_row k [] b c = strings b (chunk_pieces k c)
 chunk_row k (d ∷ cs) b c = chunk_row k cs (after_strings (strings b (chunk_pieces k c)) nowhere) d
 
-abbrev pub chunk_item : Kind → List Chunk → Item
+abbrev pub chunk_item : StringKind → List Chunk → Item
 chunk_item k [] = string (empty_quote k)
 chunk_item k (c ∷ cs) = chunked nowhere (chunk_row k cs no_string c) nowhere
 

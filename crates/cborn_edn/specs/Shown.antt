@@ -14,8 +14,8 @@ use Rattle.cborn_lex.specs.declared.classes.Mark.{Mark}
 use Rattle.cborn_lex.specs.declared.classes.Mark.TheVariants.{Absent, Endless, Wide}
 use Rattle.cborn_edn.specs.declared.faults.ShowFault.{ShowFault}
 use Rattle.cborn_edn.specs.declared.faults.ShowFault.TheVariants.{NotUtf8, OutOfMemory}
-use Rattle.cborn_edn.specs.declared.strings.Kind.{Kind}
-use Rattle.cborn_edn.specs.declared.strings.Kind.TheVariants.{Bytes as OfBytes, Text as OfText}
+use Rattle.cborn_edn.specs.declared.strings.StringKind.{StringKind}
+use Rattle.cborn_edn.specs.declared.strings.StringKind.TheVariants.{Bytes as OfBytes, Text as OfText}
 
 -- an indicator only where the head isn't the shortest: where the argument takes more bytes than it has to
 abbrev pub mark_for : Width → ℕ → Mark
@@ -52,15 +52,15 @@ abbrev pub opened : Mark → List ℕ
 opened Absent = []
 opened m = indicator m ++ codes " "
 
-abbrev pub shown_string : Kind → Width → List ℕ → List ℕ
+abbrev pub shown_string : StringKind → Width → List ℕ → List ℕ
 shown_string OfBytes w x = codes "h'" ++ (encode_lower x ++ (codes "'" ++ indicator (mark_for w (length x))))
 shown_string OfText w x = codes "\"" ++ (flat_map escaped x ++ (codes "\"" ++ indicator (mark_for w (length x))))
 
-abbrev pub shown_more_chunks : Kind → List Chunk → List ℕ
+abbrev pub shown_more_chunks : StringKind → List Chunk → List ℕ
 shown_more_chunks k [] = []
 shown_more_chunks k (c ∷ cs) = codes ", " ++ (shown_string k c.width c.bytes ++ shown_more_chunks k cs)
 
-abbrev pub shown_chunks : Kind → List Chunk → List ℕ
+abbrev pub shown_chunks : StringKind → List Chunk → List ℕ
 shown_chunks OfBytes [] = codes "''_"
 shown_chunks OfText [] = codes "\"\"_"
 shown_chunks k (c ∷ cs) = codes "(_ " ++ (shown_string k c.width c.bytes ++ (shown_more_chunks k cs ++ codes ")"))

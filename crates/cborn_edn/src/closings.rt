@@ -7,7 +7,7 @@ ghost use Rattle.cborn_edn.specs.declared.states.Phase.TheVariants.{Wants};
 ghost use Rattle.cborn_edn.specs.devices.Ready.{MaySpell, HaveRoom};
 
 use crate::contents::Chunks;
-use crate::frames::Frame;
+use crate::brackets::Bracket;
 use crate::lists::discard;
 use crate::states::{Phase, State};
 use crate::strings::Pieces;
@@ -27,14 +27,14 @@ impl State {
     ) -> Result<bool, AllocError>
         requires taken { self.old.phase ≡ Wants }
         requires spelled { MaySpell item }
-        requires room { HaveRoom self.old.frames }
-        ensures { IfOk result (λ b. pure.after self.old.frames self.old.slip item start class.now ≡ (if b then Some self.new else None)) }
+        requires room { HaveRoom self.old.brackets }
+        ensures { IfOk result (λ b. pure.after self.old.brackets self.old.slip item start class.now ≡ (if b then Some self.new else None)) }
     {
         match class {
-            Class::Comma => self.frames.settle(item),
-            Class::Colon => Ok(self.frames.key(item)),
+            Class::Comma => self.brackets.settle(item),
+            Class::Colon => Ok(self.brackets.key(item)),
             Class::ParenClose => self.after_content(alloc, item),
-            _ => Ok(self.frames.settle(item)? && self.ended(alloc, start, class)?),
+            _ => Ok(self.brackets.settle(item)? && self.ended(alloc, start, class)?),
         }
     }
 
@@ -42,9 +42,9 @@ impl State {
     #[inline(never)]
     fn after_content(&mut self, alloc: Global, item: Option<Node>) -> Result<bool, AllocError>
         requires { self.old.phase ≡ Wants }
-        ensures { IfOk result (λ b. (start : ℕ) → pure.after self.old.frames self.old.slip item start ParenClose ≡ (if b then Some self.new else None)) }
+        ensures { IfOk result (λ b. (start : ℕ) → pure.after self.old.brackets self.old.slip item start ParenClose ≡ (if b then Some self.new else None)) }
     {
-        let Some(Frame::Tagged { place, head }) = self.frames.pop() else {
+        let Some(Bracket::Tagged { place, head }) = self.brackets.pop() else {
             return Ok(false);
         };
         let node = tagged(alloc, place, head, item)?;
@@ -61,7 +61,7 @@ impl State {
         class: &Class,
     ) -> Result<bool, AllocError>
         requires { self.old.phase ≡ Wants }
-        ensures { IfOk result (λ b. pure.ended self.old.frames self.old.slip start class.now ≡ (if b then Some self.new else None)) }
+        ensures { IfOk result (λ b. pure.ended self.old.brackets self.old.slip start class.now ≡ (if b then Some self.new else None)) }
     {
         match class {
             Class::ArrayClose => Ok(self.ended_array()),
@@ -74,10 +74,10 @@ impl State {
     #[inline(never)]
     fn ended_array(&mut self) -> bool
         requires { self.old.phase ≡ Wants }
-        ensures { (start : ℕ) → pure.ended self.old.frames self.old.slip start ArrayClose ≡ (if result then Some self.new else None) }
+        ensures { (start : ℕ) → pure.ended self.old.brackets self.old.slip start ArrayClose ≡ (if result then Some self.new else None) }
     {
-        match self.frames.pop() {
-            Some(Frame::Array { place, mark, row }) => {
+        match self.brackets.pop() {
+            Some(Bracket::Array { place, mark, row }) => {
                 let (item, found) = row.into_item(place, mark);
                 self.stand(item, found);
                 true
@@ -92,11 +92,11 @@ impl State {
     #[inline(never)]
     fn ended_map(&mut self) -> bool
         requires { self.old.phase ≡ Wants }
-        ensures { (start : ℕ) → pure.ended self.old.frames self.old.slip start MapClose ≡ (if result then Some self.new else None) }
+        ensures { (start : ℕ) → pure.ended self.old.brackets self.old.slip start MapClose ≡ (if result then Some self.new else None) }
     {
-        match self.frames.pop() {
+        match self.brackets.pop() {
             Some(
-                Frame::Key {
+                Bracket::Key {
                     place,
                     mark,
                     fields,
@@ -116,15 +116,15 @@ impl State {
     #[inline(never)]
     fn ended_embedded(&mut self, alloc: Global, start: u64, mark: Mark) -> Result<bool, AllocError>
         requires { self.old.phase ≡ Wants }
-        ensures { IfOk result (λ b. pure.ended self.old.frames self.old.slip start (EmbedClose mark) ≡ (if b then Some self.new else None)) }
+        ensures { IfOk result (λ b. pure.ended self.old.brackets self.old.slip start (EmbedClose mark) ≡ (if b then Some self.new else None)) }
     {
         let Some(
-            Frame::Embedded {
+            Bracket::Embedded {
                 before,
                 place,
                 items,
             },
-        ) = self.frames.pop()
+        ) = self.brackets.pop()
         else {
             return Ok(false);
         };
@@ -148,8 +148,8 @@ impl State {
     ) -> Result<bool, AllocError>
         requires taken { self.old.phase ≡ Wants }
         requires spelled { MaySpell (pure.string_item string) }
-        requires room { HaveRoom self.old.frames }
-        ensures { IfOk result (λ b. pure.more self.old.frames self.old.slip string start class ≡ (if b then Some self.new else None)) }
+        requires room { HaveRoom self.old.brackets }
+        ensures { IfOk result (λ b. pure.more self.old.brackets self.old.slip string start class ≡ (if b then Some self.new else None)) }
     {
         match class {
             Class::Text { bytes, mark } => self.join(string, Pieces::text(start, bytes, mark))?,
@@ -174,10 +174,10 @@ impl State {
     ) -> Result<bool, AllocError>
         requires taken { self.old.phase ≡ Wants }
         requires spelled { MaySpell (pure.string_item string) }
-        requires room { HaveRoom self.old.frames }
-        ensures { IfOk result (λ b. pure.after_string self.old.frames self.old.slip string start class.now ≡ (if b then Some self.new else None)) }
+        requires room { HaveRoom self.old.brackets }
+        ensures { IfOk result (λ b. pure.after_string self.old.brackets self.old.slip string start class.now ≡ (if b then Some self.new else None)) }
     {
-        if self.frames.are_chunks() {
+        if self.brackets.are_chunks() {
             return self.after_chunk(string, class);
         }
         let (item, found) = string.into_item(alloc);
@@ -188,17 +188,17 @@ impl State {
     #[inline(never)]
     fn after_chunk(&mut self, string: Pieces, class: &Class) -> Result<bool, AllocError>
         requires taken { self.old.phase ≡ Wants }
-        requires chunks { pure.are_chunks self.old.frames ≡ true }
-        ensures { IfOk result (λ b. (start : ℕ) → pure.after_string self.old.frames self.old.slip string start class.now ≡ (if b then Some self.new else None)) }
+        requires chunks { pure.are_chunks self.old.brackets ≡ true }
+        ensures { IfOk result (λ b. (start : ℕ) → pure.after_string self.old.brackets self.old.slip string start class.now ≡ (if b then Some self.new else None)) }
     {
-        let Some(Frame::Chunked { place, chunks }) = self.frames.pop() else {
+        let Some(Bracket::Chunked { place, chunks }) = self.brackets.pop() else {
             return Ok(false);
         };
         let (chunks, found) = chunks.with(string)?;
         self.note(found);
         match class {
             Class::Comma => {
-                self.open(Frame::Chunked { place, chunks })?;
+                self.open(Bracket::Chunked { place, chunks })?;
                 self.enter(Phase::WantsChunk);
             }
             Class::ParenClose => self.enter(Phase::Has(chunks.into_item(place))),
@@ -211,7 +211,7 @@ impl State {
     #[inline(never)]
     pub(crate) fn after_number(&mut self, item: Option<Node>, class: &Class) -> bool
         requires { self.old.phase ≡ Wants }
-        ensures { pure.after_number self.old.frames self.old.slip item class.now ≡ (if result then Some self.new else None) }
+        ensures { pure.after_number self.old.brackets self.old.slip item class.now ≡ (if result then Some self.new else None) }
     {
         let Class::ParenClose = class else {
             return false;

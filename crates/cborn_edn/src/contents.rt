@@ -6,10 +6,10 @@ ghost use Rattle.cborn_edn.specs.Meaning.{and_then, when, same_kind, size_slips}
 ghost use Rattle.cborn_edn.specs.devices.Ready.{MaySpell};
 
 use crate::EdnReason;
-use crate::lists::{ChunkList, NodeList, PairList, SpelledList, discard};
+use crate::lists::{ChunkList, NodeList, NodePairs, SpelledList, discard};
 use crate::numbers::size_for;
 use crate::slips::{Slip, earlier, slip_at, slip_unless};
-use crate::strings::{Kind, Pieces, chunked};
+use crate::strings::{StringKind, Pieces, chunked};
 use cborn_lex::Mark;
 use cborn_model::{ByteString, Chunk, Form, Node, Spelled};
 use std::alloc::{AllocError, Global};
@@ -123,7 +123,7 @@ impl Sequence {
 /// The pairs of a map.
 #[derive(Drop)]
 pub(crate) struct Fields {
-    pub(crate) pairs: Option<PairList>,
+    pub(crate) pairs: Option<NodePairs>,
     pub(crate) count: u64,
 }
 
@@ -132,7 +132,7 @@ impl Fields {
         ensures { result ≡ pure.no_fields }
     {
         Fields {
-            pairs: Some(PairList::new(alloc)),
+            pairs: Some(NodePairs::new(alloc)),
             count: 0,
         }
     }
@@ -177,7 +177,7 @@ impl Fields {
 /// The chunks of an indefinite string; the first gives the kind.
 #[derive(Drop)]
 pub(crate) struct Chunks {
-    pub(crate) kind: Option<Kind>,
+    pub(crate) kind: Option<StringKind>,
     pub(crate) chunks: Option<ChunkList>,
 }
 
@@ -241,7 +241,7 @@ fn appended(
     }
 }
 
-fn kind_or(first: Option<Kind>, kind: Kind) -> Kind
+fn kind_or(first: Option<StringKind>, kind: StringKind) -> StringKind
     ensures { result ≡ pure.kind_or first kind }
 {
     match first {
@@ -250,17 +250,17 @@ fn kind_or(first: Option<Kind>, kind: Kind) -> Kind
     }
 }
 
-fn same_kind(one: Kind, other: Kind) -> bool
+fn same_kind(one: StringKind, other: StringKind) -> bool
     ensures { result ≡ same_kind one other }
 {
     match one {
-        Kind::Bytes => match other {
-            Kind::Bytes => true,
-            Kind::Text => false,
+        StringKind::Bytes => match other {
+            StringKind::Bytes => true,
+            StringKind::Text => false,
         },
-        Kind::Text => match other {
-            Kind::Bytes => false,
-            Kind::Text => true,
+        StringKind::Text => match other {
+            StringKind::Bytes => false,
+            StringKind::Text => true,
         },
     }
 }

@@ -20,13 +20,13 @@
 //! [`read_notation`] gives what a text notates, or why it notates nothing, and [`show`] gives the fixed notation. Start with
 //! `Notates` and follow the definitions that it names; [`laws`] has what is proved of them alone, above all that the fixed
 //! notation notates the nodes that it shows. In the code start with `readers` and `showing`: the reader takes one token at a
-//! time from the text (`states`), keeps in `frames` what is open, and keeps no token.
+//! time from the text (`states`), keeps in `brackets` what is open, and keeps no token.
 #![tactic(auto)]
 
 mod closings;
 mod contents;
 mod faults;
-mod frames;
+mod brackets;
 pub mod laws;
 mod lists;
 mod numbers;
@@ -42,7 +42,7 @@ mod writing;
 pub use faults::{EdnFault, EdnReason, ShowFault};
 pub use readers::read_notation;
 pub use showing::show;
-pub use strings::Kind;
+pub use strings::StringKind;
 pub use writing::{push_between, push_escaped, push_indicator, push_simple};
 
 #[cfg(test)]

@@ -102,11 +102,11 @@ impl SpelledList {
 
 /// The pairs of a map so far.
 #[derive(Drop)]
-pub(crate) struct PairList {
+pub(crate) struct NodePairs {
     pairs: Vec<(Node, Node)>,
 }
 
-impl Model for PairList {
+impl Model for NodePairs {
     ghost use Rattle.cborn_model.specs.Tree.{Entries, entries};
     ghost use Rattle.cborn_edn.specs.devices.TreesCode.{entries_code};
 
@@ -117,15 +117,15 @@ impl Model for PairList {
     ghost view = { λ l. entries l.pairs.items };
 }
 
-impl PairList {
+impl NodePairs {
     ghost use Rattle.std.specs.Prelude.{◌≡◌, OnOk};
     ghost use Rattle.cborn_model.specs.Tree.{no_entry, entries};
     ghost use Rattle.cborn_edn.specs.Meaning.{snoc_entry};
 
-    pub(crate) fn new(alloc: Global) -> PairList
+    pub(crate) fn new(alloc: Global) -> NodePairs
         ensures { result ≡ no_entry }
     {
-        PairList {
+        NodePairs {
             pairs: Vec::new(alloc),
         }
     }

@@ -2,13 +2,13 @@
 
 ghost use Rattle.std.specs.Prelude.{◌≡◌, ◌∷◌, Some, None, IfOk, OnOk, if◌then◌else◌};
 ghost use Rattle.cborn_edn.specs.devices.Draft as pure;
-ghost use Rattle.cborn_edn.specs.declared.frames.Frame.TheVariants.{Array, Chunked, Embedded, Key, Tagged};
+ghost use Rattle.cborn_edn.specs.declared.brackets.Bracket.TheVariants.{Array, Chunked, Embedded, Key, Tagged};
 ghost use Rattle.cborn_edn.specs.declared.states.Phase.TheVariants.{Wants, WantsChunk};
 ghost use Rattle.cborn_edn.specs.Meaning.{tag_slips};
 ghost use Rattle.cborn_model.specs.Tree.{Simple as SimpleNode};
 
 use crate::contents::{Chunks, Fields, Row, Sequence};
-use crate::frames::Frame;
+use crate::brackets::Bracket;
 use crate::numbers::{integer, simple, tag_head};
 use crate::slips::slip_at;
 use crate::states::{Phase, State};
@@ -27,7 +27,7 @@ impl State {
         class: Class,
     ) -> Result<bool, AllocError>
         requires { self.old.phase ≡ Wants }
-        ensures { IfOk result (λ b. pure.begin self.old.frames self.old.slip start class ≡ (if b then Some self.new else None)) }
+        ensures { IfOk result (λ b. pure.begin self.old.brackets self.old.slip start class ≡ (if b then Some self.new else None)) }
     {
         match class {
             Class::ArrayOpen(mark) => self.open_array(alloc, start, mark)?,
@@ -56,19 +56,19 @@ impl State {
     #[inline(never)]
     fn open_array(&mut self, alloc: Global, place: u64, mark: Mark) -> Result<(), AllocError>
         requires { self.old.phase ≡ Wants }
-        ensures { OnOk result (self.new ≡ pure.keep (Array place mark pure.no_row ∷ self.old.frames) Wants self.old.slip) }
+        ensures { OnOk result (self.new ≡ pure.keep (Array place mark pure.no_row ∷ self.old.brackets) Wants self.old.slip) }
     {
         let row = Row::new(alloc);
-        self.open(Frame::Array { place, mark, row })
+        self.open(Bracket::Array { place, mark, row })
     }
 
     #[inline(never)]
     fn open_map(&mut self, alloc: Global, place: u64, mark: Mark) -> Result<(), AllocError>
         requires { self.old.phase ≡ Wants }
-        ensures { OnOk result (self.new ≡ pure.keep (Key place mark pure.no_fields ∷ self.old.frames) Wants self.old.slip) }
+        ensures { OnOk result (self.new ≡ pure.keep (Key place mark pure.no_fields ∷ self.old.brackets) Wants self.old.slip) }
     {
         let fields = Fields::new(alloc);
-        self.open(Frame::Key {
+        self.open(Bracket::Key {
             place,
             mark,
             fields,
@@ -78,10 +78,10 @@ impl State {
     #[inline(never)]
     fn open_chunks(&mut self, alloc: Global, place: u64) -> Result<(), AllocError>
         requires { self.old.phase ≡ Wants }
-        ensures { OnOk result (self.new ≡ pure.keep (Chunked place pure.no_chunks ∷ self.old.frames) WantsChunk self.old.slip) }
+        ensures { OnOk result (self.new ≡ pure.keep (Chunked place pure.no_chunks ∷ self.old.brackets) WantsChunk self.old.slip) }
     {
         let chunks = Chunks::new(alloc);
-        self.open(Frame::Chunked { place, chunks })?;
+        self.open(Bracket::Chunked { place, chunks })?;
         self.enter(Phase::WantsChunk);
         Ok(())
     }
@@ -89,12 +89,12 @@ impl State {
     #[inline(never)]
     fn open_tag(&mut self, place: u64, number: u128, mark: Mark) -> Result<(), AllocError>
         requires { self.old.phase ≡ Wants }
-        ensures { OnOk result (self.new ≡ pure.keep (Tagged place (pure.tag_head number mark) ∷ self.old.frames) Wants (pure.earlier self.old.slip (pure.first_slip (tag_slips place mark number)))) }
+        ensures { OnOk result (self.new ≡ pure.keep (Tagged place (pure.tag_head number mark) ∷ self.old.brackets) Wants (pure.earlier self.old.slip (pure.first_slip (tag_slips place mark number)))) }
     {
         let head = tag_head(number, mark);
         self.note(slip_at(place, &head));
         let head = head.ok();
-        self.open(Frame::Tagged { place, head })
+        self.open(Bracket::Tagged { place, head })
     }
 
     /// A sequence begins inside a string, behind the pieces of the string so far.
@@ -106,10 +106,10 @@ impl State {
         place: u64,
     ) -> Result<(), AllocError>
         requires { self.old.phase ≡ Wants }
-        ensures { OnOk result (self.new ≡ pure.keep (Embedded before place pure.no_sequence ∷ self.old.frames) Wants self.old.slip) }
+        ensures { OnOk result (self.new ≡ pure.keep (Embedded before place pure.no_sequence ∷ self.old.brackets) Wants self.old.slip) }
     {
         let items = Sequence::new(alloc);
-        self.open(Frame::Embedded {
+        self.open(Bracket::Embedded {
             before,
             place,
             items,
@@ -125,7 +125,7 @@ impl State {
         class: Class,
     ) -> Result<bool, AllocError>
         requires { self.old.phase ≡ Wants }
-        ensures { IfOk result (λ b. pure.begin_chunk self.old.frames self.old.slip start class ≡ (if b then Some self.new else None)) }
+        ensures { IfOk result (λ b. pure.begin_chunk self.old.brackets self.old.slip start class ≡ (if b then Some self.new else None)) }
     {
         match class {
             Class::Text { bytes, mark } => {
@@ -146,7 +146,7 @@ impl State {
     #[inline(never)]
     pub(crate) fn begin_number(&mut self, place: u64, start: u64, class: &Class) -> bool
         requires { self.old.phase ≡ Wants }
-        ensures { pure.begin_number self.old.frames self.old.slip place start class.now ≡ (if result then Some self.new else None) }
+        ensures { pure.begin_number self.old.brackets self.old.slip place start class.now ≡ (if result then Some self.new else None) }
     {
         let Class::Number {
             negative,

@@ -4,7 +4,7 @@ ghost use Rattle.std.specs.Prelude.{◌≡◌, ◌≤◌, ◌⊎◌, ℕ, List, 
 ghost use Rattle.cborn_model.specs.Tree.{Trees, trees};
 ghost use Rattle.cborn_lex.specs.Lex.{Lex, Between, IsStopFrom};
 ghost use Rattle.cborn_lex.specs.declared.faults.LexFault.{LexFault as LexStop};
-ghost use Rattle.cborn_edn.specs.Notates.{Notates, IsRefused};
+ghost use Rattle.cborn_edn.specs.Notates.{Notates, IsNoNotation};
 ghost use Rattle.cborn_edn.specs.declared.faults.EdnFault.TheVariants.{Refused};
 ghost use Rattle.cborn_edn.specs.declared.slips.Slip.{Slip as FoundSlip};
 ghost use Rattle.cborn_edn.specs.devices.Draft.{IsFirstSlip, Done, draft_run, first_state, finished, is_one, lexical};
@@ -29,7 +29,7 @@ pub fn read_notation(
     text: &str,
 ) -> Result<Vec<Spelled>, EdnFault>
     ensures notates { IfOk result (λ items. Notates profile limit text.now (trees items.items)) }
-    ensures refused { IfErr result (IsRefused profile limit text.now) }
+    ensures refused { IfErr result (IsNoNotation profile limit text.now) }
 {
     let state = parsed(alloc, limit, profile, text)?;
     let ended = match finished(alloc, state) {
@@ -78,7 +78,7 @@ fn parsed(alloc: Global, limit: Limit, profile: Profile, text: &str) -> Result<S
     ensures ready { IfOk result IsReady }
     ensures told { IfOk result (λ state. (items : Option Trees) (slip : Option FoundSlip) → finished state ≡ Some (items, slip) → IsTold (items, slip)) }
     ensures parsed { IfOk result (λ state. (tokens : List Token) × Lex profile text.now tokens × (draft_run profile limit tokens first_state ≡ Done state)) }
-    ensures refused { IfErr result (IsRefused profile limit text.now) }
+    ensures refused { IfErr result (IsNoNotation profile limit text.now) }
 {
     let mut state = match State::new(alloc) {
         Ok(state) => state,

@@ -3,11 +3,11 @@
 ghost use Rattle.std.specs.Prelude.{◌≡◌, suc, ◌^◌, ◌<◌, [], ◌∷◌, Some, None, IfOk, OnOk, if◌then◌else◌};
 ghost use Rattle.cborn_edn.specs.devices.Draft as pure;
 ghost use Rattle.cborn_edn.specs.devices.Ready.{IsReady, IsHeld, MayEnd};
-ghost use Rattle.cborn_edn.specs.declared.frames.Frame.TheVariants.{Top};
+ghost use Rattle.cborn_edn.specs.declared.brackets.Bracket.TheVariants.{Top};
 ghost use Rattle.cborn_edn.specs.declared.states.Phase.TheVariants.{Wants, Has};
 
 use crate::contents::Sequence;
-use crate::frames::{Frame, Frames};
+use crate::brackets::{Bracket, Brackets};
 use crate::lists::SpelledList;
 use crate::numbers::is_small;
 use crate::slips::{Slip, earlier};
@@ -36,7 +36,7 @@ pub(crate) enum Phase {
 /// What the reader keeps.
 #[derive(Drop)]
 pub(crate) struct State {
-    pub(crate) frames: Frames,
+    pub(crate) brackets: Brackets,
     pub(crate) phase: Phase,
     /// The first fault of meaning so far.
     pub(crate) slip: Option<Slip>,
@@ -47,10 +47,10 @@ impl State {
     pub(crate) fn new(alloc: Global) -> Result<State, AllocError>
         ensures { IfOk result (λ s. s ≡ pure.keep (Top pure.no_sequence ∷ []) Wants None) }
     {
-        let mut frames = Frames::new(alloc);
-        frames.push(Frame::Top(Sequence::new(alloc)))?;
+        let mut brackets = Brackets::new(alloc);
+        brackets.push(Bracket::Top(Sequence::new(alloc)))?;
         Ok(State {
-            frames,
+            brackets,
             phase: Phase::Wants,
             slip: None,
         })
@@ -58,9 +58,9 @@ impl State {
 
     /// How deep a token of this class goes here.
     pub(crate) fn reach(&self, class: &Class) -> u64
-        ensures { result ≡ pure.reach self.now.frames class.now }
+        ensures { result ≡ pure.reach self.now.brackets class.now }
     {
-        let levels = self.frames.levels();
+        let levels = self.brackets.levels();
         match class {
             Class::ArrayOpen(_) | Class::MapOpen(_) | Class::EmbedOpen | Class::TagOpen { .. } => {
                 levels + 1
@@ -82,10 +82,10 @@ impl State {
 
     /// Whether a token of this class is a bracket behind a comma.
     pub(crate) fn is_behind_comma(&self, class: &Class) -> bool
-        ensures { result ≡ pure.is_behind_comma self.now.phase self.now.frames class.now }
+        ensures { result ≡ pure.is_behind_comma self.now.phase self.now.brackets class.now }
     {
         match &self.phase {
-            Phase::Wants => self.frames.is_filled(class),
+            Phase::Wants => self.brackets.is_filled(class),
             _ => false,
         }
     }
@@ -119,7 +119,7 @@ impl State {
     #[inline]
     pub(crate) fn enter(&mut self, phase: Phase)
         requires { self.old.phase ≡ Wants }
-        ensures { self.new ≡ pure.keep self.old.frames phase self.old.slip }
+        ensures { self.new ≡ pure.keep self.old.brackets phase self.old.slip }
     {
         let Phase::Wants = &self.phase else {
             unreachable!();
@@ -131,7 +131,7 @@ impl State {
     #[inline]
     #[tactic(auto, using(crate::proofs::Earliest::slips))]
     pub(crate) fn note(&mut self, found: Option<Slip>)
-        ensures { self.new ≡ pure.keep self.old.frames self.old.phase (pure.earlier self.old.slip found) }
+        ensures { self.new ≡ pure.keep self.old.brackets self.old.phase (pure.earlier self.old.slip found) }
     {
         if found.is_some() {
             self.slip = earlier(self.slip, found);
@@ -140,18 +140,18 @@ impl State {
 
     /// A bracket opens, in which an item is wanted.
     #[inline]
-    pub(crate) fn open(&mut self, frame: Frame) -> Result<(), AllocError>
+    pub(crate) fn open(&mut self, bracket: Bracket) -> Result<(), AllocError>
         requires { self.old.phase ≡ Wants }
-        ensures { OnOk result (self.new ≡ pure.keep (frame ∷ self.old.frames) Wants self.old.slip) }
+        ensures { OnOk result (self.new ≡ pure.keep (bracket ∷ self.old.brackets) Wants self.old.slip) }
     {
-        self.frames.push(frame)
+        self.brackets.push(bracket)
     }
 
     /// An item stands complete; `found` is what is wrong with it.
     #[inline]
     pub(crate) fn stand(&mut self, item: Option<Node>, found: Option<Slip>)
         requires { self.old.phase ≡ Wants }
-        ensures { self.new ≡ pure.keep self.old.frames (Has item) (pure.earlier self.old.slip found) }
+        ensures { self.new ≡ pure.keep self.old.brackets (Has item) (pure.earlier self.old.slip found) }
     {
         self.note(found);
         self.enter(Phase::Has(item));
@@ -161,7 +161,7 @@ impl State {
     #[inline(never)]
     pub(crate) fn join(&mut self, before: Pieces, piece: Pieces) -> Result<(), AllocError>
         requires { self.old.phase ≡ Wants }
-        ensures { OnOk result (self.new ≡ pure.built self.old.frames self.old.slip (Some before) piece) }
+        ensures { OnOk result (self.new ≡ pure.built self.old.brackets self.old.slip (Some before) piece) }
     {
         self.note(before.slip_before(&piece));
         self.enter(Phase::Builds(before.with(piece)?));
@@ -178,13 +178,13 @@ pub(crate) fn finished(
     ensures { IfOk result (λ o. o ≡ pure.finished state) }
 {
     let State {
-        mut frames,
+        mut brackets,
         phase,
         slip,
     } = state;
-    match frames.pop() {
-        Some(frame) => match frame {
-            Frame::Top(items) => finished_top(alloc, phase, slip, items),
+    match brackets.pop() {
+        Some(bracket) => match bracket {
+            Bracket::Top(items) => finished_top(alloc, phase, slip, items),
             _ => Ok(None),
         },
         None => Ok(None),

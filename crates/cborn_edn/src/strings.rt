@@ -14,7 +14,7 @@ use std::alloc::{AllocError, Global};
 
 /// Whether a string is of bytes or of text.
 #[derive(Clone, Copy, PartialEq, Eq)]
-pub enum Kind {
+pub enum StringKind {
     /// Of bytes.
     Bytes,
     /// Of text.
@@ -24,7 +24,7 @@ pub enum Kind {
 /// The pieces of a string so far, as one: the first gives the kind and the place, the last one the indicator.
 #[derive(Drop)]
 pub(crate) struct Pieces {
-    pub(crate) kind: Kind,
+    pub(crate) kind: StringKind,
     pub(crate) place: u64,
     /// The joined bytes; none where an embedded item has a slip.
     pub(crate) bytes: Option<ByteString>,
@@ -43,7 +43,7 @@ impl Pieces {
         ensures { result ≡ pure.text_piece place bytes mark }
     {
         Pieces {
-            kind: Kind::Text,
+            kind: StringKind::Text,
             place,
             quote: bytes.as_slice().is_empty(),
             bytes: Some(bytes),
@@ -58,7 +58,7 @@ impl Pieces {
         ensures { result ≡ pure.byte_piece place quoted bytes mark }
     {
         Pieces {
-            kind: Kind::Bytes,
+            kind: StringKind::Bytes,
             place,
             quote: quoted && bytes.as_slice().is_empty(),
             bytes: Some(bytes),
@@ -73,7 +73,7 @@ impl Pieces {
         ensures { result ≡ pure.embedded_piece place bytes end mark }
     {
         Pieces {
-            kind: Kind::Bytes,
+            kind: StringKind::Bytes,
             place,
             bytes,
             mark,
@@ -100,7 +100,7 @@ impl Pieces {
     fn admits(&self, next: &Pieces) -> bool
         ensures { result ≡ pure.admits self.now.kind next.now.kind }
     {
-        self.kind == Kind::Text || next.kind == Kind::Bytes
+        self.kind == StringKind::Text || next.kind == StringKind::Bytes
     }
 
     /// These pieces, and `next` behind them.
@@ -214,12 +214,12 @@ impl Pieces {
 }
 
 // Text has to be UTF-8.
-fn is_good(kind: Kind, bytes: &ByteString) -> bool
+fn is_good(kind: StringKind, bytes: &ByteString) -> bool
     ensures { result ≡ is_good kind bytes.now }
 {
     match kind {
-        Kind::Bytes => true,
-        Kind::Text => simdutf8::is_utf8(bytes.as_slice()),
+        StringKind::Bytes => true,
+        StringKind::Text => simdutf8::is_utf8(bytes.as_slice()),
     }
 }
 
@@ -240,7 +240,7 @@ fn joined(
     }
 }
 
-fn string_node(alloc: Global, kind: Kind, place: u64, mark: Mark, bytes: ByteString) -> Option<Node>
+fn string_node(alloc: Global, kind: StringKind, place: u64, mark: Mark, bytes: ByteString) -> Option<Node>
     ensures { result ≡ pure.marked_node kind place mark bytes }
 {
     if mark == Mark::Endless {
@@ -248,25 +248,25 @@ fn string_node(alloc: Global, kind: Kind, place: u64, mark: Mark, bytes: ByteStr
     }
     let width = width_for(mark, bytes.as_slice().len() as u64).ok()?;
     let form = match kind {
-        Kind::Bytes => Form::Bytes(width, bytes),
-        Kind::Text => Form::Text(width, bytes),
+        StringKind::Bytes => Form::Bytes(width, bytes),
+        StringKind::Text => Form::Text(width, bytes),
     };
     Some(Node { place, form })
 }
 
-fn no_chunks(alloc: Global, kind: Kind, place: u64) -> Node
+fn no_chunks(alloc: Global, kind: StringKind, place: u64) -> Node
     ensures { result ≡ chunked_node kind place [] }
 {
     chunked(kind, place, Vec::new(alloc))
 }
 
 /// An indefinite string.
-pub(crate) fn chunked(kind: Kind, place: u64, chunks: Vec<Chunk>) -> Node
+pub(crate) fn chunked(kind: StringKind, place: u64, chunks: Vec<Chunk>) -> Node
     ensures { result ≡ chunked_node kind place chunks.items }
 {
     let form = match kind {
-        Kind::Bytes => Form::ByteChunks(chunks),
-        Kind::Text => Form::TextChunks(chunks),
+        StringKind::Bytes => Form::ByteChunks(chunks),
+        StringKind::Text => Form::TextChunks(chunks),
     };
     Node { place, form }
 }

@@ -16,7 +16,7 @@ use Rattle.cborn_engine.specs.declared.kinds.Kind.TheVariants as kind
 use Rattle.cborn_engine.specs.Holding.{Spells, Holds, Canon}
 use Rattle.cborn_engine.specs.Encoding.{IsWrittenAs, IsEncoded, Encodes}
 use Rattle.cborn_engine.specs.Refusing.{IsRead}
-use Rattle.cborn_engine.specs.Sending.{Writes, WriteAnswers}
+use Rattle.cborn_engine.specs.Sending.{Sends, WriteAnswers}
 use Rattle.cborn_engine.specs.Canonical.{IsCanonical, NormaliseAnswers, Normalises}
 use Rattle.cborn_engine.proofs.Notated.{fits}
 use Rattle.cborn_engine.proofs.Proper.{sequence_proper, sequence_shallow}
@@ -159,7 +159,7 @@ encoded_held order laws k limit most before after bytes bounded h =
     (o.own.items, o.own.held)
 
 -- what was encoded of what was read, written out
-pub normalised : (order : List ℕ → List ℕ → Ordering) (k out : Kind) (limit most : ℕ) (before after sent sent_after : Option (List ℕ)) (bytes : Vec ℕ Global) (zs ys : List ℕ) (r : Result Unit EngineFault) → Encodes order k limit most before after (Ok bytes) → IsWrittenAs out bytes.items zs → ys ≡ zs → Writes sent sent_after ys r → Normalises order k out limit most before after sent sent_after r
+pub normalised : (order : List ℕ → List ℕ → Ordering) (k out : Kind) (limit most : ℕ) (before after sent sent_after : Option (List ℕ)) (bytes : Vec ℕ Global) (zs ys : List ℕ) (r : Result Unit EngineFault) → Encodes order k limit most before after (Ok bytes) → IsWrittenAs out bytes.items zs → ys ≡ zs → Sends sent sent_after ys r → Normalises order k out limit most before after sent sent_after r
 normalised order k out limit most before after sent sent_after bytes zs ys r h t f w =
     let e = h.answer.1 in
     let told : IsWrittenAs out bytes.items ys = subst (IsWrittenAs out bytes.items) (sym f) t in

@@ -4,8 +4,8 @@ use Rattle.std.specs.Io.KnownBytes.{Consumes}
 use Rattle.std.proofs.KnownBytes.{Consumes-trans, Consumes-kept}
 use Rattle.std.proofs.lemmas.List.{length-take-le}
 use Rattle.std.proofs.Math.Seq.{take-add}
-use Rattle.cborn_engine.specs.declared.pieces.Stop.{Stop}
-use Rattle.cborn_engine.specs.declared.pieces.Stop.TheVariants as stop
+use Rattle.cborn_engine.specs.declared.pieces.ReadStop.{ReadStop}
+use Rattle.cborn_engine.specs.declared.pieces.ReadStop.TheVariants as stop
 use Rattle.cborn_engine.specs.declared.faults.EngineFault.TheVariants as fault
 use Rattle.cborn_engine.specs.Stopping.{of_stop}
 use Rattle.cborn_engine.specs.Pieces.{PieceAnswers, Collects}
@@ -27,7 +27,7 @@ no_room most left filled a b x h =
     record { input = take filled x; taken = h.taken; answer = l }
 
 -- no further piece came
-pub stopped : (most left filled : ℕ) (a b c : Option (List ℕ)) (x buf : List ℕ) (why : Stop) → Filled most left filled a b x → PieceAnswers b c left buf (Err why) → Collects most a c (Err (of_stop why))
+pub stopped : (most left filled : ℕ) (a b c : Option (List ℕ)) (x buf : List ℕ) (why : ReadStop) → Filled most left filled a b x → PieceAnswers b c left buf (Err why) → Collects most a c (Err (of_stop why))
 stopped most left filled a b c x buf stop.TooLong h p =
     let n : length (take filled x ++ p.0) ≡ most + 1 = omega (arith, length-append (take filled x) p.0, length-take-le filled x h.within, h.count, p.2) in
     record { input = take filled x ++ p.0; taken = Consumes-trans a b c (take filled x) p.0 h.taken p.1; answer = n }

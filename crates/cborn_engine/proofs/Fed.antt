@@ -14,8 +14,8 @@ use Rattle.cborn_wire.specs.Faults.{Refused, Fault}
 use Rattle.cborn_wire.specs.declared.faults.WireReason.TheVariants.{Truncated}
 use Rattle.cborn_wire.specs.Feeding.{Feeding, IsFed, Feeds, fresh}
 use Rattle.cborn_wire.proofs.FaultLaws.{refused_stays}
-use Rattle.cborn_engine.specs.declared.pieces.Stop.{Stop}
-use Rattle.cborn_engine.specs.declared.pieces.Stop.TheVariants as stop
+use Rattle.cborn_engine.specs.declared.pieces.ReadStop.{ReadStop}
+use Rattle.cborn_engine.specs.declared.pieces.ReadStop.TheVariants as stop
 use Rattle.cborn_engine.specs.declared.kinds.Kind.TheVariants as kind
 use Rattle.cborn_engine.specs.Faults.{of_wire}
 use Rattle.cborn_engine.specs.Stopping.{of_stop}
@@ -58,7 +58,7 @@ pub fed_below : (limit most left : ℕ) (before after : Option (List ℕ)) (f : 
 fed_below limit most left before after f s = omega (arith, s.fed.2, s.count)
 
 -- no further piece came
-pub halted : (limit most left : ℕ) (a b c : Option (List ℕ)) (refused : Bool) (f : Feeding) (buf : List ℕ) (why : Stop) → SoFar limit most left a b refused f → PieceAnswers b c left buf (Err why) → Loads kind.Wire limit most a c (Err (of_stop why))
+pub halted : (limit most left : ℕ) (a b c : Option (List ℕ)) (refused : Bool) (f : Feeding) (buf : List ℕ) (why : ReadStop) → SoFar limit most left a b refused f → PieceAnswers b c left buf (Err why) → Loads kind.Wire limit most a c (Err (of_stop why))
 halted limit most left a b c refused f buf stop.TooLong s p =
     let n : length (s.input ++ p.0) ≡ most + 1 = omega (arith, length-append s.input p.0, p.2, s.count) in
     record { input = s.input ++ p.0; taken = Consumes-trans a b c s.input p.0 s.taken p.1; answer = (n, tt); to_end = tt }

@@ -2,7 +2,7 @@
 use Rattle.std.proofs.Common.{◌≤◌, ◌<◌, ◌^◌, ℕ, inl, inr, Bool, true, false, List, [], ◌∷◌, length, refl, sym, subst, arith, Ordering}
 use Rattle.std.specs.List.{AllZip, AllByRecursion}
 use Rattle.cborn_model.specs.Bytes.{big_endian, IsShortest}
-use Rattle.cborn_model.specs.Heads.{Holds, least}
+use Rattle.cborn_model.specs.Heads.{WidthFits, least}
 use Rattle.cborn_model.specs.Tree.{Tree, Uint, Nint, Bytes, Text, ByteChunks, TextChunks, Items, Pairs, Tagged, Simple, Trees, no_item, more, Entries, no_entry, entry, trees, depth_all}
 use Rattle.cborn_model.specs.Spelled.{Fits, FitsAll, FitsEntries}
 use Rattle.cborn_model.specs.Value.{Value, Values, Couples, bytes, text, array, dict, tagged, no_values, value, no_pairs, pair, value_count, pair_count}
@@ -12,7 +12,7 @@ use Rattle.cborn_det.specs.Det.{Entry, IsInteger, Det, DetValues, DetPairs, DetS
 use Rattle.cborn_judge.proofs.Meanings.{holds_below, shortest_below, joined_bytes, joined_text, meaning_shallow}
 use Rattle.cborn_engine.proofs.ReadsBack.{AreShallow}
 
-below : (n : ℕ) → Holds (least n) n → n < 2 ^ 64
+below : (n : ℕ) → WidthFits (least n) n → n < 2 ^ 64
 below n h = holds_below (least n) n h
 
 magnitude_below : (s : Bool) (m x : List ℕ) → IsShortest m → IsInteger s m x → length m < 2 ^ 64

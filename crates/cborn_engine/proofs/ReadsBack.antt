@@ -6,7 +6,7 @@ use Rattle.std.proofs.lemmas.Bool.{lt-ltb, le-ltb}
 use Rattle.std.proofs.lemmas.List.Sorted.{length_permutation}
 use Rattle.cborn_model.specs.declared.heads.Size.TheVariants.{Fixed}
 use Rattle.cborn_model.specs.Bytes.{big_endian}
-use Rattle.cborn_model.specs.Heads.{Array, Map, Tag, Holds, Given, head, least}
+use Rattle.cborn_model.specs.Heads.{Array, Map, Tag, WidthFits, Given, head, least}
 use Rattle.cborn_model.specs.Tree.{Tree, Uint, Nint, Bytes, Text, Items, Pairs, Tagged, Simple, Trees, no_item, more, trees, Entries, no_entry, entry, count, count_entries, depth, depth_all, depth_entries}
 use Rattle.cborn_model.specs.Spelled.{spelled, spelled_all, spelled_entries, Fits, FitsAll, FitsEntries}
 use Rattle.cborn_model.specs.Placed.{Placed, PlacedAll, PlacedEntries}
@@ -206,7 +206,7 @@ module _ (order : List ℕ → List ℕ → Ordering) (laws : IsKeyOrder order) 
         node = Pairs p (Fixed (least n)) all.nodes;
         item = dict all.couples;
         spells = append-nil (head Map (Given (least n) (count_entries all.nodes)) ++ spelled_entries all.nodes) ∙ (λ i. head Map (Given (least n) (counted i)) ++ all.spells i) ∙ ap (λ l. l ++ joined d.2) (sym d.3.1) ∙ sym d.7;
-        fits = (subst (Holds (least n)) (sym counted) d.3.0, all.fits);
+        fits = (subst (WidthFits (least n)) (sym counted) d.3.0, all.fits);
         placed = (refl, subst (λ (k : ℕ). PlacedEntries (p + length (head Map (Given (least n) k))) all.nodes) (sym counted) all.placed);
         means = (all.couples, all.mean, new, refl);
         same = (moved.0, moved.1, all.same);
@@ -228,7 +228,7 @@ module _ (order : List ℕ → List ℕ → Ordering) (laws : IsKeyOrder order) 
           node = Items p (Fixed (least n)) all.nodes;
           item = array all.items;
           spells = append-nil (head Array (Given (least n) (count all.nodes)) ++ spelled_all all.nodes) ∙ (λ i. head Array (Given (least n) (all.counted i)) ++ all.spells i) ∙ ap (λ l. l ++ d.1) (sym d.2.1) ∙ sym d.4;
-          fits = (subst (Holds (least n)) (sym all.counted) d.2.0, all.fits);
+          fits = (subst (WidthFits (least n)) (sym all.counted) d.2.0, all.fits);
           placed = (refl, subst (λ (k : ℕ). PlacedAll (p + length (head Array (Given (least n) k))) all.nodes) (sym all.counted) all.placed);
           means = (all.items, all.mean, refl);
           same = all.same;

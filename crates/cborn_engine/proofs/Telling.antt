@@ -21,7 +21,7 @@ use Rattle.cborn_engine.specs.Loading.{Loads, IsNoFlaw}
 use Rattle.cborn_engine.specs.Pieces.{Collects, CollectAnswers}
 use Rattle.cborn_engine.specs.Refusing.{IsRefused, IsRead}
 use Rattle.cborn_engine.specs.Showing.{ShowAnswers, Shows, IsShown, IsSpelledAs, IsUnshownAs, IsUnspelledAs, TellAnswers, Tells}
-use Rattle.cborn_engine.specs.Sending.{Writes, WriteAnswers}
+use Rattle.cborn_engine.specs.Sending.{Sends, WriteAnswers}
 use Rattle.cborn_engine.proofs.Unanswered.{nothing_written}
 use Rattle.cborn_engine.proofs.Whole.{uncollected, read_ended, unspelled}
 
@@ -157,7 +157,7 @@ not_told k out limit most before after sent why h = record { input = h.input; ou
     answer fault.TooLong r = (r.0, r.1, refl)
     answer fault.OutOfMemory r = (r.0, r.1, refl)
 
-pub told_out : (k out : Kind) (limit most : ℕ) (before after sent sent_after : Option (List ℕ)) (bytes : Vec ℕ Global) (ys : List ℕ) (r : Result Unit EngineFault) → Tells k out limit most before after (Ok bytes) → ys ≡ bytes.items → Writes sent sent_after ys r → Shows k out limit most before after sent sent_after r
+pub told_out : (k out : Kind) (limit most : ℕ) (before after sent sent_after : Option (List ℕ)) (bytes : Vec ℕ Global) (ys : List ℕ) (r : Result Unit EngineFault) → Tells k out limit most before after (Ok bytes) → ys ≡ bytes.items → Sends sent sent_after ys r → Shows k out limit most before after sent sent_after r
 told_out k out limit most before after sent sent_after bytes ys r h e w =
     record { input = h.input; output = w.output; taken = h.taken; given = w.written; answer = answer r w.answer (subst (IsShown k out limit h.input) (sym e) h.answer.1); to_end = at_end r w.answer }
   where

@@ -4,7 +4,7 @@ use Rattle.std.specs.Io.KnownBytes.{Appends}
 use Rattle.std.proofs.KnownBytes.{Appends-trans}
 use Rattle.std.proofs.lemmas.List.{take-append-drop, take_rest}
 use Rattle.std.proofs.Math.Seq.{take-add, drop-cons}
-use Rattle.cborn_engine.specs.Sending.{Writes}
+use Rattle.cborn_engine.specs.Sending.{Sends}
 use Rattle.cborn_engine.specs.Failures.{failures_taking, one_more}
 use Rattle.cborn_engine.specs.declared.faults.EngineFault.TheVariants.{WriteFault}
 
@@ -33,5 +33,5 @@ pub length-rest_after : (bytes : List ℕ) (sent : ℕ) → length (rest_after b
 length-rest_after bytes sent = ap length (take_rest bytes sent) ∙ length-drop sent bytes
 
 -- a front of the bytes went out
-pub front_out : (bytes : List ℕ) (sent : ℕ) (a b : Option (List ℕ)) → Appends a b (take sent bytes) → Writes a b bytes (Err WriteFault)
+pub front_out : (bytes : List ℕ) (sent : ℕ) (a b : Option (List ℕ)) → Appends a b (take sent bytes) → Sends a b bytes (Err WriteFault)
 front_out bytes sent a b h = record { output = take sent bytes; written = h; answer = (drop sent bytes, take-append-drop sent bytes) }

@@ -80,9 +80,9 @@ pub record Compares (k l : Kind) (limit most : ℕ) (before after before2 after2
   pub to_end : AreRead result after after2
 
 -- the first input was refused
-abbrev pub IsFirst : CompareFault → Type 0
-IsFirst (compared.First why) = ⊤
-IsFirst _ = ⊥
+abbrev pub IsOfFirst : CompareFault → Type 0
+IsOfFirst (compared.First why) = ⊤
+IsOfFirst _ = ⊥
 
 abbrev pub first_failures_at : CompareFault → ℕ → ℕ
 first_failures_at (compared.First why) n = read_failures_at why n

@@ -12,7 +12,7 @@ WriteAnswers bytes output (Err fault.WriteFault) = IsFront output bytes
 WriteAnswers bytes output (Err why) = ⊥
 
 -- the writer was given this answer, and nothing else
-pub record Writes (before after : Option (List ℕ)) (bytes : List ℕ) (result : Result Unit EngineFault) : Type 0 where
+pub record Sends (before after : Option (List ℕ)) (bytes : List ℕ) (result : Result Unit EngineFault) : Type 0 where
   pub output : List ℕ
   pub written : Appends before after output
   pub answer : WriteAnswers bytes output result

@@ -1,12 +1,12 @@
 -- Devices: what a call tells for what stopped a part of it. No public contract cites them.
-use Rattle.cborn_engine.specs.declared.pieces.Stop.{Stop}
-use Rattle.cborn_engine.specs.declared.pieces.Stop.TheVariants as stop
+use Rattle.cborn_engine.specs.declared.pieces.ReadStop.{ReadStop}
+use Rattle.cborn_engine.specs.declared.pieces.ReadStop.TheVariants as stop
 use Rattle.cborn_engine.specs.declared.faults.CompareFault.{CompareFault}
 use Rattle.cborn_engine.specs.declared.faults.CompareFault.TheVariants as compared
 use Rattle.cborn_engine.specs.declared.faults.EngineFault.{EngineFault}
 use Rattle.cborn_engine.specs.declared.faults.EngineFault.TheVariants as fault
 
-abbrev pub of_stop : Stop → EngineFault
+abbrev pub of_stop : ReadStop → EngineFault
 of_stop stop.Failed = fault.ReadFault
 of_stop stop.TooLong = fault.TooLong
 

@@ -1,6 +1,6 @@
 //! Whether two inputs hold the same items. Each is read whole and encoded, the first before a byte of the second is read; the encodings are equal exactly if the items are the same.
 ghost use Rattle.std.specs.Prelude.{◌≡◌, ◌≤◌, ◌⊎◌, ◌+◌, ◌^◌, IfErr};
-ghost use Rattle.cborn_engine.specs.Comparing.{Compares, IsFirst, IsHeldWhole, first_failures, second_failures};
+ghost use Rattle.cborn_engine.specs.Comparing.{Compares, IsOfFirst, IsHeldWhole, first_failures, second_failures};
 ghost use Rattle.cborn_engine.specs.Stopping.{of_first, of_second};
 
 use crate::differences::difference;
@@ -45,7 +45,7 @@ pub fn compare<O: KeyOrder, R: Source, Q: Source>(
     second: &mut Q,
 ) -> Result<Option<u64>, CompareFault>
     ensures compares { Compares kind_a kind_b limit (2 ^ 30) (R.remaining first.old) (R.remaining first.new) (Q.remaining second.old) (Q.remaining second.new) result }
-    ensures unread { IfErr result (λ why. IsFirst why → second.new ≡ second.old) }
+    ensures unread { IfErr result (λ why. IsOfFirst why → second.new ≡ second.old) }
     ensures first_held { (second.new ≡ second.old) ⊎ IsHeldWhole kind_a limit (R.remaining first.old) (R.remaining first.new) }
     ensures first_failures { R.failed first.new ≡ first_failures result (R.failed first.old) }
     ensures second_failures { Q.failed second.new ≡ second_failures result (Q.failed second.old) }

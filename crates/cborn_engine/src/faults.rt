@@ -3,7 +3,7 @@ ghost use Rattle.std.specs.Prelude.{◌≡◌};
 ghost use Rattle.cborn_engine.specs.declared.faults.CompareFault.{CompareFault};
 ghost use Rattle.cborn_engine.specs.declared.faults.EngineFault.{EngineFault};
 
-use crate::pieces::Stop;
+use crate::pieces::ReadStop;
 use cborn_edn::{EdnFault, ShowFault};
 use cborn_judge::Invalid;
 use cborn_lex::LexFault;
@@ -113,15 +113,15 @@ impl From<ShowFault> for EngineFault {
     }
 }
 
-impl From<Stop> for EngineFault {
+impl From<ReadStop> for EngineFault {
     ghost use Rattle.cborn_engine.specs.Stopping.{of_stop};
 
     ghost from_gives = { λ why e. e ≡ of_stop why };
 
-    fn from(why: Stop) -> Self {
+    fn from(why: ReadStop) -> Self {
         match why {
-            Stop::Failed => EngineFault::ReadFault,
-            Stop::TooLong => EngineFault::TooLong,
+            ReadStop::Failed => EngineFault::ReadFault,
+            ReadStop::TooLong => EngineFault::TooLong,
         }
     }
 }

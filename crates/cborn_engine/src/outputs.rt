@@ -2,14 +2,14 @@
 ghost use Rattle.std.specs.Prelude.{◌≡◌, IfErr, OnOk};
 ghost use Rattle.cborn_engine.specs.declared.faults.EngineFault.TheVariants as fault;
 ghost use Rattle.cborn_engine.specs.Writing.{write_failures};
-ghost use Rattle.cborn_engine.specs.Sending.{Writes};
+ghost use Rattle.cborn_engine.specs.Sending.{Sends};
 
 use crate::faults::EngineFault;
 use crate::sinks::Sink;
 
-/// Writes all the bytes, and flushes once, also where there are none. After `WriteFault`, its only fault, a front of the bytes went out.
+/// Sends all the bytes, and flushes once, also where there are none. After `WriteFault`, its only fault, a front of the bytes went out.
 pub fn write_answer<W: Sink>(writer: &mut W, bytes: &[u8]) -> Result<(), EngineFault>
-    ensures writes { Writes (W.contents writer.old) (W.contents writer.new) bytes.now result }
+    ensures writes { Sends (W.contents writer.old) (W.contents writer.new) bytes.now result }
     ensures failures { W.failed writer.new ≡ write_failures result (W.failed writer.old) }
     ensures flushed { OnOk result (W.unflushed writer.new ≡ 0) }
     ensures fault { IfErr result (λ why. why ≡ fault.WriteFault) }

@@ -7,7 +7,7 @@ use std::alloc::AllocError;
 
 /// Why an input was not read to its end.
 #[derive(Clone, Copy, Debug)]
-pub enum Stop {
+pub enum ReadStop {
     /// The reader failed.
     Failed,
     /// It gave more bytes than the input may have.
@@ -15,7 +15,7 @@ pub enum Stop {
 }
 
 /// Reads a piece of an input of which at most `left` more bytes are allowed, to the front of `buf`, and answers its length: 0 only at the end. Of an input that is longer one byte more than allowed is read.
-pub fn read_piece<R: Source>(reader: &mut R, buf: &mut [u8], left: u64) -> Result<usize, Stop>
+pub fn read_piece<R: Source>(reader: &mut R, buf: &mut [u8], left: u64) -> Result<usize, ReadStop>
     requires room { 0 < length buf.old }
     requires bounded { left ≤ 2 ^ 30 }
     ensures piece { PieceAnswers (R.remaining reader.old) (R.remaining reader.new) left buf.new result }
@@ -25,10 +25,10 @@ pub fn read_piece<R: Source>(reader: &mut R, buf: &mut [u8], left: u64) -> Resul
     let room = (left + 1).min(buf.len() as u64) as usize;
     let count = match reader.read_some(&mut buf[..room]) {
         Ok(count) => count,
-        Err(_) => return Err(Stop::Failed),
+        Err(_) => return Err(ReadStop::Failed),
     };
     if count as u64 > left {
-        return Err(Stop::TooLong);
+        return Err(ReadStop::TooLong);
     }
     Ok(count)
 }
@@ -57,7 +57,7 @@ pub fn read_behind<R: Source>(
     bytes: &mut Vec<u8>,
     filled: usize,
     left: u64,
-) -> Result<usize, Stop>
+) -> Result<usize, ReadStop>
     requires room { filled < length bytes.old.items }
     requires bounded { left ≤ 2 ^ 30 }
     ensures front { take filled bytes.new.items ≡ take filled bytes.old.items }
@@ -73,7 +73,7 @@ fn read_at<R: Source>(
     buf: &mut [u8],
     filled: usize,
     left: u64,
-) -> Result<usize, Stop>
+) -> Result<usize, ReadStop>
     requires room { filled < length buf.old }
     requires bounded { left ≤ 2 ^ 30 }
     ensures front { take filled buf.new ≡ take filled buf.old }

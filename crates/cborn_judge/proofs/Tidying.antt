@@ -16,7 +16,7 @@ use Rattle.cborn_model.specs.Bytes.{big_endian, AreBytes, IsShortest}
 use Rattle.cborn_model.specs.Valid.{IsProper, AreProper, HasProperPairs}
 use Rattle.cborn_model.specs.declared.heads.Width.{Width}
 use Rattle.cborn_model.specs.declared.heads.Width.TheVariants.{Direct, One, Two, Four, Eight}
-use Rattle.cborn_model.specs.Heads.{Holds, information, following, least, IsHead, IsLeastHead, Major, Unsigned, Negative, ByteString, TextString, Array, Map, Tag, Other, Given, Unbounded, code, head}
+use Rattle.cborn_model.specs.Heads.{WidthFits, information, following, least, IsHead, IsLeastHead, Major, Unsigned, Negative, ByteString, TextString, Array, Map, Tag, Other, Given, Unbounded, code, head}
 use Rattle.cborn_det.specs.Det.{IsString, IsInteger, IsSimple, Det, DetValues, DetPairs, Entry, keys, joined, major_of, bignum_tag}
 use Rattle.cborn_model.specs.Orders.{Rising}
 use Rattle.cborn_model.specs.declared.nodes.Chunk.{Chunk}
@@ -33,7 +33,7 @@ joined_spelled (entry k v es) = ap (λ l. spelled k ++ spelled v ++ l) (joined_s
 
 -- ---- from tidy to the encoding
 
-is_least_head : (m : Major) (w : Width) (n k : ℕ) → Holds w n → w ≡ least n → k ≡ n → IsLeastHead (code m) k (head m (Given w n))
+is_least_head : (m : Major) (w : Width) (n k : ℕ) → WidthFits w n → w ≡ least n → k ≡ n → IsLeastHead (code m) k (head m (Given w n))
 is_least_head m w n k h e i =
     let a : IsHead (code m) (least n) n (head m (Given w n)) = subst (λ v. IsHead (code m) v n (head m (Given w n))) e (h, refl) in
     subst (λ z. IsHead (code m) (least z) z (head m (Given w n))) (sym i) a
@@ -51,17 +51,17 @@ not_loose (c ∷ bs) h =
     record { shortest = s; large = large (c ∷ bs) s l }
 
 module _ (order : List ℕ → List ℕ → Ordering) where
-  string_det : (m : Major) (w : Width) (b : List ℕ) → Holds w (length b) → w ≡ least (length b) → IsString (code m) b (head m (Given w (length b)) ++ b)
+  string_det : (m : Major) (w : Width) (b : List ℕ) → WidthFits w (length b) → w ≡ least (length b) → IsString (code m) b (head m (Given w (length b)) ++ b)
   string_det m w b h e = (head m (Given w (length b)), is_least_head m w (length b) (length b) h e refl, refl)
 
-  number_det : (s : Bool) (m : Major) (w : Width) (n : ℕ) (v : Value) → code m ≡ major_of s → IsNumber s n v → Holds w n → w ≡ least n → Det order v (head m (Given w n))
+  number_det : (s : Bool) (m : Major) (w : Width) (n : ℕ) (v : Value) → code m ≡ major_of s → IsNumber s n v → WidthFits w n → w ≡ least n → Det order v (head m (Given w n))
   number_det s m w n v c h f e =
       let l : n < 2 ^ 64 = holds_below w n f in
       let k : IsLeastHead (code m) (big_endian h.0) (head m (Given w n)) = is_least_head m w n (big_endian h.0) f e h.3 in
       let k' : IsLeastHead (major_of s) (big_endian h.0) (head m (Given w n)) = subst (λ j. IsLeastHead j (big_endian h.0) (head m (Given w n))) c k in
       subst (λ z. Det order z (head m (Given w n))) (sym h.4) (inl (omega (arith, h.3), k'))
 
-  bignum_det : (s : Bool) (w : Width) (n : ℕ) (t : Tree) (v : Value) → n ≡ bignum_tag s → IsBignum s t v → Holds w n → w ≡ least n → Fits t → IsTidy order t → ((b : List ℕ) → IsByteString t b → IsLoose b → ⊥) → Det order v (head Tag (Given w n) ++ spelled t)
+  bignum_det : (s : Bool) (w : Width) (n : ℕ) (t : Tree) (v : Value) → n ≡ bignum_tag s → IsBignum s t v → WidthFits w n → w ≡ least n → Fits t → IsTidy order t → ((b : List ℕ) → IsByteString t b → IsLoose b → ⊥) → Det order v (head Tag (Given w n) ++ spelled t)
   bignum_det s w n (Bytes q u b) v i h f e g d l =
       let wide = not_loose b (l b refl) in
       let k = h.2 in
@@ -120,7 +120,7 @@ module _ (order : List ℕ → List ℕ → Ordering) where
 
 -- ---- from the encoding to tidy
 
-same_width : (w v : Width) (n k : ℕ) → Holds w n → Holds v k → information w n ≡ information v k → w ≡ v
+same_width : (w v : Width) (n k : ℕ) → WidthFits w n → WidthFits v k → information w n ≡ information v k → w ≡ v
 same_width Direct Direct n k h g e = refl
 same_width One One n k h g e = refl
 same_width Two Two n k h g e = refl
@@ -128,7 +128,7 @@ same_width Four Four n k h g e = refl
 same_width Eight Eight n k h g e = refl
 same_width _ _ n k h g e = absurd (omega arith)
 
-bits_low : (w : Width) (n : ℕ) → Holds w n → information w n < 31
+bits_low : (w : Width) (n : ℕ) → WidthFits w n → information w n < 31
 bits_low Direct n h = omega arith
 bits_low _ n h = omega arith
 
@@ -198,7 +198,7 @@ module _ (order : List ℕ → List ℕ → Ordering) where
     rest : c ++ r ≡ content ++ s
     is : x ≡ head m (Given w n) ++ content
 
-  meets : (m : Major) (w : Width) (n : ℕ) (c r x s : List ℕ) → Holds w n → Seen x → (head m (Given w n) ++ c) ++ r ≡ x ++ s → Meets m w n c r x s
+  meets : (m : Major) (w : Width) (n : ℕ) (c r x s : List ℕ) → WidthFits w n → Seen x → (head m (Given w n) ++ c) ++ r ≡ x ++ s → Meets m w n c r x s
   meets m w n c r x s h z e =
       let a : head m (Given w n) ++ (c ++ r) ≡ z.front ++ (z.content ++ s) = sym (append_assoc (head m (Given w n)) c r) ∙ e ∙ ap (λ l. l ++ s) z.is ∙ append_assoc z.front z.content s in
       let o = one_head w (least z.argument) (c ++ r) (z.content ++ s) (h, refl) z.is_head a in
@@ -333,9 +333,9 @@ module _ (order : List ℕ → List ℕ → Ordering) where
         let t = bare_spelt Other (simple_width n) n r x s (inr refl) z in
         (t.0, t.1, tt)
       where
-        simple_holds : (n : ℕ) → (n < 24) ⊎ ((32 ≤ n) × (n < 256)) → Holds (simple_width n) n
-        simple_holds n (inl l) = subst (λ c. Holds (cond c Direct One) n) (sym (lt-ltb n 24 l)) l
-        simple_holds n (inr k) = subst (λ c. Holds (cond c Direct One) n) (sym (le-ltb n 24 (omega arith))) k.1
+        simple_holds : (n : ℕ) → (n < 24) ⊎ ((32 ≤ n) × (n < 256)) → WidthFits (simple_width n) n
+        simple_holds n (inl l) = subst (λ c. WidthFits (cond c Direct One) n) (sym (lt-ltb n 24 l)) l
+        simple_holds n (inr k) = subst (λ c. WidthFits (cond c Direct One) n) (sym (le-ltb n 24 (omega arith))) k.1
 
     pub all_tidy : (ts : Trees) (vs : Values) (c r s : List ℕ) → value_count vs ≡ count ts → FitsAll ts → AreProper vs → DetValues order vs c → spelled_all ts ++ r ≡ c ++ s → Spelt (spelled_all ts) r c s (AllTidy order ts)
     all_tidy no_item no_values c r s n f p d e = (sym d, e ∙ ap (λ l. l ++ s) d, tt)

@@ -4,7 +4,7 @@ use Rattle.cborn_model.specs.declared.nodes.Chunk.{Chunk}
 use Rattle.cborn_model.specs.Tree.{Tree, Items, Pairs, trees, entries}
 use Rattle.cborn_model.specs.declared.heads.Size.{Size}
 use Rattle.cborn_model.proofs.Trees.{count-trees, count_entries-entries}
-use Rattle.cborn_model.specs.Heads.{Holds, SizeFits}
+use Rattle.cborn_model.specs.Heads.{WidthFits, SizeFits}
 use Rattle.cborn_model.specs.Bytes.{AreBytes}
 use Rattle.cborn_model.specs.Spelled.{Fits, FitsAll, FitsEntries, ChunksFit}
 
@@ -12,7 +12,7 @@ abbrev pub PairFits : Tree × Tree → Type 0
 PairFits p = Fits p.0 × Fits p.1
 
 abbrev pub ChunkFits : Chunk → Type 0
-ChunkFits c = Holds c.width (length c.bytes) × AreBytes c.bytes
+ChunkFits c = WidthFits c.width (length c.bytes) × AreBytes c.bytes
 
 -- P holds of the first n
 abbrev pub Front : {A : Type 0} → (A → Type 0) → List A → ℕ → Type 0

@@ -4,7 +4,7 @@ use Rattle.std.specs.Int.{to_be_bytes, from_be_bytes}
 use Rattle.std.proofs.lemmas.Nat.{from_be_bytes-to_be_bytes_2, from_be_bytes-to_be_bytes_4, from_be_bytes-to_be_bytes_8}
 use Rattle.cborn_model.specs.declared.heads.Width.{Width}
 use Rattle.cborn_model.specs.declared.heads.Width.TheVariants.{Direct, One, Two, Four, Eight}
-use Rattle.cborn_model.specs.Heads.{Holds, information, following, IsHead, least}
+use Rattle.cborn_model.specs.Heads.{WidthFits, information, following, IsHead, least}
 
 -- lists of one length at the front
 pub append_same : {A : Type 0} (a b r s : List A) → length a ≡ length b → a ++ r ≡ b ++ s → (a ≡ b) × (r ≡ s)
@@ -18,11 +18,11 @@ append_same (x ∷ a) (y ∷ b) r s l e =
     let first : a ≡ b = t.0 in
     (cc, t.1)
 
-low_bits_below : (w : Width) (n : ℕ) → Holds w n → information w n < 32
+low_bits_below : (w : Width) (n : ℕ) → WidthFits w n → information w n < 32
 low_bits_below Direct n p = omega arith
 low_bits_below _ n p = omega arith
 
-same_argument : (w v : Width) (n k : ℕ) (r s : List ℕ) → Holds w n → Holds v k → information w n ≡ information v k → following w n ++ r ≡ following v k ++ s → (n ≡ k) × (following w n ≡ following v k) × (r ≡ s)
+same_argument : (w v : Width) (n k : ℕ) (r s : List ℕ) → WidthFits w n → WidthFits v k → information w n ≡ information v k → following w n ++ r ≡ following v k ++ s → (n ≡ k) × (following w n ≡ following v k) × (r ≡ s)
 same_argument Direct Direct n k r s p q e f = (e, refl, f)
 same_argument One One n k r s p q e f = (cc, cc, cc)
 same_argument Two Two n k r s p q e f =
@@ -53,11 +53,11 @@ one_head {m} {j} {n} {k} w v {x} {y} r s p q e =
     let tails : following w n ≡ following v k = t.1 in
     record { major = omega (arith, low_bits_below w n p.0, low_bits_below v k q.0); argument = t.0; head = cc (p.1, q.1); rest = t.2 }
 
-holds_cond : (b : Bool) (w v : Width) (n : ℕ) → (b ≡ true → Holds w n) → (b ≡ false → Holds v n) → Holds (cond b w v) n
+holds_cond : (b : Bool) (w v : Width) (n : ℕ) → (b ≡ true → WidthFits w n) → (b ≡ false → WidthFits v n) → WidthFits (cond b w v) n
 holds_cond true w v n f g = f refl
 holds_cond false w v n f g = g refl
 
 -- each number below 2 ^ 64 has a least head, and one
-pub least_holds : (n : ℕ) → n < 2 ^ 64 → Holds (least n) n
+pub least_holds : (n : ℕ) → n < 2 ^ 64 → WidthFits (least n) n
 least_holds n h =
     holds_cond (ltb n 24) _ _ n (ltb-true n 24) (λ _. holds_cond (ltb n 256) _ _ n (ltb-true n 256) (λ _. holds_cond (ltb n (2 ^ 16)) _ _ n (ltb-true n (2 ^ 16)) (λ _. holds_cond (ltb n (2 ^ 32)) Four Eight n (ltb-true n (2 ^ 32)) (λ _. h))))

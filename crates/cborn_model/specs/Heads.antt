@@ -21,12 +21,12 @@ code Tag = 6
 code Other = 7
 
 -- a head of this width has room for the argument n
-abbrev pub Holds : Width → ℕ → Type 0
-Holds Direct n = n < 24
-Holds One n = n < 256
-Holds Two n = n < 2 ^ 16
-Holds Four n = n < 2 ^ 32
-Holds Eight n = n < 2 ^ 64
+abbrev pub WidthFits : Width → ℕ → Type 0
+WidthFits Direct n = n < 24
+WidthFits One n = n < 256
+WidthFits Two n = n < 2 ^ 16
+WidthFits Four n = n < 2 ^ 32
+WidthFits Eight n = n < 2 ^ 64
 
 -- the additional information
 abbrev pub information : Width → ℕ → ℕ
@@ -50,7 +50,7 @@ head_bytes major w n = (32 * major + information w n) ∷ following w n
 
 -- x is the head of the major type with the argument n
 abbrev pub IsHead : ℕ → Width → ℕ → List ℕ → Type 0
-IsHead major w n x = Holds w n × (x ≡ head_bytes major w n)
+IsHead major w n x = WidthFits w n × (x ≡ head_bytes major w n)
 
 -- the first width that has room for n
 abbrev pub least : ℕ → Width
@@ -81,5 +81,5 @@ argument Endless n = Unbounded
 
 -- n entries fit the head
 abbrev pub SizeFits : Size → ℕ → Type 0
-SizeFits (Fixed w) n = Holds w n
+SizeFits (Fixed w) n = WidthFits w n
 SizeFits Endless n = Unit {0}

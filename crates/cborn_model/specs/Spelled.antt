@@ -7,7 +7,7 @@ use Rattle.cborn_model.specs.declared.heads.Size.{Size}
 use Rattle.cborn_model.specs.declared.heads.Size.TheVariants.{Fixed, Endless}
 use Rattle.cborn_model.specs.declared.nodes.Chunk.{Chunk}
 use Rattle.cborn_model.specs.Bytes.{AreBytes}
-use Rattle.cborn_model.specs.Heads.{Major, Unsigned, Negative, ByteString, TextString, Array, Map, Tag, Other, Holds, Given, Unbounded, head, argument, SizeFits}
+use Rattle.cborn_model.specs.Heads.{Major, Unsigned, Negative, ByteString, TextString, Array, Map, Tag, Other, WidthFits, Given, Unbounded, head, argument, SizeFits}
 use Rattle.cborn_model.specs.Tree.{Tree, Uint, Nint, Bytes, Text, ByteChunks, TextChunks, Items, Pairs, Tagged, Simple, Trees, no_item, more, Entries, no_entry, entry, count, count_entries, depth, depth_all}
 
 -- what stands behind the contents of an array or a map: the break, where its length is indefinite
@@ -52,20 +52,20 @@ abbrev mutual
 
 abbrev pub ChunksFit : List Chunk → Type 0
 ChunksFit [] = Unit {0}
-ChunksFit (c ∷ cs) = (Holds c.width (length c.bytes) × AreBytes c.bytes) × ChunksFit cs
+ChunksFit (c ∷ cs) = (WidthFits c.width (length c.bytes) × AreBytes c.bytes) × ChunksFit cs
 
 -- The node spells bytes: each argument, length and count fits its width, and no simple value is from 24 to 31.
 abbrev mutual
   pub Fits : Tree → Type 0
-  Fits (Uint p w n) = Holds w n
-  Fits (Nint p w n) = Holds w n
-  Fits (Bytes p w b) = Holds w (length b) × AreBytes b
-  Fits (Text p w b) = Holds w (length b) × AreBytes b
+  Fits (Uint p w n) = WidthFits w n
+  Fits (Nint p w n) = WidthFits w n
+  Fits (Bytes p w b) = WidthFits w (length b) × AreBytes b
+  Fits (Text p w b) = WidthFits w (length b) × AreBytes b
   Fits (ByteChunks p cs) = ChunksFit cs
   Fits (TextChunks p cs) = ChunksFit cs
   Fits (Items p s ts) = SizeFits s (count ts) × FitsAll ts
   Fits (Pairs p s es) = SizeFits s (count_entries es) × FitsEntries es
-  Fits (Tagged p w n t) = Holds w n × Fits t
+  Fits (Tagged p w n t) = WidthFits w n × Fits t
   Fits (Simple p n) = (n < 24) ⊎ ((32 ≤ n) × (n < 256))
 
   pub FitsAll : Trees → Type 0

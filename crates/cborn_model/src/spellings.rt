@@ -1,7 +1,7 @@
 //! Nodes that spell bytes.
 
 ghost use Rattle.std.specs.Prelude.{◌≡◌, ◌-◌, ◌^◌, ◌↔◌, min, length, IsTrue};
-ghost use Rattle.cborn_model.specs.Heads.{Holds, SizeFits};
+ghost use Rattle.cborn_model.specs.Heads.{WidthFits, SizeFits};
 ghost use Rattle.cborn_model.specs.Tree.{depth, depth_all, depth_entries, trees, entries};
 ghost use Rattle.cborn_model.specs.Spelled.{Fits, FitsAll, FitsEntries, ChunksFit, IsSpelled};
 
@@ -156,7 +156,7 @@ fn chunks_fit(chunks: &[Chunk]) -> bool
 
 /// Whether a head of this width has room for `n`.
 fn holds(width: Width, n: u64) -> bool
-    ensures { IsTrue result ↔ Holds width n }
+    ensures { IsTrue result ↔ WidthFits width n }
 {
     match width {
         Width::Direct => n < 24,

@@ -2,7 +2,7 @@
 use Rattle.std.proofs.Common.{◌≡◌, ℕ, suc, ◌+◌, ◌-◌, ◌≤◌, List, [], ◌∷◌, ◌++◌, length, refl, sym, ap, ◌∙◌, subst, arith, append_assoc, append-nil, length-append}
 use Rattle.cborn_model.specs.declared.heads.Width.{Width}
 use Rattle.cborn_model.specs.declared.heads.Size.TheVariants.{Fixed, Endless}
-use Rattle.cborn_model.specs.Heads.{Map, Given, Unbounded, head, Holds}
+use Rattle.cborn_model.specs.Heads.{Map, Given, Unbounded, head, WidthFits}
 use Rattle.cborn_model.specs.Tree.{Tree, Pairs, entries, count_entries, depth_entries}
 use Rattle.cborn_model.specs.Spelled.{spelled, spelled_entries, Fits, FitsEntries, ending}
 use Rattle.cborn_model.specs.Placed.{Placed, PlacedEntries}
@@ -56,7 +56,7 @@ pair_more P Q K V room total n input mid half rest l x k v f =
     }
 
 module _ (P : List Pair → Type 0) (Q : Tree → Type 0) (room total place : ℕ) where
-  pub map_read : (w : Width) (n : ℕ) (input rest : List ℕ) → 1 ≤ room → Holds w n → length (head Map (Given w n) ++ input) ≤ total → place ≡ total - length (head Map (Given w n) ++ input) → PairsRead P (room - 1) total n input rest → ((ns : List Pair) → length ns ≡ n → P ns → Q (Pairs place (Fixed w) (entries ns)))
+  pub map_read : (w : Width) (n : ℕ) (input rest : List ℕ) → 1 ≤ room → WidthFits w n → length (head Map (Given w n) ++ input) ≤ total → place ≡ total - length (head Map (Given w n) ++ input) → PairsRead P (room - 1) total n input rest → ((ns : List Pair) → length ns ≡ n → P ns → Q (Pairs place (Fixed w) (entries ns)))
       → NodeRead Q room total (head Map (Given w n) ++ input) rest
   map_read w n input rest r h l at s f =
       let c : count_entries (entries s.nodes) ≡ n = count_entries_of s.nodes ∙ s.count in
@@ -67,7 +67,7 @@ module _ (P : List Pair → Type 0) (Q : Tree → Type 0) (room total place : �
         read = (λ i. head Map (Given w (sym c i)) ++ s.read i)
             ∙ sym (append_assoc (head Map (Given w (count_entries (entries s.nodes)))) (spelled_entries (entries s.nodes)) rest)
             ∙ ap (λ z. z ++ rest) (sym (append-nil (head Map (Given w (count_entries (entries s.nodes))) ++ spelled_entries (entries s.nodes))));
-        fits = (subst (Holds w) (sym c) h, s.fits);
+        fits = (subst (WidthFits w) (sym c) h, s.fits);
         shallow = omega (arith, s.shallow);
         placed = (at, subst (λ k. PlacedEntries k (entries s.nodes)) q s.placed);
         holds = f s.nodes s.count s.holds;

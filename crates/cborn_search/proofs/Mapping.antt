@@ -4,7 +4,7 @@ use Rattle.std.specs.Prelude.{◌↔◌}
 use Rattle.cborn_model.specs.declared.heads.Width.{Width}
 use Rattle.cborn_model.specs.declared.heads.Size.{Size}
 use Rattle.cborn_model.specs.declared.heads.Size.TheVariants.{Fixed, Endless}
-use Rattle.cborn_model.specs.Heads.{Map, Given, Unbounded, head, Holds}
+use Rattle.cborn_model.specs.Heads.{Map, Given, Unbounded, head, WidthFits}
 use Rattle.cborn_model.specs.Orders.{bytewise}
 use Rattle.cborn_model.specs.Tree.{Tree, Pairs, entries}
 use Rattle.cborn_judge.specs.Flaws.{Flaw}
@@ -75,7 +75,7 @@ map_of room total n input rest a b o keys s f e = record {
 flaw_of_map : (p : ℕ) (size : Size) (o : Option Told) (ns : List Pair) → MapFlaw o ns → HasFlaw o false (Pairs p size (entries ns))
 flaw_of_map p size o ns h = (alike_told (Either (FlawAmong (entries ns)) (RepeatFlaw (entries ns))) (Flaw (Pairs p size (entries ns))) o (λ k j. let g = flaw_pairs p size (entries ns) k j in (g.1, g.0)) h, (λ b k. k))
 
-pub map_seen : (room total : ℕ) (w : Width) (n : ℕ) (input rest : List ℕ) (o : Option Told) → 1 ≤ room → Holds w n → length (head Map (Given w n) ++ input) ≤ total → MapSeen (room - 1) total n input rest o
+pub map_seen : (room total : ℕ) (w : Width) (n : ℕ) (input rest : List ℕ) (o : Option Told) → 1 ≤ room → WidthFits w n → length (head Map (Given w n) ++ input) ≤ total → MapSeen (room - 1) total n input rest o
     → Scanned room total (head Map (Given w n) ++ input) rest o false
 map_seen room total w n input rest o r h l s =
     let p : ℕ = total - length (head Map (Given w n) ++ input) in

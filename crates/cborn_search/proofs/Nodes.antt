@@ -5,7 +5,7 @@ use Rattle.std.specs.List.{flat_map}
 use Rattle.cborn_model.specs.declared.heads.Width.{Width}
 use Rattle.cborn_model.specs.declared.heads.Size.TheVariants.{Fixed, Endless}
 use Rattle.cborn_model.specs.declared.nodes.Chunk.{Chunk}
-use Rattle.cborn_model.specs.Heads.{Major, Unsigned, Negative, ByteString, TextString, Array, Tag, Other, Given, Unbounded, head, Holds}
+use Rattle.cborn_model.specs.Heads.{Major, Unsigned, Negative, ByteString, TextString, Array, Tag, Other, Given, Unbounded, head, WidthFits}
 use Rattle.cborn_model.specs.Tree.{Tree, Uint, Nint, Bytes, Text, ByteChunks, TextChunks, Items, Tagged, Simple, trees, depth_all, count}
 use Rattle.cborn_model.specs.Spelled.{spelled, spelled_all, Fits, FitsAll, ChunksFit, chunk_bytes, ending}
 use Rattle.cborn_model.specs.Placed.{Placed, PlacedAll, ChunksPlaced}
@@ -24,29 +24,29 @@ behind total input front rest l e = omega (arith, l, ap length e ∙ length-appe
 -- ---- leaves
 
 module _ (P : Tree → Type 0) (room total place : ℕ) where
-  pub uint_read : (w : Width) (n : ℕ) (rest : List ℕ) → Holds w n → place ≡ total - length (head Unsigned (Given w n) ++ rest) → P (Uint place w n) → NodeRead P room total (head Unsigned (Given w n) ++ rest) rest
+  pub uint_read : (w : Width) (n : ℕ) (rest : List ℕ) → WidthFits w n → place ≡ total - length (head Unsigned (Given w n) ++ rest) → P (Uint place w n) → NodeRead P room total (head Unsigned (Given w n) ++ rest) rest
   uint_read w n rest h e f = record { node = Uint place w n; read = refl; fits = h; shallow = omega arith; placed = e; holds = f }
 
-  pub nint_read : (w : Width) (n : ℕ) (rest : List ℕ) → Holds w n → place ≡ total - length (head Negative (Given w n) ++ rest) → P (Nint place w n) → NodeRead P room total (head Negative (Given w n) ++ rest) rest
+  pub nint_read : (w : Width) (n : ℕ) (rest : List ℕ) → WidthFits w n → place ≡ total - length (head Negative (Given w n) ++ rest) → P (Nint place w n) → NodeRead P room total (head Negative (Given w n) ++ rest) rest
   nint_read w n rest h e f = record { node = Nint place w n; read = refl; fits = h; shallow = omega arith; placed = e; holds = f }
 
-  pub bytes_read : (w : Width) (n : ℕ) (input content rest : List ℕ) → Holds w n → place ≡ total - length (head ByteString (Given w n) ++ input) → StringRead n input content rest → P (Bytes place w content)
+  pub bytes_read : (w : Width) (n : ℕ) (input content rest : List ℕ) → WidthFits w n → place ≡ total - length (head ByteString (Given w n) ++ input) → StringRead n input content rest → P (Bytes place w content)
       → NodeRead P room total (head ByteString (Given w n) ++ input) rest
   bytes_read w n input content rest h e s f = record {
     node = Bytes place w content;
     read = (λ i. head ByteString (Given w (sym s.len i)) ++ s.read i) ∙ sym (append_assoc (head ByteString (Given w (length content))) content rest);
-    fits = (subst (Holds w) (sym s.len) h, s.bytes);
+    fits = (subst (WidthFits w) (sym s.len) h, s.bytes);
     shallow = omega arith;
     placed = e;
     holds = f;
   }
 
-  pub text_read : (w : Width) (n : ℕ) (input content rest : List ℕ) → Holds w n → place ≡ total - length (head TextString (Given w n) ++ input) → StringRead n input content rest → P (Text place w content)
+  pub text_read : (w : Width) (n : ℕ) (input content rest : List ℕ) → WidthFits w n → place ≡ total - length (head TextString (Given w n) ++ input) → StringRead n input content rest → P (Text place w content)
       → NodeRead P room total (head TextString (Given w n) ++ input) rest
   text_read w n input content rest h e s f = record {
     node = Text place w content;
     read = (λ i. head TextString (Given w (sym s.len i)) ++ s.read i) ∙ sym (append_assoc (head TextString (Given w (length content))) content rest);
-    fits = (subst (Holds w) (sym s.len) h, s.bytes);
+    fits = (subst (WidthFits w) (sym s.len) h, s.bytes);
     shallow = omega arith;
     placed = e;
     holds = f;
@@ -101,12 +101,12 @@ chunks_left P major total input rest l x = omega (arith, l, ap length x.read ∙
 pub chunk_read : (P : Chunk → Type 0) (major total : ℕ) (x tail content rest : List ℕ) (h : Head) (n k : ℕ) (w : Width) → tail ≡ drop n x → IsHeadOf x h n → h.major ≡ major → h.argument ≡ arguments.Given w k → StringRead k tail content rest → P (record { place = total - length x; width = w; bytes = content })
     → ChunkRead P major total x rest
 chunk_read P major total x tail content rest h n k w t i e f c g =
-    let fits : Holds w k = subst (λ (a : Argument). ArgumentFits (seen_argument a)) f i.fits in
+    let fits : WidthFits w k = subst (λ (a : Argument). ArgumentFits (seen_argument a)) f i.fits in
     let split : x ≡ head (major_at major) (Given w k) ++ tail = head_split x h n i ∙ (λ j. head (major_at (e j)) (seen_argument (f j)) ++ sym t j) in
     record {
       chunk = record { place = total - length x; width = w; bytes = content };
       read = split ∙ (λ j. head (major_at major) (Given w (sym c.len j)) ++ c.read j) ∙ sym (append_assoc (head (major_at major) (Given w (length content))) content rest);
-      fits = (subst (Holds w) (sym c.len) fits, c.bytes);
+      fits = (subst (WidthFits w) (sym c.len) fits, c.bytes);
       placed = refl;
       holds = g;
     }
@@ -191,7 +191,7 @@ pub node_left : (P : Tree → Type 0) (room total : ℕ) (input rest : List ℕ)
 node_left P room total input rest l x = omega (arith, l, ap length x.read ∙ length-append (spelled x.node) rest)
 
 module _ (P : List Tree → Type 0) (Q : Tree → Type 0) (room total place : ℕ) where
-  pub array_read : (w : Width) (n : ℕ) (input rest : List ℕ) → 1 ≤ room → Holds w n → length (head Array (Given w n) ++ input) ≤ total → place ≡ total - length (head Array (Given w n) ++ input) → NodesRead P (room - 1) total n input rest → ((ts : List Tree) → length ts ≡ n → P ts → Q (Items place (Fixed w) (trees ts)))
+  pub array_read : (w : Width) (n : ℕ) (input rest : List ℕ) → 1 ≤ room → WidthFits w n → length (head Array (Given w n) ++ input) ≤ total → place ≡ total - length (head Array (Given w n) ++ input) → NodesRead P (room - 1) total n input rest → ((ts : List Tree) → length ts ≡ n → P ts → Q (Items place (Fixed w) (trees ts)))
       → NodeRead Q room total (head Array (Given w n) ++ input) rest
   array_read w n input rest r h l at s f =
       let c : count (trees s.nodes) ≡ n = count_trees s.nodes ∙ s.count in
@@ -202,7 +202,7 @@ module _ (P : List Tree → Type 0) (Q : Tree → Type 0) (room total place : �
         read = (λ i. head Array (Given w (sym c i)) ++ s.read i)
             ∙ sym (append_assoc (head Array (Given w (count (trees s.nodes)))) (spelled_all (trees s.nodes)) rest)
             ∙ ap (λ z. z ++ rest) (sym (append-nil (head Array (Given w (count (trees s.nodes))) ++ spelled_all (trees s.nodes))));
-        fits = (subst (Holds w) (sym c) h, s.fits);
+        fits = (subst (WidthFits w) (sym c) h, s.fits);
         shallow = omega (arith, s.shallow);
         placed = (at, subst (λ k. PlacedAll k (trees s.nodes)) q s.placed);
         holds = f s.nodes s.count s.holds;
@@ -226,7 +226,7 @@ module _ (P : List Tree → Type 0) (Q : Tree → Type 0) (room total place : �
 
 -- ---- tags
 
-pub tagged_read : (P Q : Tree → Type 0) (room total place : ℕ) (w : Width) (n : ℕ) (input rest : List ℕ) → 1 ≤ room → Holds w n → length (head Tag (Given w n) ++ input) ≤ total → place ≡ total - length (head Tag (Given w n) ++ input) → NodeRead P (room - 1) total input rest → ((t : Tree) → P t → Q (Tagged place w n t))
+pub tagged_read : (P Q : Tree → Type 0) (room total place : ℕ) (w : Width) (n : ℕ) (input rest : List ℕ) → 1 ≤ room → WidthFits w n → length (head Tag (Given w n) ++ input) ≤ total → place ≡ total - length (head Tag (Given w n) ++ input) → NodeRead P (room - 1) total input rest → ((t : Tree) → P t → Q (Tagged place w n t))
     → NodeRead Q room total (head Tag (Given w n) ++ input) rest
 tagged_read P Q room total place w n input rest r h l at x f = record {
   node = Tagged place w n x.node;

@@ -5,7 +5,7 @@ use Rattle.cborn_model.specs.declared.heads.Width.{Width}
 use Rattle.cborn_model.specs.declared.heads.Size.TheVariants.{Fixed, Endless}
 use Rattle.cborn_model.specs.declared.nodes.Chunk.{Chunk}
 use Rattle.cborn_model.specs.First.{IsFirst}
-use Rattle.cborn_model.specs.Heads.{Unsigned, Negative, ByteString, TextString, Array, Tag, Other, Given, Unbounded, head, Holds}
+use Rattle.cborn_model.specs.Heads.{Unsigned, Negative, ByteString, TextString, Array, Tag, Other, Given, Unbounded, head, WidthFits}
 use Rattle.cborn_model.specs.Meaning.{joined_chunks, IsByteString}
 use Rattle.cborn_model.specs.Tree.{Tree, Text, TextChunks, Items, Tagged, trees}
 use Rattle.cborn_wire.specs.declared.heads.Argument.{Argument}
@@ -31,16 +31,16 @@ alike_told = found_alike flaw_rank told_place told_reason
 -- ---- leaves
 
 module _ (room total : ℕ) where
-  pub uint_seen : (w : Width) (n : ℕ) (rest : List ℕ) → Holds w n → Scanned room total (head Unsigned (Given w n) ++ rest) rest None false
+  pub uint_seen : (w : Width) (n : ℕ) (rest : List ℕ) → WidthFits w n → Scanned room total (head Unsigned (Given w n) ++ rest) rest None false
   uint_seen w n rest h = uint_read (HasFlaw None false) room total (total - length (head Unsigned (Given w n) ++ rest)) w n rest h refl ((λ p r f. subst (λ z. FlawAt z p r) f.1 f.2), (λ b k. k))
 
-  pub nint_seen : (w : Width) (n : ℕ) (rest : List ℕ) → Holds w n → Scanned room total (head Negative (Given w n) ++ rest) rest None false
+  pub nint_seen : (w : Width) (n : ℕ) (rest : List ℕ) → WidthFits w n → Scanned room total (head Negative (Given w n) ++ rest) rest None false
   nint_seen w n rest h = nint_read (HasFlaw None false) room total (total - length (head Negative (Given w n) ++ rest)) w n rest h refl ((λ p r f. subst (λ z. FlawAt z p r) f.1 f.2), (λ b k. k))
 
-  pub bytes_seen : (w : Width) (n : ℕ) (input content rest : List ℕ) → Holds w n → StringRead n input content rest → Scanned room total (head ByteString (Given w n) ++ input) rest None true
+  pub bytes_seen : (w : Width) (n : ℕ) (input content rest : List ℕ) → WidthFits w n → StringRead n input content rest → Scanned room total (head ByteString (Given w n) ++ input) rest None true
   bytes_seen w n input content rest h s = bytes_read (HasFlaw None true) room total (total - length (head ByteString (Given w n) ++ input)) w n input content rest h refl s ((λ p r f. subst (λ z. FlawAt z p r) f.1 f.2), (content, refl))
 
-  pub text_seen : (place : ℕ) (w : Width) (n : ℕ) (input content rest : List ℕ) (flaw : Option Told) → Holds w n → place ≡ total - length (head TextString (Given w n) ++ input) → StringRead n input content rest → FindsTold (TextFlaw place content) flaw
+  pub text_seen : (place : ℕ) (w : Width) (n : ℕ) (input content rest : List ℕ) (flaw : Option Told) → WidthFits w n → place ≡ total - length (head TextString (Given w n) ++ input) → StringRead n input content rest → FindsTold (TextFlaw place content) flaw
       → Scanned room total (head TextString (Given w n) ++ input) rest flaw false
   text_seen place w n input content rest flaw h e s f =
       text_read (HasFlaw flaw false) room total place w n input content rest h e s
@@ -110,7 +110,7 @@ all_more room total n input mid rest a b o s l x y e =
 
 -- ---- arrays
 
-pub array_seen : (room total : ℕ) (w : Width) (n : ℕ) (input rest : List ℕ) (flaw : Option Told) → 1 ≤ room → Holds w n → length (head Array (Given w n) ++ input) ≤ total → ScannedAll (room - 1) total n input rest flaw
+pub array_seen : (room total : ℕ) (w : Width) (n : ℕ) (input rest : List ℕ) (flaw : Option Told) → 1 ≤ room → WidthFits w n → length (head Array (Given w n) ++ input) ≤ total → ScannedAll (room - 1) total n input rest flaw
     → Scanned room total (head Array (Given w n) ++ input) rest flaw false
 array_seen room total w n input rest flaw r h l s =
     let p : ℕ = total - length (head Array (Given w n) ++ input) in
@@ -139,22 +139,22 @@ no_string_of t false e k = k
 
 module _ (room total place : ℕ) (w : Width) (n : ℕ) (input rest : List ℕ) (flaw : Option Told) (s : Bool) where
   -- the tag has no flaw of its own
-  sound_tag : 1 ≤ room → Holds w n → length (head Tag (Given w n) ++ input) ≤ total → Scanned (room - 1) total input rest flaw s → ((t : Tree) (p q : ℕ) (r : InvalidReason) → IsKind s t → FlawAt (Tagged p w n t) q r → ⊥)
+  sound_tag : 1 ≤ room → WidthFits w n → length (head Tag (Given w n) ++ input) ≤ total → Scanned (room - 1) total input rest flaw s → ((t : Tree) (p q : ℕ) (r : InvalidReason) → IsKind s t → FlawAt (Tagged p w n t) q r → ⊥)
       → Scanned room total (head Tag (Given w n) ++ input) rest flaw false
   sound_tag r h l x d =
       let p : ℕ = total - length (head Tag (Given w n) ++ input) in
       tagged_read (HasFlaw flaw s) (HasFlaw flaw false) room total p w n input rest r h l refl x
       (λ t g. (alike_told (Flaw t) (Flaw (Tagged p w n t)) flaw (λ q i. let f = flaw_tagged p w n t q i in ((λ k. f.1 (inr k)), (λ k. elim (f.0 k) [ inl o ↦ absurd (d t p q i g.1 o) | inr o ↦ o ]))) g.0, (λ b k. k)))
 
-  pub tagged_seen : 1 ≤ room → Holds w n → length (head Tag (Given w n) ++ input) ≤ total → Scanned (room - 1) total input rest flaw s → n ≢ 2 → n ≢ 3
+  pub tagged_seen : 1 ≤ room → WidthFits w n → length (head Tag (Given w n) ++ input) ≤ total → Scanned (room - 1) total input rest flaw s → n ≢ 2 → n ≢ 3
       → Scanned room total (head Tag (Given w n) ++ input) rest flaw false
   tagged_seen r h l x a b = sound_tag r h l x (λ t p q i k f. elim f.2 [ inl e ↦ a e | inr e ↦ b e ])
 
-  pub bignum_seen : 1 ≤ room → Holds w n → length (head Tag (Given w n) ++ input) ≤ total → Scanned (room - 1) total input rest flaw s → s ≡ true
+  pub bignum_seen : 1 ≤ room → WidthFits w n → length (head Tag (Given w n) ++ input) ≤ total → Scanned (room - 1) total input rest flaw s → s ≡ true
       → Scanned room total (head Tag (Given w n) ++ input) rest flaw false
   bignum_seen r h l x e = sound_tag r h l x (λ t p q i k f. let b = is_string_of t s e k in f.3 b.0 b.1)
 
-  pub bad_bignum_seen : (o : Option Told) → 1 ≤ room → Holds w n → length (head Tag (Given w n) ++ input) ≤ total → place ≡ total - length (head Tag (Given w n) ++ input) → Scanned (room - 1) total input rest flaw s → (n ≡ 2) ⊎ (n ≡ 3) → s ≡ false → IsEarliestTold (Some (place, BadBignum)) flaw o
+  pub bad_bignum_seen : (o : Option Told) → 1 ≤ room → WidthFits w n → length (head Tag (Given w n) ++ input) ≤ total → place ≡ total - length (head Tag (Given w n) ++ input) → Scanned (room - 1) total input rest flaw s → (n ≡ 2) ⊎ (n ≡ 3) → s ≡ false → IsEarliestTold (Some (place, BadBignum)) flaw o
       → Scanned room total (head Tag (Given w n) ++ input) rest o false
   bad_bignum_seen o r h l e x d b k =
       tagged_read (HasFlaw flaw s) (HasFlaw o false) room total place w n input rest r h l e x

@@ -6,7 +6,7 @@ use Rattle.std.proofs.lemmas.List.{take_all}
 use Rattle.cborn_model.specs.declared.heads.Size.TheVariants.{Fixed, Endless}
 use Rattle.cborn_model.specs.declared.heads.Width.{Width}
 use Rattle.cborn_model.specs.declared.nodes.Chunk.{Chunk}
-use Rattle.cborn_model.specs.Heads.{Unsigned, Negative, ByteString, TextString, Array, Map, Tag, Other, Given, Unbounded, head, Holds}
+use Rattle.cborn_model.specs.Heads.{Unsigned, Negative, ByteString, TextString, Array, Map, Tag, Other, Given, Unbounded, head, WidthFits}
 use Rattle.cborn_model.specs.Orders.{IsKeyOrder}
 use Rattle.cborn_model.specs.Tree.{Tree, Simple, entries, place}
 use Rattle.cborn_model.specs.Meaning.{Means, joined_chunks}
@@ -107,16 +107,16 @@ module _ (order : List ℕ → List ℕ → Ordering) where
   -- ---- leaves
 
   module _ (room total place : ℕ) (w : Width) (n : ℕ) (o : Option Defect) where
-    pub uint_walked : (rest : List ℕ) → Holds w n → place ≡ total - length (head Unsigned (Given w n) ++ rest) → FindsDefect (LongAt place w n) o → Walked order room total (head Unsigned (Given w n) ++ rest) rest o
+    pub uint_walked : (rest : List ℕ) → WidthFits w n → place ≡ total - length (head Unsigned (Given w n) ++ rest) → FindsDefect (LongAt place w n) o → Walked order room total (head Unsigned (Given w n) ++ rest) rest o
     uint_walked rest h e f = uint_read (HasDefect order o) room total place w n rest h e (uint_found order place w n o f)
 
-    pub nint_walked : (rest : List ℕ) → Holds w n → place ≡ total - length (head Negative (Given w n) ++ rest) → FindsDefect (LongAt place w n) o → Walked order room total (head Negative (Given w n) ++ rest) rest o
+    pub nint_walked : (rest : List ℕ) → WidthFits w n → place ≡ total - length (head Negative (Given w n) ++ rest) → FindsDefect (LongAt place w n) o → Walked order room total (head Negative (Given w n) ++ rest) rest o
     nint_walked rest h e f = nint_read (HasDefect order o) room total place w n rest h e (nint_found order place w n o f)
 
-    pub bytes_walked : (input content rest : List ℕ) → Holds w n → place ≡ total - length (head ByteString (Given w n) ++ input) → StringRead n input content rest → FindsDefect (LongAt place w n) o → Walked order room total (head ByteString (Given w n) ++ input) rest o
+    pub bytes_walked : (input content rest : List ℕ) → WidthFits w n → place ≡ total - length (head ByteString (Given w n) ++ input) → StringRead n input content rest → FindsDefect (LongAt place w n) o → Walked order room total (head ByteString (Given w n) ++ input) rest o
     bytes_walked input content rest h e s f = bytes_read (HasDefect order o) room total place w n input content rest h e s (bytes_found order place w content o (subst (λ k. FindsDefect (LongAt place w k) o) (sym s.len) f))
 
-    pub text_walked : (input content rest : List ℕ) → Holds w n → place ≡ total - length (head TextString (Given w n) ++ input) → StringRead n input content rest → FindsDefect (LongAt place w n) o → Walked order room total (head TextString (Given w n) ++ input) rest o
+    pub text_walked : (input content rest : List ℕ) → WidthFits w n → place ≡ total - length (head TextString (Given w n) ++ input) → StringRead n input content rest → FindsDefect (LongAt place w n) o → Walked order room total (head TextString (Given w n) ++ input) rest o
     text_walked input content rest h e s f = text_read (HasDefect order o) room total place w n input content rest h e s (text_found order place w content o (subst (λ k. FindsDefect (LongAt place w k) o) (sym s.len) f))
 
   no_defect : (q n : ℕ) → HasDefect order None (Simple q n)
@@ -149,7 +149,7 @@ module _ (order : List ℕ → List ℕ → Ordering) where
   size_endless q n = record { is = (refl, refl); first = λ k r t. inr (sym t.0, (let e : defect_rank EndlessLength ≡ defect_rank r = ap defect_rank (sym t.1) in omega arith)) }
 
   module _ (room total place : ℕ) where
-    pub array_walked : (w : Width) (n : ℕ) (input rest : List ℕ) (a b o : Option Defect) → 1 ≤ room → Holds w n → length (head Array (Given w n) ++ input) ≤ total → place ≡ total - length (head Array (Given w n) ++ input) → WalkedAll order (room - 1) total n input rest b → FindsDefect (LongAt place w n) a → IsEarliestDefect a b o
+    pub array_walked : (w : Width) (n : ℕ) (input rest : List ℕ) (a b o : Option Defect) → 1 ≤ room → WidthFits w n → length (head Array (Given w n) ++ input) ≤ total → place ≡ total - length (head Array (Given w n) ++ input) → WalkedAll order (room - 1) total n input rest b → FindsDefect (LongAt place w n) a → IsEarliestDefect a b o
         → Walked order room total (head Array (Given w n) ++ input) rest o
     array_walked w n input rest a b o r h l at s f e =
         array_read (HaveDefect order b) (HasDefect order o) room total place w n input rest r h l at s
@@ -161,7 +161,7 @@ module _ (order : List ℕ → List ℕ → Ordering) where
         endless_array_read (HaveDefect order b) (HasDefect order o) room total place n input after rest r i l at s
         (λ ts g. items_found order place Endless ts (Some (record { place = place; reason = EndlessLength })) b o (size_endless place (length ts)) g e)
 
-    pub map_walked : (w : Width) (n : ℕ) (input rest : List ℕ) (a b o : Option Defect) → 1 ≤ room → Holds w n → length (head Map (Given w n) ++ input) ≤ total → place ≡ total - length (head Map (Given w n) ++ input) → PairsWalked order (room - 1) total n input rest b → FindsDefect (LongAt place w n) a → IsEarliestDefect a b o
+    pub map_walked : (w : Width) (n : ℕ) (input rest : List ℕ) (a b o : Option Defect) → 1 ≤ room → WidthFits w n → length (head Map (Given w n) ++ input) ≤ total → place ≡ total - length (head Map (Given w n) ++ input) → PairsWalked order (room - 1) total n input rest b → FindsDefect (LongAt place w n) a → IsEarliestDefect a b o
         → Walked order room total (head Map (Given w n) ++ input) rest o
     map_walked w n input rest a b o r h l at s f e =
         map_read (PairsDefect order b) (HasDefect order o) room total place w n input rest r h l at s
@@ -181,7 +181,7 @@ module _ (order : List ℕ → List ℕ → Ordering) where
     pub plain_tagged : (n : ℕ) (input rest : List ℕ) (o : Option Defect) → n ≢ 2 → n ≢ 3 → Walked order room total input rest o → NodeRead (λ t. FindsDefect (TagDefect order place n t) o) room total input rest
     plain_tagged n input rest o d z x = record { node = x.node; read = x.read; fits = x.fits; shallow = x.shallow; placed = x.placed; holds = plain_tag n x.node o d z x.holds }
 
-    pub bignum_walked : (w : Width) (n : ℕ) (input rest : List ℕ) (a b o : Option Defect) → 1 ≤ room → Holds w n → length (head Tag (Given w n) ++ input) ≤ total → place ≡ total - length (head Tag (Given w n) ++ input) → NodeRead (λ t. FindsDefect (TagDefect order place n t) b) (room - 1) total input rest → FindsDefect (LongAt place w n) a → IsEarliestDefect a b o
+    pub bignum_walked : (w : Width) (n : ℕ) (input rest : List ℕ) (a b o : Option Defect) → 1 ≤ room → WidthFits w n → length (head Tag (Given w n) ++ input) ≤ total → place ≡ total - length (head Tag (Given w n) ++ input) → NodeRead (λ t. FindsDefect (TagDefect order place n t) b) (room - 1) total input rest → FindsDefect (LongAt place w n) a → IsEarliestDefect a b o
         → Walked order room total (head Tag (Given w n) ++ input) rest o
     bignum_walked w n input rest a b o r h l at s f e =
         tagged_read (λ t. FindsDefect (TagDefect order place n t) b) (HasDefect order o) room total place w n input rest r h l at s

@@ -2,7 +2,7 @@
 use Rattle.std.specs.Prelude.{◌≡◌, ℕ, ◌-◌, ◌≤◌, List, ◌++◌, length}
 use Rattle.std.specs.List.{flat_map}
 use Rattle.cborn_model.specs.Bytes.{AreBytes}
-use Rattle.cborn_model.specs.Heads.{Holds}
+use Rattle.cborn_model.specs.Heads.{WidthFits}
 use Rattle.cborn_model.specs.Placed.{Placed, PlacedAll, PlacedEntries, ChunksPlaced}
 use Rattle.cborn_model.specs.Spelled.{spelled, spelled_all, spelled_entries, Fits, FitsAll, FitsEntries, ChunksFit, chunk_bytes, simple_width}
 use Rattle.cborn_model.specs.Tree.{Tree, trees, entries, depth, depth_all, depth_entries, Simple}
@@ -29,7 +29,7 @@ IsSimpleArgument a = (n : ℕ) × (a ≡ arguments.Given (simple_width n) n) × 
 pub record ChunkRead (P : Chunk → Type 0) (major total : ℕ) (input rest : List ℕ) : Type 0 where
   pub chunk : Chunk
   pub read : input ≡ chunk_bytes (major_at major) chunk ++ rest
-  pub fits : Holds chunk.width (length chunk.bytes) × AreBytes chunk.bytes
+  pub fits : WidthFits chunk.width (length chunk.bytes) × AreBytes chunk.bytes
   pub placed : chunk.place ≡ total - length input
   pub holds : P chunk
 

@@ -4,7 +4,7 @@
 
 ghost use Rattle.std.specs.Prelude.{◌≡◌, ◌≢◌, ◌≤◌, ◌-◌, ◌++◌, ◌∷◌, ◌⊎◌, ℕ, false, length, IfSome};
 ghost use Rattle.cborn_model.specs.declared.heads.Width.{Width};
-ghost use Rattle.cborn_model.specs.Heads.{Array, Map, Tag, Given, Unbounded, head, Holds};
+ghost use Rattle.cborn_model.specs.Heads.{Array, Map, Tag, Given, Unbounded, head, WidthFits};
 ghost use Rattle.cborn_transcode.specs.Walking.{Leaves};
 ghost use Rattle.cborn_search.specs.Flawed.{Scanned, ScannedAll};
 ghost use Rattle.cborn_search.specs.Marks.{MapSeen};
@@ -111,7 +111,7 @@ fn scan_fixed_array(
 ) -> Option<usize>
     requires room { room ≤ 1024 }
     requires within { length bytes.now ≤ total }
-    ensures { IfSome result (λ left. (w : Width) → Holds w n → length (head Array (Given w n) ++ bytes.now) ≤ total → Leaves (λ rest. Scanned room total (head Array (Given w n) ++ bytes.now) rest found.new.flaw found.new.is_string) left) }
+    ensures { IfSome result (λ left. (w : Width) → WidthFits w n → length (head Array (Given w n) ++ bytes.now) ≤ total → Leaves (λ rest. Scanned room total (head Array (Given w n) ++ bytes.now) rest found.new.flaw found.new.is_string) left) }
 {
     if room == 0 {
         return None;
@@ -196,7 +196,7 @@ fn scan_fixed_map(
 ) -> Option<usize>
     requires room { room ≤ 1024 }
     requires within { length bytes.now ≤ total }
-    ensures { IfSome result (λ left. (w : Width) → Holds w n → length (head Map (Given w n) ++ bytes.now) ≤ total → Leaves (λ rest. Scanned room total (head Map (Given w n) ++ bytes.now) rest found.new.flaw found.new.is_string) left) }
+    ensures { IfSome result (λ left. (w : Width) → WidthFits w n → length (head Map (Given w n) ++ bytes.now) ≤ total → Leaves (λ rest. Scanned room total (head Map (Given w n) ++ bytes.now) rest found.new.flaw found.new.is_string) left) }
 {
     if room == 0 {
         return None;
@@ -276,7 +276,7 @@ fn scan_bignum(
 ) -> Option<usize>
     requires room { room ≤ 1024 }
     requires within { length bytes.now ≤ total }
-    ensures { IfSome result (λ left. (w : Width) (n : ℕ) → (n ≡ 2) ⊎ (n ≡ 3) → Holds w n → length (head Tag (Given w n) ++ bytes.now) ≤ total → place ≡ total - length (head Tag (Given w n) ++ bytes.now) → Leaves (λ rest. Scanned room total (head Tag (Given w n) ++ bytes.now) rest found.new.flaw found.new.is_string) left) }
+    ensures { IfSome result (λ left. (w : Width) (n : ℕ) → (n ≡ 2) ⊎ (n ≡ 3) → WidthFits w n → length (head Tag (Given w n) ++ bytes.now) ≤ total → place ≡ total - length (head Tag (Given w n) ++ bytes.now) → Leaves (λ rest. Scanned room total (head Tag (Given w n) ++ bytes.now) rest found.new.flaw found.new.is_string) left) }
 {
     if room == 0 {
         return None;
@@ -307,7 +307,7 @@ fn scan_tagged(
 ) -> Option<usize>
     requires room { room ≤ 1024 }
     requires within { length bytes.now ≤ total }
-    ensures { IfSome result (λ left. (w : Width) (n : ℕ) → n ≢ 2 → n ≢ 3 → Holds w n → length (head Tag (Given w n) ++ bytes.now) ≤ total → Leaves (λ rest. Scanned room total (head Tag (Given w n) ++ bytes.now) rest found.new.flaw found.new.is_string) left) }
+    ensures { IfSome result (λ left. (w : Width) (n : ℕ) → n ≢ 2 → n ≢ 3 → WidthFits w n → length (head Tag (Given w n) ++ bytes.now) ≤ total → Leaves (λ rest. Scanned room total (head Tag (Given w n) ++ bytes.now) rest found.new.flaw found.new.is_string) left) }
 {
     if room == 0 {
         return None;

@@ -2,7 +2,7 @@
 
 ghost use Rattle.std.specs.Prelude.{◌≡◌, ◌≢◌, ◌≤◌, ◌-◌, ◌++◌, ◌∷◌, ◌⊎◌, ℕ, List, false, length, IsTrue, IfSome, MatchBool};
 ghost use Rattle.cborn_model.specs.declared.heads.Width.{Width};
-ghost use Rattle.cborn_model.specs.Heads.{ByteString, TextString, Given, Unbounded, head, Holds};
+ghost use Rattle.cborn_model.specs.Heads.{ByteString, TextString, Given, Unbounded, head, WidthFits};
 ghost use Rattle.cborn_transcode.specs.Walking.{Leaves};
 ghost use Rattle.cborn_wire.specs.HeadReading.{ArgumentFits, seen_argument};
 ghost use Rattle.cborn_search.specs.Flawed.{FindsTold, TextFlaw, ChunkSeen, ChunksSeen, Scanned};
@@ -143,7 +143,7 @@ fn chunk_flaw(major: u8, place: u64, bytes: &[u8]) -> Option<(u64, InvalidReason
 /// The text of `n` bytes at the front, whose head is at `place`; answers how many bytes follow it.
 #[inline(never)]
 pub(crate) fn scan_text(place: u64, n: u64, bytes: &[u8], found: &mut Finding) -> Option<usize>
-    ensures { IfSome result (λ left. (room total : ℕ) (w : Width) → Holds w n → place ≡ total - length (head TextString (Given w n) ++ bytes.now) → Leaves (λ rest. Scanned room total (head TextString (Given w n) ++ bytes.now) rest found.new.flaw found.new.is_string) left) }
+    ensures { IfSome result (λ left. (room total : ℕ) (w : Width) → WidthFits w n → place ≡ total - length (head TextString (Given w n) ++ bytes.now) → Leaves (λ rest. Scanned room total (head TextString (Given w n) ++ bytes.now) rest found.new.flaw found.new.is_string) left) }
 {
     let (content, after) = string_at(n, bytes)?;
     let flaw = text_flaw(place, content);

@@ -7,9 +7,9 @@ use Rattle.std.specs.Str.{is_utf8}
 use Rattle.std.proofs.lemmas.List.{length-take-le, take-append-drop}
 use Rattle.hex.specs.Hex.{encode_lower, encode_with, lower_digits}
 use Rattle.cborn_model.specs.Bytes.{AreBytes}
-use Rattle.cborn_model.specs.Heads.{Major, Given, head, Holds}
+use Rattle.cborn_model.specs.Heads.{Major, Given, head, WidthFits}
 use Rattle.cborn_model.specs.Spelled.{chunk_bytes, ChunksFit}
-use Rattle.cborn_edn.specs.declared.strings.Kind.{Kind}
+use Rattle.cborn_edn.specs.declared.strings.StringKind.{StringKind}
 use Rattle.cborn_edn.specs.Shown.{shown_string, shown_more_chunks, shown_chunks, mark_for, indicator}
 use Rattle.cborn_edn.specs.devices.Texts.{AreTexts}
 use Rattle.cborn_wire.specs.declared.heads.Head.{Head}
@@ -28,12 +28,12 @@ string_written false w n x old mid new e a b = b ∙ (λ i. a i ++ indicator (ma
 
 pub chunk_shown : (text : Bool) (x tail rest old new : List ℕ) (h : Head) (n k : ℕ) (w : Width) → tail ≡ drop n x → IsHeadOf x h n → major_at h.major ≡ major_of text → h.argument ≡ arguments.Given w k → StringShown text w k tail rest old new → ChunkShown text x rest old new
 chunk_shown text x tail rest old new h n k w t i e f c =
-    let fits : Holds w k = subst (λ (a : Argument). ArgumentFits (seen_argument a)) f i.fits in
+    let fits : WidthFits w k = subst (λ (a : Argument). ArgumentFits (seen_argument a)) f i.fits in
     let split : x ≡ head (major_of text) (Given w k) ++ tail = head_split x h n i ∙ (λ j. head (e j) (seen_argument (f j)) ++ sym t j) in
     record {
       chunk = record { place = 0; width = w; bytes = c.content };
       read = split ∙ (λ j. head (major_of text) (Given w (sym c.len j)) ++ c.read j) ∙ sym (append_assoc (head (major_of text) (Given w (length c.content))) c.content rest);
-      fits = (subst (Holds w) (sym c.len) fits, c.bytes);
+      fits = (subst (WidthFits w) (sym c.len) fits, c.bytes);
       good = c.good;
       written = c.written;
     }
@@ -45,7 +45,7 @@ bytes_more : (m : Major) (cs : List Chunk) (c : Chunk) → flat_map (chunk_bytes
 bytes_more m [] c = append-nil (chunk_bytes m c)
 bytes_more m (d ∷ cs) c = ap (λ l. chunk_bytes m d ++ l) (bytes_more m cs c) ∙ sym (append_assoc (chunk_bytes m d) (flat_map (chunk_bytes m) cs) (chunk_bytes m c))
 
-shown_more : (k : Kind) (cs : List Chunk) (c : Chunk) → shown_more_chunks k (cs ++ c ∷ []) ≡ shown_more_chunks k cs ++ (codes ", " ++ shown_string k c.width c.bytes)
+shown_more : (k : StringKind) (cs : List Chunk) (c : Chunk) → shown_more_chunks k (cs ++ c ∷ []) ≡ shown_more_chunks k cs ++ (codes ", " ++ shown_string k c.width c.bytes)
 shown_more k [] c = ap (λ l. codes ", " ++ l) (append-nil (shown_string k c.width c.bytes))
 shown_more k (d ∷ cs) c = ap (λ l. codes ", " ++ (shown_string k d.width d.bytes ++ l)) (shown_more k cs c) ∙ simp append_assoc
 

@@ -4,7 +4,7 @@ use Rattle.std.proofs.lemmas.List.{drop-drop}
 use Rattle.std.specs.Str.{is_utf8}
 use Rattle.cborn_model.specs.declared.heads.Width.{Width}
 use Rattle.cborn_model.specs.declared.heads.Width.TheVariants.{Direct}
-use Rattle.cborn_model.specs.Heads.{Major, Unsigned, Negative, ByteString, TextString, Array, Map, Tag, Other, Argument, Given, Unbounded, head, code, information, Holds}
+use Rattle.cborn_model.specs.Heads.{Major, Unsigned, Negative, ByteString, TextString, Array, Map, Tag, Other, Argument, Given, Unbounded, head, code, information, WidthFits}
 use Rattle.cborn_model.proofs.OneHead.{one_head}
 use Rattle.cborn_wire.specs.declared.heads.Head.{Head}
 use Rattle.cborn_wire.specs.HeadReading.{major_at, IsHeadOf, seen_argument, ArgumentFits}
@@ -34,7 +34,7 @@ any_width Map w v n = refl
 any_width Tag w v n = refl
 any_width Other w v n = refl
 
-low_bits : (w : Width) (n : ℕ) → Holds w n → information w n < 28
+low_bits : (w : Width) (n : ℕ) → WidthFits w n → information w n < 28
 low_bits Direct n p = omega arith
 low_bits _ n p = omega arith
 

@@ -4,7 +4,7 @@ use Rattle.std.specs.List.{flat_map}
 use Rattle.cborn_model.specs.declared.heads.Width.{Width}
 use Rattle.cborn_model.specs.declared.heads.Size.TheVariants.{Fixed, Endless}
 use Rattle.cborn_model.specs.declared.nodes.Chunk.{Chunk}
-use Rattle.cborn_model.specs.Heads.{Major, Unsigned, Negative, ByteString, TextString, Array, Map, Tag, Other, Given, Unbounded, head, Holds}
+use Rattle.cborn_model.specs.Heads.{Major, Unsigned, Negative, ByteString, TextString, Array, Map, Tag, Other, Given, Unbounded, head, WidthFits}
 use Rattle.cborn_model.specs.Spelled.{spelled, spelled_all, spelled_entries, Fits, FitsAll, FitsEntries, chunk_bytes, ending}
 use Rattle.cborn_model.specs.Tree.{Tree, Uint, Nint, Bytes, Text, ByteChunks, TextChunks, Items, Pairs, Tagged, Simple, trees, entries, depth, depth_all, depth_entries, count, count_entries}
 use Rattle.cborn_model.proofs.Trees.{count-trees, count_entries-entries}
@@ -39,27 +39,27 @@ pub item_last : (room : ℕ) (x rest old new : List ℕ) (left : ℕ) → NodeLe
 item_last room x rest old new left s last = subst (λ (y : List ℕ). NodeShown room x y old new) (sym (last (spelled s.2.node) s.0 s.2.read s.1)) s.2
 
 module _ (room : ℕ) where
-  pub uint_done : (w : Width) (n : ℕ) (rest old new : List ℕ) → Holds w n → new ≡ old ++ (decimal n ++ indicator (mark_for w n)) → NodeShown room (head Unsigned (Given w n) ++ rest) rest old new
+  pub uint_done : (w : Width) (n : ℕ) (rest old new : List ℕ) → WidthFits w n → new ≡ old ++ (decimal n ++ indicator (mark_for w n)) → NodeShown room (head Unsigned (Given w n) ++ rest) rest old new
   uint_done w n rest old new h e = record { node = Uint 0 w n; read = refl; fits = h; shallow = omega arith; showable = tt; written = e }
 
-  pub nint_done : (w : Width) (n : ℕ) (rest old new : List ℕ) → Holds w n → new ≡ old ++ (codes "-" ++ (decimal (suc n) ++ indicator (mark_for w n))) → NodeShown room (head Negative (Given w n) ++ rest) rest old new
+  pub nint_done : (w : Width) (n : ℕ) (rest old new : List ℕ) → WidthFits w n → new ≡ old ++ (codes "-" ++ (decimal (suc n) ++ indicator (mark_for w n))) → NodeShown room (head Negative (Given w n) ++ rest) rest old new
   nint_done w n rest old new h e = record { node = Nint 0 w n; read = refl; fits = h; shallow = omega arith; showable = tt; written = e }
 
-  pub bytes_done : (w : Width) (n : ℕ) (input rest old new : List ℕ) → Holds w n → StringShown false w n input rest old new → NodeShown room (head ByteString (Given w n) ++ input) rest old new
+  pub bytes_done : (w : Width) (n : ℕ) (input rest old new : List ℕ) → WidthFits w n → StringShown false w n input rest old new → NodeShown room (head ByteString (Given w n) ++ input) rest old new
   bytes_done w n input rest old new h s = record {
     node = Bytes 0 w s.content;
     read = (λ i. head ByteString (Given w (sym s.len i)) ++ s.read i) ∙ sym (append_assoc (head ByteString (Given w (length s.content))) s.content rest);
-    fits = (subst (Holds w) (sym s.len) h, s.bytes);
+    fits = (subst (WidthFits w) (sym s.len) h, s.bytes);
     shallow = omega arith;
     showable = tt;
     written = s.written;
   }
 
-  pub text_done : (w : Width) (n : ℕ) (input rest old new : List ℕ) → Holds w n → StringShown true w n input rest old new → NodeShown room (head TextString (Given w n) ++ input) rest old new
+  pub text_done : (w : Width) (n : ℕ) (input rest old new : List ℕ) → WidthFits w n → StringShown true w n input rest old new → NodeShown room (head TextString (Given w n) ++ input) rest old new
   text_done w n input rest old new h s = record {
     node = Text 0 w s.content;
     read = (λ i. head TextString (Given w (sym s.len i)) ++ s.read i) ∙ sym (append_assoc (head TextString (Given w (length s.content))) s.content rest);
-    fits = (subst (Holds w) (sym s.len) h, s.bytes);
+    fits = (subst (WidthFits w) (sym s.len) h, s.bytes);
     shallow = omega arith;
     showable = s.good refl;
     written = s.written;
@@ -84,7 +84,7 @@ pub next_leaving : (x tail : List ℕ) (h : Head) (len index n left : ℕ) (w : 
     → (rest : List ℕ) × (length rest ≡ left) × ((room : ℕ) → NextShown room index x rest old new)
 next_leaving x tail h len index n left w below old new t i l b f e s = (tail, s, λ room. go room h.major refl)
   where
-    fits : Holds w n
+    fits : WidthFits w n
     fits = subst (λ (a : Argument). ArgumentFits (seen_argument a)) f i.fits
 
     split : (m : ℕ) → h.major ≡ m → x ≡ head (major_at m) (Given w n) ++ tail
@@ -140,7 +140,7 @@ module _ (room : ℕ) where
     count = length-append s.nodes (t.node ∷ []) ∙ ap (λ k. k + 1) s.count;
   }
 
-  pub array_done : (w : Width) (n : ℕ) (input rest old o1 o2 o3 new : List ℕ) → 1 ≤ room → Holds w n → o1 ≡ old ++ codes "[" → o2 ≡ o1 ++ opened (mark_for w n) → NodesShown (codes ", ") (room - 1) n input rest o2 o3 → new ≡ o3 ++ codes "]"
+  pub array_done : (w : Width) (n : ℕ) (input rest old o1 o2 o3 new : List ℕ) → 1 ≤ room → WidthFits w n → o1 ≡ old ++ codes "[" → o2 ≡ o1 ++ opened (mark_for w n) → NodesShown (codes ", ") (room - 1) n input rest o2 o3 → new ≡ o3 ++ codes "]"
       → NodeShown room (head Array (Given w n) ++ input) rest old new
   array_done w n input rest old o1 o2 o3 new r h a b s d =
       let c : count (trees s.nodes) ≡ n = count-trees s.nodes ∙ s.count in
@@ -149,7 +149,7 @@ module _ (room : ℕ) where
         read = (λ i. head Array (Given w (sym c i)) ++ s.read i)
             ∙ sym (append_assoc (head Array (Given w (count (trees s.nodes)))) (spelled_all (trees s.nodes)) rest)
             ∙ ap (λ l. l ++ rest) (sym (append-nil (head Array (Given w (count (trees s.nodes))) ++ spelled_all (trees s.nodes))));
-        fits = (subst (Holds w) (sym c) h, s.fits);
+        fits = (subst (WidthFits w) (sym c) h, s.fits);
         shallow = omega (arith, s.shallow);
         showable = s.showable;
         written = shown_items 0 (Fixed w) n s.nodes old o1 o2 o3 new (sym s.count) a b (s.written ∙ ap (λ l. o2 ++ l) (sym (all-separated s.nodes))) d;
@@ -213,7 +213,7 @@ module _ (room : ℕ) where
     count = length-append s.nodes (t.pair ∷ []) ∙ ap (λ k. k + 1) s.count;
   }
 
-  pub map_done : (w : Width) (n : ℕ) (input rest old o1 o2 o3 new : List ℕ) → 1 ≤ room → Holds w n → o1 ≡ old ++ codes "{" → o2 ≡ o1 ++ opened (mark_for w n) → PairsShown (room - 1) n input rest o2 o3 → new ≡ o3 ++ codes "}"
+  pub map_done : (w : Width) (n : ℕ) (input rest old o1 o2 o3 new : List ℕ) → 1 ≤ room → WidthFits w n → o1 ≡ old ++ codes "{" → o2 ≡ o1 ++ opened (mark_for w n) → PairsShown (room - 1) n input rest o2 o3 → new ≡ o3 ++ codes "}"
       → NodeShown room (head Map (Given w n) ++ input) rest old new
   map_done w n input rest old o1 o2 o3 new r h a b s d =
       let c : count_entries (entries s.nodes) ≡ n = count_entries-entries s.nodes ∙ s.count in
@@ -222,7 +222,7 @@ module _ (room : ℕ) where
         read = (λ i. head Map (Given w (sym c i)) ++ s.read i)
             ∙ sym (append_assoc (head Map (Given w (count_entries (entries s.nodes)))) (spelled_entries (entries s.nodes)) rest)
             ∙ ap (λ l. l ++ rest) (sym (append-nil (head Map (Given w (count_entries (entries s.nodes))) ++ spelled_entries (entries s.nodes))));
-        fits = (subst (Holds w) (sym c) h, s.fits);
+        fits = (subst (WidthFits w) (sym c) h, s.fits);
         shallow = omega (arith, s.shallow);
         showable = s.showable;
         written = shown_pairs 0 (Fixed w) n s.nodes old o1 o2 o3 new (sym s.count) a b (s.written ∙ ap (λ l. o2 ++ l) (sym (entries-separated s.nodes))) d;
@@ -241,7 +241,7 @@ module _ (room : ℕ) where
     written = shown_pairs 0 Endless n s.nodes old (old ++ codes "{") o1 o2 new (sym s.count) refl (a ∙ sym (append_assoc old (codes "{") (codes "_ "))) (s.written ∙ ap (λ l. o1 ++ l) (sym (entries-separated s.nodes))) d;
   }
 
-  pub tagged_done : (w : Width) (n : ℕ) (input rest old o1 o2 o3 new : List ℕ) → 1 ≤ room → Holds w n → o1 ≡ old ++ (decimal n ++ indicator (mark_for w n)) → o2 ≡ o1 ++ codes "(" → NodeShown (room - 1) input rest o2 o3 → new ≡ o3 ++ codes ")"
+  pub tagged_done : (w : Width) (n : ℕ) (input rest old o1 o2 o3 new : List ℕ) → 1 ≤ room → WidthFits w n → o1 ≡ old ++ (decimal n ++ indicator (mark_for w n)) → o2 ≡ o1 ++ codes "(" → NodeShown (room - 1) input rest o2 o3 → new ≡ o3 ++ codes ")"
       → NodeShown room (head Tag (Given w n) ++ input) rest old new
   tagged_done w n input rest old o1 o2 o3 new r h a b s d = record {
     node = Tagged 0 w n s.node;

@@ -7,20 +7,20 @@ use Rattle.std.specs.Str.{is_utf8}
 use Rattle.cborn_model.specs.declared.heads.Width.{Width}
 use Rattle.cborn_model.specs.declared.nodes.Chunk.{Chunk}
 use Rattle.cborn_model.specs.Bytes.{AreBytes}
-use Rattle.cborn_model.specs.Heads.{Major, ByteString, TextString, Holds}
+use Rattle.cborn_model.specs.Heads.{Major, ByteString, TextString, WidthFits}
 use Rattle.cborn_model.specs.Placed.{PlacedAll}
 use Rattle.cborn_model.specs.Spelled.{Wellformed, spelled, spelled_all, spelled_entries, Fits, FitsAll, FitsEntries, ChunksFit, chunk_bytes, simple_width}
 use Rattle.cborn_model.specs.Tree.{Tree, trees, entries, depth, depth_all, depth_entries, Simple}
 use Rattle.hex.specs.Hex.{encode_lower}
-use Rattle.cborn_edn.specs.declared.strings.Kind.{Kind}
-use Rattle.cborn_edn.specs.declared.strings.Kind.TheVariants.{Bytes as OfBytes, Text as OfText}
+use Rattle.cborn_edn.specs.declared.strings.StringKind.{StringKind}
+use Rattle.cborn_edn.specs.declared.strings.StringKind.TheVariants.{Bytes as OfBytes, Text as OfText}
 use Rattle.cborn_edn.specs.devices.Between.{between, separated}
 use Rattle.cborn_edn.specs.Shown.{Shown, shown, shown_string, shown_more_chunks, shown_chunks, shown_simple, escaped}
 use Rattle.cborn_edn.specs.devices.Texts.{AreTexts, IsShowable, EachShowable, ArePairsShowable}
 use Rattle.cborn_wire.specs.declared.heads.Argument.{Argument}
 use Rattle.cborn_wire.specs.declared.heads.Argument.TheVariants as arguments
 
-abbrev pub kind_of : Bool → Kind
+abbrev pub kind_of : Bool → StringKind
 kind_of true = OfText
 kind_of false = OfBytes
 
@@ -52,7 +52,7 @@ pub record StringShown (text : Bool) (w : Width) (n : ℕ) (input rest old new :
 pub record ChunkShown (text : Bool) (input rest old new : List ℕ) : Type 0 where
   pub chunk : Chunk
   pub read : input ≡ chunk_bytes (major_of text) chunk ++ rest
-  pub fits : Holds chunk.width (length chunk.bytes) × AreBytes chunk.bytes
+  pub fits : WidthFits chunk.width (length chunk.bytes) × AreBytes chunk.bytes
   pub good : text ≡ true → is_utf8 chunk.bytes ≡ true
   pub written : new ≡ old ++ shown_chunk text chunk
 

@@ -1,7 +1,7 @@
 //! Items, one after another and inside one another.
 
 ghost use Rattle.std.specs.Prelude.{◌≡◌, ◌≢◌, ◌≤◌, ◌++◌, ℕ, List, length, false, codes, OnSome, IfSome};
-ghost use Rattle.cborn_model.specs.Heads.{Array, Map, Tag, Given, Unbounded, head, Holds};
+ghost use Rattle.cborn_model.specs.Heads.{Array, Map, Tag, Given, Unbounded, head, WidthFits};
 ghost use Rattle.cborn_edn.specs.Shown.{mark_for, opened};
 ghost use Rattle.cborn_show.specs.Passed.{NodeShown, NodeLeaves, NextShown, NodesShown, PairShown, PairsShown};
 
@@ -93,7 +93,7 @@ fn put_fixed_array(
     out: &mut Vec<u8>,
 ) -> Option<usize>
     requires { room ≤ 1024 }
-    ensures { IfSome result (λ left. Holds width n → NodeLeaves room (head Array (Given width n) ++ bytes.now) left out.old.items out.new.items) }
+    ensures { IfSome result (λ left. WidthFits width n → NodeLeaves room (head Array (Given width n) ++ bytes.now) left out.old.items out.new.items) }
 {
     if room == 0 {
         return None;
@@ -231,7 +231,7 @@ fn put_fixed_map(
     out: &mut Vec<u8>,
 ) -> Option<usize>
     requires { room ≤ 1024 }
-    ensures { IfSome result (λ left. Holds width n → NodeLeaves room (head Map (Given width n) ++ bytes.now) left out.old.items out.new.items) }
+    ensures { IfSome result (λ left. WidthFits width n → NodeLeaves room (head Map (Given width n) ++ bytes.now) left out.old.items out.new.items) }
 {
     if room == 0 {
         return None;
@@ -314,7 +314,7 @@ fn put_tagged(
     out: &mut Vec<u8>,
 ) -> Option<usize>
     requires { room ≤ 1024 }
-    ensures { IfSome result (λ left. Holds width n → NodeLeaves room (head Tag (Given width n) ++ bytes.now) left out.old.items out.new.items) }
+    ensures { IfSome result (λ left. WidthFits width n → NodeLeaves room (head Tag (Given width n) ++ bytes.now) left out.old.items out.new.items) }
 {
     if room == 0 {
         return None;

@@ -19,8 +19,8 @@ use Rattle.cborn_lex.specs.Tokens.{begins}
 use Rattle.cborn_lex.specs.Forms.{IsIndicator}
 use Rattle.cborn_lex.specs.Lex.{Between}
 use Rattle.cborn_lex.proofs.Progress.{joins}
-use Rattle.cborn_edn.specs.declared.strings.Kind.{Kind}
-use Rattle.cborn_edn.specs.declared.strings.Kind.TheVariants.{Bytes as OfBytes, Text as OfText}
+use Rattle.cborn_edn.specs.declared.strings.StringKind.{StringKind}
+use Rattle.cborn_edn.specs.declared.strings.StringKind.TheVariants.{Bytes as OfBytes, Text as OfText}
 use Rattle.cborn_edn.specs.Syntax.{Piece, text as text_piece, bytes as bytes_piece, embedded, Pieces, piece, also, strings, StringsBefore, no_string, after_strings, string, chunked, tokens_of_piece, tokens_of_pieces, tokens_of_strings, tokens_of_content}
 use Rattle.cborn_edn.specs.Meaning.{and_then, when, width_for, is_absent, is_bare, is_bare_before, same_kind, kind_of, mark_of, kind, kind_after, kind_of_strings, place, last_piece, fits_kind, is_of_kind, is_good, string_node, chunked_node, marked_string, means_string, means_chunk, joined, joined_piece, means_strings, means_strings_before}
 use Rattle.cborn_spell.specs.Descent.{AddsString, AddsEmpty, major_of, major_type, suits, ClosesString, ClosesChunks, TokenAt, Ends, ItemTaken, RowTaken, PieceTaken, PiecesTaken, StringTaken, ChunksTaken, LettersTaken}
@@ -28,23 +28,23 @@ use Rattle.cborn_spell.proofs.Allowing.{allows_none, allows_sum}
 use Rattle.cborn_spell.proofs.Taking.{set_head_done, Inner, no_inner, some_inner, comma_inner}
 use Rattle.cborn_spell.proofs.Quoting.{text_done, bytes_done, text_token}
 
-suits_fits : (k : Kind) (p : Piece) → suits k (kind_of p) ≡ true → fits_kind k p ≡ true
+suits_fits : (k : StringKind) (p : Piece) → suits k (kind_of p) ≡ true → fits_kind k p ≡ true
 suits_fits OfText p h = refl
 suits_fits OfBytes p h = h
 
-suits_self : (k : Kind) → suits k k ≡ true
+suits_self : (k : StringKind) → suits k k ≡ true
 suits_self OfText = refl
 suits_self OfBytes = refl
 
-same_self : (k : Kind) → same_kind k k ≡ true
+same_self : (k : StringKind) → same_kind k k ≡ true
 same_self OfText = refl
 same_self OfBytes = refl
 
-code_is : (k : Kind) → code (major_type k) ≡ major_of k
+code_is : (k : StringKind) → code (major_type k) ≡ major_of k
 code_is OfText = refl
 code_is OfBytes = refl
 
-good_from : (k : Kind) (x : List ℕ) → (k ≡ OfText → IsUtf8 x) → is_good k x ≡ true
+good_from : (k : StringKind) (x : List ℕ) → (k ≡ OfText → IsUtf8 x) → is_good k x ≡ true
 good_from OfBytes x h = refl
 good_from OfText x h = is_utf8-from_IsUtf8 x (h refl)
 
@@ -57,11 +57,11 @@ marked_node Absent ps x w e = ap (λ o. and_then o (λ v. Some (string_node (kin
 marked_node Endless ps x w e = cc
 marked_node (Wide u) ps x w e = ap (λ o. and_then o (λ v. Some (string_node (kind ps) (place ps) v x))) e
 
-node_spelled : (k : Kind) (p : ℕ) (w : Width) (x : List ℕ) → spelled (string_node k p w x) ≡ string_bytes (major_type k) w x
+node_spelled : (k : StringKind) (p : ℕ) (w : Width) (x : List ℕ) → spelled (string_node k p w x) ≡ string_bytes (major_type k) w x
 node_spelled OfBytes p w x = refl
 node_spelled OfText p w x = refl
 
-chunks_spelled : (k : Kind) (p : ℕ) (cs : List Chunk) → spelled (chunked_node k p cs) ≡ ((32 * major_of k + 31) ∷ flat_map (chunk_bytes (major_type k)) cs) ++ 255 ∷ []
+chunks_spelled : (k : StringKind) (p : ℕ) (cs : List Chunk) → spelled (chunked_node k p cs) ≡ ((32 * major_of k + 31) ∷ flat_map (chunk_bytes (major_type k)) cs) ++ 255 ∷ []
 chunks_spelled OfBytes p cs = refl
 chunks_spelled OfText p cs = refl
 
@@ -81,7 +81,7 @@ module _ (profile : Profile) (text : List ℕ) where
     written = e;
   }
 
-  pub gap_piece : (n m l room : ℕ) (k : Kind) (mark : Mark) (old new : List ℕ) → Between profile text n m [] → PieceTaken profile text m l room k mark old new → PieceTaken profile text n l room k mark old new
+  pub gap_piece : (n m l room : ℕ) (k : StringKind) (mark : Mark) (old new : List ℕ) → Between profile text n m [] → PieceTaken profile text m l room k mark old new → PieceTaken profile text n l room k mark old new
   gap_piece n m l room k mark old new g p = record {
     piece = p.piece;
     lexed = joins profile text n m l [] (tokens_of_piece p.piece) g p.lexed;
@@ -135,7 +135,7 @@ module _ (profile : Profile) (text : List ℕ) where
   pub no_embedded_done : (n at end room : ℕ) (mark : Mark) (old : List ℕ) → 1 ≤ room → TokenAt profile text n at EmbedOpen → TokenAt profile text at end (EmbedClose mark) → PieceTaken profile text n end room OfBytes mark old old
   no_embedded_done n at end room mark old r o b = embedded_from n at at end room 0 mark old old r o (no_inner profile text at (room - 1) old) b
 
-  pub one_piece : (n m room : ℕ) (k : Kind) (mark : Mark) (old new : List ℕ) → PieceTaken profile text n m room k mark old new → PiecesTaken profile text n m room k mark old new
+  pub one_piece : (n m room : ℕ) (k : StringKind) (mark : Mark) (old new : List ℕ) → PieceTaken profile text n m room k mark old new → PiecesTaken profile text n m room k mark old new
   one_piece n m room k mark old new p = record {
     pieces = piece p.piece;
     lexed = p.lexed;
@@ -150,7 +150,7 @@ module _ (profile : Profile) (text : List ℕ) where
     written = p.written;
   }
 
-  pub more_pieces : (n m l room : ℕ) (k j : Kind) (mark next : Mark) (old mid new : List ℕ) → PiecesTaken profile text n m room k mark old mid → is_absent mark ≡ true → PieceTaken profile text m l room j next mid new → suits k j ≡ true → PiecesTaken profile text n l room k next old new
+  pub more_pieces : (n m l room : ℕ) (k j : StringKind) (mark next : Mark) (old mid new : List ℕ) → PiecesTaken profile text n m room k mark old mid → is_absent mark ≡ true → PieceTaken profile text m l room j next mid new → suits k j ≡ true → PiecesTaken profile text n l room k next old new
   more_pieces n m l room k j mark next old mid new ps a p s = record {
     pieces = also ps.pieces p.piece;
     lexed = joins profile text n m l (tokens_of_pieces ps.pieces) (tokens_of_piece p.piece) ps.lexed p.lexed;
@@ -167,7 +167,7 @@ module _ (profile : Profile) (text : List ℕ) where
 
   -- Strings.
 
-  pub string_done : (n m room start : ℕ) (k : Kind) (mark : Mark) (old one two new : List ℕ) → start ≡ length old → one ≡ old ++ 0 ∷ [] → PiecesTaken profile text n m room k mark one two → ClosesString k mark start two new → StringTaken profile text n m room k old new
+  pub string_done : (n m room start : ℕ) (k : StringKind) (mark : Mark) (old one two new : List ℕ) → start ≡ length old → one ≡ old ++ 0 ∷ [] → PiecesTaken profile text n m room k mark one two → ClosesString k mark start two new → StringTaken profile text n m room k old new
   string_done n m room start k mark old one two new st o ps c =
       let x = ps.bytes in
       let content : drop (start + 1) two ≡ x = ap (drop (start + 1)) (ps.written ∙ ap (λ z. z ++ x) o) ∙ drop_at (old ++ 0 ∷ []) x (start + 1) (length-append old (0 ∷ []) ∙ ap (λ j. j + 1) (sym st)) in
@@ -186,7 +186,7 @@ module _ (profile : Profile) (text : List ℕ) where
         written = set_head_done (major_of k) (length (drop (start + 1) two)) start w old one two new x st o ps.written c.0.3 ∙ (λ i. old ++ (head_bytes (sym (code_is k) i) w (length (content i)) ++ x));
       }
 
-  pub string_item : (n m room : ℕ) (k : Kind) (old new : List ℕ) → StringTaken profile text n m room k old new → ItemTaken profile text n m room old new
+  pub string_item : (n m room : ℕ) (k : StringKind) (old new : List ℕ) → StringTaken profile text n m room k old new → ItemTaken profile text n m room old new
   string_item n m room k old new t =
       let ps = t.pieces in
       record {
@@ -234,7 +234,7 @@ module _ (profile : Profile) (text : List ℕ) where
 
   -- Chunks.
 
-  module _ (n m room : ℕ) (k : Kind) (old new : List ℕ) (t : StringTaken profile text n m room k old new) where
+  module _ (n m room : ℕ) (k : StringKind) (old new : List ℕ) (t : StringTaken profile text n m room k old new) where
     abbrev chunk : Chunk
     chunk = record { place = place t.pieces; width = t.width; bytes = t.bytes }
 
@@ -250,7 +250,7 @@ module _ (profile : Profile) (text : List ℕ) where
         ∙ ap (λ s. when s (and_then (means_chunk t.pieces t.bytes) (λ c. Some (cs ++ c ∷ [])))) ((λ i. same_kind (h i) (t.of_kind i)) ∙ same_self k)
         ∙ ap (λ o. and_then o (λ c. Some (cs ++ c ∷ []))) chunk_says
 
-  pub one_chunk : (n m room : ℕ) (k : Kind) (old new : List ℕ) → StringTaken profile text n m room k old new → ChunksTaken profile text n m room k old new
+  pub one_chunk : (n m room : ℕ) (k : StringKind) (old new : List ℕ) → StringTaken profile text n m room k old new → ChunksTaken profile text n m room k old new
   one_chunk n m room k old new t = record {
     strings = strings no_string t.pieces;
     lexed = t.lexed;
@@ -262,7 +262,7 @@ module _ (profile : Profile) (text : List ℕ) where
     written = t.written ∙ ap (λ l. old ++ l) (sym (append-nil (string_bytes (major_type k) t.width t.bytes)));
   }
 
-  pub more_chunks : (n m a l room : ℕ) (k : Kind) (old mid new : List ℕ) → ChunksTaken profile text n m room k old mid → TokenAt profile text m a Comma → StringTaken profile text a l room k mid new → ChunksTaken profile text n l room k old new
+  pub more_chunks : (n m a l room : ℕ) (k : StringKind) (old mid new : List ℕ) → ChunksTaken profile text n m room k old mid → TokenAt profile text m a Comma → StringTaken profile text a l room k mid new → ChunksTaken profile text n l room k old new
   more_chunks n m a l room k old mid new s c t =
       let f = chunk_bytes (major_type k) in
       let d = chunk a l room k mid new t in
@@ -279,7 +279,7 @@ module _ (profile : Profile) (text : List ℕ) where
         written = t.written ∙ ap (λ z. z ++ x) s.written ∙ append_assoc old (flat_map f s.chunks) x ∙ ap (λ z. old ++ z) (ap (λ z. flat_map f s.chunks ++ z) (sym (append-nil x)) ∙ sym (flat_map-append f s.chunks (d ∷ [])));
       }
 
-  pub chunked_done : (n at last end room start : ℕ) (k : Kind) (old one two new : List ℕ) → start ≡ length old → TokenAt profile text n at ChunkOpen → one ≡ old ++ 0 ∷ [] → ChunksTaken profile text at last room k one two → TokenAt profile text last end ParenClose → ClosesChunks k start two new → ItemTaken profile text n end room old new
+  pub chunked_done : (n at last end room start : ℕ) (k : StringKind) (old one two new : List ℕ) → start ≡ length old → TokenAt profile text n at ChunkOpen → one ≡ old ++ 0 ∷ [] → ChunksTaken profile text at last room k one two → TokenAt profile text last end ParenClose → ClosesChunks k start two new → ItemTaken profile text n end room old new
   chunked_done n at last end room start k old one two new st o p s b c =
       let x = flat_map (chunk_bytes (major_type k)) s.chunks in
       let h = 32 * major_of k + 31 in

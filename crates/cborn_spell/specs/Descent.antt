@@ -26,8 +26,8 @@ use Rattle.cborn_lex.specs.Lex.{Between}
 use Rattle.cborn_edn.specs.Syntax.{Piece, tokens_of_piece, depth_of_piece, Pieces, tokens_of_pieces, depth_of_pieces, Strings, tokens_of_strings, depth_of_strings, is_small, is_below, argument_of, Item, tokens_of, depth, Row, RowBefore, tokens_of_row, tokens_of_row_before, depth_of_row, depth_of_row_before, Pairs, PairsBefore, tokens_of_pairs, tokens_of_pairs_before, depth_of_pairs, depth_of_pairs_before}
 use Rattle.cborn_edn.specs.devices.Commas.{commas_of_piece, commas_of_pieces, commas_of_strings, commas, commas_of_row, commas_of_row_before, commas_of_pairs, commas_of_pairs_before, AllowsCount}
 use Rattle.cborn_edn.specs.Meaning.{width_for, is_simple, is_absent, same_kind, kind_of, mark_of, kind, last_piece, is_bare_before, is_of_kind, is_string, kind_of_strings, joined_piece, joined, means, means_strings, means_row, means_row_before, means_pairs, means_pairs_before}
-use Rattle.cborn_edn.specs.declared.strings.Kind.{Kind}
-use Rattle.cborn_edn.specs.declared.strings.Kind.TheVariants.{Bytes as OfBytes, Text as OfText}
+use Rattle.cborn_edn.specs.declared.strings.StringKind.{StringKind}
+use Rattle.cborn_edn.specs.declared.strings.StringKind.TheVariants.{Bytes as OfBytes, Text as OfText}
 use Rattle.cborn_edn.specs.Notates.{Notates}
 
 -- the shortest head of the major type with the argument n is added
@@ -70,24 +70,24 @@ AddsString major mark x old new = (w : Width) × (width_for mark (length x) ≡ 
 abbrev pub AddsEmpty : ℕ → Bool → Mark → List ℕ → List ℕ → List ℕ → Type 0
 AddsEmpty major quoted mark x old new = (quoted ≡ true) × (mark ≡ Endless) × (x ≡ []) × (new ≡ old ++ (32 * major + 31) ∷ 255 ∷ [])
 
-abbrev pub major_of : Kind → ℕ
+abbrev pub major_of : StringKind → ℕ
 major_of OfBytes = 2
 major_of OfText = 3
 
-abbrev pub major_type : Kind → Major
+abbrev pub major_type : StringKind → Major
 major_type OfBytes = ByteString
 major_type OfText = TextString
 
 -- the head of a string in the place of the byte at start; its content stands behind that
-abbrev pub ClosesString : Kind → Mark → ℕ → List ℕ → List ℕ → Type 0
+abbrev pub ClosesString : StringKind → Mark → ℕ → List ℕ → List ℕ → Type 0
 ClosesString kind mark start old new = ClosesFixed (major_of kind) mark (length (drop (start + 1) old)) start old new × (kind ≡ OfText → IsUtf8 (drop (start + 1) old))
 
 -- the head of a string in chunks in the place of the byte at start, and the break
-abbrev pub ClosesChunks : Kind → ℕ → List ℕ → List ℕ → Type 0
+abbrev pub ClosesChunks : StringKind → ℕ → List ℕ → List ℕ → Type 0
 ClosesChunks kind start old new = new ≡ (take start old ++ (32 * major_of kind + 31) ∷ drop (start + 1) old) ++ 255 ∷ []
 
 -- whether a piece of the second kind may stand in a string of the first
-abbrev pub suits : Kind → Kind → Bool
+abbrev pub suits : StringKind → StringKind → Bool
 suits OfText k = true
 suits OfBytes k = same_kind k OfBytes
 
@@ -106,8 +106,8 @@ abbrev pub AddsSimple : ℕ → List ℕ → List ℕ → Type 0
 AddsSimple n old new = (is_simple false n ≡ true) × (new ≡ old ++ head_bytes 7 (simple_width n) n)
 
 -- the meaning is some node, which is written
-abbrev pub Writes : Option Tree → List ℕ → List ℕ → Type 0
-Writes o old new = (node : Tree) × (o ≡ Some node) × (new ≡ old ++ spelled node)
+abbrev pub SpellsNode : Option Tree → List ℕ → List ℕ → Type 0
+SpellsNode o old new = (node : Tree) × (o ≡ Some node) × (new ≡ old ++ spelled node)
 
 -- the token of a number goes on with the character
 abbrev pub goes_on : ℕ → Bool
@@ -191,7 +191,7 @@ module _ (profile : Profile) (text : List ℕ) (n m : ℕ) where
     pub lexed : Between profile text n m (tokens_of item)
     pub allowed : AllowsCount profile (commas item)
     pub shallow : depth item ≤ room
-    pub written : Writes (means item) old new
+    pub written : SpellsNode (means item) old new
 
   -- items with a comma between each two, k in all
   pub record RowTaken (room k : ℕ) (old new : List ℕ) : Type 0 where
@@ -238,7 +238,7 @@ module _ (profile : Profile) (text : List ℕ) (n m : ℕ) where
     pub written : new ≡ old ++ spelled_entries nodes
 
   -- a piece of a string; the bytes that it stands for are written
-  pub record PieceTaken (room : ℕ) (k : Kind) (mark : Mark) (old new : List ℕ) : Type 0 where
+  pub record PieceTaken (room : ℕ) (k : StringKind) (mark : Mark) (old new : List ℕ) : Type 0 where
     pub piece : Piece
     pub lexed : Between profile text n m (tokens_of_piece piece)
     pub allowed : AllowsCount profile (commas_of_piece piece)
@@ -250,7 +250,7 @@ module _ (profile : Profile) (text : List ℕ) (n m : ℕ) where
     pub written : new ≡ old ++ bytes
 
   -- pieces side by side: the first is of this kind, which all suit, and none but the last has an indicator
-  pub record PiecesTaken (room : ℕ) (k : Kind) (mark : Mark) (old new : List ℕ) : Type 0 where
+  pub record PiecesTaken (room : ℕ) (k : StringKind) (mark : Mark) (old new : List ℕ) : Type 0 where
     pub pieces : Pieces
     pub lexed : Between profile text n m (tokens_of_pieces pieces)
     pub allowed : AllowsCount profile (commas_of_pieces pieces)
@@ -264,7 +264,7 @@ module _ (profile : Profile) (text : List ℕ) (n m : ℕ) where
     pub written : new ≡ old ++ bytes
 
   -- a string of pieces, which is written
-  pub record StringTaken (room : ℕ) (k : Kind) (old new : List ℕ) : Type 0 where
+  pub record StringTaken (room : ℕ) (k : StringKind) (old new : List ℕ) : Type 0 where
     pub pieces : Pieces
     pub lexed : Between profile text n m (tokens_of_pieces pieces)
     pub allowed : AllowsCount profile (commas_of_pieces pieces)
@@ -278,7 +278,7 @@ module _ (profile : Profile) (text : List ℕ) (n m : ℕ) where
     pub written : new ≡ old ++ string (major_type k) width bytes
 
   -- chunks of one kind with a comma between each two, which are written
-  pub record ChunksTaken (room : ℕ) (k : Kind) (old new : List ℕ) : Type 0 where
+  pub record ChunksTaken (room : ℕ) (k : StringKind) (old new : List ℕ) : Type 0 where
     pub strings : Strings
     pub lexed : Between profile text n m (tokens_of_strings strings)
     pub allowed : AllowsCount profile (commas_of_strings strings)

@@ -4,14 +4,14 @@ ghost use Rattle.std.specs.Prelude.{◌≡◌, ◌≤◌, ◌<◌, length, IfSom
 ghost use Rattle.cborn_lex.specs.declared.classes.Class.{Class};
 ghost use Rattle.cborn_lex.specs.declared.classes.Class.TheVariants as classes;
 ghost use Rattle.cborn_lex.specs.Forms.{start_of, single};
-ghost use Rattle.cborn_edn.specs.declared.strings.Kind.TheVariants as kinds;
+ghost use Rattle.cborn_edn.specs.declared.strings.StringKind.TheVariants as kinds;
 ghost use Rattle.cborn_spell.specs.Descent.{TokenAt, Ends, Opens, Closes, ClosesFixed, ClosesString, ClosesChunks, major_of};
 
 use crate::heads::{set_head, set_wide_head};
 use crate::leaves::{holds, is_text};
 use crate::scans::{behind, skip};
 use crate::tokens::next_token;
-use cborn_edn::Kind;
+use cborn_edn::StringKind;
 use cborn_lex::{Class, Mark, Profile};
 use std::alloc::Global;
 
@@ -76,7 +76,7 @@ pub(crate) fn close_fixed(
 #[inline(never)]
 pub(crate) fn close_string(
     alloc: Global,
-    kind: Kind,
+    kind: StringKind,
     mark: Mark,
     start: usize,
     out: &mut Vec<u8>,
@@ -102,17 +102,17 @@ fn len_of(content: &[u8]) -> u64
 }
 
 /// Whether the bytes can be those of a string of this kind.
-fn is_good(kind: Kind, content: &[u8]) -> bool
+fn is_good(kind: StringKind, content: &[u8]) -> bool
     ensures { IsTrue result → kind ≡ kinds.Text → IsUtf8 content.now }
 {
     match kind {
-        Kind::Bytes => true,
-        Kind::Text => is_text(content),
+        StringKind::Bytes => true,
+        StringKind::Text => is_text(content),
     }
 }
 
 /// The head of a string in chunks in the place of the byte at `start`, and the break.
-pub(crate) fn close_chunks(kind: Kind, start: usize, out: &mut Vec<u8>) -> Option<()>
+pub(crate) fn close_chunks(kind: StringKind, start: usize, out: &mut Vec<u8>) -> Option<()>
     ensures { OnSome result (ClosesChunks kind start out.old.items out.new.items) }
 {
     if start >= out.len() {
@@ -123,13 +123,13 @@ pub(crate) fn close_chunks(kind: Kind, start: usize, out: &mut Vec<u8>) -> Optio
     Some(())
 }
 
-fn major_of(kind: Kind) -> u8
+fn major_of(kind: StringKind) -> u8
     ensures is { result ≡ major_of kind }
     ensures small { result < 8 }
 {
     match kind {
-        Kind::Bytes => 2,
-        Kind::Text => 3,
+        StringKind::Bytes => 2,
+        StringKind::Text => 3,
     }
 }
 

@@ -2,7 +2,7 @@
 
 ghost use Rattle.std.specs.Prelude.{◌≡◌, ◌<◌, ◌++◌, ◌∷◌, length, OnSome};
 ghost use Rattle.std.specs.Int.{w16, w32, w64, to_be_bytes};
-ghost use Rattle.cborn_model.specs.Heads.{Holds, least};
+ghost use Rattle.cborn_model.specs.Heads.{WidthFits, least};
 ghost use Rattle.cborn_spell.specs.Descent.{AddsHead, SetsHead};
 
 use cborn_model::Width;
@@ -97,7 +97,7 @@ pub(crate) fn set_wide_head(
     out: &mut Vec<u8>,
 ) -> Option<()>
     requires major { major < 8 }
-    requires fits { Holds width n }
+    requires fits { WidthFits width n }
     ensures { OnSome result ((start < length out.old.items) × SetsHead major width n start out.old.items out.new.items) }
 {
     if start >= out.len() {

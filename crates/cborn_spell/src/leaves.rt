@@ -10,7 +10,7 @@ ghost use Rattle.cborn_spell.specs.Descent.{AddsMarked, AddsString, AddsEmpty, A
 use crate::heads::put_head;
 use crate::numerals::decimal;
 use crate::scans::{behind, skip};
-use cborn_edn::Kind;
+use cborn_edn::StringKind;
 use cborn_lex::{Mark, Profile};
 use cborn_model::Width;
 use cborn_wire::push_head;
@@ -125,21 +125,21 @@ pub(crate) fn is_bare(mark: Mark) -> bool
 }
 
 /// Whether a piece of the kind `other` may stand in a string of the kind `kind`.
-pub(crate) fn fits_kind(kind: Kind, other: Kind) -> bool
+pub(crate) fn fits_kind(kind: StringKind, other: StringKind) -> bool
     ensures { result ≡ suits kind other }
 {
     match kind {
-        Kind::Text => true,
-        Kind::Bytes => other == Kind::Bytes,
+        StringKind::Text => true,
+        StringKind::Bytes => other == StringKind::Bytes,
     }
 }
 
 /// Whether two chunks are of one kind.
-pub(crate) fn is_same(kind: Kind, other: Kind) -> bool
+pub(crate) fn is_same(kind: StringKind, other: StringKind) -> bool
     ensures { IsTrue result → other ≡ kind }
 {
     match kind {
-        Kind::Text => other == Kind::Text,
-        Kind::Bytes => other == Kind::Bytes,
+        StringKind::Text => other == StringKind::Text,
+        StringKind::Bytes => other == StringKind::Bytes,
     }
 }

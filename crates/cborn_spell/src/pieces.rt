@@ -2,7 +2,7 @@
 
 ghost use Rattle.std.specs.Prelude.{◌≡◌, ◌≤◌, ◌-◌, ◌++◌, ◌∷◌, [], ℕ, List, length, IfSome};
 ghost use Rattle.cborn_lex.specs.declared.classes.Class.TheVariants as classes;
-ghost use Rattle.cborn_edn.specs.declared.strings.Kind.TheVariants as kinds;
+ghost use Rattle.cborn_edn.specs.declared.strings.StringKind.TheVariants as kinds;
 ghost use Rattle.cborn_spell.specs.Descent.{TokenAt, ItemTaken, RowTaken, PieceTaken, PiecesTaken, StringTaken, ChunksTaken};
 
 use crate::brackets::{close_chunks, close_string, embed_end, embed_ending};
@@ -12,7 +12,7 @@ use crate::rows::put_row;
 use crate::scans::{behind, skip, stands};
 use crate::strings::put_text_piece;
 use crate::tokens::{chunk_open, embed_open, put_string_piece};
-use cborn_edn::Kind;
+use cborn_edn::StringKind;
 use cborn_lex::{Mark, Profile};
 use std::alloc::Global;
 
@@ -69,11 +69,11 @@ fn put_joined_behind(
         profile,
         text,
         first,
-        Kind::Bytes,
+        StringKind::Bytes,
         first_mark,
         out,
     )?;
-    close_string(alloc, Kind::Bytes, mark, start, out)?;
+    close_string(alloc, StringKind::Bytes, mark, start, out)?;
     Some(end)
 }
 
@@ -107,7 +107,7 @@ fn put_joined(
     text: &str,
     at: usize,
     out: &mut Vec<u8>,
-) -> Option<(usize, Kind)>
+) -> Option<(usize, StringKind)>
     requires room { room ≤ 1024 }
     requires at { at ≤ length text.now }
     ensures within { IfSome result (λ r. r.0 ≤ length text.now) }
@@ -129,7 +129,7 @@ fn put_pieces(
     text: &str,
     at: usize,
     out: &mut Vec<u8>,
-) -> Option<(usize, Kind, Mark)>
+) -> Option<(usize, StringKind, Mark)>
     requires room { room ≤ 1024 }
     requires at { at ≤ length text.now }
     ensures within { IfSome result (λ r. r.0 ≤ length text.now) }
@@ -149,7 +149,7 @@ fn put_further(
     profile: Profile,
     text: &str,
     at: usize,
-    kind: Kind,
+    kind: StringKind,
     mark: Mark,
     out: &mut Vec<u8>,
 ) -> Option<(usize, Mark)>
@@ -186,7 +186,7 @@ fn put_piece(
     text: &str,
     at: usize,
     out: &mut Vec<u8>,
-) -> Option<(usize, Kind, Mark)>
+) -> Option<(usize, StringKind, Mark)>
     requires room { room ≤ 1024 }
     requires at { at ≤ length text.now }
     ensures within { IfSome result (λ r. r.0 ≤ length text.now) }
@@ -195,11 +195,11 @@ fn put_piece(
     let place = skip(profile, text, at)?;
     if stands(b'<', text, place) {
         let (last, mark) = put_embedded(alloc, room, profile, text, at, out)?;
-        return Some((last, Kind::Bytes, mark));
+        return Some((last, StringKind::Bytes, mark));
     }
     if stands(b'"', text, place) {
         let (last, mark) = put_text_piece(text, place, out)?;
-        return Some((last, Kind::Text, mark));
+        return Some((last, StringKind::Text, mark));
     }
     put_string_piece(alloc, room, profile, text, at, out)
 }
@@ -264,7 +264,7 @@ fn put_chunks(
     text: &str,
     at: usize,
     out: &mut Vec<u8>,
-) -> Option<(usize, Kind)>
+) -> Option<(usize, StringKind)>
     requires room { room ≤ 1024 }
     requires at { at ≤ length text.now }
     ensures within { IfSome result (λ r. r.0 ≤ length text.now) }

@@ -3,7 +3,7 @@
 ghost use Rattle.std.specs.Prelude.{◌≡◌, ◌≤◌, ◌<◌, ◌+◌, ◌∷◌, ◌++◌, [], true, false, ◌==◌, ℕ, List, length, take, drop, IfSome, IsTrue, IsUtf8};
 ghost use Rattle.cborn_lex.specs.Tokens.{begins};
 ghost use Rattle.cborn_lex.specs.declared.classes.Profile.{Profile};
-ghost use Rattle.cborn_edn.specs.declared.strings.Kind.TheVariants as kinds;
+ghost use Rattle.cborn_edn.specs.declared.strings.StringKind.TheVariants as kinds;
 ghost use Rattle.cborn_spell.specs.Descent.{IsPlainText, ItemTaken, PieceTaken};
 
 use crate::heads::put_head;

@@ -9,7 +9,7 @@ ghost use Rattle.cborn_spell.specs.Descent.{AddsMarked, TokenAt, ItemTaken, Piec
 use crate::leaves::{put_marked, put_simple, put_string};
 use crate::numbers::put_number;
 use crate::scans::behind;
-use cborn_edn::Kind;
+use cborn_edn::StringKind;
 use cborn_lex::{Class, Mark, Profile, token_from};
 use std::alloc::Global;
 
@@ -128,7 +128,7 @@ pub(crate) fn put_string_piece(
     text: &str,
     at: usize,
     out: &mut Vec<u8>,
-) -> Option<(usize, Kind, Mark)>
+) -> Option<(usize, StringKind, Mark)>
     requires { at ≤ length text.now }
     ensures within { IfSome result (λ r. r.0 ≤ length text.now) }
     ensures taken { IfSome result (λ r. PieceTaken profile text.now at r.0 room r.1 r.2 out.old.items out.new.items) }
@@ -137,11 +137,11 @@ pub(crate) fn put_string_piece(
     match class {
         Class::Text { bytes, mark } => {
             out.extend_from_slice(bytes.as_slice()).ok()?;
-            Some((end, Kind::Text, mark))
+            Some((end, StringKind::Text, mark))
         }
         Class::Bytes { bytes, mark, .. } => {
             out.extend_from_slice(bytes.as_slice()).ok()?;
-            Some((end, Kind::Bytes, mark))
+            Some((end, StringKind::Bytes, mark))
         }
         _ => None,
     }

@@ -2,7 +2,7 @@
 use Rattle.std.proofs.Common.{◌≡◌, ◌≢◌, ℕ, zero, suc, ◌-◌, ◌⊎◌, ◌<◌, ◌≤◌, ◌^◌, inl, inr, List, ◌∷◌, ◌++◌, length, Bool, true, false, refl, sym, ap, ◌∙◌, subst, arith, append_assoc, take, drop, take_at, Ordering}
 use Rattle.cborn_model.specs.declared.heads.Width.{Width}
 use Rattle.cborn_model.specs.Bytes.{big_endian}
-use Rattle.cborn_model.specs.Heads.{Major, Unsigned, Negative, ByteString, TextString, Tag, Other, Given, Unbounded, head, Holds, IsLeastHead, head_bytes}
+use Rattle.cborn_model.specs.Heads.{Major, Unsigned, Negative, ByteString, TextString, Tag, Other, Given, Unbounded, head, WidthFits, IsLeastHead, head_bytes}
 use Rattle.cborn_model.specs.Tree.{Uint, Nint, Bytes, Text, ByteChunks, TextChunks, Tagged, Simple}
 use Rattle.cborn_model.specs.Spelled.{spelled, chunk_bytes, ending}
 use Rattle.cborn_model.specs.Value.{integer, bytes, text, tagged, simple}
@@ -22,7 +22,7 @@ use Rattle.cborn_transcode.specs.Transcoding.{ItemTranscoded, StringTaken, LongS
 
 module _ (order : List ℕ → List ℕ → Ordering) (room : ℕ) where
   -- an integer within 64 bits
-  pub uint_done : (w : Width) (n : ℕ) (rest old new : List ℕ) → Holds w n → Appends (IsLeastHead 0 n) old new → ItemTranscoded order room (head Unsigned (Given w n) ++ rest) rest old new
+  pub uint_done : (w : Width) (n : ℕ) (rest old new : List ℕ) → WidthFits w n → Appends (IsLeastHead 0 n) old new → ItemTranscoded order room (head Unsigned (Given w n) ++ rest) rest old new
   uint_done w n rest old new h a =
       let m = magnitude_of n in
       let below : big_endian m.0 < 2 ^ 64 = omega (arith, m.3, holds_below w n h) in
@@ -36,7 +36,7 @@ module _ (order : List ℕ → List ℕ → Ordering) (room : ℕ) where
         written = (a.0, inl (below, subst (λ k. IsLeastHead 0 k a.0) (sym m.3) a.1), a.2);
       }
 
-  pub nint_done : (w : Width) (n : ℕ) (rest old new : List ℕ) → Holds w n → Appends (IsLeastHead 1 n) old new → ItemTranscoded order room (head Negative (Given w n) ++ rest) rest old new
+  pub nint_done : (w : Width) (n : ℕ) (rest old new : List ℕ) → WidthFits w n → Appends (IsLeastHead 1 n) old new → ItemTranscoded order room (head Negative (Given w n) ++ rest) rest old new
   nint_done w n rest old new h a =
       let m = magnitude_of n in
       let below : big_endian m.0 < 2 ^ 64 = omega (arith, m.3, holds_below w n h) in
@@ -50,23 +50,23 @@ module _ (order : List ℕ → List ℕ → Ordering) (room : ℕ) where
         written = (a.0, inl (below, subst (λ k. IsLeastHead 1 k a.0) (sym m.3) a.1), a.2);
       }
 
-  pub bytes_done : (w : Width) (n : ℕ) (input rest old new : List ℕ) → Holds w n → StringTaken 2 n input rest old new → ItemTranscoded order room (head ByteString (Given w n) ++ input) rest old new
+  pub bytes_done : (w : Width) (n : ℕ) (input rest old new : List ℕ) → WidthFits w n → StringTaken 2 n input rest old new → ItemTranscoded order room (head ByteString (Given w n) ++ input) rest old new
   bytes_done w n input rest old new h s = record {
     node = Bytes 0 w s.content;
     item = bytes s.content;
     read = (λ i. head ByteString (Given w (sym s.len i)) ++ s.read i) ∙ sym (append_assoc (head ByteString (Given w (length s.content))) s.content rest);
-    fits = (subst (Holds w) (sym s.len) h, s.bytes);
+    fits = (subst (WidthFits w) (sym s.len) h, s.bytes);
     shallow = omega arith;
     meant = refl;
     written = s.written;
   }
 
-  pub text_done : (w : Width) (n : ℕ) (input rest old new : List ℕ) → Holds w n → StringTaken 3 n input rest old new → ItemTranscoded order room (head TextString (Given w n) ++ input) rest old new
+  pub text_done : (w : Width) (n : ℕ) (input rest old new : List ℕ) → WidthFits w n → StringTaken 3 n input rest old new → ItemTranscoded order room (head TextString (Given w n) ++ input) rest old new
   text_done w n input rest old new h s = record {
     node = Text 0 w s.content;
     item = text s.content;
     read = (λ i. head TextString (Given w (sym s.len i)) ++ s.read i) ∙ sym (append_assoc (head TextString (Given w (length s.content))) s.content rest);
-    fits = (subst (Holds w) (sym s.len) h, s.bytes);
+    fits = (subst (WidthFits w) (sym s.len) h, s.bytes);
     shallow = omega arith;
     meant = (s.text refl, refl);
     written = s.written;
@@ -113,7 +113,7 @@ module _ (order : List ℕ → List ℕ → Ordering) (room : ℕ) where
     written = s.3;
   }
 
-  pub bignum_done : (w : Width) (negative : Bool) (n : ℕ) (input rest old new : List ℕ) → 1 ≤ room → Holds w n → ((negative ≡ false) × (n ≡ 2)) ⊎ ((negative ≡ true) × (n ≡ 3)) → BignumTaken negative input rest old new
+  pub bignum_done : (w : Width) (negative : Bool) (n : ℕ) (input rest old new : List ℕ) → 1 ≤ room → WidthFits w n → ((negative ≡ false) × (n ≡ 2)) ⊎ ((negative ≡ true) × (n ≡ 3)) → BignumTaken negative input rest old new
       → ItemTranscoded order room (head Tag (Given w n) ++ input) rest old new
   bignum_done w negative n input rest old new r h k s = record {
     node = Tagged 0 w n s.node;
@@ -128,7 +128,7 @@ module _ (order : List ℕ → List ℕ → Ordering) (room : ℕ) where
     written = s.written;
   }
 
-pub tagged_done : (order : List ℕ → List ℕ → Ordering) (room : ℕ) (w : Width) (n : ℕ) (input rest old mid new : List ℕ) → 1 ≤ room → Holds w n → n ≢ 2 → n ≢ 3 → Appends (IsLeastHead 6 n) old mid → ItemTranscoded order (room - 1) input rest mid new
+pub tagged_done : (order : List ℕ → List ℕ → Ordering) (room : ℕ) (w : Width) (n : ℕ) (input rest old mid new : List ℕ) → 1 ≤ room → WidthFits w n → n ≢ 2 → n ≢ 3 → Appends (IsLeastHead 6 n) old mid → ItemTranscoded order (room - 1) input rest mid new
     → ItemTranscoded order room (head Tag (Given w n) ++ input) rest old new
 tagged_done order room w n input rest old mid new r h two three a s = record {
   node = Tagged 0 w n s.node;
@@ -146,18 +146,18 @@ least_integer order x old h n i (m, l) = go h.major h.argument refl refl m l
   where
     go : (major : ℕ) (a : Argument) → h.major ≡ major → h.argument ≡ a → major < 2 → IsLeast a → ItemTranscoded order 0 x (drop n x) old (old ++ take n x)
     go zero (arguments.Given w k) e f m l =
-        let fits : Holds w k = subst (λ (a : Argument). ArgumentFits (seen_argument a)) f i.fits in
+        let fits : WidthFits w k = subst (λ (a : Argument). ArgumentFits (seen_argument a)) f i.fits in
         let split : x ≡ head Unsigned (Given w k) ++ drop n x = head_split x h n i ∙ (λ j. head (major_at (e j)) (seen_argument (f j)) ++ drop n x) in
         let len : n ≡ length (head Unsigned (Given w k)) = i.len ∙ (λ j. length (head (major_at (e j)) (seen_argument (f j)))) in
         let front : take n x ≡ head Unsigned (Given w k) = ap (take n) split ∙ take_at (head Unsigned (Given w k)) (drop n x) n (sym len) in
-        let written : Appends (IsLeastHead 0 k) old (old ++ take n x) = (head Unsigned (Given w k), (subst (λ v. Holds v k) l fits, ap (λ v. head_bytes 0 v k) l), ap (λ z. old ++ z) front) in
+        let written : Appends (IsLeastHead 0 k) old (old ++ take n x) = (head Unsigned (Given w k), (subst (λ v. WidthFits v k) l fits, ap (λ v. head_bytes 0 v k) l), ap (λ z. old ++ z) front) in
         subst (λ (y : List ℕ). ItemTranscoded order 0 y (drop n x) old (old ++ take n x)) (sym split) (uint_done order 0 w k (drop n x) old (old ++ take n x) fits written)
     go (suc zero) (arguments.Given w k) e f m l =
-        let fits : Holds w k = subst (λ (a : Argument). ArgumentFits (seen_argument a)) f i.fits in
+        let fits : WidthFits w k = subst (λ (a : Argument). ArgumentFits (seen_argument a)) f i.fits in
         let split : x ≡ head Negative (Given w k) ++ drop n x = head_split x h n i ∙ (λ j. head (major_at (e j)) (seen_argument (f j)) ++ drop n x) in
         let len : n ≡ length (head Negative (Given w k)) = i.len ∙ (λ j. length (head (major_at (e j)) (seen_argument (f j)))) in
         let front : take n x ≡ head Negative (Given w k) = ap (take n) split ∙ take_at (head Negative (Given w k)) (drop n x) n (sym len) in
-        let written : Appends (IsLeastHead 1 k) old (old ++ take n x) = (head Negative (Given w k), (subst (λ v. Holds v k) l fits, ap (λ v. head_bytes 1 v k) l), ap (λ z. old ++ z) front) in
+        let written : Appends (IsLeastHead 1 k) old (old ++ take n x) = (head Negative (Given w k), (subst (λ v. WidthFits v k) l fits, ap (λ v. head_bytes 1 v k) l), ap (λ z. old ++ z) front) in
         subst (λ (y : List ℕ). ItemTranscoded order 0 y (drop n x) old (old ++ take n x)) (sym split) (nint_done order 0 w k (drop n x) old (old ++ take n x) fits written)
     go (suc (suc major)) a e f m l = absurd (omega arith)
     go zero arguments.Endless e f m l = absurd l

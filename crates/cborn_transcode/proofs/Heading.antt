@@ -9,7 +9,7 @@ use Rattle.cborn_det.specs.Appending.{Appends}
 use Rattle.std.specs.List.{flat_map}
 use Rattle.cborn_model.specs.declared.heads.Width.{Width}
 use Rattle.cborn_model.specs.declared.nodes.Chunk.{Chunk}
-use Rattle.cborn_model.specs.Heads.{Major, ByteString, Given, head, Holds, IsLeastHead}
+use Rattle.cborn_model.specs.Heads.{Major, ByteString, Given, head, WidthFits, IsLeastHead}
 use Rattle.cborn_model.specs.Spelled.{chunk_bytes, ChunksFit}
 use Rattle.cborn_model.specs.Meaning.{joined_chunks, ChunksAreText}
 use Rattle.cborn_wire.specs.declared.heads.Head.{Head}
@@ -24,12 +24,12 @@ head_split x h n i =
 
 pub chunk_taken : (x tail rest old new : List ℕ) (h : Head) (n k major : ℕ) (w : Width) → tail ≡ drop n x → IsHeadOf x h n → h.major ≡ major → h.argument ≡ arguments.Given w k → ContentTaken major k tail rest old new → ChunkTaken major x rest old new
 chunk_taken x tail rest old new h n k major w t i e f c =
-    let fits : Holds w k = subst (λ (a : Argument). ArgumentFits (seen_argument a)) f i.fits in
+    let fits : WidthFits w k = subst (λ (a : Argument). ArgumentFits (seen_argument a)) f i.fits in
     let split : x ≡ head (major_at major) (Given w k) ++ tail = head_split x h n i ∙ (λ j. head (major_at (e j)) (seen_argument (f j)) ++ sym t j) in
     record {
       chunk = record { place = 0; width = w; bytes = c.content };
       read = split ∙ (λ j. head (major_at major) (Given w (sym c.len j)) ++ c.read j) ∙ sym (append_assoc (head (major_at major) (Given w (length c.content))) c.content rest);
-      fits = (subst (Holds w) (sym c.len) fits, c.bytes);
+      fits = (subst (WidthFits w) (sym c.len) fits, c.bytes);
       text = c.text;
       written = c.written;
     }
@@ -92,14 +92,14 @@ pub bignum_taken : (x tail old new digits : List ℕ) (h : Head) (n k : ℕ) (w 
     → AreBytes digits → IsShortest digits → big_endian digits ≡ big_endian (take k tail) → Appends (IsInteger negative digits) old new
     → BignumTaken negative x (drop k tail) old new
 bignum_taken x tail old new digits h n k w negative t i e f l b bs ss v a =
-    let fits : Holds w k = subst (λ (a : Argument). ArgumentFits (seen_argument a)) f i.fits in
+    let fits : WidthFits w k = subst (λ (a : Argument). ArgumentFits (seen_argument a)) f i.fits in
     let len : length (take k tail) ≡ k = length-take-le k tail l in
     let split : x ≡ head ByteString (Given w k) ++ tail = head_split x h n i ∙ (λ j. head (major_at (e j)) (seen_argument (f j)) ++ sym t j) in
     record {
       node = Bytes 0 w (take k tail);
       magnitude = digits;
       read = split ∙ (λ j. head ByteString (Given w (sym len j)) ++ sym (take-append-drop k tail) j) ∙ sym (append_assoc (head ByteString (Given w (length (take k tail)))) (take k tail) (drop k tail));
-      fits = (subst (Holds w) (sym len) fits, bytes_behind x tail h n k t i b);
+      fits = (subst (WidthFits w) (sym len) fits, bytes_behind x tail h n k t i b);
       flat = omega arith;
       meant = (take k tail, refl, (digits, bs, ss, v, refl));
       written = a;

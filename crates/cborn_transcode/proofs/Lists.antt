@@ -4,7 +4,7 @@ use Rattle.std.specs.List.{AllZip}
 use Rattle.std.proofs.lemmas.List.{take-append-drop, length-take-le}
 use Rattle.cborn_model.specs.declared.heads.Width.{Width}
 use Rattle.cborn_model.specs.declared.heads.Size.TheVariants.{Fixed, Endless}
-use Rattle.cborn_model.specs.Heads.{Array, Given, Unbounded, head, Holds, IsLeastHead}
+use Rattle.cborn_model.specs.Heads.{Array, Given, Unbounded, head, WidthFits, IsLeastHead}
 use Rattle.cborn_model.specs.Tree.{Tree, trees, depth_all, count, Items}
 use Rattle.cborn_model.specs.Spelled.{spelled, spelled_all, FitsAll, ending}
 use Rattle.cborn_model.specs.Value.{Value, values_of, array}
@@ -97,7 +97,7 @@ module _ (order : List ℕ → List ℕ → Ordering) where
     pub all_more : (n : ℕ) (input mid rest old half new : List ℕ) → ItemsTranscoded order room n input mid old half → ItemTranscoded order room mid rest half new → ItemsTranscoded order room (n + 1) input rest old new
     all_more n input mid rest old half new s t = all_append n 1 input mid rest old half new s (all_one mid rest half new t)
 
-  pub array_done : (room : ℕ) (w : Width) (n : ℕ) (input rest old mid new : List ℕ) → 1 ≤ room → Holds w n → Appends (IsLeastHead 4 n) old mid → ItemsTranscoded order (room - 1) n input rest mid new
+  pub array_done : (room : ℕ) (w : Width) (n : ℕ) (input rest old mid new : List ℕ) → 1 ≤ room → WidthFits w n → Appends (IsLeastHead 4 n) old mid → ItemsTranscoded order (room - 1) n input rest mid new
       → ItemTranscoded order room (head Array (Given w n) ++ input) rest old new
   array_done room w n input rest old mid new r h a s =
       let c : count (trees s.nodes) ≡ n = count-trees s.nodes ∙ s.count in
@@ -107,7 +107,7 @@ module _ (order : List ℕ → List ℕ → Ordering) where
         read = (λ i. head Array (Given w (sym c i)) ++ s.read i)
             ∙ sym (append_assoc (head Array (Given w (count (trees s.nodes)))) (spelled_all (trees s.nodes)) rest)
             ∙ ap (λ l. l ++ rest) (sym (append-nil (head Array (Given w (count (trees s.nodes))) ++ spelled_all (trees s.nodes))));
-        fits = (subst (Holds w) (sym c) h, s.fits);
+        fits = (subst (WidthFits w) (sym c) h, s.fits);
         shallow = omega (arith, s.shallow);
         meant = (values_of s.items, all_mean s.nodes s.items s.meant, refl);
         written = items_done order s.items n old mid new (sym s.count ∙ zip_count s.nodes s.items s.meant) a s.written;

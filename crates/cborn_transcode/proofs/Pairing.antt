@@ -6,7 +6,7 @@ use Rattle.std.proofs.lemmas.List.Sorted.{IsPermutation-sym}
 use Rattle.std.proofs.lemmas.Map.Keys.{IsDistinct-IsPermutation}
 use Rattle.cborn_model.specs.declared.heads.Width.{Width}
 use Rattle.cborn_model.specs.declared.heads.Size.TheVariants.{Fixed, Endless}
-use Rattle.cborn_model.specs.Heads.{Map, Given, Unbounded, head, Holds, IsLeastHead}
+use Rattle.cborn_model.specs.Heads.{Map, Given, Unbounded, head, WidthFits, IsLeastHead}
 use Rattle.cborn_model.specs.Tree.{Tree, Entries, no_entry, entry, entries, depth, depth_entries, count_entries, Pairs}
 use Rattle.cborn_model.specs.Spelled.{spelled, spelled_entries, Fits, FitsEntries, ending}
 use Rattle.cborn_model.specs.Value.{Value, Couples, no_pairs, pair, pairs_of, dict}
@@ -181,7 +181,7 @@ module _ (order : List ℕ → List ℕ → Ordering) where
           new_keys (pairs_of s.items) s.es (proper_entries (entries s.nodes) (pairs_of s.items) s.fits short s.meant) s.det (distinct_moved s.es s.arranged s.moved s.rises),
         )
 
-    pub map_fused : (room : ℕ) (w : Width) (n : ℕ) (input rest old mid new : List ℕ) → 1 ≤ room → Short input → Holds w n → Appends (IsLeastHead 5 n) old mid → MapTranscoded order (room - 1) n input rest mid new
+    pub map_fused : (room : ℕ) (w : Width) (n : ℕ) (input rest old mid new : List ℕ) → 1 ≤ room → Short input → WidthFits w n → Appends (IsLeastHead 5 n) old mid → MapTranscoded order (room - 1) n input rest mid new
         → ItemTranscoded order room (head Map (Given w n) ++ input) rest old new
     map_fused room w n input rest old mid new r l h a s =
         let m = map_of (room - 1) n input rest mid new l s in
@@ -191,7 +191,7 @@ module _ (order : List ℕ → List ℕ → Ordering) where
           read = (λ i. head Map (Given w (sym m.1 i)) ++ s.read i)
               ∙ sym (append_assoc (head Map (Given w (count_entries (entries s.nodes)))) (spelled_entries (entries s.nodes)) rest)
               ∙ ap (λ l. l ++ rest) (sym (append-nil (head Map (Given w (count_entries (entries s.nodes))) ++ spelled_entries (entries s.nodes))));
-          fits = (subst (Holds w) (sym m.1) h, s.fits);
+          fits = (subst (WidthFits w) (sym m.1) h, s.fits);
           shallow = omega (arith, s.shallow);
           meant = (pairs_of s.items, s.meant, m.2, refl);
           written = map_done order s.items s.es s.arranged n old mid new m.0 s.det s.moved s.rises a s.written;

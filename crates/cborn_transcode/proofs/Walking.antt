@@ -7,7 +7,7 @@ use Rattle.std.proofs.lemmas.Bool.{lt-ltb, le-ltb}
 use Rattle.cborn_model.specs.declared.heads.Width.{Width}
 use Rattle.cborn_model.specs.declared.heads.Width.TheVariants.{Direct, One}
 use Rattle.cborn_model.specs.Bytes.{AreBytes, IsShortest}
-use Rattle.cborn_model.specs.Heads.{Major, Unsigned, Negative, ByteString, TextString, Array, Map, Tag, Other, Given, head, head_bytes, Holds, least, IsLeastHead}
+use Rattle.cborn_model.specs.Heads.{Major, Unsigned, Negative, ByteString, TextString, Array, Map, Tag, Other, Given, head, head_bytes, WidthFits, least, IsLeastHead}
 use Rattle.cborn_model.specs.Tree.{Simple, Bytes}
 use Rattle.cborn_model.specs.Spelled.{Fits, simple_width}
 use Rattle.cborn_model.specs.Value.{simple, integer}
@@ -34,9 +34,9 @@ use Rattle.cborn_transcode.proofs.Pairing.{pairs_none, pairs_more, map_fused}
 
 pub least_read : (x tail : List ℕ) (h : Head) (n k : ℕ) (w : Width) → tail ≡ drop n x → IsHeadOf x h n → h.argument ≡ arguments.Given w k → w ≡ least k → LeastHeadRead h.major k x tail
 least_read x tail h n k w t i f l =
-    let fits : Holds w k = subst (λ (a : Argument). ArgumentFits (seen_argument a)) f i.fits in
+    let fits : WidthFits w k = subst (λ (a : Argument). ArgumentFits (seen_argument a)) f i.fits in
     record {
-      fits = subst (λ v. Holds v k) l fits;
+      fits = subst (λ v. WidthFits v k) l fits;
       read = head_split x h n i ∙ (λ j. head (major_at h.major) (seen_argument (f j)) ++ sym t j) ∙ ap (λ v. head (major_at h.major) (Given v k) ++ tail) l;
     }
 
@@ -46,7 +46,7 @@ bignum_found x tail content rest major n h e c r long l b s =
     let split : x ≡ head (major_at major) (Given (least n) n) ++ (content ++ rest) = h.read ∙ ap (λ z. head (major_at major) (Given (least n) n) ++ z) (sym (take-append-drop n tail) ∙ (λ j. sym c j ++ sym r j)) in
     record {
       content = content;
-      fits = subst (λ k. Holds (least k) k) (sym len) h.fits;
+      fits = subst (λ k. WidthFits (least k) k) (sym len) h.fits;
       read = split ∙ (λ j. head (major_at (e j)) (Given (least (sym len j)) (sym len j)) ++ (content ++ rest));
       bytes = bytes_left content rest (bytes_right (head (major_at major) (Given (least n) n)) (content ++ rest) (subst AreBytes split b));
       shortest = s;
@@ -73,7 +73,7 @@ module _ (order : List ℕ → List ℕ → Ordering) (room : ℕ) where
   nint_walked n rest h =
       record { front = head Negative (Given (least n) n); read = refl; item = nint_done order room (least n) n rest [] (head Negative (Given (least n) n)) h (head Negative (Given (least n) n), (h, refl), refl) }
 
-  string_taken : (major n : ℕ) (input rest : List ℕ) → Holds (least n) n → (s : ContentWalked major n input rest) → StringTaken major n input rest [] (head_bytes major (least n) n ++ s.content)
+  string_taken : (major n : ℕ) (input rest : List ℕ) → WidthFits (least n) n → (s : ContentWalked major n input rest) → StringTaken major n input rest [] (head_bytes major (least n) n ++ s.content)
   string_taken major n input rest h s = record {
     content = s.content;
     read = s.read;

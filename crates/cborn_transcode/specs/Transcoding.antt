@@ -4,7 +4,7 @@ use Rattle.std.specs.declared.cmp.Ordering.{Ordering}
 use Rattle.std.specs.List.{flat_map, AllZip}
 use Rattle.cborn_model.specs.declared.nodes.Chunk.{Chunk}
 use Rattle.cborn_model.specs.Bytes.{AreBytes}
-use Rattle.cborn_model.specs.Heads.{Holds, least, IsLeastHead}
+use Rattle.cborn_model.specs.Heads.{WidthFits, least, IsLeastHead}
 use Rattle.cborn_model.specs.Tree.{Tree, trees, entries, depth, depth_all, depth_entries, Simple}
 use Rattle.cborn_model.specs.Spelled.{Wellformed, spelled, spelled_all, spelled_entries, Fits, FitsAll, FitsEntries, ChunksFit, chunk_bytes, simple_width}
 use Rattle.cborn_model.specs.Value.{Value, integer, pairs_of}
@@ -43,7 +43,7 @@ pub record StringTaken (major n : ℕ) (input rest old new : List ℕ) : Type 0 
 pub record ChunkTaken (major : ℕ) (input rest old new : List ℕ) : Type 0 where
   pub chunk : Chunk
   pub read : input ≡ chunk_bytes (major_at major) chunk ++ rest
-  pub fits : Holds chunk.width (length chunk.bytes) × AreBytes chunk.bytes
+  pub fits : WidthFits chunk.width (length chunk.bytes) × AreBytes chunk.bytes
   pub text : major ≡ 3 → IsUtf8 chunk.bytes
   pub written : new ≡ old ++ chunk.bytes
 

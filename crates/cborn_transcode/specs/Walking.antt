@@ -3,7 +3,7 @@ use Rattle.std.specs.Prelude.{◌≡◌, ℕ, ◌+◌, ◌*◌, ◌/◌, ◌%◌
 use Rattle.std.specs.declared.cmp.Ordering.{Ordering}
 use Rattle.std.proofs.Common.{Bor}
 use Rattle.cborn_model.specs.Bytes.{AreBytes, IsShortest}
-use Rattle.cborn_model.specs.Heads.{Major, ByteString, Given, head, Holds, least}
+use Rattle.cborn_model.specs.Heads.{Major, ByteString, Given, head, WidthFits, least}
 use Rattle.cborn_model.specs.Orders.{Rising}
 use Rattle.cborn_det.specs.Det.{Entry, joined, keys}
 use Rattle.cborn_det.proofs.Cutting.{EndsIn}
@@ -21,7 +21,7 @@ IsLast input len x = (front : List ℕ) × (input ≡ front ++ x) × (length x �
 
 -- the input begins with the shortest head of the major type with the argument n
 pub record LeastHeadRead (major n : ℕ) (input rest : List ℕ) : Type 0 where
-  pub fits : Holds (least n) n
+  pub fits : WidthFits (least n) n
   pub read : input ≡ head (major_at major) (Given (least n) n) ++ rest
 
 -- the number of four bytes, the highest first
@@ -49,7 +49,7 @@ pub record ContentWalked (major n : ℕ) (input rest : List ℕ) : Type 0 where
 -- the shortest byte string of a number of more than 64 bits, without leading zeros
 pub record BignumWalked (input rest : List ℕ) : Type 0 where
   pub content : List ℕ
-  pub fits : Holds (least (length content)) (length content)
+  pub fits : WidthFits (least (length content)) (length content)
   pub read : input ≡ head ByteString (Given (least (length content)) (length content)) ++ (content ++ rest)
   pub bytes : AreBytes content
   pub shortest : IsShortest content
@@ -81,4 +81,4 @@ module _ (order : List ℕ → List ℕ → Ordering) (room : ℕ) where
 
   -- what the input has behind the shortest head of this major type with the argument n makes an item of it
   abbrev pub WalkedBehind : Major → ℕ → List ℕ → List ℕ → Type 0
-  WalkedBehind m n input rest = Holds (least n) n → ItemWalked (head m (Given (least n) n) ++ input) rest
+  WalkedBehind m n input rest = WidthFits (least n) n → ItemWalked (head m (Given (least n) n) ++ input) rest

@@ -2,7 +2,7 @@
 
 ghost use Rattle.std.specs.Prelude.{◌≡◌, ◌≢◌, ◌∷◌, false, ◌<◌, ◌≤◌, ◌+◌, ◌^◌, ◌++◌, ℕ, List, [], length, IfSome};
 ghost use Rattle.cborn_model.specs.declared.heads.Width.{Width};
-ghost use Rattle.cborn_model.specs.Heads.{Array, Map, Tag, Given, Unbounded, head, Holds};
+ghost use Rattle.cborn_model.specs.Heads.{Array, Map, Tag, Given, Unbounded, head, WidthFits};
 ghost use Rattle.cborn_transcode.specs.Transcoding.{ItemTranscoded, ItemLeaves, ItemsTranscoded, PairsTranscoded};
 
 use crate::entries::{Span, arrange, push_span};
@@ -97,7 +97,7 @@ fn put_fixed_array<O: KeyOrder>(
     out: &mut Vec<u8>,
 ) -> Option<usize>
     requires { room ≤ 1024 }
-    ensures { IfSome result (λ left. (w : Width) → Holds w n → ItemLeaves O.order room (head Array (Given w n) ++ bytes.now) left out.old.items out.new.items) }
+    ensures { IfSome result (λ left. (w : Width) → WidthFits w n → ItemLeaves O.order room (head Array (Given w n) ++ bytes.now) left out.old.items out.new.items) }
 {
     if room == 0 {
         return None;
@@ -182,7 +182,7 @@ fn put_fixed_map<O: KeyOrder>(
     out: &mut Vec<u8>,
 ) -> Option<usize>
     requires { room ≤ 1024 }
-    ensures { IfSome result (λ left. (w : Width) → Holds w n → ItemLeaves O.order room (head Map (Given w n) ++ bytes.now) left out.old.items out.new.items) }
+    ensures { IfSome result (λ left. (w : Width) → WidthFits w n → ItemLeaves O.order room (head Map (Given w n) ++ bytes.now) left out.old.items out.new.items) }
 {
     let most = bytes.len() as u64;
     if room == 0 || n > most {
@@ -285,7 +285,7 @@ fn put_tagged<O: KeyOrder>(
     out: &mut Vec<u8>,
 ) -> Option<usize>
     requires { room ≤ 1024 }
-    ensures { IfSome result (λ left. (w : Width) → Holds w n → ItemLeaves O.order room (head Tag (Given w n) ++ bytes.now) left out.old.items out.new.items) }
+    ensures { IfSome result (λ left. (w : Width) → WidthFits w n → ItemLeaves O.order room (head Tag (Given w n) ++ bytes.now) left out.old.items out.new.items) }
 {
     if room == 0 {
         return None;

@@ -6,7 +6,7 @@ use Rattle.cborn_model.specs.declared.heads.Width.{Width}
 use Rattle.cborn_model.specs.Tree.{Tree, Trees, no_item, trees}
 use Rattle.cborn_wire.specs.declared.faults.WireFault.{WireFault}
 use Rattle.cborn_wire.specs.declared.faults.WireFault.TheVariants.{Refused, OutOfMemory}
-use Rattle.cborn_wire.specs.Slots.{Kind, Begun}
+use Rattle.cborn_wire.specs.Slots.{StringKind, Begun}
 use Rattle.cborn_wire.specs.Machine.{State, Live, Failed, IsLive, Partial, ready_in, Stops, content_of, gathering, held, string_done, run, IsReached}
 use Rattle.cborn_wire.specs.StackView.{Fails, IsMade}
 use Rattle.cborn_wire.proofs.Running.{run-append, failed_run}
@@ -29,7 +29,7 @@ module _ (limit : ℕ) (from s : State) (n : ℕ) (piece : List ℕ) (goes : run
   pub made_by : (base : ℕ) → limit ≤ 1024 → IsReached limit base from → AreBytes piece → IsMade s
   made_by base small h are = (limit, base, small, subst (IsReached limit base) goes (reached_more limit base from (take n piece) h (bytes-take n piece are)))
 
-module _ (limit at : ℕ) (ready : Trees) (os : List Begun) (p : ℕ) (k : Kind) (w : Width) (n : ℕ) (got piece : List ℕ) (m : ℕ) (fits : m ≤ length piece) where
+module _ (limit at : ℕ) (ready : Trees) (os : List Begun) (p : ℕ) (k : StringKind) (w : Width) (n : ℕ) (got piece : List ℕ) (m : ℕ) (fits : m ≤ length piece) where
   many : length (take m piece) ≡ m
   many = length-take-le m piece fits
 

@@ -7,7 +7,7 @@ use Rattle.cborn_model.specs.declared.heads.Width.TheVariants.{Direct, One, Two,
 use Rattle.cborn_model.specs.declared.heads.Size.{Size}
 use Rattle.cborn_model.specs.declared.heads.Size.TheVariants.{Fixed, Endless}
 use Rattle.cborn_model.specs.declared.nodes.Chunk.{Chunk}
-use Rattle.cborn_model.specs.Heads.{Major, Unsigned, Negative, ByteString, TextString, Array, Map, Tag, Other, code, Holds, information, following, Argument, Given, Unbounded, head, argument, SizeFits}
+use Rattle.cborn_model.specs.Heads.{Major, Unsigned, Negative, ByteString, TextString, Array, Map, Tag, Other, code, WidthFits, information, following, Argument, Given, Unbounded, head, argument, SizeFits}
 use Rattle.cborn_model.specs.Tree.{Tree, Uint, Nint, Bytes, Text, ByteChunks, TextChunks, Items, Pairs, Tagged, Simple, Trees, no_item, more, Entries, no_entry, entry, count, count_entries}
 use Rattle.cborn_model.specs.Spelled.{ending, string, chunk_bytes, chunks, simple_width, spelled, spelled_all, spelled_entries, ChunksFit, Fits, FitsAll, FitsEntries, Wellformed}
 use Rattle.cborn_wire.specs.HeadReading.{ArgumentFits}
@@ -25,7 +25,7 @@ pub bytes-right : (x y : List ℕ) → AreBytes (x ++ y) → AreBytes y
 bytes-right [] y h = h
 bytes-right (b ∷ x) y h = bytes-right x y h.1
 
-information_below : (w : Width) (n : ℕ) → Holds w n → information w n < 32
+information_below : (w : Width) (n : ℕ) → WidthFits w n → information w n < 32
 information_below Direct n h = omega arith
 information_below One n h = omega arith
 information_below Two n h = omega arith
@@ -42,7 +42,7 @@ code_below Map = omega arith
 code_below Tag = omega arith
 code_below Other = omega arith
 
-following_bytes : (w : Width) (n : ℕ) → Holds w n → AreBytes (following w n)
+following_bytes : (w : Width) (n : ℕ) → WidthFits w n → AreBytes (following w n)
 following_bytes Direct n h = tt
 following_bytes One n h = (h, tt)
 following_bytes Two n h = (omega arith, (omega arith, tt))
@@ -53,7 +53,7 @@ pub head_bytes : (m : Major) (a : Argument) → ArgumentFits a → AreBytes (hea
 head_bytes m (Given w n) h = (omega (arith, code_below m, information_below w n h), following_bytes w n h)
 head_bytes m Unbounded h = (omega (arith, code_below m), tt)
 
-string_bytes : (m : Major) (w : Width) (b : List ℕ) → Holds w (length b) → AreBytes b → AreBytes (string m w b)
+string_bytes : (m : Major) (w : Width) (b : List ℕ) → WidthFits w (length b) → AreBytes b → AreBytes (string m w b)
 string_bytes m w b h k = bytes-append (head m (Given w (length b))) b (head_bytes m (Given w (length b)) h) k
 
 chunks_bytes : (m : Major) (cs : List Chunk) → ChunksFit cs → AreBytes (flat_map (chunk_bytes m) cs)

@@ -82,7 +82,7 @@ module _ (y : List ℕ) where
       record {
         rest = drop (width_bytes w) y;
         major = small;
-        fits = subst (heads.Holds w) (sym value) same.1;
+        fits = subst (heads.WidthFits w) (sym value) same.1;
         whole = ap (λ c. c ∷ y) first.0 ∙ ap (λ l. (32 * code (major_at m) + information w n) ∷ l) (sym (take-append-drop (width_bytes w) y) ∙ ap (λ l. l ++ drop (width_bytes w) y) (sym follows));
         len = omega (arith, ap length follows, many, len);
         free = free;

@@ -2,7 +2,7 @@
 use Rattle.std.proofs.Common.{◌≡◌, refl, ap, ◌∙◌, ℕ, zero, suc, ◌/◌, ◌%◌, ◌<◌, List, [], ◌∷◌, Bool, false, ◌&&◌, ◌||◌, leb, eqb, arith}
 use Rattle.std.proofs.lemmas.Bool.{le-leb, lt-leb, ne_eqb, agree_below_at}
 use Rattle.cborn_model.specs.Heads.{code}
-use Rattle.cborn_wire.specs.Slots.{Kind, OfBytes, OfText, major_of, Slot, item, value, element_or_end, key_or_end, chunk}
+use Rattle.cborn_wire.specs.Slots.{StringKind, OfBytes, OfText, major_of, Slot, item, value, element_or_end, key_or_end, chunk}
 use Rattle.cborn_wire.specs.Faults as numbers
 use Rattle.cborn_wire.specs.Faults.{reason_of, reason_at}
 use Rattle.cborn_wire.specs.HeadReading.{major_at, reason_alone}
@@ -42,7 +42,7 @@ container_is (suc (suc (suc (suc (suc (suc (suc n))))))) =
     let m = suc (suc (suc (suc (suc (suc (suc n)))))) in
     ap (λ b. b && leb m 6) (le-leb 4 m (omega arith)) ∙ lt-leb m 6 (omega arith)
 
-kind_is : (k : Kind) (m : ℕ) → eqb m (code (major_of k)) ≡ is_of_kind k (major_at m)
+kind_is : (k : StringKind) (m : ℕ) → eqb m (code (major_of k)) ≡ is_of_kind k (major_at m)
 kind_is OfBytes zero = refl
 kind_is OfBytes (suc zero) = refl
 kind_is OfBytes (suc (suc zero)) = refl

@@ -6,7 +6,7 @@ use Rattle.cborn_model.specs.declared.heads.Width.TheVariants.{Direct, One, Two,
 use Rattle.cborn_model.specs.Heads.{Major, Argument, Given, Unbounded, code, following, head}
 use Rattle.cborn_model.specs.Tree.{Trees}
 use Rattle.cborn_wire.specs.declared.faults.WireReason.{WireReason}
-use Rattle.cborn_wire.specs.Slots.{Kind, Begun, slot, open_depth}
+use Rattle.cborn_wire.specs.Slots.{StringKind, Begun, slot, open_depth}
 use Rattle.cborn_wire.specs.InitialBytes.{info_at, head_reason}
 use Rattle.cborn_wire.specs.Machine.{number, Goal, argument_of, content_of, nothing, gathering, Live, Failed, string_done, after_head, gathered, gather, begin_head, unless, step, run}
 use Rattle.cborn_wire.proofs.Running.{failed_run}
@@ -73,7 +73,7 @@ module _ (limit fed : ℕ) (ready : Trees) (os : List Begun) where
   starts_gathering p g n got x h = ap (λ c. run limit (cond c (gathered fed p ready os g got) (Live fed ready os (gathering p g n got))) x) (sym (lt-leb n (length got) h))
 
   -- A slice of a string's content that leaves some to come, and one that ends it.
-  pub content_more : (p : ℕ) (k : Kind) (w : Width) (n : ℕ) (got y x : List ℕ) → length got + length y < n
+  pub content_more : (p : ℕ) (k : StringKind) (w : Width) (n : ℕ) (got y x : List ℕ) → length got + length y < n
       → run limit (Live fed ready os (gathering p (content_of k w) n got)) (y ++ x) ≡ run limit (Live (fed + length y) ready os (gathering p (content_of k w) n (got ++ y))) x
   content_more p k w n got y x h =
       starts_gathering p (content_of k w) n got (y ++ x) (omega arith)
@@ -81,7 +81,7 @@ module _ (limit fed : ℕ) (ready : Trees) (os : List Begun) where
       ∙ ap (λ c. run limit (cond c (string_done (fed + length y) p ready os k w (got ++ y)) (Live (fed + length y) ready os (gathering p (content_of k w) n (got ++ y)))) x)
       (lt-leb n (length (got ++ y)) (omega (arith, length-append got y)))
 
-  pub content_done : (p : ℕ) (k : Kind) (w : Width) (n : ℕ) (got y x : List ℕ) → length got < n → length got + length y ≡ n
+  pub content_done : (p : ℕ) (k : StringKind) (w : Width) (n : ℕ) (got y x : List ℕ) → length got < n → length got + length y ≡ n
       → run limit (Live fed ready os (gathering p (content_of k w) n got)) (y ++ x) ≡ run limit (string_done (fed + length y) p ready os k w (got ++ y)) x
   content_done p k w n got y x h all =
       starts_gathering p (content_of k w) n got (y ++ x) h

@@ -2,10 +2,10 @@
 use Rattle.std.proofs.Common.{◌≡◌, refl, sym, ap, ◌∙◌, subst, ℕ, ◌+◌, ◌<◌, ◌≤◌, List, [], ◌∷◌, ◌++◌, length, true, false, arith}
 use Rattle.cborn_model.specs.Bytes.{AreBytes}
 use Rattle.cborn_model.specs.declared.heads.Width.{Width}
-use Rattle.cborn_model.specs.Heads.{Major, Unsigned, Negative, ByteString, TextString, Array, Map, Tag, Other, Holds}
+use Rattle.cborn_model.specs.Heads.{Major, Unsigned, Negative, ByteString, TextString, Array, Map, Tag, Other, WidthFits}
 use Rattle.cborn_model.specs.Tree.{Tree, Trees, no_item, more, depth, depth_all}
 use Rattle.cborn_model.specs.Spelled.{Fits, FitsAll}
-use Rattle.cborn_wire.specs.Slots.{Kind, Slot, Begun, begun_items, begun_pairs, begun_value, begun_tag, begun_chunks, slot, open_depth, IsNoChunk, AreBegun}
+use Rattle.cborn_wire.specs.Slots.{StringKind, Slot, Begun, begun_items, begun_pairs, begun_value, begun_tag, begun_chunks, slot, open_depth, IsNoChunk, AreBegun}
 use Rattle.cborn_wire.specs.InitialBytes.{Info, is_container, is_bad_chunk}
 use Rattle.cborn_wire.specs.Machine.{snoc, width_bytes, argument_of, content_of, Partial, gathering, State, Live, Failed, start, IsLive, held, run, IsReached}
 use Rattle.cborn_wire.proofs.Running.{run-append}
@@ -80,7 +80,7 @@ module _ (limit base : ℕ) where
       let (x, s) = reached_sound (Live fed ready os (gathering p (argument_of m w) n got)) h in
       (s.part_fits.1, s.part_fits.2)
 
-  pub reached_content : (fed p n : ℕ) (ready : Trees) (os : List Begun) (k : Kind) (w : Width) (got : List ℕ) → IsReached limit base (Live fed ready os (gathering p (content_of k w) n got)) → Holds w n × (length got < n) × AreBytes got
+  pub reached_content : (fed p n : ℕ) (ready : Trees) (os : List Begun) (k : StringKind) (w : Width) (got : List ℕ) → IsReached limit base (Live fed ready os (gathering p (content_of k w) n got)) → WidthFits w n × (length got < n) × AreBytes got
   reached_content fed p n ready os k w got h =
       let (x, s) = reached_sound (Live fed ready os (gathering p (content_of k w) n got)) h in
       (s.part_fits.1, s.part_fits.2, s.part_fits.4)

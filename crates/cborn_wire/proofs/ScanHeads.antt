@@ -9,7 +9,7 @@ use Rattle.cborn_model.specs.Tree.{Uint, Nint, Simple, Trees, no_item, no_entry}
 use Rattle.cborn_wire.specs.declared.faults.WireReason.TheVariants.{BadSimple}
 use Rattle.cborn_wire.specs.declared.levels.Level.{Level}
 use Rattle.cborn_wire.specs.declared.levels.Level.TheVariants.{Array, Map}
-use Rattle.cborn_wire.specs.Slots.{Kind, OfBytes, OfText, Begun, slot, IsNoChunk, AreBegun}
+use Rattle.cborn_wire.specs.Slots.{StringKind, OfBytes, OfText, Begun, slot, IsNoChunk, AreBegun}
 use Rattle.cborn_wire.specs.InitialBytes.{Next, Unended, is_unended, is_of_kind, is_break, is_other, head_reason}
 use Rattle.cborn_wire.specs.Machine as machine
 use Rattle.cborn_wire.specs.Machine.{nothing, gathering, State, Live, Failed, string_done, content_at, gather, after_head, run}
@@ -29,7 +29,7 @@ IsHigh _ _ = Unit {0}
 
 module _ (limit : ℕ) (ready : Trees) (os : List Begun) (h : AreBegun limit os) where
   -- the content of a string
-  string_taken : (fed p : ℕ) (k : Kind) (w : Width) (n : ℕ) (y : List ℕ) → length y ≡ n → IsScanned (fed + length y) (finish (levels_of os)) (run limit (content_at fed p ready os k w n []) y)
+  string_taken : (fed p : ℕ) (k : StringKind) (w : Width) (n : ℕ) (y : List ℕ) → length y ≡ n → IsScanned (fed + length y) (finish (levels_of os)) (run limit (content_at fed p ready os k w n []) y)
   string_taken fed p k w n y e =
       let goes : run limit (content_at fed p ready os k w n []) y ≡ string_done (fed + length y) p ready os k w y
       = ap (run limit (content_at fed p ready os k w n [])) (sym (append-nil y))
@@ -37,7 +37,7 @@ module _ (limit : ℕ) (ready : Trees) (os : List Begun) (h : AreBegun limit os)
       ∙ ap (λ c. cond c (string_done (fed + length y) p ready os k w y) (Live (fed + length y) ready os (gathering p (machine.content_of k w) n y))) (le-leb n (length y) (omega (arith, e))) in
       subst (IsScanned (fed + length y) (finish (levels_of os))) (sym goes) (scans_string limit (fed + length y) ready os p k w y h)
 
-  string_cut : (fed p : ℕ) (k : Kind) (w : Width) (n : ℕ) (y : List ℕ) → length y < n → IsAmid (run limit (content_at fed p ready os k w n []) y)
+  string_cut : (fed p : ℕ) (k : StringKind) (w : Width) (n : ℕ) (y : List ℕ) → length y < n → IsAmid (run limit (content_at fed p ready os k w n []) y)
   string_cut fed p k w n y e =
       let goes : run limit (content_at fed p ready os k w n []) y ≡ Live (fed + length y) ready os (gathering p (machine.content_of k w) n y)
       = ap (run limit (content_at fed p ready os k w n [])) (sym (append-nil y))
@@ -52,7 +52,7 @@ module _ (limit : ℕ) (ready : Trees) (os : List Begun) (h : AreBegun limit os)
 
   module _ (full : Bool) (fed p : ℕ) where
     -- no chunk is wanted where a head stands that is none
-    free_at : (m : Major) (a : Argument) → head_reason (slot os) full m (info_for a) [] ≡ None → ((k : Kind) → is_of_kind k m ≡ false) → is_break m (info_for a) ≡ false → IsNoChunk (slot os)
+    free_at : (m : Major) (a : Argument) → head_reason (slot os) full m (info_for a) [] ≡ None → ((k : StringKind) → is_of_kind k m ≡ false) → is_break m (info_for a) ≡ false → IsNoChunk (slot os)
     free_at m a suits k b = free_of (slot os) m (info_for a) (is_clear (slot os) full m (info_for a) [] suits).chunked k b
 
     no_break : (m : Major) (a : Argument) → is_other m ≡ false → is_break m (info_for a) ≡ false

@@ -8,7 +8,7 @@ use Rattle.cborn_model.specs.Heads.{Major, Unsigned, Negative, ByteString, TextS
 use Rattle.cborn_model.specs.Tree.{Tree, Items, Pairs, Tagged, Trees, count, count_entries}
 use Rattle.cborn_wire.specs.declared.levels.Level.{Level}
 use Rattle.cborn_wire.specs.declared.levels.Level.TheVariants.{Array, Map}
-use Rattle.cborn_wire.specs.Slots.{Kind, OfBytes, OfText, Slot, item, value, element_or_end, key_or_end, chunk, Begun, begun_items, begun_pairs, begun_value, begun_tag, begun_chunks, slot, slot_in, open_depth, IsNoChunk, AreBegun}
+use Rattle.cborn_wire.specs.Slots.{StringKind, OfBytes, OfText, Slot, item, value, element_or_end, key_or_end, chunk, Begun, begun_items, begun_pairs, begun_value, begun_tag, begun_chunks, slot, slot_in, open_depth, IsNoChunk, AreBegun}
 use Rattle.cborn_wire.specs.Faults.{needs_item}
 use Rattle.cborn_wire.specs.InitialBytes.{Info, head_reason}
 use Rattle.cborn_wire.specs.Machine.{snoc, snoc_entry, State, items_tree, pairs_tree, string_tree, chunks_tree, finished, string_done, ended}
@@ -36,7 +36,7 @@ levels_most limit (o ∷ os) h = omega (arith, levels_length os, depth_is_length
 
 -- which heads may stand
 
-kind_same : (k : Kind) → slot_of (level_of (begun_chunks 0 k [])) ≡ chunk k
+kind_same : (k : StringKind) → slot_of (level_of (begun_chunks 0 k [])) ≡ chunk k
 kind_same OfBytes = refl
 kind_same OfText = refl
 
@@ -55,7 +55,7 @@ slot_levels [] = refl
 slot_levels (o ∷ os) = slot_same o
 
 -- in an indefinite string the depth says nothing
-in_chunks : (k : Kind) (m : Major) (i : Info) (f g : Bool) → head_reason (chunk k) f m i [] ≡ head_reason (chunk k) g m i []
+in_chunks : (k : StringKind) (m : Major) (i : Info) (f g : Bool) → head_reason (chunk k) f m i [] ≡ head_reason (chunk k) g m i []
 in_chunks k Unsigned i f g = refl
 in_chunks k Negative i f g = refl
 in_chunks k ByteString i f g = refl
@@ -118,7 +118,7 @@ module _ (limit fed : ℕ) (ready : Trees) where
   scans_item (begun_tag p w n ∷ os) t free h = scans_item os (Tagged p w n t) h.1 h.2
   scans_item (begun_chunks p k cs ∷ os) t free h = absurd free
 
-  pub scans_string : (os : List Begun) (p : ℕ) (k : Kind) (w : Width) (bytes : List ℕ) → AreBegun limit os → IsScanned fed (finish (levels_of os)) (string_done fed p ready os k w bytes)
+  pub scans_string : (os : List Begun) (p : ℕ) (k : StringKind) (w : Width) (bytes : List ℕ) → AreBegun limit os → IsScanned fed (finish (levels_of os)) (string_done fed p ready os k w bytes)
   scans_string [] p k w bytes h = (refl, refl)
   scans_string (begun_items q a ts ∷ os) p k w bytes h = scans_item (begun_items q a ts ∷ os) (string_tree p k w bytes) (items_open q a ts) h
   scans_string (begun_pairs q a es ∷ os) p k w bytes h = scans_item (begun_pairs q a es ∷ os) (string_tree p k w bytes) (pairs_open q a es) h

@@ -5,7 +5,7 @@ use Rattle.cborn_model.specs.declared.heads.Width.TheVariants.{Direct, One, Two,
 use Rattle.cborn_model.specs.declared.heads.Size.TheVariants.{Endless}
 use Rattle.cborn_model.specs.Heads.{Major, Unsigned, Negative, ByteString, TextString, Array, Map, Tag, Other, Argument, Given, Unbounded}
 use Rattle.cborn_model.specs.Tree.{Tree, Items, Pairs, Tagged, Trees, no_item, Entries, no_entry, count, count_entries}
-use Rattle.cborn_wire.specs.Slots.{Kind, OfBytes, OfText, Begun, begun_items, begun_pairs, begun_value, begun_tag, begun_chunks}
+use Rattle.cborn_wire.specs.Slots.{StringKind, OfBytes, OfText, Begun, begun_items, begun_pairs, begun_value, begun_tag, begun_chunks}
 use Rattle.cborn_wire.specs.Machine.{snoc, snoc_entry, State, is_full, items_tree, pairs_tree, string_tree, chunks_tree, finished, items_at, pairs_at, string_done, content_at, ended, after_head, Settles}
 
 settles_if : (ready : Trees) (c : Bool) {s u : State} → Settles ready s → Settles ready u → Settles ready (cond c s u)
@@ -21,7 +21,7 @@ module _ (ready : Trees) where
   settles_finished (begun_tag p w n ∷ os) fed t = settles_finished os fed (Tagged p w n t)
   settles_finished (begun_chunks p k cs ∷ os) fed t = inl refl
 
-  pub settles_string : (os : List Begun) (fed p : ℕ) (k : Kind) (w : Width) (bytes : List ℕ) → Settles ready (string_done fed p ready os k w bytes)
+  pub settles_string : (os : List Begun) (fed p : ℕ) (k : StringKind) (w : Width) (bytes : List ℕ) → Settles ready (string_done fed p ready os k w bytes)
   settles_string [] fed p k w bytes = settles_finished [] fed (string_tree p k w bytes)
   settles_string (begun_items q a ts ∷ os) fed p k w bytes = settles_finished (begun_items q a ts ∷ os) fed (string_tree p k w bytes)
   settles_string (begun_pairs q a es ∷ os) fed p k w bytes = inl refl
@@ -45,7 +45,7 @@ module _ (ready : Trees) where
   pub settles_pairs : (os : List Begun) (fed p : ℕ) (a : Argument) (es : Entries) → Settles ready (pairs_at fed ready os p a es)
   settles_pairs os fed p a es = settles_if ready (is_full a (count_entries es)) (settles_finished os fed (pairs_tree p a es)) (inl refl)
 
-  pub settles_content : (os : List Begun) (fed p : ℕ) (k : Kind) (w : Width) (n : ℕ) (got : List ℕ) → Settles ready (content_at fed p ready os k w n got)
+  pub settles_content : (os : List Begun) (fed p : ℕ) (k : StringKind) (w : Width) (n : ℕ) (got : List ℕ) → Settles ready (content_at fed p ready os k w n got)
   settles_content os fed p k w n got = settles_if ready (leb n (length got)) (settles_string os fed p k w got) (inl refl)
 
   pub settles_head : (m : Major) (a : Argument) (os : List Begun) (fed p : ℕ) → Settles ready (after_head fed p ready os m a)

@@ -9,7 +9,7 @@ use Rattle.cborn_model.specs.Heads.{Major, Unsigned, Negative, ByteString, TextS
 use Rattle.cborn_model.specs.Tree.{Tree, Uint, Items, Pairs, Tagged, Simple, Trees, no_item, Entries, no_entry, count, count_entries}
 use Rattle.cborn_wire.specs.declared.faults.WireReason.{WireReason}
 use Rattle.cborn_wire.specs.declared.faults.WireReason.TheVariants.{BadSimple}
-use Rattle.cborn_wire.specs.Slots.{Kind, OfBytes, OfText, Slot, Begun, begun_items, begun_pairs, begun_value, begun_tag, begun_chunks, slot, open_depth, IsNoChunk, AreBegun}
+use Rattle.cborn_wire.specs.Slots.{StringKind, OfBytes, OfText, Slot, Begun, begun_items, begun_pairs, begun_value, begun_tag, begun_chunks, slot, open_depth, IsNoChunk, AreBegun}
 use Rattle.cborn_wire.specs.Faults.{begins_low}
 use Rattle.cborn_wire.specs.InitialBytes.{Info, Now, Next, Reserved, Unended, info_at, is_other, is_one, head_reason, front_reason}
 use Rattle.cborn_wire.specs.HeadReading.{major_at}
@@ -143,7 +143,7 @@ module _ (limit : ℕ) where
   closes_open (begun_chunks p k cs ∷ os) fed ready h =
       after_byte 255 (Live fed ready (begun_chunks p k cs ∷ os) nothing) (omega arith) (closes_finished os (suc fed) ready (chunks_tree p k cs) h.2 h.1)
 
-  closes_string : (os : List Begun) (fed p : ℕ) (ready : Trees) (k : Kind) (w : Width) (bytes : List ℕ) → AreBegun limit os → Closable (string_done fed p ready os k w bytes)
+  closes_string : (os : List Begun) (fed p : ℕ) (ready : Trees) (k : StringKind) (w : Width) (bytes : List ℕ) → AreBegun limit os → Closable (string_done fed p ready os k w bytes)
   closes_string [] fed p ready k w bytes h = closes_finished [] fed ready (string_tree p k w bytes) tt tt
   closes_string (begun_items q a ts ∷ os) fed p ready k w bytes h = closes_finished (begun_items q a ts ∷ os) fed ready (string_tree p k w bytes) h (items_open q a ts)
   closes_string (begun_pairs q a es ∷ os) fed p ready k w bytes h = closes_finished (begun_pairs q a es ∷ os) fed ready (string_tree p k w bytes) h (pairs_open q a es)
@@ -152,7 +152,7 @@ module _ (limit : ℕ) where
   closes_string (begun_chunks q l cs ∷ os) fed p ready k w bytes h =
       after_byte 255 (string_done fed p ready (begun_chunks q l cs ∷ os) k w bytes) (omega arith) (closes_finished os (suc fed) ready (chunks_tree q l (cs ++ record { place = p; width = w; bytes = bytes } ∷ [])) h.2 h.1)
 
-  closes_content : (j : ℕ) (os : List Begun) (fed p : ℕ) (ready : Trees) (k : Kind) (w : Width) (n : ℕ) (got : List ℕ) → AreBegun limit os → n ≤ length got + j → Closable (gather fed p ready os (content_of k w) n got)
+  closes_content : (j : ℕ) (os : List Begun) (fed p : ℕ) (ready : Trees) (k : StringKind) (w : Width) (n : ℕ) (got : List ℕ) → AreBegun limit os → n ≤ length got + j → Closable (gather fed p ready os (content_of k w) n got)
   closes_content zero os fed p ready k w n got h up =
       subst (λ c. Closable (cond c (string_done fed p ready os k w got) (Live fed ready os (gathering p (content_of k w) n got)))) (sym (le-leb n (length got) (omega arith))) (closes_string os fed p ready k w got h)
   closes_content (suc j) os fed p ready k w n got h up =

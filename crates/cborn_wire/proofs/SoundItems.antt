@@ -5,7 +5,7 @@ use Rattle.std.specs.List.{flat_map}
 use Rattle.cborn_model.specs.Bytes.{AreBytes}
 use Rattle.cborn_model.specs.declared.heads.Size.TheVariants.{Fixed}
 use Rattle.cborn_model.specs.declared.nodes.Chunk.{Chunk}
-use Rattle.cborn_model.specs.Heads.{Major, Array, Map, Tag, Argument, Given, Unbounded, head, Holds}
+use Rattle.cborn_model.specs.Heads.{Major, Array, Map, Tag, Argument, Given, Unbounded, head, WidthFits}
 use Rattle.cborn_model.specs.Tree.{Tree, Items, Pairs, Tagged, Trees, no_item, more, Entries, no_entry, entry, count, count_entries, depth, depth_all, depth_entries}
 use Rattle.cborn_model.specs.Spelled.{chunk_bytes, spelled, spelled_all, spelled_entries, ChunksFit, Fits, FitsAll, FitsEntries}
 use Rattle.cborn_model.specs.Placed.{ChunksPlaced, Placed, PlacedAll, PlacedEntries}
@@ -57,7 +57,7 @@ placed_entries-snoc (entry l w es) k v p h i j =
     = omega (arith, length-append (spelled l ++ spelled w) (spelled_entries es), length-append (spelled l) (spelled w)) in
     (h.0, h.1, placed_entries-snoc es k v _ h.2 (subst (λ q. Placed q k) total i) (subst (λ q. Placed (q + length (spelled k)) v) total j))
 
-pub fits_chunks-snoc : (cs : List Chunk) (c : Chunk) → ChunksFit cs → Holds c.width (length c.bytes) → AreBytes c.bytes → ChunksFit (cs ++ c ∷ [])
+pub fits_chunks-snoc : (cs : List Chunk) (c : Chunk) → ChunksFit cs → WidthFits c.width (length c.bytes) → AreBytes c.bytes → ChunksFit (cs ++ c ∷ [])
 fits_chunks-snoc [] c h k are = ((k, are), tt)
 fits_chunks-snoc (d ∷ cs) c h k are = (h.0, fits_chunks-snoc cs c h.1 k are)
 
@@ -87,7 +87,7 @@ OpenPlaced p (o ∷ os) = BegunPlaced (p + length (beginnings os)) o × OpenPlac
 abbrev pub PartFits : ℕ → List Begun → ℕ → Partial → Type 0
 PartFits limit os at nothing = Unit {0}
 PartFits limit os at (gathering p (argument_of m w) n got) = (p ≡ at) × (n ≡ width_bytes w) × (length got < n) × (head_reason (slot os) (leb limit (open_depth os)) m (Next w) [] ≡ None) × AreBytes got
-PartFits limit os at (gathering p (content_of k w) n got) = (p ≡ at) × Holds w n × (length got < n) × (is_bad_chunk (slot os) (major_of k) (info_for (Given w n)) ≡ false) × AreBytes got
+PartFits limit os at (gathering p (content_of k w) n got) = (p ≡ at) × WidthFits w n × (length got < n) × (is_bad_chunk (slot os) (major_of k) (info_for (Given w n)) ≡ false) × AreBytes got
 
 module _ (limit base : ℕ) where
   pub record Ground (ready : Trees) (os : List Begun) : Type 0 where
@@ -163,7 +163,7 @@ module _ (limit base : ℕ) where
           next (Items p (Fixed w) ts) (record {
             ground = g;
             free = free;
-            fits = (subst (Holds w) same fits, fit);
+            fits = (subst (WidthFits w) same fits, fit);
             shallow = deep;
             placed = (placed.0, subst (λ k. PlacedAll (base + length (front ready os) + length (head Array (Given w k))) ts) same placed.1);
             bytes = bytes ∙ ap (λ k. front ready os ++ (head Array (Given w k) ++ spelled_all ts)) same ∙ ap (λ l. front ready os ++ l) (sym (append-nil (head Array (Given w (count ts)) ++ spelled_all ts)));
@@ -196,7 +196,7 @@ module _ (limit base : ℕ) where
           next (Pairs p (Fixed w) es) (record {
             ground = g;
             free = free;
-            fits = (subst (Holds w) same fits, fit);
+            fits = (subst (WidthFits w) same fits, fit);
             shallow = deep;
             placed = (placed.0, subst (λ k. PlacedEntries (base + length (front ready os) + length (head Map (Given w k))) es) same placed.1);
             bytes = bytes ∙ ap (λ k. front ready os ++ (head Map (Given w k) ++ spelled_entries es)) same ∙ ap (λ l. front ready os ++ l) (sym (append-nil (head Map (Given w (count_entries es)) ++ spelled_entries es)));

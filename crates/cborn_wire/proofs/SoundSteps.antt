@@ -7,13 +7,13 @@ use Rattle.cborn_model.specs.declared.heads.Width.{Width}
 use Rattle.cborn_model.specs.declared.heads.Width.TheVariants.{Direct, One, Two, Four, Eight}
 use Rattle.cborn_model.specs.declared.heads.Size.TheVariants.{Endless}
 use Rattle.cborn_model.specs.declared.nodes.Chunk.{Chunk}
-use Rattle.cborn_model.specs.Heads.{Major, Unsigned, Negative, ByteString, TextString, Array, Map, Tag, Other, Argument, Given, Unbounded, head, Holds}
+use Rattle.cborn_model.specs.Heads.{Major, Unsigned, Negative, ByteString, TextString, Array, Map, Tag, Other, Argument, Given, Unbounded, head, WidthFits}
 use Rattle.cborn_model.specs.Tree.{Tree, Uint, Nint, Bytes, Text, ByteChunks, TextChunks, Items, Pairs, Simple, Trees, no_item, no_entry, depth}
 use Rattle.cborn_model.specs.Spelled.{ending, string, chunk_bytes, chunks, spelled, spelled_all, ChunksFit, Fits}
 use Rattle.cborn_model.specs.Placed.{Placed}
 use Rattle.cborn_wire.specs.declared.faults.WireReason.{WireReason}
 use Rattle.cborn_wire.specs.declared.faults.WireReason.TheVariants.{BadSimple}
-use Rattle.cborn_wire.specs.Slots.{Kind, OfBytes, OfText, major_of, Slot, item, value, element_or_end, key_or_end, chunk, Begun, begun_items, begun_pairs, begun_value, begun_tag, begun_chunks, beginnings, slot, open_depth, IsNoChunk, AreBegun}
+use Rattle.cborn_wire.specs.Slots.{StringKind, OfBytes, OfText, major_of, Slot, item, value, element_or_end, key_or_end, chunk, Begun, begun_items, begun_pairs, begun_value, begun_tag, begun_chunks, beginnings, slot, open_depth, IsNoChunk, AreBegun}
 use Rattle.cborn_wire.specs.Faults.{needs_item, begins_low}
 use Rattle.cborn_wire.specs.InitialBytes.{Info, Now, Next, Unended, is_reserved, is_unended, is_always_bounded, is_other, is_container, is_of_kind, is_break, is_bad_chunk, is_float, is_one, head_reason}
 use Rattle.cborn_wire.specs.Machine.{content_of, nothing, gathering, Live, Failed, string_tree, chunks_tree, finished, string_done, ended, gather, after_head, front}
@@ -46,14 +46,14 @@ is_clear s full m i y e =
     let h = guarded (is_container m && full) _ _ g.1 in
     record { reserved = a.0; bounded = b.0; chunked = c.0; broken = d.0; float = f.0; room = h.0 }
 
-pub free_of : (s : Slot) (m : Major) (i : Info) → is_bad_chunk s m i ≡ false → ((k : Kind) → is_of_kind k m ≡ false) → is_break m i ≡ false → IsNoChunk s
+pub free_of : (s : Slot) (m : Major) (i : Info) → is_bad_chunk s m i ≡ false → ((k : StringKind) → is_of_kind k m ≡ false) → is_break m i ≡ false → IsNoChunk s
 free_of item m i e g h = tt
 free_of value m i e g h = tt
 free_of element_or_end m i e g h = tt
 free_of key_or_end m i e g h = tt
 free_of (chunk k) m i e g h = let f : true ≡ false = rw (h, g k) at e in cc
 
-pub other_kind : (m : Major) → is_of_kind OfBytes m ≡ false → is_of_kind OfText m ≡ false → (k : Kind) → is_of_kind k m ≡ false
+pub other_kind : (m : Major) → is_of_kind OfBytes m ≡ false → is_of_kind OfText m ≡ false → (k : StringKind) → is_of_kind k m ≡ false
 other_kind m a b OfBytes = a
 other_kind m a b OfText = b
 
@@ -66,7 +66,7 @@ shallow_open limit (begun_tag p w n ∷ os) h free = omega (arith, h.0.1)
 shallow_open limit (begun_chunks p k cs ∷ os) h free = absurd free
 
 -- no indefinite string begins in another
-pub open_string : (s : Slot) (k : Kind) → is_bad_chunk s (major_of k) Unended ≡ false → IsNoChunk s
+pub open_string : (s : Slot) (k : StringKind) → is_bad_chunk s (major_of k) Unended ≡ false → IsNoChunk s
 open_string item k e = tt
 open_string value k e = tt
 open_string element_or_end k e = tt
@@ -96,29 +96,29 @@ module _ (limit base : ℕ) where
     fed_is = at;
   })
 
-  sound_tree : (k : Kind) (ready : Trees) (os : List Begun) (w : Width) (bytes : List ℕ) (fed p : ℕ) (x : List ℕ)
-      → Ground limit base ready os → IsNoChunk (slot os) → Holds w (length bytes) × AreBytes bytes → p ≡ base + length (front ready os)
+  sound_tree : (k : StringKind) (ready : Trees) (os : List Begun) (w : Width) (bytes : List ℕ) (fed p : ℕ) (x : List ℕ)
+      → Ground limit base ready os → IsNoChunk (slot os) → WidthFits w (length bytes) × AreBytes bytes → p ≡ base + length (front ready os)
       → x ≡ front ready os ++ string (major_of k) w bytes → fed ≡ base + length x
       → Sound limit base x (finished fed ready os (string_tree p k w bytes))
   sound_tree OfBytes ready os w bytes fed p x g free fits placed is at = sound_leaf (Bytes p w bytes) ready os fed x g free fits refl placed is at
   sound_tree OfText ready os w bytes fed p x g free fits placed is at = sound_leaf (Text p w bytes) ready os fed x g free fits refl placed is at
 
-  sound_chunks : (k : Kind) (ready : Trees) (os : List Begun) (cs : List Chunk) (fed p : ℕ) (x : List ℕ)
+  sound_chunks : (k : StringKind) (ready : Trees) (os : List Begun) (cs : List Chunk) (fed p : ℕ) (x : List ℕ)
       → Ground limit base ready os → IsNoChunk (slot os) → ChunksFit cs → BegunPlaced (base + length (front ready os)) (begun_chunks p k cs)
       → x ≡ front ready os ++ (chunks (major_of k) cs ++ ending Endless) → fed ≡ base + length x
       → Sound limit base x (finished fed ready os (chunks_tree p k cs))
   sound_chunks OfBytes ready os cs fed p x g free fits placed is at = sound_leaf (ByteChunks p cs) ready os fed x g free fits refl placed is at
   sound_chunks OfText ready os cs fed p x g free fits placed is at = sound_leaf (TextChunks p cs) ready os fed x g free fits refl placed is at
 
-  same_kind : (l k : Kind) (i : Info) → is_bad_chunk (chunk l) (major_of k) i ≡ false → l ≡ k
+  same_kind : (l k : StringKind) (i : Info) → is_bad_chunk (chunk l) (major_of k) i ≡ false → l ≡ k
   same_kind OfBytes OfBytes i e = refl
   same_kind OfText OfText i e = refl
   same_kind OfBytes OfText i e = cc
   same_kind OfText OfBytes i e = cc
 
   -- a definite string is whole
-  sound_string : (k : Kind) (ready : Trees) (os : List Begun) (w : Width) (bytes : List ℕ) (fed p : ℕ) (x : List ℕ) (i : Info)
-      → Ground limit base ready os → is_bad_chunk (slot os) (major_of k) i ≡ false → Holds w (length bytes) × AreBytes bytes → p ≡ base + length (front ready os)
+  sound_string : (k : StringKind) (ready : Trees) (os : List Begun) (w : Width) (bytes : List ℕ) (fed p : ℕ) (x : List ℕ) (i : Info)
+      → Ground limit base ready os → is_bad_chunk (slot os) (major_of k) i ≡ false → WidthFits w (length bytes) × AreBytes bytes → p ≡ base + length (front ready os)
       → x ≡ front ready os ++ string (major_of k) w bytes → fed ≡ base + length x
       → Sound limit base x (string_done fed p ready os k w bytes)
   sound_string k ready [] w bytes fed p x i g suits fits placed is at = sound_tree k ready [] w bytes fed p x g tt fits placed is at
@@ -145,8 +145,8 @@ module _ (limit base : ℕ) where
       }
 
   -- some of a definite string's bytes came
-  pub sound_content : (k : Kind) (ready : Trees) (os : List Begun) (w : Width) (n : ℕ) (got : List ℕ) (fed p : ℕ) (x : List ℕ)
-      → Ground limit base ready os → is_bad_chunk (slot os) (major_of k) (info_for (Given w n)) ≡ false → Holds w n → p ≡ base + length (front ready os)
+  pub sound_content : (k : StringKind) (ready : Trees) (os : List Begun) (w : Width) (n : ℕ) (got : List ℕ) (fed p : ℕ) (x : List ℕ)
+      → Ground limit base ready os → is_bad_chunk (slot os) (major_of k) (info_for (Given w n)) ≡ false → WidthFits w n → p ≡ base + length (front ready os)
       → length got ≤ n → AreBytes got
       → x ≡ front ready os ++ (head (major_of k) (Given w n) ++ got) → fed ≡ base + length x
       → Sound limit base x (gather fed p ready os (content_of k w) n got)
@@ -155,7 +155,7 @@ module _ (limit base : ℕ) where
       go : (b : Bool) → leb n (length got) ≡ b → Sound limit base x (cond b (string_done fed p ready os k w got) (Live fed ready os (gathering p (content_of k w) n got)))
       go true e =
           let same : n ≡ length got = omega (arith, leb-true n (length got) e) in
-          sound_string k ready os w got fed p x (info_for (Given w n)) g suits (subst (Holds w) same fits, are) placed
+          sound_string k ready os w got fed p x (info_for (Given w n)) g suits (subst (WidthFits w) same fits, are) placed
           (is ∙ ap (λ j. front ready os ++ (head (major_of k) (Given w j) ++ got)) same) at
       go false e = record { ground = g; bytes = is; fed_is = at; part_fits = (placed, fits, leb-false n (length got) e, suits, are) }
 

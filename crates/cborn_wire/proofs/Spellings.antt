@@ -7,7 +7,7 @@ use Rattle.cborn_model.specs.declared.heads.Size.{Size}
 use Rattle.cborn_model.specs.declared.nodes.Chunk.{Chunk}
 use Rattle.cborn_model.specs.declared.nodes.Form.{Form}
 use Rattle.cborn_model.specs.declared.nodes.Form.TheVariants as forms
-use Rattle.cborn_model.specs.Heads.{Holds, SizeFits, head, head_bytes, argument}
+use Rattle.cborn_model.specs.Heads.{WidthFits, SizeFits, head, head_bytes, argument}
 use Rattle.cborn_model.specs.Tree.{Tree, Items, Pairs, trees, entries, depth, depth_all, depth_entries}
 use Rattle.cborn_model.specs.Spelled.{ending, chunk_bytes, spelled, spelled_all, ChunksFit, Fits, FitsAll, FitsEntries}
 use Rattle.cborn_model.specs.View.{tree_of}
@@ -15,9 +15,9 @@ use Rattle.cborn_model.proofs.Trees.{spelled_all-trees, spelled_entries-entries,
 use Rattle.cborn_wire.specs.HeadReading.{major_at}
 use Rattle.cborn_wire.proofs.SoundRuns.{code_at}
 
-pub chunk_fits : (cs : List Chunk) (i : ℕ) (c : Chunk) → ChunksFit cs → i < length cs → c ≡ get_or cs i c → Holds c.width (length c.bytes)
+pub chunk_fits : (cs : List Chunk) (i : ℕ) (c : Chunk) → ChunksFit cs → i < length cs → c ≡ get_or cs i c → WidthFits c.width (length c.bytes)
 chunk_fits [] i c h below is = absurd (omega arith)
-chunk_fits (d ∷ cs) zero c h below is = subst (λ (e : Chunk). Holds e.width (length e.bytes)) (sym is) h.0.0
+chunk_fits (d ∷ cs) zero c h below is = subst (λ (e : Chunk). WidthFits e.width (length e.bytes)) (sym is) h.0.0
 chunk_fits (d ∷ cs) (suc i) c h below is = chunk_fits cs i c h.1 (omega arith) is
 
 pub item_fits : (xs : List Tree) (i : ℕ) (t : Tree) → FitsAll (trees xs) → i < length xs → t ≡ get_or xs i t → Fits t

@@ -8,12 +8,12 @@ use Rattle.cborn_model.specs.declared.heads.Width.TheVariants.{Direct, One, Two,
 use Rattle.cborn_model.specs.declared.heads.Size.{Size}
 use Rattle.cborn_model.specs.declared.heads.Size.TheVariants.{Fixed, Endless}
 use Rattle.cborn_model.specs.declared.nodes.Chunk.{Chunk}
-use Rattle.cborn_model.specs.Heads.{Major, Unsigned, Negative, ByteString, TextString, Array, Map, Tag, Other, Argument, Given, Unbounded, head, Holds, argument, SizeFits}
+use Rattle.cborn_model.specs.Heads.{Major, Unsigned, Negative, ByteString, TextString, Array, Map, Tag, Other, Argument, Given, Unbounded, head, WidthFits, argument, SizeFits}
 use Rattle.cborn_model.specs.Tree.{Tree, Uint, Nint, Bytes, Text, ByteChunks, TextChunks, Items, Pairs, Tagged, Simple, Trees, no_item, more, Entries, no_entry, entry, count, count_entries, depth, depth_all, depth_entries}
 use Rattle.cborn_model.specs.Spelled.{ending, string, chunk_bytes, chunks, simple_width, spelled, spelled_all, spelled_entries, ChunksFit, Fits, FitsAll, FitsEntries}
 use Rattle.cborn_model.specs.Placed.{ChunksPlaced, Placed, PlacedAll, PlacedEntries}
 use Rattle.cborn_wire.specs.declared.faults.WireReason.TheVariants.{BadSimple}
-use Rattle.cborn_wire.specs.Slots.{Kind, OfBytes, OfText, major_of, Slot, item, value, element_or_end, key_or_end, chunk, Begun, begun_items, begun_pairs, begun_value, begun_tag, begun_chunks, slot, slot_in, open_depth, IsNoChunk}
+use Rattle.cborn_wire.specs.Slots.{StringKind, OfBytes, OfText, major_of, Slot, item, value, element_or_end, key_or_end, chunk, Begun, begun_items, begun_pairs, begun_value, begun_tag, begun_chunks, slot, slot_in, open_depth, IsNoChunk}
 use Rattle.cborn_wire.specs.InitialBytes.{Info, Now, Next, Unended, is_reserved, is_unended, is_always_bounded, is_other, is_container, is_bad_chunk, head_reason}
 use Rattle.cborn_wire.specs.Machine.{append_trees, snoc, snoc_entry, content_of, nothing, gathering, Live, Failed, is_full, items_tree, pairs_tree, string_tree, chunks_tree, finished, items_at, pairs_at, string_done, gather, after_head, run}
 use Rattle.cborn_wire.specs.HeadReading.{ArgumentFits}
@@ -53,18 +53,18 @@ pub clear_simple : (s : Slot) (full : Bool) (n : ℕ) → IsNoChunk s → head_r
 clear_simple s full n h = elim (ltb n 24) as (λ b. head_reason s full Other (info_for (Given (cond b Direct One) n)) [] ≡ None)
     [ true ↦ rw (no_bad_chunk s Other (Now n) h) refl | false ↦ rw (no_bad_chunk s Other (Next One) h) refl ]
 
-pub clear_chunk : (k : Kind) (full : Bool) (w : Width) (n : ℕ) → head_reason (chunk k) full (major_of k) (info_for (Given w n)) [] ≡ None
+pub clear_chunk : (k : StringKind) (full : Bool) (w : Width) (n : ℕ) → head_reason (chunk k) full (major_of k) (info_for (Given w n)) [] ≡ None
 clear_chunk OfBytes full w n = rw (given_reserved w n, given_unended w n) refl
 clear_chunk OfText full w n = rw (given_reserved w n, given_unended w n) refl
 
 -- A definite string, also as a chunk.
 
-starts_string : (fed p : ℕ) (ready : Trees) (os : List Begun) (k : Kind) (w : Width) (n : ℕ)
+starts_string : (fed p : ℕ) (ready : Trees) (os : List Begun) (k : StringKind) (w : Width) (n : ℕ)
     → after_head fed p ready os (major_of k) (Given w n) ≡ gather fed p ready os (content_of k w) n []
 starts_string fed p ready os OfBytes w n = refl
 starts_string fed p ready os OfText w n = refl
 
-pub takes_string : (limit fed : ℕ) (ready : Trees) (os : List Begun) (k : Kind) (w : Width) (bytes x : List ℕ) → Holds w (length bytes)
+pub takes_string : (limit fed : ℕ) (ready : Trees) (os : List Begun) (k : StringKind) (w : Width) (bytes x : List ℕ) → WidthFits w (length bytes)
     → head_reason (slot os) (leb limit (open_depth os)) (major_of k) (info_for (Given w (length bytes))) [] ≡ None
     → run limit (Live fed ready os nothing) (string (major_of k) w bytes ++ x) ≡ run limit (string_done (fed + length (string (major_of k) w bytes)) fed ready os k w bytes) x
 takes_string limit fed ready os k w bytes x h r =
@@ -77,7 +77,7 @@ takes_string limit fed ready os k w bytes x h r =
     ∙ ap (λ c. run limit (cond c (string_done (fed + length start + length bytes) fed ready os k w bytes) (Live (fed + length start + length bytes) ready os (gathering fed (content_of k w) (length bytes) bytes))) x) (le-leb (length bytes) (length bytes) (omega arith))
     ∙ ap (λ q. run limit (string_done q fed ready os k w bytes) x) total
 
-whole_string : (fed p : ℕ) (ready : Trees) (os : List Begun) (k : Kind) (w : Width) (bytes : List ℕ) → IsNoChunk (slot os)
+whole_string : (fed p : ℕ) (ready : Trees) (os : List Begun) (k : StringKind) (w : Width) (bytes : List ℕ) → IsNoChunk (slot os)
     → string_done fed p ready os k w bytes ≡ finished fed ready os (string_tree p k w bytes)
 whole_string fed p ready [] k w bytes h = refl
 whole_string fed p ready (begun_items q a ts ∷ os) k w bytes h = refl
@@ -86,7 +86,7 @@ whole_string fed p ready (begun_value q a es t ∷ os) k w bytes h = refl
 whole_string fed p ready (begun_tag q v n ∷ os) k w bytes h = refl
 whole_string fed p ready (begun_chunks q l cs ∷ os) k w bytes h = absurd h
 
-pub takes_chunks : (limit : ℕ) (cs : List Chunk) (fed : ℕ) (ready : Trees) (os : List Begun) (p : ℕ) (k : Kind) (before : List Chunk) (x : List ℕ) → ChunksFit cs → ChunksPlaced (major_of k) fed cs
+pub takes_chunks : (limit : ℕ) (cs : List Chunk) (fed : ℕ) (ready : Trees) (os : List Begun) (p : ℕ) (k : StringKind) (before : List Chunk) (x : List ℕ) → ChunksFit cs → ChunksPlaced (major_of k) fed cs
     → run limit (Live fed ready (begun_chunks p k before ∷ os) nothing) (flat_map (chunk_bytes (major_of k)) cs ++ x)
     ≡ run limit (Live (fed + length (flat_map (chunk_bytes (major_of k)) cs)) ready (begun_chunks p k (before ++ cs) ∷ os) nothing) x
 takes_chunks limit [] fed ready os p k before x fits placed = rw (append-nil, add-zero) refl
@@ -167,7 +167,7 @@ closes_pairs limit (Fixed w) es fed ready os p x =
     ∙ ap (λ q. run limit (finished q ready os (Pairs p (Fixed w) es)) x) (sym (add-zero fed))
 closes_pairs limit Endless es fed ready os p x = takes_head limit fed ready (begun_pairs p Unbounded es ∷ os) Other Unbounded x tt refl
 
-closes_chunks : (limit : ℕ) (k : Kind) (cs : List Chunk) (fed : ℕ) (ready : Trees) (os : List Begun) (p : ℕ) (x : List ℕ)
+closes_chunks : (limit : ℕ) (k : StringKind) (cs : List Chunk) (fed : ℕ) (ready : Trees) (os : List Begun) (p : ℕ) (x : List ℕ)
     → run limit (Live fed ready (begun_chunks p k cs ∷ os) nothing) (ending Endless ++ x) ≡ run limit (finished (fed + length (ending Endless)) ready os (chunks_tree p k cs)) x
 closes_chunks limit k cs fed ready os p x = takes_head limit fed ready (begun_chunks p k cs ∷ os) Other Unbounded x tt refl
 
@@ -183,11 +183,11 @@ pub clear_argument : (s : Slot) (full : Bool) (m : Major) (a : Argument) → IsN
 clear_argument s full m (Given w n) free bounded other room = clear_given s full m w n free other (ap (λ b. is_container m && b) room ∙ and-false (is_container m))
 clear_argument s full m Unbounded free bounded other room = clear s full m Unended free refl bounded other (ap (λ b. is_container m && b) room ∙ and-false (is_container m))
 
-pub clear_unbounded : (s : Slot) (full : Bool) (k : Kind) → IsNoChunk s → head_reason s full (major_of k) Unended [] ≡ None
+pub clear_unbounded : (s : Slot) (full : Bool) (k : StringKind) → IsNoChunk s → head_reason s full (major_of k) Unended [] ≡ None
 clear_unbounded s full OfBytes h = rw (no_bad_chunk s ByteString Unended h) refl
 clear_unbounded s full OfText h = rw (no_bad_chunk s TextString Unended h) refl
 
-pub starts_chunks : (fed p : ℕ) (ready : Trees) (os : List Begun) (k : Kind) → after_head fed p ready os (major_of k) Unbounded ≡ Live fed ready (begun_chunks p k [] ∷ os) nothing
+pub starts_chunks : (fed p : ℕ) (ready : Trees) (os : List Begun) (k : StringKind) → after_head fed p ready os (major_of k) Unbounded ≡ Live fed ready (begun_chunks p k [] ∷ os) nothing
 starts_chunks fed p ready os OfBytes = refl
 starts_chunks fed p ready os OfText = refl
 
@@ -197,12 +197,12 @@ simple_head fed p ready os n (inr h) =
     ap (λ b. after_head fed p ready os Other (Given (cond b Direct One) n)) (le-ltb n 24 (omega arith))
     ∙ ap (λ b. cond b (Failed ready p BadSimple) (finished fed ready os (Simple p n))) (le-ltb n 32 (omega arith))
 
-pub simple_fits : (n : ℕ) → (n < 24) ⊎ ((32 ≤ n) × (n < 256)) → Holds (simple_width n) n
+pub simple_fits : (n : ℕ) → (n < 24) ⊎ ((32 ≤ n) × (n < 256)) → WidthFits (simple_width n) n
 simple_fits n (inl h) = rw (lt-ltb n 24 h) h
 simple_fits n (inr h) = let e : ltb n 24 ≡ false = le-ltb n 24 (omega arith) in rw e h.1
 
 -- a chunked string, whole
-takes_chunked : (limit fed : ℕ) (ready : Trees) (os : List Begun) (k : Kind) (cs : List Chunk) (x : List ℕ) → ChunksFit cs → IsNoChunk (slot os) → ChunksPlaced (major_of k) (suc fed) cs
+takes_chunked : (limit fed : ℕ) (ready : Trees) (os : List Begun) (k : StringKind) (cs : List Chunk) (x : List ℕ) → ChunksFit cs → IsNoChunk (slot os) → ChunksPlaced (major_of k) (suc fed) cs
     → run limit (Live fed ready os nothing) ((chunks (major_of k) cs ++ ending Endless) ++ x) ≡ run limit (finished (fed + length (chunks (major_of k) cs ++ ending Endless)) ready os (chunks_tree fed k cs)) x
 takes_chunked limit fed ready os k cs x fits free placed =
     let start = head (major_of k) Unbounded in

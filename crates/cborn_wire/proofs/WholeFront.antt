@@ -6,7 +6,7 @@ use Rattle.cborn_model.specs.declared.heads.Size.TheVariants.{Endless}
 use Rattle.cborn_model.specs.Heads.{Major, Unsigned, Negative, ByteString, TextString, Array, Map, Tag, Other, Argument, Given, Unbounded}
 use Rattle.cborn_model.specs.Tree.{Tree, Items, Pairs, Tagged, Trees, no_item, more, count, count_entries}
 use Rattle.cborn_wire.specs.declared.faults.WireReason.{WireReason}
-use Rattle.cborn_wire.specs.Slots.{Kind, OfBytes, OfText, Begun, begun_items, begun_pairs, begun_value, begun_tag, begun_chunks}
+use Rattle.cborn_wire.specs.Slots.{StringKind, OfBytes, OfText, Begun, begun_items, begun_pairs, begun_value, begun_tag, begun_chunks}
 use Rattle.cborn_wire.specs.InitialBytes.{Info, Now, Next, Reserved, Unended, info_at}
 use Rattle.cborn_wire.specs.HeadReading.{major_at}
 use Rattle.cborn_wire.specs.Machine.{append_trees, snoc, snoc_entry, width_bytes, number, Goal, argument_of, content_of, nothing, gathering, State, Live, Failed, is_full, items_tree, pairs_tree, string_tree, chunks_tree, finished, string_done, ended, gather, begin_head, after_head, unless, step, run}
@@ -32,7 +32,7 @@ module _ (front : Trees) where
   front_finished (begun_tag p w n ∷ os) fed ready t = front_finished os fed ready (Tagged p w n t)
   front_finished (begun_chunks p k cs ∷ os) fed ready t = refl
 
-  front_string : (os : List Begun) (fed p : ℕ) (ready : Trees) (k : Kind) (w : Width) (bytes : List ℕ) → string_done fed p (append_trees front ready) os k w bytes ≡ with_front front (string_done fed p ready os k w bytes)
+  front_string : (os : List Begun) (fed p : ℕ) (ready : Trees) (k : StringKind) (w : Width) (bytes : List ℕ) → string_done fed p (append_trees front ready) os k w bytes ≡ with_front front (string_done fed p ready os k w bytes)
   front_string [] fed p ready k w bytes = front_finished [] fed ready (string_tree p k w bytes)
   front_string (begun_items q a ts ∷ os) fed p ready k w bytes = front_finished (begun_items q a ts ∷ os) fed ready (string_tree p k w bytes)
   front_string (begun_pairs q a es ∷ os) fed p ready k w bytes = refl
@@ -50,7 +50,7 @@ module _ (front : Trees) where
   front_ended (begun_tag p w n ∷ os) fed ready = refl
   front_ended (begun_chunks p k cs ∷ os) fed ready = front_finished os fed ready (chunks_tree p k cs)
 
-  front_content : (os : List Begun) (fed p : ℕ) (ready : Trees) (k : Kind) (w : Width) (n : ℕ) (got : List ℕ) → gather fed p (append_trees front ready) os (content_of k w) n got ≡ with_front front (gather fed p ready os (content_of k w) n got)
+  front_content : (os : List Begun) (fed p : ℕ) (ready : Trees) (k : StringKind) (w : Width) (n : ℕ) (got : List ℕ) → gather fed p (append_trees front ready) os (content_of k w) n got ≡ with_front front (gather fed p ready os (content_of k w) n got)
   front_content os fed p ready k w n got = either front (leb n (length got)) _ _ _ _ (front_string os fed p ready k w got) refl
 
   front_head : (m : Major) (a : Argument) (os : List Begun) (fed p : ℕ) (ready : Trees) → after_head fed p (append_trees front ready) os m a ≡ with_front front (after_head fed p ready os m a)

@@ -2,7 +2,7 @@
 use Rattle.std.specs.Prelude.{◌≡◌, ℕ, zero, suc, ◌<◌, List, ◌++◌, length, Bool, true, false, Option, Some, None}
 use Rattle.cborn_model.specs.declared.heads.Size.{Size}
 use Rattle.cborn_model.specs.declared.heads.Size.TheVariants.{Fixed, Endless}
-use Rattle.cborn_model.specs.Heads.{Major, Unsigned, Negative, ByteString, TextString, Array, Map, Tag, Other, Holds, Given, Unbounded, head}
+use Rattle.cborn_model.specs.Heads.{Major, Unsigned, Negative, ByteString, TextString, Array, Map, Tag, Other, WidthFits, Given, Unbounded, head}
 use Rattle.cborn_model.specs.Heads as heads
 use Rattle.cborn_wire.specs.declared.faults.WireReason.{WireReason}
 use Rattle.cborn_wire.specs.declared.heads.Argument.{Argument}
@@ -38,7 +38,7 @@ seen_size arguments.Endless = Endless
 
 -- the argument fits its width
 abbrev pub ArgumentFits : heads.Argument → Type 0
-ArgumentFits (Given w n) = Holds w n
+ArgumentFits (Given w n) = WidthFits w n
 ArgumentFits Unbounded = Unit {0}
 
 -- The first line of the table of faults that applies to these bytes wherever an item or a break may stand: a reserved information, an indefinite length that isn't allowed, a float, a bad simple value.

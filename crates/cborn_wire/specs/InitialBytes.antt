@@ -5,7 +5,7 @@ use Rattle.cborn_model.specs.declared.heads.Width.TheVariants.{One, Two, Four, E
 use Rattle.cborn_model.specs.Heads.{Major, Unsigned, Negative, ByteString, TextString, Array, Map, Tag, Other}
 use Rattle.cborn_wire.specs.declared.faults.WireReason.{WireReason}
 use Rattle.cborn_wire.specs.declared.faults.WireReason.TheVariants.{ReservedInfo, EndlessNotAllowed, BadChunk, UnexpectedBreak, FloatLeftOut, BadSimple, TooDeep}
-use Rattle.cborn_wire.specs.Slots.{Kind, OfBytes, OfText, Slot, item, value, element_or_end, key_or_end, chunk}
+use Rattle.cborn_wire.specs.Slots.{StringKind, OfBytes, OfText, Slot, item, value, element_or_end, key_or_end, chunk}
 use Rattle.cborn_wire.specs.Faults.{needs_item, begins_low}
 use Rattle.cborn_wire.specs.HeadReading.{major_at}
 
@@ -69,7 +69,7 @@ is_container Map = true
 is_container Tag = true
 is_container Other = false
 
-abbrev pub is_of_kind : Kind → Major → Bool
+abbrev pub is_of_kind : StringKind → Major → Bool
 is_of_kind OfBytes ByteString = true
 is_of_kind OfText TextString = true
 is_of_kind _ _ = false

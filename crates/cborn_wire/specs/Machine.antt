@@ -13,7 +13,7 @@ use Rattle.cborn_wire.specs.declared.faults.WireFault.{WireFault}
 use Rattle.cborn_wire.specs.declared.faults.WireFault.TheVariants as faults
 use Rattle.cborn_wire.specs.declared.faults.WireReason.{WireReason}
 use Rattle.cborn_wire.specs.declared.faults.WireReason.TheVariants.{ReservedInfo, EndlessNotAllowed, BadChunk, UnexpectedBreak, FloatLeftOut, BadSimple}
-use Rattle.cborn_wire.specs.Slots.{Kind, OfBytes, OfText, Begun, begun_items, begun_pairs, begun_value, begun_tag, begun_chunks, beginnings, major_of, slot, open_depth}
+use Rattle.cborn_wire.specs.Slots.{StringKind, OfBytes, OfText, Begun, begun_items, begun_pairs, begun_value, begun_tag, begun_chunks, beginnings, major_of, slot, open_depth}
 use Rattle.cborn_wire.specs.InitialBytes.{Info, Now, Next, Reserved, Unended, info_at, head_reason}
 use Rattle.cborn_wire.specs.HeadReading.{major_at}
 
@@ -50,7 +50,7 @@ number Eight bytes = from_be_bytes w64 bytes
 -- what bytes are gathered for: the argument of a head, or the content of a definite string
 pub data Goal : Type 0 where
   argument_of : Major → Width → Goal
-  content_of : Kind → Width → Goal
+  content_of : StringKind → Width → Goal
 
 -- A part of a head or of a definite string: the place of its head, what is gathered, how many bytes there have to be, and those that came.
 pub data Partial : Type 0 where
@@ -101,11 +101,11 @@ abbrev pub pairs_tree : ℕ → Argument → Entries → Tree
 pairs_tree p (Given w n) es = Pairs p (Fixed w) es
 pairs_tree p Unbounded es = Pairs p Endless es
 
-abbrev pub string_tree : ℕ → Kind → Width → List ℕ → Tree
+abbrev pub string_tree : ℕ → StringKind → Width → List ℕ → Tree
 string_tree p OfBytes w bytes = Bytes p w bytes
 string_tree p OfText w bytes = Text p w bytes
 
-abbrev pub chunks_tree : ℕ → Kind → List Chunk → Tree
+abbrev pub chunks_tree : ℕ → StringKind → List Chunk → Tree
 chunks_tree p OfBytes cs = ByteChunks p cs
 chunks_tree p OfText cs = TextChunks p cs
 
@@ -127,7 +127,7 @@ abbrev pub pairs_at : ℕ → Trees → List Begun → ℕ → Argument → Entr
 pairs_at fed ready os p a es = if is_full a (count_entries es) then finished fed ready os (pairs_tree p a es) else Live fed ready (begun_pairs p a es ∷ os) nothing
 
 -- a whole definite string: a chunk, where an indefinite string is open, else an item
-abbrev pub string_done : ℕ → ℕ → Trees → List Begun → Kind → Width → List ℕ → State
+abbrev pub string_done : ℕ → ℕ → Trees → List Begun → StringKind → Width → List ℕ → State
 string_done fed p ready [] k w bytes = finished fed ready [] (string_tree p k w bytes)
 string_done fed p ready (begun_items q a ts ∷ os) k w bytes = finished fed ready (begun_items q a ts ∷ os) (string_tree p k w bytes)
 string_done fed p ready (begun_pairs q a es ∷ os) k w bytes = finished fed ready (begun_pairs q a es ∷ os) (string_tree p k w bytes)
@@ -136,7 +136,7 @@ string_done fed p ready (begun_tag q v n ∷ os) k w bytes = finished fed ready 
 string_done fed p ready (begun_chunks q l cs ∷ os) k w bytes = Live fed ready (begun_chunks q l (cs ++ record { place = p; width = w; bytes = bytes } ∷ []) ∷ os) nothing
 
 -- a definite string's head and these bytes of its content
-abbrev pub content_at : ℕ → ℕ → Trees → List Begun → Kind → Width → ℕ → List ℕ → State
+abbrev pub content_at : ℕ → ℕ → Trees → List Begun → StringKind → Width → ℕ → List ℕ → State
 content_at fed p ready os k w n got = if nat_le n (length got) then string_done fed p ready os k w got else Live fed ready os (gathering p (content_of k w) n got)
 
 -- a break

@@ -4,8 +4,8 @@ use Rattle.cborn_model.specs.Heads.{Major, Unsigned, Negative, ByteString, TextS
 use Rattle.cborn_model.specs.Heads as heads
 use Rattle.cborn_model.specs.Tree.{Trees, count, count_entries}
 use Rattle.cborn_wire.specs.declared.faults.WireReason.{WireReason}
-use Rattle.cborn_wire.specs.declared.frames.Kind.{Kind}
-use Rattle.cborn_wire.specs.declared.frames.Kind.TheVariants as kinds
+use Rattle.cborn_wire.specs.declared.frames.StringKind.{StringKind}
+use Rattle.cborn_wire.specs.declared.frames.StringKind.TheVariants as kinds
 use Rattle.cborn_wire.specs.declared.levels.Level.{Level}
 use Rattle.cborn_wire.specs.declared.levels.Level.TheVariants.{Array, EndlessArray, Map, MapValue, EndlessMap, EndlessMapValue, Tag, Chunks}
 use Rattle.cborn_wire.specs.declared.levels.Levels.{Levels}
@@ -95,7 +95,7 @@ slot_at (l ∷ ls) = slot_of l
 
 -- What a scan keeps of what the machine has open.
 
-abbrev pub kind_of : slots.Kind → Kind
+abbrev pub kind_of : slots.StringKind → StringKind
 kind_of OfBytes = kinds.Bytes
 kind_of OfText = kinds.Text
 

@@ -2,22 +2,22 @@
 use Rattle.std.specs.Prelude.{◌≡◌, ℕ, suc, ◌+◌, ◌<◌, ◌≤◌, List, [], ◌∷◌, ◌++◌}
 use Rattle.cborn_model.specs.declared.heads.Width.{Width}
 use Rattle.cborn_model.specs.declared.nodes.Chunk.{Chunk}
-use Rattle.cborn_model.specs.Heads.{Major, ByteString, TextString, Array, Map, Tag, Holds, Argument, Given, Unbounded, head}
+use Rattle.cborn_model.specs.Heads.{Major, ByteString, TextString, Array, Map, Tag, WidthFits, Argument, Given, Unbounded, head}
 use Rattle.cborn_model.specs.Tree.{Tree, Trees, Entries, count, count_entries, depth, depth_all, depth_entries}
 use Rattle.cborn_model.specs.Spelled.{chunks, spelled, spelled_all, spelled_entries, ChunksFit, Fits, FitsAll, FitsEntries}
 
 -- the two kinds of string
-pub data Kind : Type 0 where
-  OfBytes OfText : Kind
+pub data StringKind : Type 0 where
+  OfBytes OfText : StringKind
 
-abbrev pub major_of : Kind → Major
+abbrev pub major_of : StringKind → Major
 major_of OfBytes = ByteString
 major_of OfText = TextString
 
 -- Where a head stands. `item`: at the top, in a definite array, as a key of a definite map, as a tag's content. `value`: a map's value, in either kind of map. `element_or_end`: in an indefinite array. `key_or_end`: a key of an indefinite map. `chunk`: in an indefinite string.
 pub data Slot : Type 0 where
   item value element_or_end key_or_end : Slot
-  chunk : Kind → Slot
+  chunk : StringKind → Slot
 
 -- What has begun and not ended, with the whole parts that it has so far. The first number of each is its place.
 pub data Begun : Type 0 where
@@ -26,7 +26,7 @@ pub data Begun : Type 0 where
   -- a map, up to a key whose value is missing
   begun_value : ℕ → Argument → Entries → Tree → Begun
   begun_tag : ℕ → Width → ℕ → Begun
-  begun_chunks : ℕ → Kind → List Chunk → Begun
+  begun_chunks : ℕ → StringKind → List Chunk → Begun
 
 -- the bytes that it has so far (RFC 8949 sections 3.1 to 3.4)
 abbrev pub beginning : Begun → List ℕ
@@ -63,7 +63,7 @@ open_depth (o ∷ os) = levels o + open_depth os
 
 -- the head announces more than the k parts that there are so far
 abbrev pub HasRoom : Argument → ℕ → Type 0
-HasRoom (Given w n) k = Holds w n × (k < n)
+HasRoom (Given w n) k = WidthFits w n × (k < n)
 HasRoom Unbounded k = Unit {0}
 
 abbrev pub IsNoChunk : Slot → Type 0
@@ -75,7 +75,7 @@ abbrev pub MayBegin : ℕ → ℕ → Begun → Type 0
 MayBegin limit k (begun_items p a ts) = HasRoom a (count ts) × FitsAll ts × (k + suc (depth_all ts) ≤ limit)
 MayBegin limit k (begun_pairs p a es) = HasRoom a (count_entries es) × FitsEntries es × (k + suc (depth_entries es) ≤ limit)
 MayBegin limit k (begun_value p a es t) = HasRoom a (count_entries es) × FitsEntries es × (k + suc (depth_entries es) ≤ limit) × Fits t × (k + suc (depth t) ≤ limit)
-MayBegin limit k (begun_tag p w n) = Holds w n × (k < limit)
+MayBegin limit k (begun_tag p w n) = WidthFits w n × (k < limit)
 MayBegin limit k (begun_chunks p kind cs) = ChunksFit cs
 
 -- each may be open inside those that follow it, and none is inside an indefinite string

@@ -6,8 +6,8 @@ use Rattle.cborn_model.specs.Tree.{Tree, Trees, trees, entries}
 use Rattle.cborn_wire.specs.declared.faults.WireFault.{WireFault}
 use Rattle.cborn_wire.specs.declared.faults.WireFault.TheVariants.{Refused, OutOfMemory}
 use Rattle.cborn_wire.specs.declared.faults.WireReason.TheVariants.{UnexpectedBreak}
-use Rattle.cborn_wire.specs.declared.frames.Kind.{Kind}
-use Rattle.cborn_wire.specs.declared.frames.Kind.TheVariants as kinds
+use Rattle.cborn_wire.specs.declared.frames.StringKind.{StringKind}
+use Rattle.cborn_wire.specs.declared.frames.StringKind.TheVariants as kinds
 use Rattle.cborn_wire.specs.declared.frames.Frame.{Frame}
 use Rattle.cborn_wire.specs.declared.frames.Frame.TheVariants as frames
 use Rattle.cborn_wire.specs.declared.frames.Partial.{Partial}
@@ -19,7 +19,7 @@ use Rattle.cborn_wire.specs.Slots.{OfBytes, OfText, Begun, begun_items, begun_pa
 use Rattle.cborn_wire.specs.Machine as machine
 use Rattle.cborn_wire.specs.Machine.{argument_of, content_of, nothing, gathering, width_bytes, State, Live, Failed, finished, ended, run, IsReached, Stops, Settles}
 
-abbrev pub seen_kind : Kind → slots.Kind
+abbrev pub seen_kind : StringKind → slots.StringKind
 seen_kind kinds.Bytes = OfBytes
 seen_kind kinds.Text = OfText
 

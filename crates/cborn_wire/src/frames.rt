@@ -11,7 +11,7 @@ use std::alloc::{AllocError, Global};
 
 /// The two kinds of string.
 #[derive(Clone, Copy, PartialEq, Eq, Debug)]
-pub(crate) enum Kind {
+pub(crate) enum StringKind {
     Bytes,
     Text,
 }
@@ -38,7 +38,7 @@ pub(crate) enum Frame {
     },
     Chunks {
         place: u64,
-        kind: Kind,
+        kind: StringKind,
         chunks: Vec<Chunk>,
     },
 }
@@ -58,7 +58,7 @@ pub(crate) enum Partial {
     /// A string of `len` bytes, and those that came.
     Content {
         place: u64,
-        kind: Kind,
+        kind: StringKind,
         width: Width,
         len: u64,
         bytes: Vec<u8>,
@@ -139,8 +139,8 @@ impl Frame {
                 chunks,
             } => {
                 let form = match kind {
-                    Kind::Bytes => Form::ByteChunks(chunks),
-                    Kind::Text => Form::TextChunks(chunks),
+                    StringKind::Bytes => Form::ByteChunks(chunks),
+                    StringKind::Text => Form::TextChunks(chunks),
                 };
                 Some(Node { place, form })
             }

@@ -1,7 +1,7 @@
 //! Heads: an initial byte, with the major type in its high three bits and the additional information in its low five, and the bytes of an argument behind it (RFC 8949 section 3).
 
 ghost use Rattle.std.specs.Prelude.{◌≡◌, ◌≤◌, ◌<◌, ◌++◌, ◌+◌, ◌%◌, ◌∷◌, ◌/◌, ℕ, List, length, ◌&&◌, take, MatchOption, OnOk, OnErr};
-ghost use Rattle.cborn_model.specs.Heads.{Holds, IsHead, head_bytes};
+ghost use Rattle.cborn_model.specs.Heads.{WidthFits, IsHead, head_bytes};
 ghost use Rattle.cborn_wire.specs.InitialBytes.{Next, Unended, info_at, is_reserved, is_unended, is_always_bounded, is_break, is_other, is_float, is_container};
 ghost use Rattle.cborn_wire.specs.Machine.{width_bytes, number, is_full};
 ghost use Rattle.cborn_wire.specs.HeadReading.{major_at, ReadsHead, reason_alone, seen_argument, seen_bounded, seen_size};
@@ -227,7 +227,7 @@ pub(crate) fn read_number(width: Width, bytes: &[u8]) -> Option<u64>
 /// The head of major type `major`, from 0 to 6, with the argument `n`, which fits the width: its bytes stand first in the array, and the number is their count.
 pub fn head_bytes(major: u8, width: Width, n: u64) -> ([u8; 9], usize)
     requires major { major ≤ 6 }
-    requires fits { Holds width n }
+    requires fits { WidthFits width n }
     ensures len { result.1 ≤ 9 }
     ensures head { IsHead major width n (take result.1 result.0) }
 {
@@ -237,7 +237,7 @@ pub fn head_bytes(major: u8, width: Width, n: u64) -> ([u8; 9], usize)
 // The head, of any major type.
 fn first_bytes(major: u8, width: Width, n: u64) -> ([u8; 9], usize)
     requires major { major ≤ 7 }
-    requires fits { Holds width n }
+    requires fits { WidthFits width n }
     ensures len { result.1 ≤ 9 }
     ensures head { take result.1 result.0 ≡ head_bytes major width n }
 {
@@ -268,7 +268,7 @@ fn first_bytes(major: u8, width: Width, n: u64) -> ([u8; 9], usize)
 /// Appends the head of major type `major`, from 0 to 7, with the argument `n`, which fits the width (RFC 8949 section 3). An error says that memory was refused; `out` then stays as it was.
 pub fn push_head(out: &mut Vec<u8>, major: u8, width: Width, n: u64) -> Result<(), AllocError>
     requires major { major ≤ 7 }
-    requires fits { Holds width n }
+    requires fits { WidthFits width n }
     ensures added { OnOk result (out.new.items ≡ out.old.items ++ head_bytes major width n) }
     ensures kept { OnErr result (out.new.items ≡ out.old.items) }
 {

@@ -6,7 +6,7 @@ ghost use Rattle.cborn_wire.specs.HeadReading.{seen_argument};
 ghost use Rattle.cborn_wire.specs.Scanning.{levels, with_item, finish, leave, begin_items, begin_pairs, slot_of};
 
 use crate::Argument;
-use crate::frames::Kind;
+use crate::frames::StringKind;
 
 /// An array, a map, a tag or an indefinite string that has begun, and what is missing.
 #[derive(Clone, Copy, PartialEq, Eq, Debug)]
@@ -22,7 +22,7 @@ pub(crate) enum Level {
     EndlessMap,
     EndlessMapValue,
     Tag,
-    Chunks(Kind),
+    Chunks(StringKind),
 }
 
 impl Level {

@@ -8,7 +8,7 @@ ghost use Rattle.cborn_wire.specs.HeadReading.{major_at};
 ghost use Rattle.cborn_wire.specs.StackView.{opened};
 
 use crate::WireReason;
-use crate::frames::{Frame, Kind};
+use crate::frames::{Frame, StringKind};
 use crate::heads::{is_always_bounded, is_break, is_container, is_endless, is_float, is_reserved};
 use crate::stacks::Stack;
 
@@ -66,8 +66,8 @@ impl Stack {
         match &self.top {
             Some(Frame::Chunks { kind, .. }) => {
                 let wanted = match kind {
-                    Kind::Bytes => 2,
-                    Kind::Text => 3,
+                    StringKind::Bytes => 2,
+                    StringKind::Text => 3,
                 };
                 !is_break(major, information) && (major != wanted || is_endless(information))
             }

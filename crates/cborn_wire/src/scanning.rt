@@ -11,7 +11,7 @@ ghost use Rattle.cborn_wire.specs.HeadReading.{major_at, seen_argument};
 ghost use Rattle.cborn_wire.specs.Scanning.{levels, levels_of, take_head, content_of, slot_at, AreSmall, Steps};
 ghost use Rattle.cborn_wire.specs.declared.scanning.Step.TheVariants.{Taken};
 
-use crate::frames::Kind;
+use crate::frames::StringKind;
 use crate::heads::{is_always_bounded, is_break, is_container, is_endless, is_float, is_reserved};
 use crate::levels::{Level, Levels};
 use crate::{Argument, Head, HeadRead, WireReason, read_head};
@@ -195,8 +195,8 @@ impl Levels {
         match self.top {
             Some(Level::Chunks(kind)) => {
                 let wanted = match kind {
-                    Kind::Bytes => 2,
-                    Kind::Text => 3,
+                    StringKind::Bytes => 2,
+                    StringKind::Text => 3,
                 };
                 !is_break(major, information) && (major != wanted || is_endless(information))
             }
@@ -224,8 +224,8 @@ impl Levels {
         ensures kept { self.new.len ≤ 1025 }
     {
         match (head.major, head.argument) {
-            (2, Argument::Endless) => self.begin(Level::Chunks(Kind::Bytes)),
-            (3, Argument::Endless) => self.begin(Level::Chunks(Kind::Text)),
+            (2, Argument::Endless) => self.begin(Level::Chunks(StringKind::Bytes)),
+            (3, Argument::Endless) => self.begin(Level::Chunks(StringKind::Text)),
             (4, argument) => self.begin_items(argument),
             (5, argument) => self.begin_pairs(argument),
             (6, _) => self.begin(Level::Tag),

@@ -1,7 +1,7 @@
 //! The bytes that nodes spell (RFC 8949 sections 3.1 to 3.4).
 
 ghost use Rattle.std.specs.Prelude.{◌≡◌, ◌≤◌, ◌++◌, length, IfOk, OnOk};
-ghost use Rattle.cborn_model.specs.Heads.{Holds, SizeFits, head_bytes, head, argument};
+ghost use Rattle.cborn_model.specs.Heads.{WidthFits, SizeFits, head_bytes, head, argument};
 ghost use Rattle.cborn_model.specs.Tree.{trees};
 ghost use Rattle.cborn_model.specs.Spelled.{spelled, spelled_all, chunks, ending, ChunksFit, Fits};
 ghost use Rattle.cborn_model.specs.declared.heads.Size.TheVariants.{Endless};
@@ -79,7 +79,7 @@ fn push_string(
     bytes: &ByteString,
 ) -> Result<(), AllocError>
     requires major { major ≤ 7 }
-    requires fits { Holds width (length bytes.now) }
+    requires fits { WidthFits width (length bytes.now) }
     ensures { OnOk result (out.new.items ≡ out.old.items ++ (head_bytes major width (length bytes.now) ++ bytes.now)) }
 {
     let slice = bytes.as_slice();

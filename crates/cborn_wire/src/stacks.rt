@@ -8,7 +8,7 @@ ghost use Rattle.cborn_wire.specs.Machine.{nothing, Live, start, items_at, pairs
 ghost use Rattle.cborn_wire.specs.HeadReading.{major_at, seen_argument, ArgumentFits};
 ghost use Rattle.cborn_wire.specs.StackView.{seen_kind, seen_frame, opened, ready_of, seen, seen_partial, seen_with, Advances, Runs, Becomes, IsMade};
 
-use crate::frames::{Frame, Kind, Partial, push_part};
+use crate::frames::{Frame, StringKind, Partial, push_part};
 use crate::heads::{read_number, wide_width};
 use crate::{Argument, Head, HeadRead, WireFault, WireReason, read_head};
 use cborn_model::{ByteString, Chunk, Form, Node, Spelled, Width};
@@ -219,7 +219,7 @@ impl Stack {
         &mut self,
         limit: u64,
         place: u64,
-        kind: Kind,
+        kind: StringKind,
         width: Width,
         len: u64,
         mut bytes: Vec<u8>,
@@ -282,8 +282,8 @@ impl Stack {
         ensures { Becomes (after_head self.old.at place (ready_of self.old) (opened self.old) (major_at head.major) (seen_argument head.argument)) self.old self.new result }
     {
         match (head.major, head.argument) {
-            (2, argument) => self.begin_string(place, Kind::Bytes, argument),
-            (3, argument) => self.begin_string(place, Kind::Text, argument),
+            (2, argument) => self.begin_string(place, StringKind::Bytes, argument),
+            (3, argument) => self.begin_string(place, StringKind::Text, argument),
             (4, argument) => self.begin_items(place, argument),
             (5, argument) => self.begin_pairs(place, argument),
             (6, Argument::Given(width, number)) => self.begin(Frame::Tag {
@@ -339,7 +339,7 @@ impl Stack {
         Ok(())
     }
 
-    fn begin_string(&mut self, place: u64, kind: Kind, argument: Argument) -> Result<(), WireFault>
+    fn begin_string(&mut self, place: u64, kind: StringKind, argument: Argument) -> Result<(), WireFault>
         requires nothing { self.old.partial ≡ Partial.Nothing }
         requires made { IsMade (after_head self.old.at place (ready_of self.old) (opened self.old) (major_of (seen_kind kind)) (seen_argument argument)) }
         ensures { Becomes (after_head self.old.at place (ready_of self.old) (opened self.old) (major_of (seen_kind kind)) (seen_argument argument)) self.old self.new result }
@@ -427,7 +427,7 @@ impl Stack {
     fn finish_string(
         &mut self,
         place: u64,
-        kind: Kind,
+        kind: StringKind,
         width: Width,
         bytes: Vec<u8>,
     ) -> Result<(), WireFault>
@@ -446,8 +446,8 @@ impl Stack {
             return Ok(());
         }
         let form = match kind {
-            Kind::Bytes => Form::Bytes(width, bytes),
-            Kind::Text => Form::Text(width, bytes),
+            StringKind::Bytes => Form::Bytes(width, bytes),
+            StringKind::Text => Form::Text(width, bytes),
         };
         self.finish(Node { place, form })
     }

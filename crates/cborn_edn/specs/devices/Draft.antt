@@ -18,15 +18,15 @@ use Rattle.cborn_lex.specs.declared.faults.LexFault.TheVariants.{Refused as LexR
 use Rattle.cborn_lex.specs.declared.classes.Profile.{Profile}
 use Rattle.cborn_lex.specs.declared.classes.Profile.TheVariants.{One as ProfileOne, Two as ProfileTwo}
 use Rattle.cborn_edn.specs.declared.slips.Slip.{Slip}
-use Rattle.cborn_edn.specs.declared.strings.Kind.{Kind}
-use Rattle.cborn_edn.specs.declared.strings.Kind.TheVariants.{Bytes as OfBytes, Text as OfText}
+use Rattle.cborn_edn.specs.declared.strings.StringKind.{StringKind}
+use Rattle.cborn_edn.specs.declared.strings.StringKind.TheVariants.{Bytes as OfBytes, Text as OfText}
 use Rattle.cborn_edn.specs.declared.strings.Pieces.{Pieces}
 use Rattle.cborn_edn.specs.declared.contents.Row.{Row}
 use Rattle.cborn_edn.specs.declared.contents.Sequence.{Sequence}
 use Rattle.cborn_edn.specs.declared.contents.Fields.{Fields}
 use Rattle.cborn_edn.specs.declared.contents.Chunks.{Chunks}
-use Rattle.cborn_edn.specs.declared.frames.Frame.{Frame}
-use Rattle.cborn_edn.specs.declared.frames.Frame.TheVariants.{Top, Array, Embedded, Chunked, Key, Value, Tagged}
+use Rattle.cborn_edn.specs.declared.brackets.Bracket.{Bracket}
+use Rattle.cborn_edn.specs.declared.brackets.Bracket.TheVariants.{Top, Array, Embedded, Chunked, Key, Value, Tagged}
 use Rattle.cborn_edn.specs.declared.states.Phase.{Phase}
 use Rattle.cborn_edn.specs.declared.states.Phase.TheVariants.{Wants, Has, Builds, WantsChunk, WantsNumber, HasNumber}
 use Rattle.cborn_edn.specs.declared.states.State.{State}
@@ -68,7 +68,7 @@ byte_piece p q x m = record { kind = OfBytes; place = p; bytes = Some x; mark = 
 abbrev pub embedded_piece : ℕ → Option (List ℕ) → ℕ → Mark → Pieces
 embedded_piece p x e m = record { kind = OfBytes; place = p; bytes = x; mark = m; mark_place = e; sound = true; quote = false }
 
-abbrev pub admits : Kind → Kind → Bool
+abbrev pub admits : StringKind → StringKind → Bool
 admits OfText k = true
 admits OfBytes OfBytes = true
 admits OfBytes OfText = false
@@ -90,7 +90,7 @@ mark_slip may_end p Endless x = slip_unless may_end p IndicatorNotAllowed
 mark_slip may_end p (Wide w) None = None
 mark_slip may_end p (Wide w) (Some x) = first_slip (width_slips p (Wide w) (length x))
 
-abbrev pub text_slip : Kind → ℕ → Option (List ℕ) → Option Slip
+abbrev pub text_slip : StringKind → ℕ → Option (List ℕ) → Option Slip
 text_slip k p None = None
 text_slip k p (Some x) = slip_unless (is_good k x) p TextNotUtf8
 
@@ -101,7 +101,7 @@ abbrev pub is_none : {A : Type 0} → Option A → Bool
 is_none None = true
 is_none (Some x) = false
 
-abbrev pub marked_node : Kind → ℕ → Mark → List ℕ → Option Tree
+abbrev pub marked_node : StringKind → ℕ → Mark → List ℕ → Option Tree
 marked_node k p Endless x = Some (chunked_node k p [])
 marked_node k p Absent x = and_then (width_for Absent (length x)) (λ w. Some (string_node k p w x))
 marked_node k p (Wide v) x = and_then (width_for (Wide v) (length x)) (λ w. Some (string_node k p w x))
@@ -144,7 +144,7 @@ map_node p m f = and_then f.pairs (λ es. and_then (size_for m f.count) (λ s. S
 abbrev pub no_chunks : Chunks
 no_chunks = record { kind = None; chunks = Some [] }
 
-abbrev pub kind_or : Option Kind → Kind → Kind
+abbrev pub kind_or : Option StringKind → StringKind → StringKind
 kind_or None k = k
 kind_or (Some j) k = j
 
@@ -165,25 +165,25 @@ tag_node p h i = and_then h (λ x. and_then i (λ t. Some (TaggedNode p x.0 x.1 
 
 -- A token.
 
-abbrev pub keep : List Frame → Phase → Option Slip → State
-keep fs ph s = record { frames = fs; phase = ph; slip = s }
+abbrev pub keep : List Bracket → Phase → Option Slip → State
+keep fs ph s = record { brackets = fs; phase = ph; slip = s }
 
-abbrev pub built : List Frame → Option Slip → Option Pieces → Pieces → State
+abbrev pub built : List Bracket → Option Slip → Option Pieces → Pieces → State
 built fs s None d = keep fs (Builds d) s
 built fs s (Some b) d = keep fs (Builds (with_next b d)) (earlier s (slip_before b d))
 
 -- the bracket ends
-abbrev pub close : List Frame → Option Slip → Frame → ℕ → Class → Option State
+abbrev pub close : List Bracket → Option Slip → Bracket → ℕ → Class → Option State
 close fs s (Array q m r) p ArrayClose = Some (keep fs (Has (array_node q m r)) (earlier s (first_slip (size_slips q m r.count))))
 close fs s (Key q m f) p MapClose = Some (keep fs (Has (map_node q m f)) (earlier s (first_slip (size_slips q m f.count))))
 close fs s (Embedded b q i) p (EmbedClose m) = Some (built fs s b (embedded_piece q (sequence_bytes i) p m))
 close _ _ _ _ _ = None
 
-abbrev pub ended : List Frame → Option Slip → ℕ → Class → Option State
+abbrev pub ended : List Bracket → Option Slip → ℕ → Class → Option State
 ended [] s p c = None
 ended (f ∷ fs) s p c = close fs s f p c
 
-abbrev pub begin : List Frame → Option Slip → ℕ → Class → Option State
+abbrev pub begin : List Bracket → Option Slip → ℕ → Class → Option State
 begin fs s p (ArrayOpen m) = Some (keep (Array p m no_row ∷ fs) Wants s)
 begin fs s p (MapOpen m) = Some (keep (Key p m no_fields ∷ fs) Wants s)
 begin fs s p EmbedOpen = Some (keep (Embedded None p no_sequence ∷ fs) Wants s)
@@ -202,7 +202,7 @@ begin fs s p Comma = None
 begin fs s p Colon = None
 
 -- the bracket with the item in it, where it may end or a comma may follow
-abbrev pub settled : Frame → Option Tree → Option Frame
+abbrev pub settled : Bracket → Option Tree → Option Bracket
 settled (Top r) i = Some (Top (sequence_with r i))
 settled (Array q m r) i = Some (Array q m (row_with r i))
 settled (Embedded b q r) i = Some (Embedded b q (sequence_with r i))
@@ -210,63 +210,63 @@ settled (Value q m f k) i = Some (Key q m (fields_with f k i))
 settled _ i = None
 
 -- the map with the item as a key
-abbrev pub keyed : Frame → Option Tree → Option Frame
+abbrev pub keyed : Bracket → Option Tree → Option Bracket
 keyed (Key q m f) i = Some (Value q m f i)
 keyed _ i = None
 
 -- the open brackets, where the innermost becomes this one
-abbrev pub with_innermost : List Frame → Option Frame → Option (List Frame)
+abbrev pub with_innermost : List Bracket → Option Bracket → Option (List Bracket)
 with_innermost fs None = None
 with_innermost fs (Some f) = Some (f ∷ fs)
 
-abbrev pub settled_in : List Frame → Option Tree → Option (List Frame)
+abbrev pub settled_in : List Bracket → Option Tree → Option (List Bracket)
 settled_in [] i = None
 settled_in (f ∷ fs) i = with_innermost fs (settled f i)
 
-abbrev pub keyed_in : List Frame → Option Tree → Option (List Frame)
+abbrev pub keyed_in : List Bracket → Option Tree → Option (List Bracket)
 keyed_in [] i = None
 keyed_in (f ∷ fs) i = with_innermost fs (keyed f i)
 
-abbrev pub is_chunked : Frame → Bool
+abbrev pub is_chunked : Bracket → Bool
 is_chunked (Chunked q cs) = true
 is_chunked _ = false
 
-abbrev pub are_chunks : List Frame → Bool
+abbrev pub are_chunks : List Bracket → Bool
 are_chunks [] = false
 are_chunks (f ∷ fs) = is_chunked f
 
-abbrev pub reopened : List Frame → Option Slip → Option Frame → Option State
+abbrev pub reopened : List Bracket → Option Slip → Option Bracket → Option State
 reopened fs s None = None
 reopened fs s (Some f) = Some (keep (f ∷ fs) Wants s)
 
-abbrev pub reclosed : List Frame → Option Slip → Option Frame → ℕ → Class → Option State
+abbrev pub reclosed : List Bracket → Option Slip → Option Bracket → ℕ → Class → Option State
 reclosed fs s None p c = None
 reclosed fs s (Some f) p c = close fs s f p c
 
-abbrev pub after_key : List Frame → Option Slip → Option Tree → Frame → Option State
+abbrev pub after_key : List Bracket → Option Slip → Option Tree → Bracket → Option State
 after_key fs s i (Key q m f) = Some (keep (Value q m f i ∷ fs) Wants s)
 after_key _ _ _ _ = None
 
-abbrev pub after_content : List Frame → Option Slip → Option Tree → Frame → Option State
+abbrev pub after_content : List Bracket → Option Slip → Option Tree → Bracket → Option State
 after_content fs s i (Tagged q h) = Some (keep fs (Has (tag_node q h i)) s)
 after_content _ _ _ _ = None
 
-abbrev pub after_in : List Frame → Option Slip → Option Tree → Frame → ℕ → Class → Option State
+abbrev pub after_in : List Bracket → Option Slip → Option Tree → Bracket → ℕ → Class → Option State
 after_in fs s i f p Comma = reopened fs s (settled f i)
 after_in fs s i f p Colon = after_key fs s i f
 after_in fs s i f p ParenClose = after_content fs s i f
 after_in fs s i f p c = reclosed fs s (settled f i) p c
 
-abbrev pub after : List Frame → Option Slip → Option Tree → ℕ → Class → Option State
+abbrev pub after : List Bracket → Option Slip → Option Tree → ℕ → Class → Option State
 after [] s i p c = None
 after (f ∷ fs) s i p c = after_in fs s i f p c
 
-abbrev pub after_chunk : List Frame → Option Slip → ℕ → Chunks → Pieces → Class → Option State
+abbrev pub after_chunk : List Bracket → Option Slip → ℕ → Chunks → Pieces → Class → Option State
 after_chunk fs s q cs d Comma = Some (keep (Chunked q (chunks_with cs d) ∷ fs) WantsChunk (earlier s (chunk_slip cs d)))
 after_chunk fs s q cs d ParenClose = Some (keep fs (Has (chunked_item q (chunks_with cs d))) (earlier s (chunk_slip cs d)))
 after_chunk _ _ _ _ _ _ = None
 
-abbrev pub after_string_in : List Frame → Option Slip → Pieces → Frame → ℕ → Class → Option State
+abbrev pub after_string_in : List Bracket → Option Slip → Pieces → Bracket → ℕ → Class → Option State
 after_string_in fs s d (Chunked q cs) p c = after_chunk fs s q cs d c
 after_string_in fs s d (Top r) p c = after_in fs (earlier s (string_slip d.quote d)) (string_item d) (Top r) p c
 after_string_in fs s d (Array q m r) p c = after_in fs (earlier s (string_slip d.quote d)) (string_item d) (Array q m r) p c
@@ -275,17 +275,17 @@ after_string_in fs s d (Key q m f) p c = after_in fs (earlier s (string_slip d.q
 after_string_in fs s d (Value q m f k) p c = after_in fs (earlier s (string_slip d.quote d)) (string_item d) (Value q m f k) p c
 after_string_in fs s d (Tagged q h) p c = after_in fs (earlier s (string_slip d.quote d)) (string_item d) (Tagged q h) p c
 
-abbrev pub after_string : List Frame → Option Slip → Pieces → ℕ → Class → Option State
+abbrev pub after_string : List Bracket → Option Slip → Pieces → ℕ → Class → Option State
 after_string [] s d p c = None
 after_string (f ∷ fs) s d p c = after_string_in fs s d f p c
 
-abbrev pub more : List Frame → Option Slip → Pieces → ℕ → Class → Option State
+abbrev pub more : List Bracket → Option Slip → Pieces → ℕ → Class → Option State
 more fs s d p (Text x m) = Some (built fs s (Some d) (text_piece p x m))
 more fs s d p (Bytes q x m) = Some (built fs s (Some d) (byte_piece p q x m))
 more fs s d p EmbedOpen = Some (keep (Embedded (Some d) p no_sequence ∷ fs) Wants s)
 more fs s d p c = after_string fs s d p c
 
-abbrev pub begin_chunk : List Frame → Option Slip → ℕ → Class → Option State
+abbrev pub begin_chunk : List Bracket → Option Slip → ℕ → Class → Option State
 begin_chunk fs s p (Text x m) = Some (keep fs (Builds (text_piece p x m)) s)
 begin_chunk fs s p (Bytes q x m) = Some (keep fs (Builds (byte_piece p q x m)) s)
 begin_chunk fs s p EmbedOpen = Some (keep (Embedded None p no_sequence ∷ fs) Wants s)
@@ -294,15 +294,15 @@ begin_chunk _ _ _ _ = None
 abbrev pub simple_slip : ℕ → ℕ → Bool → ℕ → Mark → Option Slip
 simple_slip q p n v m = earlier (slip_unless (is_simple n v) q BadSimple) (slip_unless (is_absent m) p IndicatorNotAllowed)
 
-abbrev pub begin_number : List Frame → Option Slip → ℕ → ℕ → Class → Option State
+abbrev pub begin_number : List Bracket → Option Slip → ℕ → ℕ → Class → Option State
 begin_number fs s q p (Number n v m) = Some (keep fs (HasNumber (when (is_simple n v && is_absent m) (Some (SimpleNode q v)))) (earlier s (simple_slip q p n v m)))
 begin_number _ _ _ _ _ = None
 
-abbrev pub after_number : List Frame → Option Slip → Option Tree → Class → Option State
+abbrev pub after_number : List Bracket → Option Slip → Option Tree → Class → Option State
 after_number fs s i ParenClose = Some (keep fs (Has i) s)
 after_number _ _ _ _ = None
 
-abbrev pub step_in : List Frame → Option Slip → Phase → ℕ → Class → Option State
+abbrev pub step_in : List Bracket → Option Slip → Phase → ℕ → Class → Option State
 step_in fs s Wants p c = begin fs s p c
 step_in fs s (Has i) p c = after fs s i p c
 step_in fs s (Builds d) p c = more fs s d p c
@@ -311,7 +311,7 @@ step_in fs s (WantsNumber q) p c = begin_number fs s q p c
 step_in fs s (HasNumber i) p c = after_number fs s i c
 
 abbrev pub draft_step : State → Token → Option State
-draft_step d t = step_in d.frames d.slip d.phase t.start t.class
+draft_step d t = step_in d.brackets d.slip d.phase t.start t.class
 
 -- the items of the whole text and its first slip
 abbrev pub finished_top : Phase → Option Slip → Sequence → Option (Option Trees × Option Slip)
@@ -320,21 +320,21 @@ finished_top (Has i) s r = Some ((sequence_with r i).items, s)
 finished_top (Builds d) s r = Some ((sequence_with r (string_item d)).items, earlier s (string_slip d.quote d))
 finished_top _ s r = None
 
-abbrev pub finished_in : Phase → Option Slip → List Frame → Option (Option Trees × Option Slip)
+abbrev pub finished_in : Phase → Option Slip → List Bracket → Option (Option Trees × Option Slip)
 finished_in ph s [] = None
 finished_in ph s (Top r ∷ fs) = finished_top ph s r
 finished_in ph s (_ ∷ fs) = None
 
 abbrev pub finished : State → Option (Option Trees × Option Slip)
-finished d = finished_in d.phase d.slip d.frames
+finished d = finished_in d.phase d.slip d.brackets
 
 -- whether a bracket stands behind a comma
-abbrev pub is_behind_comma : Phase → List Frame → Class → Bool
+abbrev pub is_behind_comma : Phase → List Bracket → Class → Bool
 is_behind_comma Wants fs c = filled fs c
 is_behind_comma _ _ _ = false
 
 -- how deep a token goes
-abbrev pub reach : List Frame → Class → ℕ
+abbrev pub reach : List Bracket → Class → ℕ
 reach fs (ArrayOpen m) = suc (levels_in fs)
 reach fs (MapOpen m) = suc (levels_in fs)
 reach fs EmbedOpen = suc (levels_in fs)
@@ -356,7 +356,7 @@ draft_run p limit [] d = Done d
 draft_run p limit (t ∷ ts) d =
     elim (draft_step d t) [
       | None ↦ Stuck t.start UnexpectedToken
-      | Some u ↦ if (is_one p && is_behind_comma d.phase d.frames t.class) then Stuck t.start UnexpectedToken else if nat_le (reach d.frames t.class) limit then draft_run p limit ts u else Stuck t.start TooDeep
+      | Some u ↦ if (is_one p && is_behind_comma d.phase d.brackets t.class) then Stuck t.start UnexpectedToken else if nat_le (reach d.brackets t.class) limit then draft_run p limit ts u else Stuck t.start TooDeep
     ]
 
 -- before the first token

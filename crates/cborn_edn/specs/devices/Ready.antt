@@ -6,8 +6,8 @@ use Rattle.cborn_lex.specs.declared.classes.Profile.{Profile}
 use Rattle.cborn_lex.specs.declared.classes.Token.{Token}
 use Rattle.cborn_edn.specs.declared.faults.EdnReason.{EdnReason}
 use Rattle.cborn_edn.specs.declared.slips.Slip.{Slip}
-use Rattle.cborn_edn.specs.declared.frames.Frame.{Frame}
-use Rattle.cborn_edn.specs.declared.frames.Frame.TheVariants.{Top, Array, Embedded, Value}
+use Rattle.cborn_edn.specs.declared.brackets.Bracket.{Bracket}
+use Rattle.cborn_edn.specs.declared.brackets.Bracket.TheVariants.{Top, Array, Embedded, Value}
 use Rattle.cborn_edn.specs.declared.states.Phase.{Phase}
 use Rattle.cborn_edn.specs.declared.states.Phase.TheVariants.{Has, Builds}
 use Rattle.cborn_edn.specs.declared.states.State.{State}
@@ -20,14 +20,14 @@ MaySpell None = Unit {0}
 MaySpell (Some t) = IsSpelled t
 
 -- its count can rise
-abbrev pub HasRoom : Frame → Type 0
+abbrev pub HasRoom : Bracket → Type 0
 HasRoom (Top r) = suc r.count < 2 ^ 64
 HasRoom (Array q m r) = suc r.count < 2 ^ 64
 HasRoom (Embedded b q r) = suc r.count < 2 ^ 64
 HasRoom (Value q m f k) = suc f.count < 2 ^ 64
 HasRoom _ = Unit {0}
 
-abbrev pub HaveRoom : List Frame → Type 0
+abbrev pub HaveRoom : List Bracket → Type 0
 HaveRoom [] = Unit {0}
 HaveRoom (f ∷ fs) = HasRoom f
 
@@ -38,7 +38,7 @@ MayEnd (Builds d) = MaySpell (string_item d)
 MayEnd _ = Unit {0}
 
 abbrev pub IsReady : State → Type 0
-IsReady s = MayEnd s.phase × HaveRoom s.frames
+IsReady s = MayEnd s.phase × HaveRoom s.brackets
 
 -- pieces that memory holds have a length
 abbrev pub IsHeld : Phase → Type 0
@@ -53,5 +53,5 @@ IsTold (Some ts, s) = Unit {0}
 
 -- what the token t makes of the state d: the state e within the limit, from which each run goes on, or the reason why each run ends there
 abbrev pub Steps : Profile → ℕ → State → Token → State → Option EdnReason → Type 0
-Steps p limit d t e None = (draft_step d t ≡ Some e) × (reach d.frames t.class ≤ limit) × ((more : List Token) → draft_run p limit (t ∷ more) d ≡ draft_run p limit more e)
+Steps p limit d t e None = (draft_step d t ≡ Some e) × (reach d.brackets t.class ≤ limit) × ((more : List Token) → draft_run p limit (t ∷ more) d ≡ draft_run p limit more e)
 Steps p limit d t e (Some r) = (more : List Token) → draft_run p limit (t ∷ more) d ≡ Stuck t.start r

@@ -1,8 +1,8 @@
 use Rattle.std.proofs.Common.{rules, ◌≡◌, ◌+◌, ◌++◌, ◌∷◌, [], refl, length, true, false, inl, subst, sym, ◌∙◌, arith}
 use Rattle.cborn_lex.specs.declared.classes.Mark.TheVariants.{Absent}
 use Rattle.cborn_lex.specs.declared.classes.Class.TheVariants.{ArrayOpen, MapOpen, ArrayClose, MapClose, ParenClose, Comma, Colon}
-use Rattle.cborn_edn.specs.declared.strings.Kind.{Kind}
-use Rattle.cborn_edn.specs.declared.strings.Kind.TheVariants.{Bytes as OfBytes, Text as OfText}
+use Rattle.cborn_edn.specs.declared.strings.StringKind.{StringKind}
+use Rattle.cborn_edn.specs.declared.strings.StringKind.TheVariants.{Bytes as OfBytes, Text as OfText}
 use Rattle.cborn_spell.specs.Descent.{StringTaken}
 use Rattle.cborn_spell.proofs.Taking.{gap_item, before_none, row_more, row_comma, pairs_none, pairs_more, pairs_comma, array_done, no_array_done, map_done, no_map_done, tag_done, number_done, plain_number, below_number}
 use Rattle.cborn_spell.proofs.Joining.{gap_piece, embedded_done, no_embedded_done, one_piece, more_pieces, string_done, string_item, one_chunk, more_chunks, chunked_done}
@@ -149,5 +149,5 @@ pub pieces::put_chunks-chunks-preserved : goal.pieces::put_chunks-chunks-preserv
 pieces::put_chunks-chunks-preserved t c = (
   c.in_ok-last.ensures.within,
   more_chunks c.args.profile c.args.text.now c.args.at c.chunks.place c.in-Some.next c.in_ok-last.last c.args.room c.in_ok-first.kind c.args.out.now.items c.chunks.out.items c.put_joined-in-chunks.new.out.items c.chunks.invariant.1 (c.in-Some.ensures.token Comma refl)
-      (subst (λ (k : Kind). StringTaken c.args.profile c.args.text.now c.in-Some.next c.in_ok-last.last c.args.room k c.chunks.out.items c.put_joined-in-chunks.new.out.items) (c.is_same.ensures c.if-not-is_same.false) c.in_ok-last.ensures.taken),
+      (subst (λ (k : StringKind). StringTaken c.args.profile c.args.text.now c.in-Some.next c.in_ok-last.last c.args.room k c.chunks.out.items c.put_joined-in-chunks.new.out.items) (c.is_same.ensures c.if-not-is_same.false) c.in_ok-last.ensures.taken),
 )

@@ -2,7 +2,7 @@ use Rattle.std.proofs.Common.{◌≡◌, ◌∙◌, sym, ap, subst, Some, None, 
 use Rattle.std.specs.Prelude.{Result}
 use Rattle.std.specs.Result.{IsErr, IsErrAnd}
 use Rattle.cborn_model.specs.Tree.{trees}
-use Rattle.cborn_edn.specs.Notates.{IsRefused}
+use Rattle.cborn_edn.specs.Notates.{IsNoNotation}
 use Rattle.cborn_edn.proofs.Reading.{no_end, notated, whole_told}
 use Rattle.cborn_edn.proofs.readers.read_notation.Goals as goal
 
@@ -19,7 +19,7 @@ passed_on (Ok a) x P p h = tt
 passed_on (Err e) x P p h = subst P (sym h.1) p
 
 pub returns-in_err-state-clause-refused : goal.returns-in_err-state-clause-refused
-returns-in_err-state-clause-refused c = passed_on c.from_residual.result c.in_err-state.field-0.0 (IsRefused c.args.profile c.args.limit c.args.text.now) c.in_err-state.ensures.refused c.from_residual.ensures
+returns-in_err-state-clause-refused c = passed_on c.from_residual.result c.in_err-state.field-0.0 (IsNoNotation c.args.profile c.args.limit c.args.text.now) c.in_err-state.ensures.refused c.from_residual.ensures
 
 pub returns-in-Some-clause-notates : goal.returns-in-Some-clause-notates
 returns-in-Some-clause-notates c =

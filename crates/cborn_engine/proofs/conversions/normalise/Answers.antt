@@ -1,5 +1,5 @@
 use Rattle.std.proofs.Common.{List, ℕ, Option, arith, rules}
-use Rattle.cborn_engine.specs.Sending.{Writes}
+use Rattle.cborn_engine.specs.Sending.{Sends}
 use Rattle.cborn_engine.proofs.Canonicity.{encoded_held, normalised}
 use Rattle.cborn_engine.proofs.conversions.normalise.Goals as goal
 
@@ -9,7 +9,7 @@ written-requires g c =
 
 pub returns-clause-normalises : goal.returns-clause-normalises
 returns-clause-normalises g c =
-    let answered = λ (sent sent_after : Option (List ℕ)) (writes : Writes sent sent_after c.deref.result.now c.write_answer.result).
+    let answered = λ (sent sent_after : Option (List ℕ)) (writes : Sends sent sent_after c.deref.result.now c.write_answer.result).
     normalised g.O.KeyOrder.order c.args.in_kind c.args.out_kind c.args.limit _ _ _ sent sent_after c.in_ok-bytes.bytes c.in_ok-answer.answer.items c.deref.result.now c.write_answer.result
     c.in_ok-bytes.ensures.encodes c.in_ok-answer.ensures c.deref.ensures.value writes in
     search (rules, answered, c.write_answer.ensures.writes)

@@ -10,7 +10,7 @@ use std::marker::Model;
 
 /// An open bracket, with what stands complete inside it. A place is that of the bracket.
 #[derive(Drop)]
-pub(crate) enum Frame {
+pub(crate) enum Bracket {
     /// The text itself.
     Top(Sequence),
     Array {
@@ -49,9 +49,9 @@ pub(crate) enum Frame {
     },
 }
 
-impl Frame {
+impl Bracket {
     ghost use Rattle.std.specs.Prelude.{◌≡◌, IfOk, Some, None, if◌then◌else◌};
-    ghost use Rattle.cborn_edn.specs.declared.frames.Frame.TheVariants.{Tagged};
+    ghost use Rattle.cborn_edn.specs.declared.brackets.Bracket.TheVariants.{Tagged};
     ghost use Rattle.cborn_edn.specs.devices.Levels.{is_level, has_items, has_pairs};
     ghost use Rattle.cborn_edn.specs.devices.Draft as pure;
     ghost use Rattle.cborn_edn.specs.devices.Ready.{MaySpell, HasRoom};
@@ -64,12 +64,12 @@ impl Frame {
         ensures level { is_level self.new ≡ is_level self.old }
     {
         match self {
-            Frame::Top(items) => items.add(item)?,
-            Frame::Array { row, .. } => row.add(item)?,
-            Frame::Embedded { items, .. } => items.add(item)?,
-            Frame::Value { fields, key, .. } => {
+            Bracket::Top(items) => items.add(item)?,
+            Bracket::Array { row, .. } => row.add(item)?,
+            Bracket::Embedded { items, .. } => items.add(item)?,
+            Bracket::Value { fields, key, .. } => {
                 fields.add(key.take(), item)?;
-                let Frame::Value {
+                let Bracket::Value {
                     place,
                     mark,
                     fields,
@@ -78,7 +78,7 @@ impl Frame {
                 else {
                     unreachable!();
                 };
-                *self = Frame::Key {
+                *self = Bracket::Key {
                     place,
                     mark,
                     fields,
@@ -98,12 +98,12 @@ impl Frame {
         ensures level { is_level self.new ≡ is_level self.old }
     {
         match self.take() {
-            Frame::Key {
+            Bracket::Key {
                 place,
                 mark,
                 fields,
             } => {
-                *self = Frame::Value {
+                *self = Bracket::Value {
                     place,
                     mark,
                     fields,
@@ -121,13 +121,13 @@ impl Frame {
 
     // Itself; what stays in its place owns nothing.
     #[inline]
-    fn take(&mut self) -> Frame
+    fn take(&mut self) -> Bracket
         ensures taken { result ≡ self.old }
         ensures left { self.new ≡ Tagged 0 None }
     {
         std::mem::replace(
             self,
-            Frame::Tagged {
+            Bracket::Tagged {
                 place: 0,
                 head: None,
             },
@@ -139,7 +139,7 @@ impl Frame {
         ensures { result ≡ is_level self.now }
     {
         match self {
-            Frame::Top(_) | Frame::Chunked { .. } => false,
+            Bracket::Top(_) | Bracket::Chunked { .. } => false,
             _ => true,
         }
     }
@@ -149,9 +149,9 @@ impl Frame {
         ensures { result ≡ has_items self.now }
     {
         match self {
-            Frame::Top(items) => items.count > 0,
-            Frame::Array { row, .. } => row.count > 0,
-            Frame::Embedded { items, .. } => items.count > 0,
+            Bracket::Top(items) => items.count > 0,
+            Bracket::Array { row, .. } => row.count > 0,
+            Bracket::Embedded { items, .. } => items.count > 0,
             _ => false,
         }
     }
@@ -161,7 +161,7 @@ impl Frame {
         ensures { result ≡ has_pairs self.now }
     {
         match self {
-            Frame::Key { fields, .. } => fields.count > 0,
+            Bracket::Key { fields, .. } => fields.count > 0,
             _ => false,
         }
     }
@@ -169,42 +169,42 @@ impl Frame {
 
 /// The open brackets. Contracts see the innermost first.
 #[derive(Drop)]
-pub(crate) struct Frames {
-    frames: Vec<Frame>,
+pub(crate) struct Brackets {
+    brackets: Vec<Bracket>,
     levels: u64,
 }
 
-impl Model for Frames {
+impl Model for Brackets {
     ghost use Rattle.std.specs.Prelude.{List};
-    ghost use Rattle.cborn_edn.specs.declared.frames.Frame.{Frame as OneFrame};
+    ghost use Rattle.cborn_edn.specs.declared.brackets.Bracket.{Bracket as OneFrame};
 
     ghost Value = { List OneFrame };
 
-    ghost use Rattle.cborn_edn.specs.contracts.frames.Frame as frame;
+    ghost use Rattle.cborn_edn.specs.contracts.brackets.Bracket as bracket;
     ghost use Rattle.std.specs.Coded.{coded_list};
 
-    ghost coded = { coded_list frame.the_row.coded };
+    ghost coded = { coded_list bracket.the_row.coded };
 
     ghost use Rattle.std.specs.Prelude.{◌≡◌};
     ghost use mathlib.Core.List as lists;
     ghost use Rattle.cborn_edn.specs.devices.Levels.{levels_in};
 
-    ghost view = { λ f. lists.reverse f.frames.items };
+    ghost view = { λ f. lists.reverse f.brackets.items };
 
-    ghost invariant = { λ f. f.levels ≡ levels_in (lists.reverse f.frames.items) };
+    ghost invariant = { λ f. f.levels ≡ levels_in (lists.reverse f.brackets.items) };
 }
 
-impl Frames {
+impl Brackets {
     ghost use Rattle.std.specs.Prelude.{◌≡◌, ◌<◌, ◌^◌, [], ◌∷◌, OnOk, IfOk, Some, None, MatchOption, if◌then◌else◌};
     ghost use Rattle.cborn_edn.specs.devices.Levels.{levels_in, filled};
     ghost use Rattle.cborn_edn.specs.devices.Draft as pure;
     ghost use Rattle.cborn_edn.specs.devices.Ready.{MaySpell, HaveRoom};
 
-    pub(crate) fn new(alloc: Global) -> Frames
+    pub(crate) fn new(alloc: Global) -> Brackets
         ensures { result ≡ [] }
     {
-        Frames {
-            frames: Vec::new(alloc),
+        Brackets {
+            brackets: Vec::new(alloc),
             levels: 0,
         }
     }
@@ -220,11 +220,11 @@ impl Frames {
 
     /// One more, inside the others.
     #[tactic(auto, using(crate::proofs::Innermost::innermost))]
-    pub(crate) fn push(&mut self, frame: Frame) -> Result<(), AllocError>
-        ensures { OnOk result (self.new ≡ frame ∷ self.old) }
+    pub(crate) fn push(&mut self, bracket: Bracket) -> Result<(), AllocError>
+        ensures { OnOk result (self.new ≡ bracket ∷ self.old) }
     {
-        let deeper = frame.is_level();
-        push_one(&mut self.frames, frame)?;
+        let deeper = bracket.is_level();
+        push_one(&mut self.brackets, bracket)?;
         if deeper {
             self.levels += 1;
         }
@@ -233,14 +233,14 @@ impl Frames {
 
     /// The innermost, taken off.
     #[tactic(auto, using(crate::proofs::Innermost::innermost))]
-    pub(crate) fn pop(&mut self) -> Option<Frame>
-        ensures { MatchOption result (self.old ≡ []) (λ frame. self.old ≡ frame ∷ self.new) }
+    pub(crate) fn pop(&mut self) -> Option<Bracket>
+        ensures { MatchOption result (self.old ≡ []) (λ bracket. self.old ≡ bracket ∷ self.new) }
     {
-        let frame = self.frames.pop()?;
-        if frame.is_level() {
+        let bracket = self.brackets.pop()?;
+        if bracket.is_level() {
             self.levels -= 1;
         }
-        Some(frame)
+        Some(bracket)
     }
 
     /// A comma behind an item: the innermost takes the item in, where a comma may follow. Whether that is so.
@@ -250,10 +250,10 @@ impl Frames {
         requires room { HaveRoom self.old }
         ensures { IfOk result (λ b. pure.settled_in self.old item ≡ (if b then Some self.new else None)) }
     {
-        let Some(frame) = self.frames.last_mut() else {
+        let Some(bracket) = self.brackets.last_mut() else {
             return Ok(false);
         };
-        frame.settle(item)
+        bracket.settle(item)
     }
 
     /// A colon behind an item: the item becomes the key of the next pair, where the innermost is a map that wants one. Whether that is so.
@@ -261,18 +261,18 @@ impl Frames {
     pub(crate) fn key(&mut self, item: Option<Node>) -> bool
         ensures { pure.keyed_in self.old item ≡ (if result then Some self.new else None) }
     {
-        let Some(frame) = self.frames.last_mut() else {
+        let Some(bracket) = self.brackets.last_mut() else {
             return false;
         };
-        frame.key(item)
+        bracket.key(item)
     }
 
     /// Whether the innermost holds the chunks of a string.
     pub(crate) fn are_chunks(&self) -> bool
         ensures { result ≡ pure.are_chunks self.now }
     {
-        match self.frames.as_slice().last() {
-            Some(Frame::Chunked { .. }) => true,
+        match self.brackets.as_slice().last() {
+            Some(Bracket::Chunked { .. }) => true,
             _ => false,
         }
     }
@@ -281,10 +281,10 @@ impl Frames {
     pub(crate) fn is_filled(&self, class: &Class) -> bool
         ensures { result ≡ filled self.now class.now }
     {
-        match self.frames.as_slice().last() {
-            Some(frame) => match class {
-                Class::ArrayClose | Class::EmbedClose(_) => frame.has_items(),
-                Class::MapClose => frame.has_pairs(),
+        match self.brackets.as_slice().last() {
+            Some(bracket) => match class {
+                Class::ArrayClose | Class::EmbedClose(_) => bracket.has_items(),
+                Class::MapClose => bracket.has_pairs(),
                 _ => false,
             },
             None => false,
