@@ -32,7 +32,7 @@ extern "C" {
 #endif
 
 /* The version of this header: 65536 for each major one, 256 for each minor one, and the patch. */
-#define CBORN_VERSION 0x000100
+#define CBORN_VERSION 0x000200
 
 /* What an input or an output is. As an output both notations are the same. */
 enum {

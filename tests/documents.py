@@ -1,7 +1,8 @@
 #!/usr/bin/env python3
 """Run each line '$ COMMAND' of the README, the guide and the man page, and compare what it prints with the lines below it.
 Then see whether each function, file and clause that docs/PROMISES.md names is in the source, whether each link of the
-documents leads somewhere, and whether each target that they give to make is one.
+documents leads somewhere, whether each target that they give to make is one, and whether all that tells a version tells that
+of bindings/library.mk.
 
     documents.py PROGRAM
 
@@ -85,6 +86,25 @@ def lost(root):
         yield from (f"{page.relative_to(root)}: no target {name}" for name in {"".join(it) for it in named} - targets)
 
 
+def other_versions(root):
+    """What tells a version other than that of bindings/library.mk, or none."""
+    rules = (root / "bindings/library.mk").read_text()
+    version = re.search(r"^VERSION := ([\d.]+)$", rules, re.MULTILINE).group(1)
+    number = "0x" + "".join(f"{int(part):02x}" for part in version.split("."))
+    told = {
+        "CHANGELOG.md": f"## {version}\n",
+        "README.md": f"cborn-{version}-linux",
+        "docs/LIBRARY.md": f"cborn-{version}-linux",
+        "crates/cborn/src/options.rt": f'.version("{version}")',
+        "crates/cborn_c/src/lib.rt": f"    {number}\n",
+        "include/cborn.h": f"#define CBORN_VERSION {number}\n",
+        "bindings/rust/Cargo.toml": f'version = "{version}"',
+    }
+    for name, text in told.items():
+        if text not in (root / name).read_text():
+            yield f"{name} doesn't say {text.strip()}"
+
+
 def main():
     program = pathlib.Path(sys.argv[1]).resolve()
     root = pathlib.Path(__file__).resolve().parent.parent
@@ -110,6 +130,9 @@ def main():
         failed += 1
         print(f"docs/PROMISES.md: there is no {name}")
     for line in lost(root):
+        failed += 1
+        print(line)
+    for line in other_versions(root):
         failed += 1
         print(line)
     print(f"{passed} examples passed, {failed} failed")

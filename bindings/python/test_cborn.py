@@ -45,7 +45,7 @@ class Calls(unittest.TestCase):
         self.assertEqual(cborn.compare(LOOSE + b"\x05", TIGHT + b"\x06"), 1)
 
     def test_version(self):
-        self.assertEqual(cborn.version(), "0.1.0")
+        self.assertEqual(cborn.version(), "0.2.0")
 
     def test_stack_rises_with_the_depth(self):
         self.assertLess(cborn.stack(1), cborn.stack(1024))

@@ -134,12 +134,12 @@ pub extern "C" fn cborn_compare(
     difference_told(compared(alloc, limit, from_a, first, from_b, second), place)
 }
 
-/// The version of the library, 65,536 for each major one, 256 for each minor one, and the patch: 0.1.0.
+/// The version of the library, 65,536 for each major one, 256 for each minor one, and the patch: 0.2.0.
 #[unsafe(no_mangle)]
 pub extern "C" fn cborn_version() -> u32
-    ensures { result ≡ 256 }
+    ensures { result ≡ 512 }
 {
-    0x000100
+    0x000200
 }
 
 #[cfg(test)]

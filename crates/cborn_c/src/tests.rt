@@ -139,5 +139,5 @@ fn compares(rt: HostRuntime) {
 
 #[test]
 fn tells_its_version(rt: HostRuntime) {
-    assert_eq!(rt; cborn_version(), 0x000100);
+    assert_eq!(rt; cborn_version(), 0x000200);
 }
