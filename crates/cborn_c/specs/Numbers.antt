@@ -85,7 +85,7 @@ defect_number defect.EndlessLength = 1538
 defect_number defect.LooseBignum = 1539
 defect_number defect.KeyOrder = 1540
 
--- 3: memory was refused. A reader of a slice fails never, and a writer to memory for want of it alone.
+-- 3: memory was refused. Of an input that is at hand no read fails, and nothing goes to a writer, so that 3 stands there too.
 abbrev pub fault_number : EngineFault → ℕ
 fault_number (fault.Wire (wire_fault.Refused p r)) = wire_number r
 fault_number (fault.Wire wire_fault.OutOfMemory) = 3
