@@ -6,8 +6,8 @@ ghost use Rattle.cborn_edn.specs.devices.Draft as pure;
 ghost use Rattle.cborn_edn.specs.declared.states.Phase.TheVariants.{Wants};
 ghost use Rattle.cborn_edn.specs.devices.Ready.{MaySpell, HaveRoom};
 
-use crate::contents::Chunks;
 use crate::brackets::Bracket;
+use crate::contents::Chunks;
 use crate::lists::discard;
 use crate::states::{Phase, State};
 use crate::strings::Pieces;

@@ -9,7 +9,7 @@ use crate::EdnReason;
 use crate::lists::{ChunkList, NodeList, NodePairs, SpelledList, discard};
 use crate::numbers::size_for;
 use crate::slips::{Slip, earlier, slip_at, slip_unless};
-use crate::strings::{StringKind, Pieces, chunked};
+use crate::strings::{Pieces, StringKind, chunked};
 use cborn_lex::Mark;
 use cborn_model::{ByteString, Chunk, Form, Node, Spelled};
 use std::alloc::{AllocError, Global};

@@ -23,10 +23,10 @@
 //! time from the text (`states`), keeps in `brackets` what is open, and keeps no token.
 #![tactic(auto)]
 
+mod brackets;
 mod closings;
 mod contents;
 mod faults;
-mod brackets;
 pub mod laws;
 mod lists;
 mod numbers;

@@ -7,8 +7,8 @@ ghost use Rattle.cborn_edn.specs.declared.states.Phase.TheVariants.{Wants, Wants
 ghost use Rattle.cborn_edn.specs.Meaning.{tag_slips};
 ghost use Rattle.cborn_model.specs.Tree.{Simple as SimpleNode};
 
-use crate::contents::{Chunks, Fields, Row, Sequence};
 use crate::brackets::Bracket;
+use crate::contents::{Chunks, Fields, Row, Sequence};
 use crate::numbers::{integer, simple, tag_head};
 use crate::slips::slip_at;
 use crate::states::{Phase, State};

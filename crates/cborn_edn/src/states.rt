@@ -6,8 +6,8 @@ ghost use Rattle.cborn_edn.specs.devices.Ready.{IsReady, IsHeld, MayEnd};
 ghost use Rattle.cborn_edn.specs.declared.brackets.Bracket.TheVariants.{Top};
 ghost use Rattle.cborn_edn.specs.declared.states.Phase.TheVariants.{Wants, Has};
 
-use crate::contents::Sequence;
 use crate::brackets::{Bracket, Brackets};
+use crate::contents::Sequence;
 use crate::lists::SpelledList;
 use crate::numbers::is_small;
 use crate::slips::{Slip, earlier};

@@ -240,7 +240,13 @@ fn joined(
     }
 }
 
-fn string_node(alloc: Global, kind: StringKind, place: u64, mark: Mark, bytes: ByteString) -> Option<Node>
+fn string_node(
+    alloc: Global,
+    kind: StringKind,
+    place: u64,
+    mark: Mark,
+    bytes: ByteString,
+) -> Option<Node>
     ensures { result ≡ pure.marked_node kind place mark bytes }
 {
     if mark == Mark::Endless {

@@ -8,7 +8,7 @@ ghost use Rattle.cborn_wire.specs.Machine.{nothing, Live, start, items_at, pairs
 ghost use Rattle.cborn_wire.specs.HeadReading.{major_at, seen_argument, ArgumentFits};
 ghost use Rattle.cborn_wire.specs.StackView.{seen_kind, seen_frame, opened, ready_of, seen, seen_partial, seen_with, Advances, Runs, Becomes, IsMade};
 
-use crate::frames::{Frame, StringKind, Partial, push_part};
+use crate::frames::{Frame, Partial, StringKind, push_part};
 use crate::heads::{read_number, wide_width};
 use crate::{Argument, Head, HeadRead, WireFault, WireReason, read_head};
 use cborn_model::{ByteString, Chunk, Form, Node, Spelled, Width};
@@ -339,7 +339,12 @@ impl Stack {
         Ok(())
     }
 
-    fn begin_string(&mut self, place: u64, kind: StringKind, argument: Argument) -> Result<(), WireFault>
+    fn begin_string(
+        &mut self,
+        place: u64,
+        kind: StringKind,
+        argument: Argument,
+    ) -> Result<(), WireFault>
         requires nothing { self.old.partial ≡ Partial.Nothing }
         requires made { IsMade (after_head self.old.at place (ready_of self.old) (opened self.old) (major_of (seen_kind kind)) (seen_argument argument)) }
         ensures { Becomes (after_head self.old.at place (ready_of self.old) (opened self.old) (major_of (seen_kind kind)) (seen_argument argument)) self.old self.new result }
