@@ -1,5 +1,5 @@
 -- What is answered for a text that notates nothing.
-use Rattle.std.proofs.Common.{◌≡◌, ℕ, List, Option, Ok, Err, Vec, Global, sym, ◌∙◌, subst}
+use Rattle.std.proofs.Common.{◌≡◌, ◌≤◌, ℕ, List, length, Option, Ok, Err, Vec, Global, sym, ◌∙◌, subst}
 use Rattle.std.specs.Prelude.{IsUtf8}
 use Rattle.std.specs.Str.{IsValidUpTo}
 use Rattle.cborn_lex.specs.declared.classes.Profile.{Profile}
@@ -11,8 +11,30 @@ use Rattle.cborn_edn.specs.Notates.{IsNoNotation}
 use Rattle.cborn_engine.specs.declared.faults.EngineFault.TheVariants as fault
 use Rattle.cborn_engine.specs.Faults.{of_edn}
 use Rattle.cborn_engine.specs.Loading.{Loads}
+use Rattle.cborn_engine.specs.declared.kinds.Kind.{Kind}
+use Rattle.cborn_engine.specs.Refusing.{IsRefused}
+use Rattle.cborn_engine.specs.Showing.{TellAnswers}
 use Rattle.cborn_engine.specs.Encoding.{kind_of}
 use Rattle.cborn_engine.specs.Pieces.{Collects}
+
+-- A text that is held, and has no tokens, no tree or no meaning.
+pub refused : (limit most : ℕ) (p : Profile) (input text : List ℕ) (why : EdnFault) → length input ≤ most → text ≡ input → IsUtf8 input → IsNoNotation p limit text why → IsRefused (kind_of p) limit most input (of_edn why)
+refused limit most p input text why n e u r = go p why (subst (λ (x : List ℕ). IsNoNotation p limit x why) e r)
+  where
+    go : (p : Profile) (why : EdnFault) → IsNoNotation p limit input why → IsRefused (kind_of p) limit most input (of_edn why)
+    go profile.One (edn.Lex (lex.Refused q s)) k = (n, (u, k))
+    go profile.Two (edn.Lex (lex.Refused q s)) k = (n, (u, k))
+    go profile.One (edn.Refused q s) k = (n, (u, k))
+    go profile.Two (edn.Refused q s) k = (n, (u, k))
+    go p (edn.Lex lex.OutOfMemory) k = n
+    go p edn.OutOfMemory k = n
+
+-- what is told of it
+pub not_told : (k out : Kind) (limit most : ℕ) (input : List ℕ) (why : EdnFault) → IsRefused k limit most input (of_edn why) → TellAnswers k out limit most input (Err (of_edn why))
+not_told k out limit most input (edn.Lex (lex.Refused q s)) r = (r, tt)
+not_told k out limit most input (edn.Lex lex.OutOfMemory) r = (r, tt)
+not_told k out limit most input (edn.Refused q s) r = (r, tt)
+not_told k out limit most input edn.OutOfMemory r = (r, tt)
 
 module _ (limit most : ℕ) (before after : Option (List ℕ)) (bytes : Vec ℕ Global) (now : List ℕ) where
   -- it isn't UTF-8
