@@ -50,7 +50,7 @@ pub(crate) enum Look {
 
 /// What stands at the front of `bytes`.
 #[inline(always)]
-fn look_at(bytes: &[u8]) -> Look
+pub(crate) fn look_at(bytes: &[u8]) -> Look
     ensures steps { Steps bytes.now result }
     ensures looks { (piece : Piece) (rest : List ℕ) → PieceFits piece → bytes.now ≡ piece_bytes piece ++ rest → Looks piece result }
 {

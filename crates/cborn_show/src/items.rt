@@ -7,6 +7,7 @@ ghost use Rattle.cborn_show.specs.Passed.{NodeShown, NodeLeaves, NextShown, Node
 
 use crate::leaves::{behind_break, put_long_string_leaving, put_simple, put_string_leaving};
 use crate::numbers::{put_below, put_between, put_indicator, put_next_number, put_number};
+use crate::prospects::Outlook;
 use cborn_model::{Width, shortest};
 use cborn_wire::{Argument, HeadRead, read_head};
 use std::alloc::Global;
@@ -17,13 +18,14 @@ use std::alloc::Global;
 pub(crate) fn put_item<'a>(
     alloc: Global,
     room: u64,
+    outlook: &mut Outlook,
     bytes: &'a [u8],
     out: &mut Vec<u8>,
 ) -> Option<&'a [u8]>
     requires { room ≤ 1024 }
     ensures { IfSome result (λ rest. NodeShown room bytes.now rest.now out.old.items out.new.items) }
 {
-    let left = put_node(alloc, room, bytes, out)?;
+    let left = put_node(alloc, room, outlook, bytes, out)?;
     last(bytes, left)
 }
 
@@ -42,7 +44,13 @@ fn last(bytes: &[u8], left: usize) -> Option<&[u8]>
 /// of a deep nest small. So what isn't an array, a map or a tag is written out of line.
 #[cycle(shown)]
 #[inline(never)]
-fn put_node(alloc: Global, room: u64, bytes: &[u8], out: &mut Vec<u8>) -> Option<usize>
+fn put_node(
+    alloc: Global,
+    room: u64,
+    outlook: &mut Outlook,
+    bytes: &[u8],
+    out: &mut Vec<u8>,
+) -> Option<usize>
     requires { room ≤ 1024 }
     ensures { IfSome result (λ left. NodeLeaves room bytes.now left out.old.items out.new.items) }
 {
@@ -62,9 +70,9 @@ fn put_node(alloc: Global, room: u64, bytes: &[u8], out: &mut Vec<u8>) -> Option
             }
             2 => put_string_leaving(alloc, false, width, n, rest, out),
             3 => put_string_leaving(alloc, true, width, n, rest, out),
-            4 => put_fixed_array(alloc, room, width, n, rest, out),
-            5 => put_fixed_map(alloc, room, width, n, rest, out),
-            6 => put_tagged(alloc, room, width, n, rest, out),
+            4 => put_fixed_array(alloc, room, outlook, width, n, rest, out),
+            5 => put_fixed_map(alloc, room, outlook, width, n, rest, out),
+            6 => put_tagged(alloc, room, outlook, width, n, rest, out),
             7 => {
                 put_simple(head.argument, out)?;
                 Some(rest.len())
@@ -74,8 +82,8 @@ fn put_node(alloc: Global, room: u64, bytes: &[u8], out: &mut Vec<u8>) -> Option
         Argument::Endless => match head.major {
             2 => put_long_string_leaving(alloc, false, rest, out),
             3 => put_long_string_leaving(alloc, true, rest, out),
-            4 => put_endless_array(alloc, room, rest, out),
-            5 => put_endless_map(alloc, room, rest, out),
+            4 => put_endless_array(alloc, room, outlook, rest, out),
+            5 => put_endless_map(alloc, room, outlook, rest, out),
             _ => None,
         },
     }
@@ -87,6 +95,7 @@ fn put_node(alloc: Global, room: u64, bytes: &[u8], out: &mut Vec<u8>) -> Option
 fn put_fixed_array(
     alloc: Global,
     room: u64,
+    outlook: &mut Outlook,
     width: Width,
     n: u64,
     bytes: &[u8],
@@ -95,12 +104,12 @@ fn put_fixed_array(
     requires { room ≤ 1024 }
     ensures { IfSome result (λ left. WidthFits width n → NodeLeaves room (head Array (Given width n) ++ bytes.now) left out.old.items out.new.items) }
 {
-    if room == 0 {
+    if room == 0 || n > bytes.len() as u64 {
         return None;
     }
     out.push(b'[').ok()?;
     put_opened(width, n, out)?;
-    let (rest, count) = put_items(alloc, room - 1, n, false, bytes, out)?;
+    let (rest, count) = put_items(alloc, room - 1, outlook, n, false, bytes, out)?;
     if count != n {
         return None;
     }
@@ -123,7 +132,13 @@ fn put_opened(width: Width, n: u64, out: &mut Vec<u8>) -> Option<()>
 /// The array of the items at the front of `bytes`, up to a break.
 #[cycle(shown)]
 #[inline(never)]
-fn put_endless_array(alloc: Global, room: u64, bytes: &[u8], out: &mut Vec<u8>) -> Option<usize>
+fn put_endless_array(
+    alloc: Global,
+    room: u64,
+    outlook: &mut Outlook,
+    bytes: &[u8],
+    out: &mut Vec<u8>,
+) -> Option<usize>
     requires { room ≤ 1024 }
     ensures { IfSome result (λ left. NodeLeaves room (head Array Unbounded ++ bytes.now) left out.old.items out.new.items) }
 {
@@ -131,7 +146,7 @@ fn put_endless_array(alloc: Global, room: u64, bytes: &[u8], out: &mut Vec<u8>) 
         return None;
     }
     out.extend_from_slice(b"[_ ").ok()?;
-    let (rest, _) = put_items(alloc, room - 1, u64::MAX, true, bytes, out)?;
+    let (rest, _) = put_items(alloc, room - 1, outlook, u64::MAX, true, bytes, out)?;
     let after = behind_break(rest)?;
     out.push(b']').ok()?;
     Some(after.len())
@@ -143,6 +158,7 @@ fn put_endless_array(alloc: Global, room: u64, bytes: &[u8], out: &mut Vec<u8>) 
 fn put_items<'a>(
     alloc: Global,
     room: u64,
+    outlook: &mut Outlook,
     most: u64,
     may_end: bool,
     bytes: &'a [u8],
@@ -157,7 +173,10 @@ fn put_items<'a>(
         if is_done(count, most, may_end, rest) {
             break;
         }
-        rest = put_next(alloc, room, count, rest, out)?;
+        if !outlook.is_good(may_end, rest, out.len()) {
+            return None;
+        }
+        rest = put_next(alloc, room, outlook, count, rest, out)?;
         count += 1;
     }
     Some((rest, count))
@@ -169,6 +188,7 @@ fn put_items<'a>(
 fn put_next<'a>(
     alloc: Global,
     room: u64,
+    outlook: &mut Outlook,
     index: u64,
     bytes: &'a [u8],
     out: &mut Vec<u8>,
@@ -180,7 +200,7 @@ fn put_next<'a>(
         return put_next_integer(index, bytes, out);
     }
     put_between(index, out)?;
-    put_item(alloc, room, bytes, out)
+    put_item(alloc, room, outlook, bytes, out)
 }
 
 /// The same of an integer, which is most of what arrays hold. None for any other item.
@@ -225,6 +245,7 @@ fn is_done(count: u64, most: u64, may_end: bool, bytes: &[u8]) -> bool
 fn put_fixed_map(
     alloc: Global,
     room: u64,
+    outlook: &mut Outlook,
     width: Width,
     n: u64,
     bytes: &[u8],
@@ -233,12 +254,12 @@ fn put_fixed_map(
     requires { room ≤ 1024 }
     ensures { IfSome result (λ left. WidthFits width n → NodeLeaves room (head Map (Given width n) ++ bytes.now) left out.old.items out.new.items) }
 {
-    if room == 0 {
+    if room == 0 || n > bytes.len() as u64 {
         return None;
     }
     out.push(b'{').ok()?;
     put_opened(width, n, out)?;
-    let (rest, count) = put_pairs(alloc, room - 1, n, false, bytes, out)?;
+    let (rest, count) = put_pairs(alloc, room - 1, outlook, n, false, bytes, out)?;
     if count != n {
         return None;
     }
@@ -249,7 +270,13 @@ fn put_fixed_map(
 /// The map of the pairs at the front of `bytes`, up to a break.
 #[cycle(shown)]
 #[inline(never)]
-fn put_endless_map(alloc: Global, room: u64, bytes: &[u8], out: &mut Vec<u8>) -> Option<usize>
+fn put_endless_map(
+    alloc: Global,
+    room: u64,
+    outlook: &mut Outlook,
+    bytes: &[u8],
+    out: &mut Vec<u8>,
+) -> Option<usize>
     requires { room ≤ 1024 }
     ensures { IfSome result (λ left. NodeLeaves room (head Map Unbounded ++ bytes.now) left out.old.items out.new.items) }
 {
@@ -257,7 +284,7 @@ fn put_endless_map(alloc: Global, room: u64, bytes: &[u8], out: &mut Vec<u8>) ->
         return None;
     }
     out.extend_from_slice(b"{_ ").ok()?;
-    let (rest, _) = put_pairs(alloc, room - 1, u64::MAX, true, bytes, out)?;
+    let (rest, _) = put_pairs(alloc, room - 1, outlook, u64::MAX, true, bytes, out)?;
     let after = behind_break(rest)?;
     out.push(b'}').ok()?;
     Some(after.len())
@@ -269,6 +296,7 @@ fn put_endless_map(alloc: Global, room: u64, bytes: &[u8], out: &mut Vec<u8>) ->
 fn put_pairs<'a>(
     alloc: Global,
     room: u64,
+    outlook: &mut Outlook,
     most: u64,
     may_end: bool,
     bytes: &'a [u8],
@@ -283,8 +311,11 @@ fn put_pairs<'a>(
         if is_done(count, most, may_end, rest) {
             break;
         }
+        if !outlook.is_good(may_end, rest, out.len()) {
+            return None;
+        }
         put_between(count, out)?;
-        rest = put_pair(alloc, room, rest, out)?;
+        rest = put_pair(alloc, room, outlook, rest, out)?;
         count += 1;
     }
     Some((rest, count))
@@ -293,13 +324,19 @@ fn put_pairs<'a>(
 /// The pair at the front of `bytes`.
 #[cycle(shown)]
 #[inline(always)]
-fn put_pair<'a>(alloc: Global, room: u64, bytes: &'a [u8], out: &mut Vec<u8>) -> Option<&'a [u8]>
+fn put_pair<'a>(
+    alloc: Global,
+    room: u64,
+    outlook: &mut Outlook,
+    bytes: &'a [u8],
+    out: &mut Vec<u8>,
+) -> Option<&'a [u8]>
     requires { room ≤ 1024 }
     ensures { IfSome result (λ rest. PairShown room bytes.now rest.now out.old.items out.new.items) }
 {
-    let after = put_item(alloc, room, bytes, out)?;
+    let after = put_item(alloc, room, outlook, bytes, out)?;
     out.extend_from_slice(b": ").ok()?;
-    put_item(alloc, room, after, out)
+    put_item(alloc, room, outlook, after, out)
 }
 
 /// The tag `n` over the item at the front of `bytes`.
@@ -308,6 +345,7 @@ fn put_pair<'a>(alloc: Global, room: u64, bytes: &'a [u8], out: &mut Vec<u8>) ->
 fn put_tagged(
     alloc: Global,
     room: u64,
+    outlook: &mut Outlook,
     width: Width,
     n: u64,
     bytes: &[u8],
@@ -321,7 +359,7 @@ fn put_tagged(
     }
     put_number(width, n, out)?;
     out.push(b'(').ok()?;
-    let left = put_node(alloc, room - 1, bytes, out)?;
+    let left = put_node(alloc, room - 1, outlook, bytes, out)?;
     out.push(b')').ok()?;
     Some(left)
 }

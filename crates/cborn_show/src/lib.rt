@@ -16,7 +16,7 @@
 //! [`first_bad_text`] tells of well-formed bytes the first text that isn't UTF-8, from head to head.
 //!
 //! In the code start with `passes`; `items` has a function for each kind of item that holds others, `leaves` the strings and
-//! simple values, `numbers` decimals and indicators.
+//! simple values, `numbers` decimals and indicators; `prospects` looks over what is left where a text grows long.
 #![tactic(auto)]
 
 mod bad_texts;
@@ -24,6 +24,7 @@ mod items;
 mod leaves;
 mod numbers;
 mod passes;
+mod prospects;
 
 pub use bad_texts::first_bad_text;
 pub use passes::show_bytes;

@@ -4,6 +4,7 @@ ghost use Rattle.std.specs.Prelude.{◌≤◌, IfSome};
 ghost use Rattle.cborn_show.specs.Passed.{PassShown, IsShownText};
 
 use crate::items::put_item;
+use crate::prospects::Outlook;
 use cborn_edn::push_between;
 use cborn_model::Limit;
 use std::alloc::Global;
@@ -24,13 +25,17 @@ fn put_all(alloc: Global, room: u64, bytes: &[u8]) -> Option<Vec<u8>>
     if bytes.is_empty() {
         return Some(out);
     }
+    let mut outlook = Outlook::new(room, bytes.len());
     let mut rest = bytes;
     'items: for i in 0..bytes.len() {
         if rest.is_empty() {
             break;
         }
+        if !outlook.is_good(false, rest, out.len()) {
+            return None;
+        }
         push_between(&mut out, i, b",\n").ok()?;
-        rest = put_item(alloc, room, rest, &mut out)?;
+        rest = put_item(alloc, room, &mut outlook, rest, &mut out)?;
     }
     if !rest.is_empty() {
         return None;

@@ -1,5 +1,6 @@
 //! Bytes with the text that shows what they hold, and bytes that get no text. That nothing is answered breaks no contract, so these tests hold that there is an answer.
 
+use crate::prospects::is_promising;
 use crate::{first_bad_text, show_bytes};
 use cborn_model::Limit;
 use std::alloc::{AllocError, Global};
@@ -224,6 +225,108 @@ fn tells_no_text_where_all_are_shown(rt: HostRuntime) -> Result<(), Fail> {
     for (digits, _) in SHOWN {
         let bytes = hex::decode(rt.alloc(), digits).expect(&rt, "digits");
         assert_eq!(rt; first_bad_text(&bytes), None, "of {digits}");
+    }
+    Ok(())
+}
+
+/// What is left of an input in hexadecimal, and how many breaks are missing there, where no text will be shown.
+const THROWN_AWAY: [(u64, &str); 20] = [
+    (0, "61ff"),
+    (0, "62c3"),
+    (0, "7801ff"),
+    (0, "61ff000000000000"),
+    (0, "646162638000000000"),
+    (0, "676161616161618000"),
+    (0, "68616161616161618000"),
+    (0, "7f61c3ff"),
+    (0, "19"),
+    (0, "3b00000000000000"),
+    (0, "4201"),
+    (0, "4901020304050607"),
+    (0, "5b0000000000000001"),
+    (0, "fc"),
+    (0, "1f00000000000000"),
+    (0, "9f0100000000000000"),
+    (0, "bf0102"),
+    (0, "5f4101"),
+    (1, ""),
+    (1, "9fff"),
+];
+
+/// How many small integers stand before something: a few are passed singly, eight at once.
+const ZEROS: [usize; 4] = [0, 1, 8, 13];
+
+/// Catches a text that goes on being written although what comes last, or is missing there, keeps it from being shown.
+#[test]
+fn gives_up_what_is_thrown_away(rt: HostRuntime) -> Result<(), Fail> {
+    for (missing, rest) in THROWN_AWAY {
+        for zeros in ZEROS {
+            let bytes = nested(rt.alloc(), "00", zeros, rest)?;
+            assert!(rt;
+                !is_promising(128, missing, &bytes),
+                "{zeros} zeros, {rest}"
+            );
+        }
+    }
+    Ok(())
+}
+
+/// Catches a text that is given up although all is shown, so that a tree is kept: at the end of the bytes, and before others.
+#[test]
+fn goes_on_with_what_is_shown(rt: HostRuntime) -> Result<(), Fail> {
+    for (digits, _) in SHOWN {
+        for zeros in ZEROS {
+            let mut bytes = nested(rt.alloc(), "00", zeros, digits)?;
+            assert!(rt; is_promising(128, 0, &bytes), "{zeros} zeros, {digits}");
+            bytes.extend_from_slice(&[0; 8])?;
+            assert!(rt;
+                is_promising(128, 0, &bytes),
+                "{zeros} zeros, {digits}, zeros"
+            );
+        }
+    }
+    Ok(())
+}
+
+/// What is repeated, how often, what follows it, and whether it is shown inside a nest of at most 128 levels.
+const ROWS: [(&str, usize, &str, bool); 11] = [
+    ("81", 128, "00", true),
+    ("81", 129, "00", false),
+    ("a1", 129, "00", false),
+    ("c1", 128, "00", true),
+    ("c1", 129, "00", false),
+    ("9f", 129, "00", false),
+    ("80", 129, "", true),
+    ("a0", 129, "", true),
+    ("9800", 129, "", true),
+    ("9fff", 129, "", true),
+    ("8100", 129, "", true),
+];
+
+/// Catches siblings that are taken for a nest, and a limit that is one off.
+#[test]
+fn tells_nests_from_siblings(rt: HostRuntime) -> Result<(), Fail> {
+    for (front, count, rest, want) in ROWS {
+        let bytes = nested(rt.alloc(), front, count, rest)?;
+        assert_eq!(rt; is_promising(128, 0, &bytes), want, "{count} of {front}");
+    }
+    Ok(())
+}
+
+/// Catches a long input that gets no text because it is looked over: the text is several times as long as the input, and behind
+/// the integers comes each form of item.
+#[test]
+fn shows_what_is_looked_over(rt: HostRuntime) -> Result<(), Fail> {
+    let mut all = String::new(rt.alloc());
+    for (digits, _) in SHOWN {
+        all.push_str(digits)?;
+    }
+    for front in ["00", "810000", "a10000", "9f00ff"] {
+        let bytes = nested(rt.alloc(), front, 1 << 16, &all)?;
+        assert!(rt;
+            show_bytes(rt.alloc(), Limit::USUAL, &bytes).is_some(),
+            "{front}"
+        );
     }
     Ok(())
 }

@@ -1,0 +1,165 @@
+//! Whether the rest of an input looks as if it will be shown. A text is several times as long as small items are, so before one
+//! grows much longer than the input, what is left is looked over: where the text would be thrown away, it is given up early.
+//! Nothing is promised: who is refused goes another way, and is answered rightly there.
+
+ghost use Rattle.std.specs.Prelude.{◌≤◌, length, IfSome};
+
+use crate::bad_texts::{Look, look_at};
+
+/// A text shorter than this isn't given up early, since it is small.
+const SHORT: usize = 1 << 16;
+
+/// When the rest of an input is looked over, and for what.
+#[derive(Drop)]
+pub(crate) struct Outlook {
+    /// How long the text is then, in bytes. Once it was done, longer than any text.
+    at: usize,
+    /// How many items may stand one inside another.
+    limit: u64,
+}
+
+impl Outlook {
+    /// For an input of `len` bytes.
+    pub(crate) fn new(limit: u64, len: usize) -> Outlook {
+        let at = SHORT.max(len.saturating_add(len / 2));
+        Outlook { at, limit }
+    }
+
+    /// Whether to go on with the rest `bytes`, behind a text of `len` bytes. `may_end` where a break is to come.
+    #[inline(always)]
+    pub(crate) fn is_good(&mut self, may_end: bool, bytes: &[u8], len: usize) -> bool {
+        len < self.at || self.is_good_now(may_end, bytes)
+    }
+
+    #[inline(never)]
+    fn is_good_now(&mut self, may_end: bool, bytes: &[u8]) -> bool {
+        self.at = usize::MAX;
+        is_promising(self.limit, u64::from(may_end), bytes)
+    }
+}
+
+/// Whether these are heads and strings, none of them malformed or cut short, with the breaks that are missing, texts that are
+/// UTF-8, and no nest without siblings that is deeper than `limit`. Goes from head to head, and takes no memory. It doesn't know
+/// of all that is open where it starts, so `missing` may be too low.
+pub(crate) fn is_promising(limit: u64, missing: u64, bytes: &[u8]) -> bool {
+    let lens = lens();
+    let mut rest = bytes;
+    let mut breaks = missing;
+    let mut nested = 0;
+    'heads: for _ in 0..bytes.len() {
+        if rest.is_empty() {
+            break;
+        }
+        let Some(len) = len_of_front(&lens, rest) else {
+            return false;
+        };
+        breaks = breaks_behind(rest[0], breaks);
+        nested = nested_behind(rest[0], nested);
+        if nested > limit {
+            return false;
+        }
+        rest = &rest[len..];
+    }
+    breaks == 0
+}
+
+/// The length in bytes of the head at the front, and of a string's content with it, or of eight small integers. None where it is
+/// malformed or cut short, or a text isn't UTF-8.
+#[inline(always)]
+fn len_of_front(lens: &[u8; 256], bytes: &[u8]) -> Option<usize>
+    ensures { IfSome result (λ len. len ≤ length bytes.now) }
+{
+    let Some(front) = bytes.first_chunk::<8>() else {
+        return len_of_any(bytes);
+    };
+    let word = u64::from_le_bytes(*front);
+    if are_small(word) {
+        return Some(8);
+    }
+    let len = lens[front[0] as usize] as usize;
+    if len == 0 || len > bytes.len() || !is_plain(front[0], word) {
+        return len_of_any(bytes);
+    }
+    Some(len)
+}
+
+/// The same of one head, whatever it is.
+#[inline(never)]
+fn len_of_any(bytes: &[u8]) -> Option<usize>
+    ensures { IfSome result (λ len. len ≤ length bytes.now) }
+{
+    match look_at(bytes) {
+        Look::Passed(len) => Some(len),
+        _ => None,
+    }
+}
+
+/// Each of the eight bytes is an integer from 0 to 23.
+#[inline(always)]
+fn are_small(word: u64) -> bool {
+    (word | word.wrapping_add(0x0808_0808_0808_0808)) & 0xe0e0_e0e0_e0e0_e0e0 == 0
+}
+
+/// No text of up to seven bytes stands here, or its bytes are ASCII. The first of the eight bytes is the lowest.
+#[inline(always)]
+fn is_plain(first: u8, word: u64) -> bool {
+    match first {
+        0x61..=0x67 => {
+            let behind = 8 * (0x67 - u32::from(first));
+            word & (0x8080_8080_8080_8000 >> behind) & 0x8080_8080_8080_8000 == 0
+        }
+        _ => true,
+    }
+}
+
+/// For each initial byte what `len_of_front` answers, or 0 where more has to be looked at.
+fn lens() -> [u8; 256] {
+    let mut lens = [0; 256];
+    for first in 0..256 {
+        lens[first] = len_behind(first as u8);
+    }
+    lens
+}
+
+fn len_behind(first: u8) -> u8 {
+    let information = first % 32;
+    match first / 32 {
+        0 | 1 | 6 => head_len(information),
+        2 if information < 24 => 1 + information,
+        3 if information < 8 => 1 + information,
+        4 | 5 | 7 if information < 24 => 1,
+        _ => 0,
+    }
+}
+
+/// The length in bytes of a head with an argument. 0 where there is no such head.
+fn head_len(information: u8) -> u8 {
+    match information {
+        0..24 => 1,
+        24 => 2,
+        25 => 3,
+        26 => 5,
+        27 => 9,
+        _ => 0,
+    }
+}
+
+/// How many breaks are missing behind a head with this initial byte.
+#[inline(always)]
+fn breaks_behind(first: u8, before: u64) -> u64 {
+    match first {
+        0x5f | 0x7f | 0x9f | 0xbf => before.saturating_add(1),
+        0xff => before.saturating_sub(1),
+        _ => before,
+    }
+}
+
+/// How many heads that go on with what they hold stand in a row behind one with this initial byte. One whose count is no part
+/// of its initial byte may hold nothing.
+#[inline(always)]
+fn nested_behind(first: u8, before: u64) -> u64 {
+    match first {
+        0x81..0x98 | 0x9f | 0xa1..0xb8 | 0xbf..0xe0 => before.saturating_add(1),
+        _ => 0,
+    }
+}
