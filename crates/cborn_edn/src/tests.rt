@@ -26,7 +26,7 @@ fn spelled(
 fn shown(alloc: Global, digits: &str) -> Result<String, AllocError> {
     let bytes = match hex::decode(alloc, digits) {
         Ok(bytes) => bytes,
-        Err(_) => return format!(in alloc; "bad digits"),
+        Err(fault) => return format!(in alloc; "{fault}"),
     };
     match read_all(alloc, LIMIT, &bytes) {
         Ok(items) => match show(alloc, &items) {
