@@ -10,3 +10,4 @@ pub mod Comparing
 pub mod Validating
 pub mod Deciding
 pub mod Fitting
+pub mod Firsts

@@ -1,5 +1,5 @@
 -- Heads (RFC 8949 section 3): an initial byte with the major type in its high three bits and the additional information in its low five, and the bytes of an argument that follows it.
-use Rattle.std.specs.Prelude.{◌≡◌, ℕ, ◌+◌, ◌*◌, ◌^◌, ◌<◌, List, [], ◌∷◌, if◌then◌else◌, nat_lt}
+use Rattle.std.specs.Prelude.{◌≡◌, ℕ, ◌+◌, ◌*◌, ◌^◌, ◌<◌, List, [], ◌∷◌, Bool, if◌then◌else◌, nat_lt}
 use Rattle.std.specs.Int.{w16, w32, w64, to_be_bytes}
 use Rattle.cborn_model.specs.declared.heads.Width.{Width}
 use Rattle.cborn_model.specs.declared.heads.Width.TheVariants.{Direct, One, Two, Four, Eight}
@@ -27,6 +27,14 @@ WidthFits One n = n < 256
 WidthFits Two n = n < 2 ^ 16
 WidthFits Four n = n < 2 ^ 32
 WidthFits Eight n = n < 2 ^ 64
+
+-- the same, as a test
+abbrev pub holds : Width → ℕ → Bool
+holds Direct n = nat_lt n 24
+holds One n = nat_lt n 256
+holds Two n = nat_lt n (2 ^ 16)
+holds Four n = nat_lt n (2 ^ 32)
+holds Eight n = nat_lt n (2 ^ 64)
 
 -- the additional information
 abbrev pub information : Width → ℕ → ℕ

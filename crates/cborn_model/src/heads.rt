@@ -27,6 +27,26 @@ pub enum Size {
     Endless,
 }
 
+impl Width {
+    ghost use Rattle.std.specs.Prelude.{◌≡◌, ◌↔◌, IsTrue};
+    ghost use Rattle.cborn_model.specs.Heads.{WidthFits, holds};
+
+    /// Whether a head of this width has room for the argument `n`.
+    #[inline]
+    pub fn holds(self, n: u64) -> bool
+        ensures fits { IsTrue result ↔ WidthFits self n }
+        ensures test { result ≡ holds self n }
+    {
+        match self {
+            Width::Direct => n < 24,
+            Width::One => n < 256,
+            Width::Two => n < 65536,
+            Width::Four => n < 4294967296,
+            Width::Eight => true,
+        }
+    }
+}
+
 /// The narrowest width that has room for `n` (RFC 8949 section 4.2.1).
 pub fn shortest(n: u64) -> Width
     ensures { result ≡ least n }

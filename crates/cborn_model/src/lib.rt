@@ -29,6 +29,7 @@
 #![tactic(auto)]
 
 mod comparisons;
+mod growth;
 mod heads;
 mod items;
 pub mod laws;
@@ -43,6 +44,7 @@ mod tests;
 mod validity;
 
 pub use comparisons::same;
+pub use growth::push_doubling;
 pub use heads::{Size, Width, shortest};
 pub use items::{Item, ItemBox, ItemList, PairList};
 pub use limits::Limit;

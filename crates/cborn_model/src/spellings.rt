@@ -106,15 +106,15 @@ fn has_room(node: &Node) -> bool
     ensures { IsTrue result ↔ Fits node.now }
 {
     match &node.form {
-        Form::Uint(width, n) => holds(*width, *n),
-        Form::Nint(width, n) => holds(*width, *n),
-        Form::Bytes(width, bytes) => holds(*width, bytes.as_slice().len() as u64),
-        Form::Text(width, bytes) => holds(*width, bytes.as_slice().len() as u64),
+        Form::Uint(width, n) => width.holds(*n),
+        Form::Nint(width, n) => width.holds(*n),
+        Form::Bytes(width, bytes) => width.holds(bytes.as_slice().len() as u64),
+        Form::Text(width, bytes) => width.holds(bytes.as_slice().len() as u64),
         Form::ByteChunks(chunks) => chunks_fit(chunks),
         Form::TextChunks(chunks) => chunks_fit(chunks),
         Form::Items(size, items) => size_fits(*size, items.len() as u64) && items_have_room(items),
         Form::Pairs(size, pairs) => size_fits(*size, pairs.len() as u64) && pairs_have_room(pairs),
-        Form::Tagged(width, n, item) => holds(*width, *n) && has_room(item),
+        Form::Tagged(width, n, item) => width.holds(*n) && has_room(item),
         Form::Simple(n) => *n < 24 || *n >= 32,
     }
 }
@@ -147,24 +147,11 @@ fn chunks_fit(chunks: &[Chunk]) -> bool
     ensures { IsTrue result ↔ ChunksFit chunks.now }
 {
     for chunk in chunks {
-        if !holds(chunk.width, chunk.bytes.as_slice().len() as u64) {
+        if !chunk.width.holds(chunk.bytes.as_slice().len() as u64) {
             return false;
         }
     }
     true
-}
-
-/// Whether a head of this width has room for `n`.
-fn holds(width: Width, n: u64) -> bool
-    ensures { IsTrue result ↔ WidthFits width n }
-{
-    match width {
-        Width::Direct => n < 24,
-        Width::One => n < 256,
-        Width::Two => n < 65536,
-        Width::Four => n < 4294967296,
-        Width::Eight => true,
-    }
 }
 
 /// Whether an array or a map of `n` entries may have this size.
@@ -172,7 +159,7 @@ fn size_fits(size: Size, n: u64) -> bool
     ensures { IsTrue result ↔ SizeFits size n }
 {
     match size {
-        Size::Fixed(width) => holds(width, n),
+        Size::Fixed(width) => width.holds(n),
         Size::Endless => true,
     }
 }

@@ -198,3 +198,21 @@ fn hands_values_back(rt: HostRuntime) -> Result<(), Fail> {
     assert_eq!(rt; Limit::USUAL.get(), 128);
     Ok(())
 }
+
+#[test]
+fn grows_by_doubling(rt: HostRuntime) -> Result<(), Fail> {
+    let mut list = Vec::new(rt.alloc());
+    for (n, room) in [1usize, 2, 4, 4, 8].iter().enumerate() {
+        push_doubling(&mut list, n)?;
+        assert_eq!(rt; list.capacity(), *room);
+    }
+    assert_eq!(rt; list.as_slice(), [0usize, 1, 2, 3, 4].as_slice());
+    Ok(())
+}
+
+#[test]
+fn tells_what_fits(rt: HostRuntime) {
+    assert!(rt; Width::Two.holds(65535));
+    assert!(rt; !Width::Two.holds(65536));
+    assert!(rt; Width::Eight.holds(18446744073709551615));
+}

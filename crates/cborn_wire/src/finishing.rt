@@ -5,9 +5,9 @@ ghost use Rattle.cborn_wire.specs.Machine.{nothing, finished};
 ghost use Rattle.cborn_wire.specs.StackView.{opened, ready_of, open_len, around, Becomes, PutLeaves, IsMade};
 
 use crate::WireFault;
-use crate::frames::{Frame, Partial, push_part};
+use crate::frames::{Frame, Partial};
 use crate::stacks::Stack;
-use cborn_model::{Node, Spelled};
+use cborn_model::{Node, Spelled, push_doubling};
 
 impl Stack {
     /// Takes a whole item. The most have nothing around them, or stand in an array that goes on: those are put away here, and the others apart.
@@ -31,7 +31,7 @@ impl Stack {
         } = frame
         {
             if !argument.is_met(items.len() + 1) {
-                push_part(items, node)?;
+                push_doubling(items, node)?;
                 return Ok(());
             }
         }

@@ -1,13 +1,13 @@
 //! What a reader has begun and not ended.
 
-ghost use Rattle.std.specs.Prelude.{ℕ, ◌≡◌, ◌<◌, ◌≤◌, ◌+◌, ◌*◌, max, [], ◌∷◌, ◌++◌, OnOk, OnErr, vec_len, vec_capacity};
+ghost use Rattle.std.specs.Prelude.{ℕ, ◌≡◌};
 ghost use Rattle.cborn_wire.specs.Slots.{slot_in};
 ghost use Rattle.cborn_wire.specs.Faults.{needs_item};
 ghost use Rattle.cborn_wire.specs.StackView.{seen_frame, Puts, Closes};
 
 use crate::{Argument, WireFault, WireReason};
-use cborn_model::{Chunk, Form, Node, Size, Width};
-use std::alloc::{AllocError, Global};
+use cborn_model::{Chunk, Form, Node, Size, Width, push_doubling};
+use std::alloc::Global;
 
 /// The two kinds of string.
 #[derive(Clone, Copy, PartialEq, Eq, Debug)]
@@ -170,7 +170,7 @@ fn put_item(
 ) -> Result<Option<Node>, WireFault>
     ensures { (at : ℕ) → Puts at (Frame.Items place argument items.old) (Frame.Items place argument items.new) node result }
 {
-    push_part(items, node)?;
+    push_doubling(items, node)?;
     if !argument.is_met(items.len()) {
         return Ok(None);
     }
@@ -194,37 +194,11 @@ fn put_key_or_value(
         *key = Some(node);
         return Ok(None);
     };
-    push_part(pairs, (first, node))?;
+    push_doubling(pairs, (first, node))?;
     if !argument.is_met(pairs.len()) {
         return Ok(None);
     }
     let pairs = std::mem::replace(pairs, Vec::new(alloc));
     let form = Form::Pairs(argument.size(), pairs);
     Ok(Some(Node { place, form }))
-}
-
-/// Appends a part to what is open. The list takes room for one part at its first, and then for twice as many as it has: in a deep nest most lists have one part, and that is all that they hold. No room is taken for what a head announces.
-pub(crate) fn push_part<T: Drop>(parts: &mut Vec<T>, part: T) -> Result<(), AllocError>
-    ensures added { OnOk result (parts.new.items ≡ parts.old.items ++ part ∷ []) }
-    ensures kept { OnErr result (parts.new.items ≡ parts.old.items) }
-    ensures room { vec_capacity parts.new ≤ max (vec_capacity parts.old) (2 * vec_len parts.old + 1) }
-{
-    if parts.len() == parts.capacity() {
-        double(parts)?;
-    }
-    parts.push_reserved(part);
-    Ok(())
-}
-
-// Makes room in a full list for as many parts again, and at least one.
-#[cold]
-#[inline(never)]
-fn double<T>(parts: &mut Vec<T>) -> Result<(), AllocError>
-    ensures items { parts.new.items ≡ parts.old.items }
-    ensures room { OnOk result (vec_len parts.new < vec_capacity parts.new) }
-    ensures most { OnOk result (vec_capacity parts.new ≤ max (vec_capacity parts.old) (vec_len parts.old + max 1 (vec_len parts.old))) }
-    ensures kept { OnErr result (vec_capacity parts.new ≡ vec_capacity parts.old) }
-{
-    let more = parts.len().max(1);
-    parts.reserve_exact(more)
 }

@@ -8,10 +8,10 @@ ghost use Rattle.cborn_wire.specs.Machine.{nothing, Live, start, items_at, pairs
 ghost use Rattle.cborn_wire.specs.HeadReading.{major_at, seen_argument, ArgumentFits};
 ghost use Rattle.cborn_wire.specs.StackView.{seen_kind, seen_frame, opened, ready_of, seen, seen_partial, seen_with, Advances, Runs, Becomes, IsMade};
 
-use crate::frames::{Frame, Partial, StringKind, push_part};
+use crate::frames::{Frame, Partial, StringKind};
 use crate::heads::{read_number, wide_width};
 use crate::{Argument, Head, HeadRead, WireFault, WireReason, read_head};
-use cborn_model::{ByteString, Chunk, Form, Node, Spelled, Width};
+use cborn_model::{ByteString, Chunk, Form, Node, Spelled, Width, push_doubling};
 use std::alloc::Global;
 use std::collections::VecDeque;
 
@@ -447,7 +447,7 @@ impl Stack {
                 width,
                 bytes,
             };
-            push_part(chunks, chunk)?;
+            push_doubling(chunks, chunk)?;
             return Ok(());
         }
         let form = match kind {

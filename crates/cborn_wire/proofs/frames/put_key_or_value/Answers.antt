@@ -6,16 +6,16 @@ use Rattle.cborn_wire.proofs.frames.put_key_or_value.Goals as goal
 
 pub returns-then-not-is_met : goal.returns-then-not-is_met
 returns-then-not-is_met c = λ at ready os.
-    let ys = c.push_part.new.parts in
+    let ys = c.push_doubling.new.list in
     let many : length ys.items ≡ c.len.result = omega (arith, c.len.ensures, ys.ok.0) in
     let met : is_full (seen_argument c.args.argument) (length ys.items) ≡ false = ap (is_full (seen_argument c.args.argument)) many ∙ sym c.is_met.ensures ∙ c.if-not-is_met.true in
     let key : c.args.key.now ≡ Some c.in-Some.first = sym c.take.ensures.value ∙ c.in-Some.is in
-    rw (key, c.take.ensures.after) (pairs_room at ready os c.args.place c.args.argument c.args.pairs.now.items ys.items c.in-Some.first c.args.node c.in_ok-push_part.ensures.added met)
+    rw (key, c.take.ensures.after) (pairs_room at ready os c.args.place c.args.argument c.args.pairs.now.items ys.items c.in-Some.first c.args.node c.in_ok-push_doubling.ensures.added met)
 
 pub returns : goal.returns
 returns c = λ at ready os.
-    let ys = c.push_part.new.parts in
+    let ys = c.push_doubling.new.list in
     let many : length ys.items ≡ c.len.result = omega (arith, c.len.ensures, ys.ok.0) in
     let met : is_full (seen_argument c.args.argument) (length ys.items) ≡ true = ap (is_full (seen_argument c.args.argument)) many ∙ sym c.is_met.ensures ∙ c.if-not-is_met.false in
     let key : c.args.key.now ≡ Some c.in-Some.first = sym c.take.ensures.value ∙ c.in-Some.is in
-    rw (key, c.size.ensures, c.replace-pairs.ensures.value) (pairs_full at ready os c.args.place c.args.argument c.args.pairs.now.items ys.items c.in-Some.first c.args.node c.in_ok-push_part.ensures.added met)
+    rw (key, c.size.ensures, c.replace-pairs.ensures.value) (pairs_full at ready os c.args.place c.args.argument c.args.pairs.now.items ys.items c.in-Some.first c.args.node c.in_ok-push_doubling.ensures.added met)

@@ -23,8 +23,8 @@ returns-then-not-is_met c =
     let s = c.args.self.now in
     let a = c.in-Items.argument in
     let xs = c.in-Items.items in
-    let ys = c.push_part.new.parts in
-    let added = c.in_ok-push_part.ensures.added in
+    let ys = c.push_doubling.new.list in
+    let added = c.in_ok-push_doubling.ensures.added in
     let many : length ys.items ≡ c.len-in-Items.result + 1 = omega (arith, ap length added, length-append xs.items (c.args.node ∷ []), c.len-in-Items.ensures, xs.ok.0) in
     let met : is_full (seen_argument a) (length ys.items) ≡ false = ap (is_full (seen_argument a)) many ∙ sym c.is_met.ensures ∙ c.if-not-is_met.true in
     rw (c.requires.nothing, c.in-Some.is, c.in-Items.is) (sym (items_room s.at (ready_of s) (around s) c.in-Items.place a xs.items ys.items c.args.node added met))
