@@ -2,7 +2,7 @@
 
 ghost use Rattle.std.specs.Prelude.{◌≡◌, ℕ, ◌<◌, ◌≤◌, ◌++◌, ◌==◌, List, length, take, drop, slice_index, MatchOption, IfOk, IfSome, OnOk, encode_utf8, true, false};
 ghost use Rattle.cborn_lex.specs.Tokens.{marked};
-ghost use Rattle.cborn_lex.specs.Strings.{is_content, is_unclosed, is_escape, escape_code, are_hex, code, is_high, is_low, IsText};
+ghost use Rattle.cborn_lex.specs.Strings.{is_content, is_unclosed, is_escape, escape_code, is_low, IsText};
 ghost use Rattle.cborn_lex.specs.Forms.{IsRun, IsQuoted};
 ghost use Rattle.cborn_lex.specs.Scan.{is_raw, code_at, low_code, unit_from, escape_of, string_class};
 ghost use Rattle.cborn_lex.specs.View.{front_view};
@@ -10,8 +10,8 @@ ghost use Rattle.cborn_lex.specs.View.{front_view};
 use crate::classes::{Class, Mark};
 use crate::faults::LexReason;
 use crate::fronts::Front;
-use crate::integers::digit_of;
 use crate::slices::{front_of, mark_at, rest_of};
+use crate::units::{are_hex, hex_code, is_high, is_low};
 use cborn_model::ByteString;
 use std::alloc::{AllocError, Global};
 
@@ -56,33 +56,6 @@ fn raw_len(x: &[u8]) -> usize
     x.len()
 }
 
-fn are_hex(a: u8, b: u8, c: u8, d: u8) -> bool
-    ensures { result ≡ are_hex a b c d }
-{
-    digit_of(a) < 16 && digit_of(b) < 16 && digit_of(c) < 16 && digit_of(d) < 16
-}
-
-fn code(a: u8, b: u8, c: u8, d: u8) -> u32
-    requires { are_hex a b c d ≡ true }
-    ensures value { result ≡ code a b c d }
-    ensures small { result < 65536 }
-{
-    ((digit_of(a) as u32 * 16 + digit_of(b) as u32) * 16 + digit_of(c) as u32) * 16
-        + digit_of(d) as u32
-}
-
-fn is_high(n: u32) -> bool
-    ensures { result ≡ is_high n }
-{
-    0xD800 <= n && n < 0xDC00
-}
-
-fn is_low(n: u32) -> bool
-    ensures { result ≡ is_low n }
-{
-    0xDC00 <= n && n < 0xE000
-}
-
 /// The number of the four hexadecimal digits at the front.
 #[tactic(auto, using(crate::proofs::Letters::no_code))]
 fn code_at(x: &[u8]) -> Option<u32>
@@ -90,7 +63,7 @@ fn code_at(x: &[u8]) -> Option<u32>
     ensures small { IfSome result (λ n. (n < 65536) × (4 ≤ length x.now)) }
 {
     if x.len() >= 4 && are_hex(x[0], x[1], x[2], x[3]) {
-        Some(code(x[0], x[1], x[2], x[3]))
+        Some(hex_code(x[0], x[1], x[2], x[3]))
     } else {
         None
     }

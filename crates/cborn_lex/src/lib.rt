@@ -29,7 +29,9 @@ mod lexer;
 mod slices;
 #[cfg(test)]
 mod tests;
+mod units;
 
 pub use classes::{Class, Mark, Profile, Token};
 pub use faults::{LexFault, LexReason};
 pub use lexer::{token_from, tokens};
+pub use units::{are_hex, hex_code, is_high, is_low};
