@@ -9,7 +9,7 @@ use Rattle.cborn_lex.specs.declared.classes.Token.{Token}
 use Rattle.cborn_lex.specs.Tokens.{Front, Blank, Read, Bad}
 use Rattle.cborn_lex.specs.Forms.{Start, white, slash, hash, less, greater, paren, letter, minus, digit, other, single, opening, double, simple, start_of, ReadsFrom, Reads}
 use Rattle.cborn_lex.specs.Lex.{Lex, HasNoPiece, Stop, SpansRise}
-use Rattle.cborn_lex.specs.Pieces.{Piece, gap, token, slice, front_of, spelled, AreRead, tokens, BeginsNoPiece}
+use Rattle.cborn_lex.specs.Pieces.{Lexeme, gap, token, slice, front_of, spelled, AreRead, tokens, BeginsNoPiece}
 use Rattle.cborn_lex.proofs.Parts.{lex_parted, parted_lex, stop_parted, parted_stop, has_no_piece}
 use Rattle.std.proofs.Common.{drop, ◌≤◌, ◌+◌}
 use Rattle.cborn_lex.proofs.Pieces.{front_is}
@@ -24,26 +24,26 @@ no_front profile [] z a h e = h
 no_front profile (c ∷ s) z a h e = cc
 
 -- a piece is its slice and what it is
-one_piece : (p q : Piece) → slice p ≡ slice q → front_of p ≡ front_of q → p ≡ q
+one_piece : (p q : Lexeme) → slice p ≡ slice q → front_of p ≡ front_of q → p ≡ q
 one_piece (gap s) (gap t) e h = ap gap e
 one_piece (gap s) (token k t) e h = cc
 one_piece (token k s) (gap t) e h = cc
 one_piece (token k s) (token l t) e h = cc
 
-not_bad : (p : Piece) (r : LexReason) → front_of p ≡ Bad r → ⊥
+not_bad : (p : Lexeme) (r : LexReason) → front_of p ≡ Bad r → ⊥
 not_bad (gap s) r e = cc
 not_bad (token k s) r e = cc
 
 -- two readings: the fronts of one text are the same
-first : (profile : Profile) (p q : Piece) (x y : List ℕ) → Reads profile (slice p) x (front_of p) → Reads profile (slice q) y (front_of q) → slice p ++ x ≡ slice q ++ y → (p ≡ q) × (x ≡ y)
+first : (profile : Profile) (p q : Lexeme) (x y : List ℕ) → Reads profile (slice p) x (front_of p) → Reads profile (slice q) y (front_of q) → slice p ++ x ≡ slice q ++ y → (p ≡ q) × (x ≡ y)
 first profile p q x y h k e =
     let r = one_front profile (slice p) x (slice q) y (front_of p) (front_of q) h k e in
     (one_piece p q r.0 r.1, rest (slice p) (slice q) x y r.0 e)
 
-split : (p : Piece) (ps : List Piece) (z : List ℕ) → (slice p ++ spelled ps) ++ z ≡ slice p ++ (spelled ps ++ z)
+split : (p : Lexeme) (ps : List Lexeme) (z : List ℕ) → (slice p ++ spelled ps) ++ z ≡ slice p ++ (spelled ps ++ z)
 split p ps z = append_assoc (slice p) (spelled ps) z
 
-one_chain : (profile : Profile) (ps qs : List Piece) (z w : List ℕ) → AreRead profile ps z → AreRead profile qs w → BeginsNoPiece profile z → BeginsNoPiece profile w → spelled ps ++ z ≡ spelled qs ++ w → (ps ≡ qs) × (z ≡ w)
+one_chain : (profile : Profile) (ps qs : List Lexeme) (z w : List ℕ) → AreRead profile ps z → AreRead profile qs w → BeginsNoPiece profile z → BeginsNoPiece profile w → spelled ps ++ z ≡ spelled qs ++ w → (ps ≡ qs) × (z ≡ w)
 one_chain profile [] [] z w h k f g e = (refl, e)
 one_chain profile [] (q ∷ qs) z w h k f g e = absurd (f q (spelled qs ++ w) k.0 (e ∙ split q qs w))
 one_chain profile (p ∷ ps) [] z w h k f g e = absurd (g p (spelled ps ++ z) h.0 (sym e ∙ split p ps z))
@@ -59,7 +59,7 @@ pub bad_ends : (profile : Profile) (s z : List ℕ) (r : LexReason) → Reads pr
 bad_ends profile s z r h p x k e = not_bad p r (sym (one_front profile s z (slice p) x (Bad r) (front_of p) h k e).1)
 
 -- a whole text
-whole_text : (text : List ℕ) (ps : List Piece) → text ≡ spelled ps → text ≡ spelled ps ++ []
+whole_text : (text : List ℕ) (ps : List Lexeme) → text ≡ spelled ps → text ≡ spelled ps ++ []
 whole_text text ps e = e ∙ sym (append-nil (spelled ps))
 
 pub one_list : (profile : Profile) (text : List ℕ) (ts us : List Token) → Lex profile text ts → Lex profile text us → ts ≡ us
@@ -114,7 +114,7 @@ pub some_long : (profile : Profile) (s z : List ℕ) (a : Front) → Reads profi
 some_long profile [] z a h = absurd h
 some_long profile (c ∷ s) z a h = omega arith
 
-spans : (profile : Profile) (ps : List Piece) (n : ℕ) (z : List ℕ) → AreRead profile ps z → SpansRise n (tokens n ps) (n + length (spelled ps))
+spans : (profile : Profile) (ps : List Lexeme) (n : ℕ) (z : List ℕ) → AreRead profile ps z → SpansRise n (tokens n ps) (n + length (spelled ps))
 spans profile [] n z h = omega arith
 spans profile (gap s ∷ ps) n z h =
     let size : n + length s + length (spelled ps) ≡ n + length (s ++ spelled ps) = omega (arith, length-append s (spelled ps)) in
@@ -133,12 +133,12 @@ spans_rise profile text ts a =
 -- Existence.
 
 pub record Chain (profile : Profile) (text : List ℕ) : Type 0 where
-  pub pieces : List Piece
+  pub pieces : List Lexeme
   pub read : AreRead profile pieces []
   pub whole : text ≡ spelled pieces
 
 pub record Broken (profile : Profile) (text : List ℕ) : Type 0 where
-  pub pieces : List Piece
+  pub pieces : List Lexeme
   pub front : List ℕ
   pub rest : List ℕ
   pub reason : LexReason
@@ -146,7 +146,7 @@ pub record Broken (profile : Profile) (text : List ℕ) : Type 0 where
   pub bad : Reads profile front rest (Bad reason)
   pub whole : text ≡ spelled pieces ++ (front ++ rest)
 
-onto : (profile : Profile) (p : Piece) (z text : List ℕ) → Reads profile (slice p) z (front_of p) → text ≡ slice p ++ z → Chain profile z ⊎ Broken profile z → Chain profile text ⊎ Broken profile text
+onto : (profile : Profile) (p : Lexeme) (z text : List ℕ) → Reads profile (slice p) z (front_of p) → text ≡ slice p ++ z → Chain profile z ⊎ Broken profile z → Chain profile text ⊎ Broken profile text
 onto profile p z text h e (inl r) =
     inl (record { pieces = p ∷ r.pieces; read = (subst (λ (x : List ℕ). Reads profile (slice p) x (front_of p)) (whole_text z r.pieces r.whole) h, r.read); whole = e ∙ ap (λ x. slice p ++ x) r.whole })
 onto profile p z text h e (inr r) =
@@ -185,27 +185,15 @@ some_answer profile text h = answered profile text (chain_below profile (suc (le
 
 -- Profiles.
 
-two_from : (k : Start) (c : ℕ) (s z : List ℕ) (p : Piece) → ReadsFrom k One c s z (front_of p) → ReadsFrom k Two c s z (front_of p)
-two_from white c s z p h = h
-two_from slash c s z p h = h
+two_from : (k : Start) (c : ℕ) (s z : List ℕ) (p : Lexeme) → ReadsFrom k One c s z (front_of p) → ReadsFrom k Two c s z (front_of p)
 two_from hash c s z p h = absurd (not_bad p _ h.1)
-two_from (single l) c s z p h = h
-two_from (opening l) c s z p h = h
-two_from less c s z p h = h
-two_from greater c s z p h = h
-two_from paren c s z p h = h
-two_from double c s z p h = h
-two_from simple c s z p h = h
-two_from minus c s z p h = h
-two_from digit c s z p h = h
-two_from letter c s z p h = h
-two_from other c s z p h = h
+two_from _ c s z p h = h
 
-two_reads : (s z : List ℕ) (p : Piece) → Reads One s z (front_of p) → Reads Two s z (front_of p)
+two_reads : (s z : List ℕ) (p : Lexeme) → Reads One s z (front_of p) → Reads Two s z (front_of p)
 two_reads [] z p h = h
 two_reads (c ∷ s) z p h = two_from (start_of c) c s z p h
 
-two_chain : (ps : List Piece) (z : List ℕ) → AreRead One ps z → AreRead Two ps z
+two_chain : (ps : List Lexeme) (z : List ℕ) → AreRead One ps z → AreRead Two ps z
 two_chain [] z h = h
 two_chain (p ∷ ps) z h = (two_reads (slice p) (spelled ps ++ z) p h.0, two_chain ps z h.1)
 

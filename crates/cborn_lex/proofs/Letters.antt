@@ -19,26 +19,17 @@ use Rattle.cborn_lex.proofs.Pieces.{front_is}
 -- Codes.
 
 pub no_code : (x : List ℕ) → are_hex (get_or x 0 0) (get_or x 1 0) (get_or x 2 0) (get_or x 3 0) ≡ false → code_at x ≡ None
-no_code [] h = refl
-no_code (a ∷ []) h = refl
-no_code (a ∷ b ∷ []) h = refl
-no_code (a ∷ b ∷ c ∷ []) h = refl
 no_code (a ∷ b ∷ c ∷ d ∷ x) h = cond-false (are_hex a b c d) _ _ h
+no_code _ h = refl
 
 low_from : (a b : Bool) (n m : ℕ) → cond a (Some n) None ≡ Some m → is_low m ≡ false → cond (b && (a && is_low n)) (Some n) None ≡ None
 low_from true true n m e h = let same : n ≡ m = cc in rw (same, h) refl
-low_from true false n m e h = refl
 low_from false true n m e h = refl
-low_from false false n m e h = refl
+low_from _ _ n m e h = refl
 
 pub no_low : (x : List ℕ) (n : ℕ) → code_at (drop 2 x) ≡ Some n → is_low n ≡ false → low_code x ≡ None
-no_low [] n e h = refl
-no_low (s ∷ []) n e h = refl
-no_low (s ∷ u ∷ []) n e h = refl
-no_low (s ∷ u ∷ e ∷ []) n i h = refl
-no_low (s ∷ u ∷ e ∷ f ∷ []) n i h = refl
-no_low (s ∷ u ∷ e ∷ f ∷ g ∷ []) n i h = refl
 no_low (s ∷ u ∷ e ∷ f ∷ g ∷ k ∷ x) n i h = low_from (are_hex e f g k) (eqb s 92 && eqb u 117) (code e f g k) n i h
+no_low _ n _ h = refl
 
 -- A letter, and what the code finds of it.
 
@@ -62,28 +53,20 @@ paired_if true n m = refl
 paired_if false n m = refl
 
 low_found : (a b c d : ℕ) (x : List ℕ) → found (low_at a b c d x) ≡ paired (code a b c d) (low_code x)
-low_found a b c d [] = refl
-low_found a b c d (s ∷ []) = refl
-low_found a b c d (s ∷ u ∷ []) = refl
-low_found a b c d (s ∷ u ∷ e ∷ []) = refl
-low_found a b c d (s ∷ u ∷ e ∷ f ∷ []) = refl
-low_found a b c d (s ∷ u ∷ e ∷ f ∷ g ∷ []) = refl
 low_found a b c d (s ∷ u ∷ e ∷ f ∷ g ∷ h ∷ x) =
     found_if ((eqb s 92 && eqb u 117) && (are_hex e f g h && is_low (code e f g h))) _ _ ∙ paired_if ((eqb s 92 && eqb u 117) && (are_hex e f g h && is_low (code e f g h))) (code a b c d) (code e f g h)
+low_found a b c d _ = refl
 
 unit_if : (a b : Bool) (n : ℕ) (o : Option (ℕ × ℕ)) (x : List ℕ) → o ≡ paired n (low_code x) → cond a (cond (is_high n) o (cond (is_low n) None (Some (n, 6)))) None ≡ unit_from (cond a (Some n) None) x
 unit_if true b n o x h = rw h refl
 unit_if false b n o x h = refl
 
 unit_found : (x : List ℕ) → found (unit_at x) ≡ unit_from (code_at x) (drop 4 x)
-unit_found [] = refl
-unit_found (a ∷ []) = refl
-unit_found (a ∷ b ∷ []) = refl
-unit_found (a ∷ b ∷ c ∷ []) = refl
 unit_found (a ∷ b ∷ c ∷ d ∷ x) =
     found_if (are_hex a b c d) _ _
     ∙ (ap (λ o. cond (are_hex a b c d) o None) (found_if (is_high (code a b c d)) (low_at a b c d x) _ ∙ ap (λ o. cond (is_high (code a b c d)) (found (low_at a b c d x)) o) (found_if (is_low (code a b c d)) _ _))
     ∙ unit_if (are_hex a b c d) true (code a b c d) (found (low_at a b c d x)) x (low_found a b c d x))
+unit_found _ = refl
 
 escape_found : (q : ℕ) (x : List ℕ) → found (escape_at q x) ≡ escape_of q x
 escape_found q [] = refl

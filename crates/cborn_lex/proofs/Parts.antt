@@ -7,7 +7,7 @@ use Rattle.cborn_lex.specs.Tokens.{Blank, Read}
 use Rattle.cborn_lex.specs.Forms.{Reads}
 use Rattle.cborn_lex.specs.Lex as text
 use Rattle.cborn_lex.specs.Lex.{Through, Lex, Stop, HasNoPiece}
-use Rattle.cborn_lex.specs.Pieces.{Piece, gap, token, spelled, AreRead, tokens, Parted, BeginsNoPiece, LexParted, StopParted}
+use Rattle.cborn_lex.specs.Pieces.{Lexeme, gap, token, spelled, AreRead, tokens, Parted, BeginsNoPiece, LexParted, StopParted}
 
 pub parted : (profile : Profile) {n m : ℕ} {x y : List ℕ} {ts : List Token} → Through profile n x ts m y → Parted profile n x ts m y
 parted profile (text.here n x) = record { pieces = []; read = tt; whole = refl; place = omega arith; placed = refl }
@@ -32,7 +32,7 @@ parted profile (text.token n m k s x y ts h t) =
       placed = ap (λ us. record { start = n; stop = n + length s; class = k } ∷ us) r.placed;
     }
 
-through_all : (profile : Profile) (n m : ℕ) (ps : List Piece) (y : List ℕ) → AreRead profile ps y → m ≡ n + length (spelled ps) → Through profile n (spelled ps ++ y) (tokens n ps) m y
+through_all : (profile : Profile) (n m : ℕ) (ps : List Lexeme) (y : List ℕ) → AreRead profile ps y → m ≡ n + length (spelled ps) → Through profile n (spelled ps ++ y) (tokens n ps) m y
 through_all profile n m [] y h e = subst (λ (k : ℕ). Through profile n y [] k y) (omega arith) (text.here n y)
 through_all profile n m (gap s ∷ ps) y h e =
     subst (λ (z : List ℕ). Through profile n z (tokens (n + length s) ps) m y) (sym (append_assoc s (spelled ps) y))

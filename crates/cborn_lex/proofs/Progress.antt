@@ -24,19 +24,7 @@ first_reads profile (c ∷ x) tail n a some e h k =
 
 single_is : (s : Start) (k : Class) → single_class s ≡ Some k → s ≡ single k
 single_is (single l) k e = let same : l ≡ k = cc in ap single same
-single_is white k e = cc
-single_is slash k e = cc
-single_is hash k e = cc
-single_is less k e = cc
-single_is greater k e = cc
-single_is paren k e = cc
-single_is letter k e = cc
-single_is minus k e = cc
-single_is digit k e = cc
-single_is other k e = cc
-single_is (opening f) k e = cc
-single_is double k e = cc
-single_is simple k e = cc
+single_is _ k e = cc
 
 -- a character that is a token alone
 pub single_reads : (profile : Profile) (text : List ℕ) (k : Class) → 0 < length text → single_class (start_of (get_or text 0 0)) ≡ Some k → Reads profile (take 1 text) (drop 1 text) (Read k)

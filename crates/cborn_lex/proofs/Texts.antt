@@ -58,12 +58,7 @@ low_at_is q a b c d (s ∷ u ∷ e ∷ f ∷ g ∷ h ∷ x) k l =
     let us = and_parts (eqb s 92) (eqb u 117) ts.0 in
     record { allowed = and_from _ _ (and_from _ _ k l) ts.1; whole = rw (eqb-true s 92 us.0, eqb-true u 117 us.1) refl })
     (λ t. tt)
-low_at_is q a b c d [] k l = tt
-low_at_is q a b c d (s ∷ []) k l = tt
-low_at_is q a b c d (s ∷ u ∷ []) k l = tt
-low_at_is q a b c d (s ∷ u ∷ e ∷ []) k l = tt
-low_at_is q a b c d (s ∷ u ∷ e ∷ f ∷ []) k l = tt
-low_at_is q a b c d (s ∷ u ∷ e ∷ f ∷ g ∷ []) k l = tt
+low_at_is q a b c d _ k l = tt
 
 unit_at_is : (q : ℕ) (x : List ℕ) → MatchAt q (92 ∷ 117 ∷ x) (unit_at x)
 unit_at_is q (a ∷ b ∷ c ∷ d ∷ x) =
@@ -72,10 +67,7 @@ unit_at_is q (a ∷ b ∷ c ∷ d ∷ x) =
     (λ l. low_at_is q a b c d x k l)
     (λ l. chosen q _ (is_low (code a b c d)) _ _ (λ m. tt) (λ m. record { allowed = and_from _ _ k (ap not (or_from _ _ l m)); whole = refl })))
     (λ k. tt)
-unit_at_is q [] = tt
-unit_at_is q (a ∷ []) = tt
-unit_at_is q (a ∷ b ∷ []) = tt
-unit_at_is q (a ∷ b ∷ c ∷ []) = tt
+unit_at_is q _ = tt
 
 unit_of_u : (q e : ℕ) (x : List ℕ) → eqb e 117 ≡ true → MatchAt q (92 ∷ e ∷ x) (unit_at x)
 unit_of_u q e x h = subst (λ (d : ℕ). MatchAt q (92 ∷ d ∷ x) (unit_at x)) (sym (eqb-true e 117 h)) (unit_at_is q x)

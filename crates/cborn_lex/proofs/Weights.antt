@@ -27,7 +27,7 @@ use Rattle.cborn_lex.proofs.Lettered.{has_letters}
 use Rattle.cborn_lex.specs.Letters.{Letter, raw, escaped, unit, pair, written, meant, is_letter}
 use Rattle.cborn_lex.specs.Forms.{IsString, Prefix, hexadecimal, base64, unknown, prefix_of, IsPrefixed, IsAfterWord, ReadsNumber, double, simple, Start, white, slash, hash, less, greater, paren, letter, minus, digit, other, single, opening, start_of, paren_front, ReadsFrom, Reads}
 use Rattle.cborn_lex.specs.Lex.{Lex, Between}
-use Rattle.cborn_lex.specs.Pieces.{Piece, gap, token, spelled, AreRead, tokens}
+use Rattle.cborn_lex.specs.Pieces.{Lexeme, gap, token, spelled, AreRead, tokens}
 use Rattle.cborn_lex.proofs.Parts.{parted, lex_parted}
 use Rattle.cborn_lex.proofs.Decoded.{is_byte, are_bytes}
 use Rattle.cborn_lex.proofs.Base64s.{bytes_from}
@@ -331,7 +331,7 @@ front_light profile (c ∷ s) z a h is = lighter (length s + 4) _ a (omega arith
 
 -- Whole texts.
 
-tokens_light : (profile : Profile) (ps : List Piece) (n : ℕ) (z : List ℕ) → are_bytes (spelled ps) ≡ true → AreRead profile ps z → AreModest (tokens n ps) × (weigh (tokens n ps) ≤ 4 * length (spelled ps))
+tokens_light : (profile : Profile) (ps : List Lexeme) (n : ℕ) (z : List ℕ) → are_bytes (spelled ps) ≡ true → AreRead profile ps z → AreModest (tokens n ps) × (weigh (tokens n ps) ≤ 4 * length (spelled ps))
 tokens_light profile [] n z h is = (tt, omega arith)
 tokens_light profile (gap s ∷ ps) n z h is =
     let r = tokens_light profile ps (n + length s) z (split s (spelled ps) h).1 is.1 in

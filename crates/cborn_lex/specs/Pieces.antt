@@ -8,36 +8,36 @@ use Rattle.cborn_lex.specs.Tokens.{Front, Blank, Read, Bad}
 use Rattle.cborn_lex.specs.Forms.{Reads}
 
 -- a character of white space, a comment or a token, each with its slice of the text
-pub data Piece : Type 0 where
-  gap : List ℕ → Piece
-  token : Class → List ℕ → Piece
+pub data Lexeme : Type 0 where
+  gap : List ℕ → Lexeme
+  token : Class → List ℕ → Lexeme
 
-abbrev pub slice : Piece → List ℕ
+abbrev pub slice : Lexeme → List ℕ
 slice (gap s) = s
 slice (token k s) = s
 
-abbrev pub front_of : Piece → Front
+abbrev pub front_of : Lexeme → Front
 front_of (gap s) = Blank
 front_of (token k s) = Read k
 
-abbrev pub spelled : List Piece → List ℕ
+abbrev pub spelled : List Lexeme → List ℕ
 spelled [] = []
 spelled (p ∷ ps) = slice p ++ spelled ps
 
 -- each piece is what it is, as the text goes on behind it
-abbrev pub AreRead : Profile → List Piece → List ℕ → Type 0
+abbrev pub AreRead : Profile → List Lexeme → List ℕ → Type 0
 AreRead profile [] z = Unit {0}
 AreRead profile (p ∷ ps) z = Reads profile (slice p) (spelled ps ++ z) (front_of p) × AreRead profile ps z
 
 -- the tokens among pieces, the first of which starts at n
-abbrev pub tokens : ℕ → List Piece → List Token
+abbrev pub tokens : ℕ → List Lexeme → List Token
 tokens n [] = []
 tokens n (gap s ∷ ps) = tokens (n + length s) ps
 tokens n (token k s ∷ ps) = record { start = n; stop = n + length s; class = k } ∷ tokens (n + length s) ps
 
 -- the pieces of a part of a text, from the place n up to m, behind which y stands
 pub record Parted (profile : Profile) (n : ℕ) (x : List ℕ) (ts : List Token) (m : ℕ) (y : List ℕ) : Type 0 where
-  pub pieces : List Piece
+  pub pieces : List Lexeme
   pub read : AreRead profile pieces y
   pub whole : x ≡ spelled pieces ++ y
   pub place : m ≡ n + length (spelled pieces)
@@ -45,18 +45,18 @@ pub record Parted (profile : Profile) (n : ℕ) (x : List ℕ) (ts : List Token)
 
 -- no piece begins the text z
 abbrev pub BeginsNoPiece : Profile → List ℕ → Type 0
-BeginsNoPiece profile z = (p : Piece) (x : List ℕ) → Reads profile (slice p) x (front_of p) → z ≡ slice p ++ x → ⊥
+BeginsNoPiece profile z = (p : Lexeme) (x : List ℕ) → Reads profile (slice p) x (front_of p) → z ≡ slice p ++ x → ⊥
 
 -- the pieces of a whole text
 pub record LexParted (profile : Profile) (text : List ℕ) (ts : List Token) : Type 0 where
-  pub pieces : List Piece
+  pub pieces : List Lexeme
   pub read : AreRead profile pieces []
   pub whole : text ≡ spelled pieces
   pub placed : ts ≡ tokens 0 pieces
 
 -- the pieces before what is bad
 pub record StopParted (profile : Profile) (text : List ℕ) (n : ℕ) (r : LexReason) : Type 0 where
-  pub pieces : List Piece
+  pub pieces : List Lexeme
   pub front : List ℕ
   pub rest : List ℕ
   pub read : AreRead profile pieces (front ++ rest)

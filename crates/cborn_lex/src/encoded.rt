@@ -20,6 +20,7 @@ use cborn_model::ByteString;
 use hex::FromHexError;
 use std::alloc::{AllocError, Global};
 
+/// The token of a string with a prefix.
 fn bytes_front(bytes: Vec<u8>, mark: Option<Mark>) -> Front
     ensures { front_view result ≡ marked (Bytes false bytes.items) mark }
 {
@@ -101,6 +102,7 @@ fn to_standard(c: u8) -> u8
     }
 }
 
+/// The content without white space, in the standard alphabet.
 fn without_white(alloc: Global, content: &[u8]) -> Result<Vec<u8>, AllocError>
     ensures { IfOk result (λ v. v.items ≡ map to_standard (filter (λ c. not (is_white c)) content.now)) }
 {
@@ -111,6 +113,7 @@ fn without_white(alloc: Global, content: &[u8]) -> Result<Vec<u8>, AllocError>
         .collect(alloc)
 }
 
+/// Appends padding.
 fn pad(text: &mut Vec<u8>, n: usize) -> Result<(), AllocError>
     ensures { OnOk result (text.new.items ≡ text.old.items ++ replicate n 61) }
 {
@@ -120,6 +123,7 @@ fn pad(text: &mut Vec<u8>, n: usize) -> Result<(), AllocError>
     Ok(())
 }
 
+/// Whether there is padding.
 fn is_padded(text: &[u8]) -> bool
     ensures { result ≡ list_any (λ c. c == 61) text.now }
 {

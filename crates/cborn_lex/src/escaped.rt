@@ -37,6 +37,7 @@ fn content_end(q: u8, tail: &[u8]) -> Option<usize>
     None
 }
 
+/// Whether a character stands for itself.
 fn is_raw(c: u8) -> bool
     ensures { result ≡ is_raw c }
 {
@@ -97,6 +98,7 @@ fn unit_at(x: &[u8]) -> Option<(char, usize)>
     }
 }
 
+/// Whether a backslash may stand before the character, in a string with the quote `q`.
 fn is_escape(q: u8, e: u8) -> bool
     ensures { result ≡ is_escape q e }
 {
@@ -107,6 +109,7 @@ fn is_escape(q: u8, e: u8) -> bool
     }
 }
 
+/// The character that it stands for behind a backslash.
 fn escape_code(e: u8) -> u8
     ensures { result ≡ escape_code e }
 {
@@ -136,6 +139,7 @@ fn escape_of(q: u8, x: &[u8]) -> Option<(char, usize)>
     }
 }
 
+/// Appends a character in UTF-8.
 fn push_char(bytes: &mut Vec<u8>, c: char) -> Result<(), AllocError>
     ensures { OnOk result (bytes.new.items ≡ bytes.old.items ++ encode_utf8 c) }
 {
@@ -167,6 +171,7 @@ fn text_bytes(alloc: Global, q: u8, content: &[u8]) -> Result<Option<Vec<u8>>, A
     }
 }
 
+/// The token of a string in quotes.
 fn quoted_front(q: u8, bytes: Vec<u8>, mark: Option<Mark>) -> Front
     ensures { front_view result ≡ marked (string_class q bytes.items) mark }
 {

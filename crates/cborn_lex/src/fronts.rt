@@ -48,6 +48,7 @@ pub enum Start {
     Other,
 }
 
+/// What a character begins.
 fn start_of(c: u8) -> Start
     requires { is_white c ≡ false }
     ensures { start_view result ≡ start_of c }
@@ -145,6 +146,7 @@ fn paren(tail: &[u8]) -> (Front, usize)
     (paren_front(front_of(tail, n)), n)
 }
 
+/// What a `(` with this indicator is.
 fn paren_front(mark: &[u8]) -> Front
     ensures { front_view result ≡ paren_front mark.now }
 {

@@ -27,12 +27,14 @@ pub fn digit_of(c: u8) -> u8
     }
 }
 
+/// Whether each is a digit of the base.
 fn all_digits(base: u8, ds: &[u8]) -> bool
     ensures { result ≡ list_all (λ d. is_digit d base) ds.now }
 {
     ds.iter().all(|d| digit_of(*d) < base)
 }
 
+/// Whether there are digits of the base, and nothing else.
 fn are_digits(base: u8, ds: &[u8]) -> bool
     ensures { result ≡ are_digits base ds.now }
 {
@@ -57,6 +59,7 @@ fn value(base: u8, ds: &[u8]) -> Result<u128, LexReason>
     Ok(n)
 }
 
+/// Whether there is a point, or one of the two letters.
 fn has_point_or(a: u8, b: u8, x: &[u8]) -> bool
     ensures { result ≡ list_any (λ c. (c == 46) || ((c == a) || ((c == b) || false))) x.now }
 {
@@ -114,6 +117,7 @@ fn integer(negative: bool, body: &[u8]) -> Result<u128, LexReason>
     }
 }
 
+/// The token of a number, or of a tag with it.
 fn number_front(
     negative: bool,
     tagged: bool,
@@ -148,6 +152,7 @@ fn is_tag(negative: bool, x: &[u8]) -> bool
     !negative && begins_with(b'(', x)
 }
 
+/// The length of a number, with its indicator and the `(` of a tag.
 fn number_len(n: usize, m: usize, tagged: bool) -> usize
     requires { (if tagged then n + m + 1 else n + m) < 2 ^ 64 }
     ensures { result ≡ (if tagged then n + m + 1 else n + m) }

@@ -10,24 +10,28 @@ ghost use Rattle.cborn_lex.specs.Forms.{IsRun, IsIndicator};
 use crate::classes::Mark;
 use cborn_model::Width;
 
+/// Whether a character is white space.
 pub fn is_white(c: u8) -> bool
     ensures { result ≡ is_white c }
 {
     c == b' ' || c == b'\t' || c == b'\n' || c == b'\r'
 }
 
+/// Whether a character is one of words and indicators.
 fn is_word(c: u8) -> bool
     ensures { result ≡ is_word c }
 {
     c.is_ascii_alphanumeric() || c == b'_'
 }
 
+/// Whether a character is one of numbers.
 fn is_numeral(c: u8) -> bool
     ensures { result ≡ is_numeral c }
 {
     c.is_ascii_alphanumeric() || c == b'.'
 }
 
+/// What follows the first `n` bytes.
 pub fn rest_of(x: &[u8], n: usize) -> &[u8]
     requires { n ≤ length x.now }
     ensures { result.now ≡ drop n x.now }
@@ -35,6 +39,7 @@ pub fn rest_of(x: &[u8], n: usize) -> &[u8]
     &x[n..]
 }
 
+/// The first `n` bytes.
 pub fn front_of(x: &[u8], n: usize) -> &[u8]
     requires { n ≤ length x.now }
     ensures { result.now ≡ take n x.now }
@@ -42,18 +47,21 @@ pub fn front_of(x: &[u8], n: usize) -> &[u8]
     &x[..n]
 }
 
+/// Whether the character is at the front.
 pub fn begins_with(c: u8, x: &[u8]) -> bool
     ensures { result ≡ begins (λ d. d == c) x.now }
 {
     x.len() > 0 && x[0] == c
 }
 
+/// Whether a decimal digit is at the front.
 pub fn begins_with_digit(x: &[u8]) -> bool
     ensures { result ≡ begins is_ascii_digit x.now }
 {
     x.len() > 0 && x[0].is_ascii_digit()
 }
 
+/// Whether the bytes begin with others.
 pub fn has_prefix(p: &[u8], x: &[u8]) -> bool
     ensures { result ≡ has_prefix p.now x.now }
 {
@@ -113,6 +121,7 @@ pub fn indicator_len(tail: &[u8]) -> usize
     word_len(&tail[1..]) + 1
 }
 
+/// What an indicator says.
 fn mark_of(run: &[u8]) -> Option<Mark>
     ensures { result ≡ mark_of run.now }
 {
