@@ -16,7 +16,8 @@ use Rattle.cborn_edn.specs.declared.contents.Sequence.{Sequence}
 use Rattle.cborn_edn.specs.declared.contents.Fields.{Fields as KeptFields}
 use Rattle.cborn_edn.specs.declared.contents.Chunks.{Chunks}
 use Rattle.cborn_edn.specs.Syntax.{Span, Item, number, word, tag, simple, string, chunked, array, map, Piece, text, bytes, embedded, Pieces, piece, also, Strings, strings, StringsBefore, no_string, after_strings, Row, row, RowBefore, no_item, after_row, Content, loose, tight, Pairs, pairs, PairsBefore, no_pair, after_pairs, Fields, loose_fields, tight_fields}
-use Rattle.cborn_edn.specs.Meaning.{unless, width_slips, and_then, when, holds, width_for, size_for, is_absent, snoc, snoc_entry, same_kind, is_good, string_node, chunked_node, kind_of, mark_of, mark_place, kind, place, last_piece, is_bare, is_bare_before, fits_kind, is_of_kind, is_empty_quote, marked_string, means_string, means_chunk, kind_of_strings, kind_after, means, joined_piece, joined, means_strings, means_strings_before, means_row, means_row_before, means_content, means_pairs, means_pairs_before, means_fields, row_length, row_length_before, content_length, pairs_length, pairs_length_before, fields_length}
+use Rattle.cborn_model.specs.Heads.{holds}
+use Rattle.cborn_edn.specs.Meaning.{unless, width_slips, and_then, when, width_for, size_for, is_absent, snoc, snoc_entry, same_kind, is_good, string_node, chunked_node, kind_of, mark_of, mark_place, kind, place, last_piece, is_bare, is_bare_before, fits_kind, is_of_kind, is_empty_quote, marked_string, means_string, means_chunk, kind_of_strings, kind_after, means, joined_piece, joined, means_strings, means_strings_before, means_row, means_row_before, means_content, means_pairs, means_pairs_before, means_fields, row_length, row_length_before, content_length, pairs_length, pairs_length_before, fields_length}
 use Rattle.cborn_edn.specs.devices.Draft.{earlier, first_slip, slip_unless, is_none, admits, joined_bytes, with_next, mark_slip, text_slip, marked_node, string_item, string_chunk, array_node, map_node, kind_or, chunked_item, tag_head, tag_node}
 use Rattle.cborn_edn.proofs.Agree.{counts_content, counts_fields}
 use Rattle.cborn_edn.proofs.Kept.{row_of, kept, kept_piece, kept_pieces, kept_strings, kept_strings_before, kept_row, kept_row_before, kept_content, kept_pairs, kept_pairs_before, kept_fields}

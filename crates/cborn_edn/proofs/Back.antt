@@ -9,12 +9,12 @@ use Rattle.cborn_model.specs.declared.heads.Size.{Size}
 use Rattle.cborn_model.specs.declared.heads.Size.TheVariants.{Fixed, Endless as Unending}
 use Rattle.cborn_model.specs.declared.nodes.Chunk.{Chunk}
 use Rattle.cborn_model.specs.Tree.{Tree, Uint, Nint, Bytes as ByteNode, Text as TextNode, ByteChunks, TextChunks, Items, Pairs as PairNode, Tagged, Simple, Trees, no_item as no_node, more, Entries, no_entry, entry, count, count_entries, depth as node_depth, depth_all, depth_entries}
-use Rattle.cborn_model.specs.Heads.{following, least, WidthFits, SizeFits, ByteString, TextString}
+use Rattle.cborn_model.specs.Heads.{holds, following, least, WidthFits, SizeFits, ByteString, TextString}
 use Rattle.cborn_model.specs.Spelled.{ChunksFit, Fits, FitsAll, FitsEntries, spelled, spelled_all, spelled_entries, chunk_bytes}
 use Rattle.cborn_lex.specs.declared.classes.Mark.{Mark}
 use Rattle.cborn_lex.specs.declared.classes.Mark.TheVariants.{Absent, Endless, Wide}
 use Rattle.cborn_edn.specs.Syntax.{Item, word, simple, string, Pieces, strings, StringsBefore, no_string, after_strings, row, RowBefore, no_item, after_row, pairs, PairsBefore, no_pair, after_pairs, depth, depth_of_strings, depth_of_strings_before, depth_of_row, depth_of_row_before, depth_of_content, depth_of_pairs, depth_of_pairs_before, depth_of_fields, depth_of_input}
-use Rattle.cborn_edn.specs.Meaning.{and_then, when, holds, width_for, size_for, snoc, snoc_entry, is_simple, kind, place, is_good, string_node, chunked_node, marked_string, means_chunk, kind_of_strings, kind_after, same_kind, means, joined, means_strings, means_strings_before, means_row, means_row_before, means_content, means_pairs, means_pairs_before, means_fields, Says}
+use Rattle.cborn_edn.specs.Meaning.{and_then, when, width_for, size_for, snoc, snoc_entry, is_simple, kind, place, is_good, string_node, chunked_node, marked_string, means_chunk, kind_of_strings, kind_after, same_kind, means, joined, means_strings, means_strings_before, means_row, means_row_before, means_content, means_pairs, means_pairs_before, means_fields, Says}
 use Rattle.cborn_edn.specs.declared.strings.StringKind.{StringKind}
 use Rattle.cborn_edn.specs.declared.strings.StringKind.TheVariants.{Bytes as OfBytes, Text as OfText}
 use Rattle.cborn_edn.specs.ReadingBack.{nowhere, one_piece, chunk_pieces, chunk_row, chunk_item, simple_item, notated, notated_content, notated_row, notated_fields, notated_pairs, notated_input, unplaced_chunks, unplaced, unplaced_all, unplaced_entries}
@@ -229,16 +229,12 @@ flat-unplaced f (c ∷ cs) h = ap (λ x. x ++ flat_map f (unplaced_chunks cs)) (
 
 mutual
   pub spelled-unplaced : (t : Tree) → spelled (unplaced t) ≡ spelled t
-  spelled-unplaced (Uint p w n) = refl
-  spelled-unplaced (Nint p w n) = refl
-  spelled-unplaced (ByteNode p w x) = refl
-  spelled-unplaced (TextNode p w x) = refl
   spelled-unplaced (ByteChunks p cs) = rw (flat-unplaced (chunk_bytes ByteString) cs (λ c. refl)) refl
   spelled-unplaced (TextChunks p cs) = rw (flat-unplaced (chunk_bytes TextString) cs (λ c. refl)) refl
   spelled-unplaced (Items p s ts) = rw (count-unplaced ts, spelled_all-unplaced ts) refl
   spelled-unplaced (PairNode p s es) = rw (count-unplaced_entries es, spelled_entries-unplaced es) refl
   spelled-unplaced (Tagged p w n t) = rw (spelled-unplaced t) refl
-  spelled-unplaced (Simple p n) = refl
+  spelled-unplaced _ = refl
 
   pub spelled_all-unplaced : (ts : Trees) → spelled_all (unplaced_all ts) ≡ spelled_all ts
   spelled_all-unplaced no_node = refl

@@ -7,40 +7,40 @@ use Rattle.cborn_lex.specs.declared.classes.Token.{Token}
 use Rattle.cborn_lex.specs.Tokens.{Blank, Read}
 use Rattle.cborn_lex.specs.Forms.{Reads}
 use Rattle.cborn_lex.specs.Lex.{Lex}
-use Rattle.cborn_lex.specs.Pieces.{Piece, gap, token as lexed, slice, front_of, spelled, AreRead, tokens}
+use Rattle.cborn_lex.specs.Pieces.{Lexeme, gap, token as lexed, slice, front_of, spelled, AreRead, tokens}
 use Rattle.cborn_lex.proofs.Parts.{parted_lex}
 use Rattle.cborn_lex.proofs.Chains.{both_profiles}
 use Rattle.cborn_edn.specs.Syntax.{token}
 use Rattle.cborn_edn.specs.ReadingBack.{nowhere, bare}
 
 -- the tokens among pieces, places aside
-abbrev pub bare_tokens : List Piece → List Token
+abbrev pub bare_tokens : List Lexeme → List Token
 bare_tokens [] = []
 bare_tokens (gap s ∷ ps) = bare_tokens ps
 bare_tokens (lexed k s ∷ ps) = token nowhere k ∷ bare_tokens ps
 
 -- x, as z stands behind it, reads as pieces with these tokens
 pub record Chained (x z : List ℕ) (ts : List Token) : Type 0 where
-  pub pieces : List Piece
+  pub pieces : List Lexeme
   pub read : AreRead ProfileOne pieces z
   pub whole : x ≡ spelled pieces
   pub told : bare_tokens pieces ≡ ts
 
-bare-placed : (n : ℕ) (ps : List Piece) → list_map bare (tokens n ps) ≡ bare_tokens ps
+bare-placed : (n : ℕ) (ps : List Lexeme) → list_map bare (tokens n ps) ≡ bare_tokens ps
 bare-placed n [] = refl
 bare-placed n (gap s ∷ ps) = bare-placed (n + length s) ps
 bare-placed n (lexed k s ∷ ps) = ap (λ ts. token nowhere k ∷ ts) (bare-placed (n + length s) ps)
 
-spelled-append : (ps qs : List Piece) → spelled (ps ++ qs) ≡ spelled ps ++ spelled qs
+spelled-append : (ps qs : List Lexeme) → spelled (ps ++ qs) ≡ spelled ps ++ spelled qs
 spelled-append [] qs = refl
 spelled-append (p ∷ ps) qs = ap (λ x. slice p ++ x) (spelled-append ps qs) ∙ sym (append_assoc (slice p) (spelled ps) (spelled qs))
 
-bare-append : (ps qs : List Piece) → bare_tokens (ps ++ qs) ≡ bare_tokens ps ++ bare_tokens qs
+bare-append : (ps qs : List Lexeme) → bare_tokens (ps ++ qs) ≡ bare_tokens ps ++ bare_tokens qs
 bare-append [] qs = refl
 bare-append (gap s ∷ ps) qs = bare-append ps qs
 bare-append (lexed k s ∷ ps) qs = ap (λ ts. token nowhere k ∷ ts) (bare-append ps qs)
 
-read-append : (ps qs : List Piece) (z : List ℕ) → AreRead ProfileOne ps (spelled qs ++ z) → AreRead ProfileOne qs z → AreRead ProfileOne (ps ++ qs) z
+read-append : (ps qs : List Lexeme) (z : List ℕ) → AreRead ProfileOne ps (spelled qs ++ z) → AreRead ProfileOne qs z → AreRead ProfileOne (ps ++ qs) z
 read-append [] qs z h k = k
 read-append (p ∷ ps) qs z h k =
     let e : spelled ps ++ (spelled qs ++ z) ≡ spelled (ps ++ qs) ++ z = sym (append_assoc (spelled ps) (spelled qs) z) ∙ ap (λ x. x ++ z) (sym (spelled-append ps qs)) in

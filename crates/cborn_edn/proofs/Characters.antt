@@ -13,12 +13,12 @@ use Rattle.std.specs.Char.{IsScalar}
 use Rattle.hex.specs.Hex.{encode_lower, encode_with, lower_digits}
 use Rattle.hex.proofs.HexLemmas.{IsAscii-encode_with}
 use Rattle.cborn_model.specs.declared.heads.Width.{Width}
-use Rattle.cborn_model.specs.declared.heads.Width.TheVariants.{Direct, One, Two, Four, Eight}
+use Rattle.cborn_model.specs.declared.heads.Width.TheVariants.{Direct}
 use Rattle.cborn_model.specs.declared.nodes.Chunk.{Chunk}
 use Rattle.cborn_model.specs.Tree.{Tree, Uint, Nint, Bytes as ByteNode, Text as TextNode, ByteChunks, TextChunks, Items, Pairs as PairNode, Tagged, Simple, Trees, no_item as no_node, more, trees, Entries, no_entry, entry, count, count_entries}
 use Rattle.cborn_model.specs.Spelled.{Fits, FitsAll, FitsEntries}
 use Rattle.cborn_lex.specs.declared.classes.Mark.{Mark}
-use Rattle.cborn_lex.specs.declared.classes.Mark.TheVariants.{Absent, Endless, Wide}
+use Rattle.cborn_lex.specs.declared.classes.Mark.TheVariants.{Wide}
 use Rattle.cborn_edn.specs.declared.strings.StringKind.{StringKind}
 use Rattle.cborn_edn.specs.declared.strings.StringKind.TheVariants.{Bytes as OfBytes, Text as OfText}
 use Rattle.cborn_edn.specs.Shown.{mark_for, mark_for_size, escaped, indicator, opened, shown_string, shown_chunks, shown_more_chunks, shown_simple, shown, shown_all, shown_more, shown_entries, shown_more_entries, shown_lines, shown_more_lines, Shown}
@@ -88,22 +88,12 @@ ascii : (x : List ℕ) → is_low x ≡ true → IsUtf8 x
 ascii x h = IsUtf8-from_ascii x (low_ascii x h)
 
 pub indicator_low : (m : Mark) → is_low (indicator m) ≡ true
-indicator_low Absent = refl
-indicator_low Endless = refl
 indicator_low (Wide Direct) = refl
-indicator_low (Wide One) = refl
-indicator_low (Wide Two) = refl
-indicator_low (Wide Four) = refl
-indicator_low (Wide Eight) = refl
+indicator_low _ = refl
 
 pub opened_low : (m : Mark) → is_low (opened m) ≡ true
-opened_low Absent = refl
-opened_low Endless = refl
 opened_low (Wide Direct) = refl
-opened_low (Wide One) = refl
-opened_low (Wide Two) = refl
-opened_low (Wide Four) = refl
-opened_low (Wide Eight) = refl
+opened_low _ = refl
 
 indicator_text : (m : Mark) → IsUtf8 (indicator m)
 indicator_text m = ascii (indicator m) (indicator_low m)

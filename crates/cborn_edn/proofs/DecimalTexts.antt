@@ -10,13 +10,13 @@ use Rattle.std.specs.Char.{is_digit, digit_value}
 use Rattle.std.specs.Str.Parse.{AllDigits, digits_value_after}
 use Rattle.cborn_lex.specs.declared.classes.Profile.TheVariants.{One as ProfileOne}
 use Rattle.cborn_lex.specs.declared.classes.Mark.{Mark}
-use Rattle.cborn_lex.specs.declared.classes.Mark.TheVariants.{Absent, Endless, Wide}
+use Rattle.cborn_lex.specs.declared.classes.Mark.TheVariants.{Absent, Wide}
 use Rattle.cborn_lex.specs.declared.classes.Class.{Class}
 use Rattle.cborn_lex.specs.declared.classes.Class.TheVariants.{Number, TagOpen}
 use Rattle.cborn_lex.specs.Tokens.{Read, begins, is_numeral}
 use Rattle.cborn_lex.specs.Numbers.{are_digits, number, within, has_prefix, integer, number_front, signed}
-use Rattle.cborn_lex.specs.Forms.{Start, white, slash, hash, less, greater, paren, letter, minus, digit, other, single, opening, double, simple as single_quote, start_of, ReadsFrom, ReadsNumber}
-use Rattle.cborn_model.specs.declared.heads.Width.TheVariants.{Direct, One, Two, Four, Eight}
+use Rattle.cborn_lex.specs.Forms.{Start, digit, start_of, ReadsFrom, ReadsNumber}
+use Rattle.cborn_model.specs.declared.heads.Width.TheVariants.{Direct}
 use Rattle.cborn_edn.specs.Syntax.{token}
 use Rattle.cborn_edn.specs.ReadingBack.{nowhere}
 use Rattle.cborn_edn.specs.Shown.{indicator}
@@ -36,35 +36,11 @@ digits_pass q (c ∷ ds) t h = and_from (q c) (list_all q ds) (digit_passes q c 
 
 abbrev is_digit_start : Start → Bool
 is_digit_start digit = true
-is_digit_start white = false
-is_digit_start slash = false
-is_digit_start hash = false
-is_digit_start less = false
-is_digit_start greater = false
-is_digit_start paren = false
-is_digit_start letter = false
-is_digit_start minus = false
-is_digit_start other = false
-is_digit_start (single k) = false
-is_digit_start (opening k) = false
-is_digit_start double = false
-is_digit_start single_quote = false
+is_digit_start _ = false
 
 digit_start : (s : Start) → is_digit_start s ≡ true → s ≡ digit
 digit_start digit e = refl
-digit_start white e = cc
-digit_start slash e = cc
-digit_start hash e = cc
-digit_start less e = cc
-digit_start greater e = cc
-digit_start paren e = cc
-digit_start letter e = cc
-digit_start minus e = cc
-digit_start other e = cc
-digit_start (single k) e = cc
-digit_start (opening k) e = cc
-digit_start double e = cc
-digit_start single_quote e = cc
+digit_start _ e = cc
 
 pub starts : (c : ℕ) → digit_value c < 10 → start_of c ≡ digit
 starts c h = digit_start (start_of c) (digit_passes (λ d. is_digit_start (start_of d)) c refl h)
@@ -122,12 +98,8 @@ decimal_text n h = elim (cases_lt 0 n) [
 
 no_numeral : (m : Mark) (z : List ℕ) → IsMark m → begins is_numeral z ≡ false → begins is_numeral (indicator m ++ z) ≡ false
 no_numeral Absent z h e = e
-no_numeral Endless z h e = refl
 no_numeral (Wide Direct) z h e = e
-no_numeral (Wide One) z h e = refl
-no_numeral (Wide Two) z h e = refl
-no_numeral (Wide Four) z h e = refl
-no_numeral (Wide Eight) z h e = refl
+no_numeral _ z h e = refl
 
 and_false : (a b : Bool) → b ≡ false → (a && b) ≡ false
 and_false true b e = e

@@ -1,25 +1,39 @@
--- The first of several slips doesn't depend on their order.
-use Rattle.std.proofs.Common.{◌≡◌, refl, sym, ap, subst, ◌∙◌, ℕ, ◌+◌, ◌*◌, ◌<◌, ◌≤◌, List, [], ◌∷◌, ◌++◌, Bool, true, false, ◌&&◌, ◌||◌, cond, leb, ltb, eqb, Option, Some, None, ◌⊎◌, inl, inr, arith}
+-- The first of several slips: there is one where there is any, and it doesn't depend on their order.
+use Rattle.std.proofs.Common.{◌≡◌, refl, sym, ap, subst, ◌∙◌, ℕ, ◌+◌, ◌*◌, ◌<◌, ◌≤◌, List, [], ◌∷◌, ◌++◌, Bool, true, false, ◌==◌, ◌&&◌, ◌||◌, cond, if◌then◌else◌, leb, ltb, eqb, Option, Some, None, inl, arith}
+use Rattle.std.specs.Prelude.{min}
 use Rattle.std.proofs.lemmas.Bool.{leb-true, leb-false, le-leb, lt-leb, ltb-true, ltb-false, eqb-true, eqb-false}
 use Rattle.cborn_model.specs.First.{NoLater, IsFirst}
+use Rattle.cborn_model.proofs.Firsts.{no_later_on, no_later_turned, first_alone, first_left, first_right}
 use Rattle.cborn_edn.specs.declared.faults.EdnReason.{EdnReason}
 use Rattle.cborn_edn.specs.declared.faults.EdnReason.TheVariants.{UnexpectedToken, UnexpectedEnd, TooDeep, IndicatorTooNarrow, IndicatorNotAllowed, MixedString, MixedChunks, TextNotUtf8, BadSimple, TagTooLarge}
 use Rattle.cborn_edn.specs.declared.slips.Slip.{Slip}
 use Rattle.cborn_edn.specs.Meaning.{number_of, unless, IsAmong}
-use Rattle.cborn_edn.specs.devices.Draft.{no_later, earlier, first_slip, slip_unless}
-use Rattle.cborn_edn.proofs.First.{one_number, passes, IsFirstOf}
+use Rattle.cborn_edn.specs.devices.Draft.{earlier, first_slip, slip_unless}
+
+-- the reason that has a number
+abbrev reason_at : ℕ → EdnReason
+reason_at n =
+    if n == 20 then UnexpectedToken
+    else if n == 21 then UnexpectedEnd
+    else if n == 22 then TooDeep
+    else if n == 30 then IndicatorTooNarrow
+    else if n == 31 then IndicatorNotAllowed
+    else if n == 32 then MixedString
+    else if n == 33 then MixedChunks
+    else if n == 34 then TextNotUtf8
+    else if n == 35 then BadSimple
+    else TagTooLarge
+
+reason_at-number : (r : EdnReason) → reason_at (number_of r) ≡ r
+reason_at-number UnexpectedToken = refl
+reason_at-number _ = refl
+
+one_number : (r s : EdnReason) → number_of r ≡ number_of s → r ≡ s
+one_number r s e = sym (reason_at-number r) ∙ ap reason_at e ∙ reason_at-number s
 
 low_number : (r : EdnReason) → number_of r < 64
 low_number UnexpectedToken = omega arith
-low_number UnexpectedEnd = omega arith
-low_number TooDeep = omega arith
-low_number IndicatorTooNarrow = omega arith
-low_number IndicatorNotAllowed = omega arith
-low_number MixedString = omega arith
-low_number MixedChunks = omega arith
-low_number TextNotUtf8 = omega arith
-low_number BadSimple = omega arith
-low_number TagTooLarge = omega arith
+low_number _ = omega arith
 
 -- place and number as one
 rank : Slip → ℕ
@@ -46,45 +60,38 @@ by_parts p q m n hm hn = go (ltb p q) refl (eqb p q) refl (leb m n) refl
     go false e true f false g = let h : p ≡ q = eqb-true _ _ f in let i : n < m = leb-false _ _ g in sym (lt-leb _ _ (omega arith))
     go false e false f c g = let h : q ≤ p = ltb-false _ _ e in let i : p ≡ q → ⊥ = eqb-false _ _ f in sym (lt-leb _ _ (omega arith))
 
-ranked : (a b : Slip) → no_later a b ≡ leb (rank a) (rank b)
-unfolding rank
-ranked a b = by_parts a.place b.place (number_of a.reason) (number_of b.reason) (low_number a.reason) (low_number b.reason)
-
 pick : Slip → Slip → Slip
 pick a b = cond (leb (rank a) (rank b)) a b
 
 picked : (a b : Slip) → earlier (Some a) (Some b) ≡ Some (pick a b)
-unfolding pick
-picked a b = ap (λ c. Some (cond c a b)) (ranked a b)
+unfolding pick rank
+picked a b = ap (λ c. Some (cond c a b)) (by_parts a.place b.place (number_of a.reason) (number_of b.reason) (low_number a.reason) (low_number b.reason))
 
-pick-first : (a b : Slip) → rank a ≤ rank b → pick a b ≡ a
-unfolding pick
-pick-first a b h = ap (λ c. cond c a b) (le-leb _ _ h)
+-- of two the first that has the lower rank, or the second
+data Picks (a b c : Slip) : Type 0 where
+  left : c ≡ a → rank a ≤ rank b → Picks a b c
+  right : c ≡ b → rank b < rank a → Picks a b c
 
-pick-second : (a b : Slip) → rank b < rank a → pick a b ≡ b
+picks : (a b : Slip) → Picks a b (pick a b)
 unfolding pick
-pick-second a b h = ap (λ c. cond c a b) (lt-leb _ _ h)
+picks a b = go (leb (rank a) (rank b)) refl
+  where
+    go : (c : Bool) → leb (rank a) (rank b) ≡ c → Picks a b (cond c a b)
+    go true e = left refl (leb-true _ _ e)
+    go false e = right refl (leb-false _ _ e)
 
-which : (m n : ℕ) → (m ≤ n) ⊎ (n < m)
-which m n = grind arith
+rank-pick : (a b : Slip) → rank (pick a b) ≡ min (rank a) (rank b)
+rank-pick a b = go (pick a b) (picks a b)
+  where
+    go : (c : Slip) → Picks a b c → rank c ≡ min (rank a) (rank b)
+    go c (left e h) = ap rank e ∙ omega arith
+    go c (right e h) = ap rank e ∙ omega arith
 
 pick-comm : (a b : Slip) → pick a b ≡ pick b a
-pick-comm a b = go (which (rank a) (rank b)) (which (rank b) (rank a))
-  where
-    go : (rank a ≤ rank b) ⊎ (rank b < rank a) → (rank b ≤ rank a) ⊎ (rank a < rank b) → pick a b ≡ pick b a
-    go (inl h) (inl g) = pick-first a b h ∙ one_rank a b (omega arith) ∙ sym (pick-first b a g)
-    go (inl h) (inr g) = pick-first a b h ∙ sym (pick-second b a g)
-    go (inr h) (inl g) = pick-second a b h ∙ sym (pick-first b a g)
-    go (inr h) (inr g) = absurd (omega arith)
+pick-comm a b = one_rank _ _ (omega (arith, rank-pick a b, rank-pick b a))
 
 pick-assoc : (a b c : Slip) → pick (pick a b) c ≡ pick a (pick b c)
-pick-assoc a b c = go (which (rank a) (rank b)) (which (rank b) (rank c))
-  where
-    go : (rank a ≤ rank b) ⊎ (rank b < rank a) → (rank b ≤ rank c) ⊎ (rank c < rank b) → pick (pick a b) c ≡ pick a (pick b c)
-    go (inl h) (inl g) = ap (λ x. pick x c) (pick-first a b h) ∙ pick-first a c (omega arith) ∙ sym (pick-first a b h) ∙ ap (pick a) (sym (pick-first b c g))
-    go (inl h) (inr g) = ap (λ x. pick x c) (pick-first a b h) ∙ ap (pick a) (sym (pick-second b c g))
-    go (inr h) (inl g) = ap (λ x. pick x c) (pick-second a b h) ∙ pick-first b c g ∙ sym (pick-second a b h) ∙ ap (pick a) (sym (pick-first b c g))
-    go (inr h) (inr g) = ap (λ x. pick x c) (pick-second a b h) ∙ pick-second b c g ∙ sym (pick-second a c (omega arith)) ∙ ap (pick a) (sym (pick-second b c g))
+pick-assoc a b c = one_rank _ _ (omega (arith, rank-pick (pick a b) c, rank-pick a b, rank-pick a (pick b c), rank-pick b c))
 
 pub earlier-none : (a : Option Slip) → earlier a None ≡ a
 earlier-none None = refl
@@ -92,7 +99,7 @@ earlier-none (Some a) = refl
 
 pub ruleset slips = (earlier-none)
 
-pub earlier-comm : (a b : Option Slip) → earlier a b ≡ earlier b a
+earlier-comm : (a b : Option Slip) → earlier a b ≡ earlier b a
 earlier-comm None b = sym (earlier-none b)
 earlier-comm (Some a) None = refl
 earlier-comm (Some a) (Some b) = picked a b ∙ ap Some (pick-comm a b) ∙ sym (picked b a)
@@ -117,57 +124,54 @@ first-unless true p r = refl
 first-unless false p r = refl
 
 -- it is the one of least place, and there of least number
+abbrev IsFirstOf : List Slip → Slip → Type 0
+IsFirstOf l s = IsFirst number_of (IsAmong l) s.place s.reason
+
 abbrev pub Tells : List Slip → Option Slip → Type 0
 Tells l None = l ≡ []
-Tells l (Some s) = IsFirst number_of (IsAmong l) s.place s.reason
+Tells l (Some s) = IsFirstOf l s
 
 no_later_of : (p q m n : ℕ) → m < 64 → n < 64 → p * 64 + m ≤ q * 64 + n → NoLater (p, m) (q, n)
-no_later_of p q m n hm hn h = go (which (p + 1) q) (which p q)
-  where
-    go : (p + 1 ≤ q) ⊎ (q < p + 1) → (p ≤ q) ⊎ (q < p) → NoLater (p, m) (q, n)
-    go (inl g) e = inl (omega arith)
-    go (inr g) (inl e) = inr (omega arith, omega arith)
-    go (inr g) (inr e) = absurd (omega arith)
+no_later_of p q m n hm hn h = grind arith
 
 no_later_than : (a b : Slip) → rank a ≤ rank b → NoLater (a.place, number_of a.reason) (b.place, number_of b.reason)
 unfolding rank
 no_later_than a b h = no_later_of a.place b.place (number_of a.reason) (number_of b.reason) (low_number a.reason) (low_number b.reason) h
 
 told_first : (s t : Slip) (l : List Slip) → IsFirstOf l t → rank s ≤ rank t → IsFirstOf (s ∷ l) s
-told_first s t l f h = record {
-  is = inl (refl, refl);
-  first = λ q r g. elim g [
-    | inl e ↦ rw (e.0, e.1) (inr (refl, omega arith))
-    | inr i ↦ passes (s.place, number_of s.reason) (t.place, number_of t.reason) (q, number_of r) (no_later_than s t h) (f.first q r i)
-  ];
-}
+told_first s t l f h = first_left number_of _ (IsAmong l) s.place s.reason (first_alone number_of s.place s.reason) (λ q r i. no_later_on (s.place, number_of s.reason) (t.place, number_of t.reason) (q, number_of r) (no_later_than s t h) (f.first q r i))
 
 told_second : (s t : Slip) (l : List Slip) → IsFirstOf l t → rank t < rank s → IsFirstOf (s ∷ l) t
-told_second s t l f h = record {
-  is = inr f.is;
-  first = λ q r g. elim g [
-    | inl e ↦ rw (e.0, e.1) (no_later_than t s (omega arith))
-    | inr i ↦ f.first q r i
-  ];
-}
+told_second s t l f h = first_right number_of _ (IsAmong l) t.place t.reason (λ q r e. rw (e.0, e.1) (no_later_than t s (omega arith))) f
 
-told_alone : (s : Slip) (l : List Slip) → l ≡ [] → IsFirstOf (s ∷ l) s
-told_alone s l e = record {
-  is = inl (refl, refl);
-  first = λ q r g. elim g [
-    | inl i ↦ rw (i.0, i.1) (inr (refl, omega arith))
-    | inr i ↦ absurd (subst (λ k. IsAmong k q r) e i)
-  ];
-}
+pub nothing_among : (l : List Slip) (p : ℕ) (r : EdnReason) → l ≡ [] → IsAmong l p r → ⊥
+nothing_among l p r e h = subst (λ k. IsAmong k p r) e h
 
 pub tells : (l : List Slip) → Tells l (first_slip l)
 tells [] = refl
 tells (s ∷ l) = go (first_slip l) (tells l)
   where
     go : (o : Option Slip) → Tells l o → Tells (s ∷ l) (earlier (Some s) o)
-    go None e = told_alone s l e
-    go (Some t) f = choose (which (rank s) (rank t))
+    go None e = first_left number_of _ (IsAmong l) s.place s.reason (first_alone number_of s.place s.reason) (λ q r i. absurd (nothing_among l q r e i))
+    go (Some t) f = subst (Tells (s ∷ l)) (sym (picked s t)) (choose (pick s t) (picks s t))
       where
-        choose : (rank s ≤ rank t) ⊎ (rank t < rank s) → Tells (s ∷ l) (earlier (Some s) (Some t))
-        choose (inl h) = subst (Tells (s ∷ l)) (sym (picked s t ∙ ap Some (pick-first s t h))) (told_first s t l f h)
-        choose (inr h) = subst (Tells (s ∷ l)) (sym (picked s t ∙ ap Some (pick-second s t h))) (told_second s t l f h)
+        choose : (u : Slip) → Picks s t u → IsFirstOf (s ∷ l) u
+        choose u (left e h) = subst (IsFirstOf (s ∷ l)) (sym e) (told_first s t l f h)
+        choose u (right e h) = subst (IsFirstOf (s ∷ l)) (sym e) (told_second s t l f h)
+
+-- two firsts are one
+pub one_first : (l : List Slip) (p q : ℕ) (r s : EdnReason) → IsFirst number_of (IsAmong l) p r → IsFirst number_of (IsAmong l) q s → (p ≡ q) × (r ≡ s)
+one_first l p q r s f g =
+    let e = no_later_turned (p, number_of r) (q, number_of s) (f.first q s g.is) (g.first p r f.is) in
+    (e.0, one_number r s e.1)
+
+pub none_among : (l : List Slip) → ((p : ℕ) (r : EdnReason) → IsAmong l p r → ⊥) → l ≡ []
+none_among [] none = refl
+none_among (x ∷ l) none = absurd (none x.place x.reason (inl (refl, refl)))
+
+pub some_first : (l : List Slip) (p : ℕ) (r : EdnReason) → IsAmong l p r → (q : ℕ) × (s : EdnReason) × IsFirst number_of (IsAmong l) q s
+some_first l p r h = go (first_slip l) (tells l)
+  where
+    go : (o : Option Slip) → Tells l o → (q : ℕ) × (s : EdnReason) × IsFirst number_of (IsAmong l) q s
+    go None e = absurd (nothing_among l p r e h)
+    go (Some s) f = (s.place, s.reason, f)

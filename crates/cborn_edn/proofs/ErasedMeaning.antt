@@ -20,14 +20,12 @@ use Rattle.cborn_edn.proofs.Erase.{opt_map, erase, erase_piece, erase_pieces, er
 -- Without places a tree is as deep, has the same commas, and says the same but for places.
 mutual
   depth-erased : (i : Item) → depth (erase i) ≡ depth i
-  depth-erased (number at n v m) = refl
-  depth-erased (word at n) = refl
   depth-erased (tag at n m i end) = ap suc (depth-erased i)
-  depth-erased (simple at b n v m end) = refl
   depth-erased (string ps) = depth-erased_pieces ps
   depth-erased (chunked at ss end) = depth-erased_strings ss
   depth-erased (array at m c end) = ap suc (depth-erased_content c)
   depth-erased (map_item at m f end) = ap suc (depth-erased_fields f)
+  depth-erased _ = refl
 
   depth-erased_piece : (p : Piece) → depth_of_piece (erase_piece p) ≡ depth_of_piece p
   depth-erased_piece (text at x m) = refl
@@ -77,14 +75,12 @@ last_pair-erased (after_pairs ps c) = refl
 
 mutual
   commas-erased : (i : Item) → commas (erase i) ≡ commas i
-  commas-erased (number at n v m) = refl
-  commas-erased (word at n) = refl
   commas-erased (tag at n m i end) = commas-erased i
-  commas-erased (simple at b n v m end) = refl
   commas-erased (string ps) = commas-erased_pieces ps
   commas-erased (chunked at ss end) = commas-erased_strings ss
   commas-erased (array at m c end) = commas-erased_content c
   commas-erased (map_item at m f end) = commas-erased_fields f
+  commas-erased _ = refl
 
   commas-erased_piece : (p : Piece) → commas_of_piece (erase_piece p) ≡ commas_of_piece p
   commas-erased_piece (text at x m) = refl

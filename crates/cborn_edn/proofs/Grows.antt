@@ -6,7 +6,8 @@ use Rattle.cborn_lex.specs.declared.classes.Class.TheVariants.{ArrayOpen, MapOpe
 use Rattle.cborn_edn.specs.Syntax.{Span, token, Item, string, Pieces, StringsBefore, row, Content, loose, tight, tokens_of, tokens_of_pieces, tokens_of_strings_before, tokens_of_row_before, depth_of_number, depth, depth_of_pieces, depth_of_strings_before}
 use Rattle.cborn_edn.specs.devices.Commas.{commas, commas_of_pieces, commas_of_strings_before}
 use Rattle.cborn_edn.proofs.Machine.{Stack, in_row, in_key, in_value, in_tag, Nest, at_top, in_array, in_embed, Home, as_item, as_chunk, State, wants, has, builds, wants_chunk, wants_number, has_number, ends, ends_loose, begin, after, after_string, more_string, begin_chunk, begin_number, after_number, step_by}
-use Rattle.cborn_edn.proofs.Held.{held_stack, held_nest, held_home, held, levels, levels_home, open_levels, deep_stack, deep_home, deep, commas_stack, commas_home, commas_held, reach, comma_in, comma_at, levels-deep, After, Grows, after-is, ends_grow}
+use Rattle.cborn_edn.specs.devices.Levels.{reach}
+use Rattle.cborn_edn.proofs.Held.{held_stack, held_nest, held_home, held, levels, levels_home, open_levels, deep_stack, deep_home, deep, commas_stack, commas_home, commas_held, comma_in, comma_at, levels-deep, After, Grows, after-is, ends_grow}
 
 module _ (i : Item) (a : Span) where
   -- a token behind a whole item
@@ -117,11 +118,7 @@ builds_grows h ps (Word n) a = nothing_after _ _ (no_more h ps (a_word n) a)
 
 no_embed : (st : Stack) (i : Item) (a : Span) → after st i EmbedOpen a ≡ None
 no_embed (in_row at_top b) i a = refl
-no_embed (in_row (in_array st s m) b) i a = refl
-no_embed (in_row (in_embed h c s) b) i a = refl
-no_embed (in_key st s m b) i a = refl
-no_embed (in_value st s m b k c) i a = refl
-no_embed (in_tag st s n m) i a = refl
+no_embed _ i a = refl
 
 -- an item stands complete
 has_grows : (st : Stack) (i : Item) (e : Class) (a : Span) → After (after st i e a) (Grows (held_stack st ++ tokens_of i) (max (max (deep_stack st) (levels st + depth i)) (reach (levels st) e)) (commas_stack st + commas i + 0) (token a e))

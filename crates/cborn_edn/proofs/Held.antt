@@ -2,7 +2,7 @@
 use Rattle.std.proofs.Common.{◌≡◌, refl, ap, ◌∙◌, ℕ, suc, ◌+◌, ◌≤◌, List, [], ◌∷◌, ◌++◌, Option, Some, None, append_assoc, arith}
 use Rattle.std.specs.Prelude.{max}
 use Rattle.cborn_lex.specs.declared.classes.Class.{Class}
-use Rattle.cborn_lex.specs.declared.classes.Class.TheVariants.{ArrayOpen, MapOpen, EmbedClose, ArrayClose, MapClose, ParenClose, Comma, Colon, EmbedOpen, ChunkOpen, SimpleOpen, Number, TagOpen, Word, Text, Bytes}
+use Rattle.cborn_lex.specs.declared.classes.Class.TheVariants.{ArrayOpen, MapOpen, EmbedClose, ArrayClose, MapClose, Colon, EmbedOpen, ChunkOpen, SimpleOpen, Number, TagOpen}
 use Rattle.cborn_lex.specs.declared.classes.Token.{Token}
 use Rattle.cborn_edn.specs.Syntax.{Span, token, Piece, embedded, Pieces, Content, tokens_of, tokens_of_piece, tokens_of_pieces, tokens_of_strings_before, tokens_of_row_before, tokens_of_content, tokens_of_pairs_before, depth_of_number, depth, depth_of_piece, depth_of_pieces, depth_of_strings_before, depth_of_row_before, depth_of_content, depth_of_pairs_before}
 use Rattle.cborn_edn.specs.devices.Commas.{last_comma, last_pair_comma, commas, commas_of_piece, commas_of_pieces, commas_of_strings_before, commas_of_row_before, commas_of_content, commas_of_pairs_before}
@@ -117,37 +117,14 @@ commas_held (wants_chunk st s b) = commas_stack st + commas_of_strings_before b
 commas_held (wants_number st s) = commas_stack st
 commas_held (has_number st s b n v m) = commas_stack st
 
--- how deep a token goes that stands inside k
-abbrev pub reach : ℕ → Class → ℕ
-reach k (ArrayOpen m) = suc k
-reach k (MapOpen m) = suc k
-reach k EmbedOpen = suc k
-reach k (TagOpen n m) = suc k
-reach k (Number n v m) = k + depth_of_number n v
-reach k ArrayClose = 0
-reach k MapClose = 0
-reach k ParenClose = 0
-reach k Comma = 0
-reach k Colon = 0
-reach k (EmbedClose m) = 0
-reach k ChunkOpen = 0
-reach k SimpleOpen = 0
-reach k (Word n) = 0
-reach k (Text x m) = 0
-reach k (Bytes q x m) = 0
-
 -- whether a comma stands behind the items, or the pairs
 abbrev pub row_comma : Stack → ℕ
 row_comma (in_row n b) = last_comma b
-row_comma (in_key st s m b) = 0
-row_comma (in_value st s m b k c) = 0
-row_comma (in_tag st s n m) = 0
+row_comma _ = 0
 
 abbrev pub pair_comma : Stack → ℕ
-pair_comma (in_row n b) = 0
 pair_comma (in_key st s m b) = last_pair_comma b
-pair_comma (in_value st s m b k c) = 0
-pair_comma (in_tag st s n m) = 0
+pair_comma _ = 0
 
 -- whether a comma stands before a bracket
 abbrev pub comma_in : Stack → Class → ℕ
@@ -158,11 +135,7 @@ comma_in st _ = 0
 
 abbrev pub comma_at : State → Class → ℕ
 comma_at (wants st) c = comma_in st c
-comma_at (has st i) c = 0
-comma_at (builds h ps) c = 0
-comma_at (wants_chunk st s b) c = 0
-comma_at (wants_number st s) c = 0
-comma_at (has_number st s b n v m) c = 0
+comma_at _ c = 0
 
 abbrev pub After : Option State → (State → Type 0) → Type 0
 After None P = Unit {0}

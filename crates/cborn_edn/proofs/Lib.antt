@@ -1,4 +1,3 @@
-pub mod First
 pub mod Snocs
 pub mod Lowests
 pub mod Kept

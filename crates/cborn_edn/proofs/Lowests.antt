@@ -4,7 +4,7 @@ use Rattle.std.specs.Str.{is_utf8, IsUtf8}
 use Rattle.std.proofs.lemmas.Str.{is_utf8-from_IsUtf8, IsUtf8-from_is_utf8}
 use Rattle.std.proofs.lemmas.List.{take_more}
 use Rattle.cborn_model.specs.declared.nodes.Chunk.{Chunk}
-use Rattle.cborn_model.specs.Tree.{Tree, Uint, Nint, Bytes as ByteNode, Text as TextNode, ByteChunks, TextChunks, Items, Pairs as PairNode, Tagged, Simple, Trees, no_item as no_node, more, Entries, no_entry, entry, trees, entries}
+use Rattle.cborn_model.specs.Tree.{Tree, Text as TextNode, TextChunks, Items, Pairs as PairNode, Tagged, Trees, no_item as no_node, more, Entries, no_entry, entry, trees, entries}
 use Rattle.cborn_edn.specs.devices.Lowest.{lower, bad_bytes, bad_chunk, bad_text, bad_item, bad_pair}
 use Rattle.cborn_edn.specs.Shown.{AreShowable, IsBadChunk, IsBadText, IsBadAmong, IsBadInPairs, LowestBadText}
 use Rattle.cborn_edn.specs.devices.Texts.{AreTexts, IsShowable, EachShowable, ArePairsShowable}
@@ -80,16 +80,12 @@ found_chunk (c ∷ cs) = found_lower _ _ _ _ (bad_bytes c.place c.bytes) (bad_ch
 
 mutual
   found_text : (t : Tree) → Found (IsBadText t) (IsShowable t) (bad_text t)
-  found_text (Uint p w n) = found_nothing
-  found_text (Nint p w n) = found_nothing
-  found_text (ByteNode p w x) = found_nothing
   found_text (TextNode p w x) = found_bytes p x
-  found_text (ByteChunks p cs) = found_nothing
   found_text (TextChunks p cs) = found_chunk cs
   found_text (Items p s ts) = found_item ts
   found_text (PairNode p s es) = found_pair es
   found_text (Tagged p w n t) = found_text t
-  found_text (Simple p n) = found_nothing
+  found_text _ = found_nothing
 
   pub found_item : (ts : Trees) → Found (IsBadAmong ts) (EachShowable ts) (bad_item ts)
   found_item no_node = found_nothing

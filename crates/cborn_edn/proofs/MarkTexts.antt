@@ -64,12 +64,8 @@ is_size_mark (Fixed w) n h = is_mark w n h
 
 pub mark_is : (m : Mark) → IsMark m → mark_of (indicator m) ≡ Some m
 mark_is Absent h = refl
-mark_is Endless h = refl
 mark_is (Wide Direct) h = absurd h
-mark_is (Wide One) h = refl
-mark_is (Wide Two) h = refl
-mark_is (Wide Four) h = refl
-mark_is (Wide Eight) h = refl
+mark_is _ h = refl
 
 pub indicates : (m : Mark) (z : List ℕ) → IsMark m → begins is_word z ≡ false → begins (λ c. eqb c 95) z ≡ false → IsIndicator (indicator m) z
 indicates Absent z h k e = e

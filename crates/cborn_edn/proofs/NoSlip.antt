@@ -10,7 +10,8 @@ use Rattle.cborn_model.specs.Spelled.{spelled_all}
 use Rattle.cborn_lex.specs.declared.classes.Mark.{Mark}
 use Rattle.cborn_lex.specs.declared.classes.Mark.TheVariants.{Absent, Endless, Wide}
 use Rattle.cborn_edn.specs.Syntax.{Item, number, word, tag, simple, string, chunked, array, map, Piece, text, bytes, embedded, Pieces, piece, also, Strings, strings, StringsBefore, no_string, after_strings, Row, row, RowBefore, no_item, after_row, Content, loose, tight, Pairs, pairs, PairsBefore, no_pair, after_pairs, Fields, loose_fields, tight_fields, Input, nothing, items, argument_of}
-use Rattle.cborn_edn.specs.Meaning.{and_then, when, holds, width_for, size_for, is_absent, snoc, snoc_entry, integer, bignum, means_number, is_simple, same_kind, mark_of, mark_place, kind, place, last_piece, is_empty_quote, is_string, string_node, chunked_node, marked_string, means_string, means_chunk, kind_of_strings, kind_after, means, joined_piece, joined, means_strings, means_strings_before, means_row, means_row_before, means_content, means_pairs, means_pairs_before, means_fields, Says, unless, width_slips, size_slips, number_slips, tag_slips, mark_slips, string_slips, slips, piece_slips, inner_slips, strings_slips, strings_slips_before, row_slips, row_slips_before, content_slips, pairs_slips, pairs_slips_before, fields_slips, input_slips}
+use Rattle.cborn_model.specs.Heads.{holds}
+use Rattle.cborn_edn.specs.Meaning.{and_then, when, width_for, size_for, is_absent, snoc, snoc_entry, integer, bignum, means_number, is_simple, same_kind, mark_of, mark_place, kind, place, last_piece, is_empty_quote, is_string, string_node, chunked_node, marked_string, means_string, means_chunk, kind_of_strings, kind_after, means, joined_piece, joined, means_strings, means_strings_before, means_row, means_row_before, means_content, means_pairs, means_pairs_before, means_fields, Says, unless, width_slips, size_slips, number_slips, tag_slips, mark_slips, string_slips, slips, piece_slips, inner_slips, strings_slips, strings_slips_before, row_slips, row_slips_before, content_slips, pairs_slips, pairs_slips_before, fields_slips, input_slips}
 use Rattle.cborn_edn.specs.declared.faults.EdnReason.{EdnReason}
 use Rattle.cborn_edn.specs.declared.faults.EdnReason.TheVariants.{IndicatorTooNarrow, IndicatorNotAllowed, MixedChunks, BadSimple}
 use Rattle.cborn_edn.specs.declared.slips.Slip.{Slip}

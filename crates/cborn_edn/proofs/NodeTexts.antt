@@ -76,14 +76,11 @@ chunks_begin OfText (c ∷ cs) z = refl
 node_begins : (t : Tree) (z : List ℕ) → Fits t → Unmarked (shown t ++ z)
 node_begins (Uint p w n) z h = let l = below w n h in rw append_assoc (decimal_begins n (indicator (mark_for w n) ++ z) (omega arith))
 node_begins (Nint p w n) z h = refl
-node_begins (ByteNode p w x) z h = refl
-node_begins (TextNode p w x) z h = refl
 node_begins (ByteChunks p cs) z h = chunks_begin OfBytes cs z
 node_begins (TextChunks p cs) z h = chunks_begin OfText cs z
-node_begins (Items p s ts) z h = refl
-node_begins (PairNode p s es) z h = refl
 node_begins (Tagged p w n t) z h = let l = below w n h.0 in rw append_assoc (decimal_begins n _ (omega arith))
 node_begins (Simple p n) z h = simple_begins n z
+node_begins _ z h = refl
 
 all_begin : (ts : Trees) (z : List ℕ) → FitsAll ts → Unmarked z → Unmarked (shown_all ts ++ z)
 all_begin no_node z h e = e

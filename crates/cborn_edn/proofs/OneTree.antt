@@ -3,14 +3,15 @@ use Rattle.std.specs.Prelude.{max}
 use Rattle.cborn_lex.specs.declared.classes.Token.{Token}
 use Rattle.cborn_lex.specs.declared.classes.Profile.{Profile}
 use Rattle.cborn_lex.specs.declared.classes.Profile.TheVariants.{One as ProfileOne, Two as ProfileTwo}
-use Rattle.cborn_edn.specs.Syntax.{token, span, Item, number, word, tag, simple, string, chunked, array, map, row, no_item, Input, nothing, items, tokens_of_input, depth, depth_of_input}
+use Rattle.cborn_edn.specs.Syntax.{token, span, Item, number, word, simple, string, row, no_item, Input, nothing, items, tokens_of_input, depth, depth_of_input}
 use Rattle.cborn_edn.specs.devices.Commas.{commas, commas_of_input, AllowsCount}
 use Rattle.cborn_edn.proofs.Machine.{Stack, in_row, at_top, as_item, State, wants, has, builds, start, step, run, run-append, run-none}
 use Rattle.cborn_edn.specs.declared.faults.EdnReason.{EdnReason}
-use Rattle.cborn_edn.specs.declared.faults.EdnReason.TheVariants.{UnexpectedToken, UnexpectedEnd, TooDeep, IndicatorTooNarrow, IndicatorNotAllowed, MixedString, MixedChunks, TextNotUtf8, BadSimple, TagTooLarge}
+use Rattle.cborn_edn.specs.declared.faults.EdnReason.TheVariants.{UnexpectedToken, UnexpectedEnd, TooDeep}
 use Rattle.cborn_edn.specs.Parse.{Parse, HasTree, GoesOn, GoesOnAtAnyDepth, StopsAt, Jam}
 use Rattle.cborn_edn.proofs.Takes.{landed, then, whole, takes_input, finish, finish-whole}
-use Rattle.cborn_edn.proofs.Held.{held, open_levels, deep_stack, deep, commas_stack, commas_held, levels, reach, comma_at, After, Grows}
+use Rattle.cborn_edn.specs.devices.Levels.{reach}
+use Rattle.cborn_edn.proofs.Held.{held, open_levels, deep_stack, deep, commas_stack, commas_held, levels, comma_at, After, Grows}
 use Rattle.cborn_edn.proofs.Grows.{grows}
 use Rattle.cborn_edn.proofs.Closes.{closes}
 use Rattle.cborn_edn.proofs.Trailing.{parse_of, allowed_count}
@@ -31,23 +32,13 @@ one_tree p q ts t u g h =
 
 deep-landed : (st : Stack) (i : Item) → deep (landed st i) ≡ max (deep_stack st) (levels st + depth i)
 deep-landed st (string ps) = refl
-deep-landed st (number a n v m) = refl
-deep-landed st (word a n) = refl
-deep-landed st (tag a n m i e) = refl
-deep-landed st (simple a c n v m e) = refl
-deep-landed st (chunked a ss e) = refl
-deep-landed st (array a m c e) = refl
-deep-landed st (map a m f e) = refl
+deep-landed st _ = refl
 
 commas-landed : (st : Stack) (i : Item) → commas_held (landed st i) ≡ commas_stack st + commas i
-commas-landed st (string ps) = refl
 commas-landed st (number a n v m) = omega arith
 commas-landed st (word a n) = omega arith
-commas-landed st (tag a n m i e) = refl
 commas-landed st (simple a c n v m e) = omega arith
-commas-landed st (chunked a ss e) = refl
-commas-landed st (array a m c e) = refl
-commas-landed st (map a m f e) = refl
+commas-landed st _ = refl
 
 deep-whole : (t : Input) → deep (whole t) ≡ depth_of_input t
 deep-whole nothing = omega arith
@@ -196,13 +187,7 @@ module _ (p : Profile) (limit end : ℕ) where
   not_both ts q UnexpectedEnd h j = j.2 h
   not_both ts q UnexpectedToken h (f, t, s, at, never) = s.here (front_goes (f ++ (t ∷ [])) s.y (rw append_assoc (subst (GoesOn p limit) s.split (has_goes p limit ts h))))
   not_both ts q TooDeep h (f, t, s, at, never) = s.here (front_goes (f ++ (t ∷ [])) s.y (rw append_assoc (subst (GoesOn p limit) s.split (has_goes p limit ts h))))
-  not_both ts q IndicatorTooNarrow h j = absurd j
-  not_both ts q IndicatorNotAllowed h j = absurd j
-  not_both ts q MixedString h j = absurd j
-  not_both ts q MixedChunks h j = absurd j
-  not_both ts q TextNotUtf8 h j = absurd j
-  not_both ts q BadSimple h j = absurd j
-  not_both ts q TagTooLarge h j = absurd j
+  not_both ts q _ h j = absurd j
 
 -- two splits of one list
 abbrev SplitsAs : (f g : List Token) (t u : Token) → Type 0
@@ -255,34 +240,10 @@ module _ (p : Profile) (limit : ℕ) (ts : List Token) where
   not_two end i j TooDeep TooDeep a b = (place a.0 b.0 a.1 b.1 i j (one_stop a.0 b.0 a.1 b.1 a.2 b.2) a.3 b.3, refl)
   not_two end i j TooDeep UnexpectedToken a b = absurd (apart a.0 b.0 a.1 b.1 (one_stop a.0 b.0 a.1 b.1 a.2 b.2) a.4 b.4)
   not_two end i j UnexpectedToken TooDeep a b = absurd (apart b.0 a.0 b.1 a.1 (one_stop b.0 a.0 b.1 a.1 b.2 a.2) b.4 a.4)
-  not_two end i j UnexpectedToken IndicatorTooNarrow a b = absurd b
-  not_two end i j UnexpectedToken IndicatorNotAllowed a b = absurd b
-  not_two end i j UnexpectedToken MixedString a b = absurd b
-  not_two end i j UnexpectedToken MixedChunks a b = absurd b
-  not_two end i j UnexpectedToken TextNotUtf8 a b = absurd b
-  not_two end i j UnexpectedToken BadSimple a b = absurd b
-  not_two end i j UnexpectedToken TagTooLarge a b = absurd b
-  not_two end i j UnexpectedEnd IndicatorTooNarrow a b = absurd b
-  not_two end i j UnexpectedEnd IndicatorNotAllowed a b = absurd b
-  not_two end i j UnexpectedEnd MixedString a b = absurd b
-  not_two end i j UnexpectedEnd MixedChunks a b = absurd b
-  not_two end i j UnexpectedEnd TextNotUtf8 a b = absurd b
-  not_two end i j UnexpectedEnd BadSimple a b = absurd b
-  not_two end i j UnexpectedEnd TagTooLarge a b = absurd b
-  not_two end i j TooDeep IndicatorTooNarrow a b = absurd b
-  not_two end i j TooDeep IndicatorNotAllowed a b = absurd b
-  not_two end i j TooDeep MixedString a b = absurd b
-  not_two end i j TooDeep MixedChunks a b = absurd b
-  not_two end i j TooDeep TextNotUtf8 a b = absurd b
-  not_two end i j TooDeep BadSimple a b = absurd b
-  not_two end i j TooDeep TagTooLarge a b = absurd b
-  not_two end i j IndicatorTooNarrow s a b = absurd a
-  not_two end i j IndicatorNotAllowed s a b = absurd a
-  not_two end i j MixedString s a b = absurd a
-  not_two end i j MixedChunks s a b = absurd a
-  not_two end i j TextNotUtf8 s a b = absurd a
-  not_two end i j BadSimple s a b = absurd a
-  not_two end i j TagTooLarge s a b = absurd a
+  not_two end i j UnexpectedEnd s a b = absurd b
+  not_two end i j UnexpectedToken s a b = absurd b
+  not_two end i j TooDeep s a b = absurd b
+  not_two end i j r s a b = absurd a
 
 -- LAW: larger limits and profile 2 take no less
 pub larger_limit : (p : Profile) (limit most : ℕ) (ts : List Token) → limit ≤ most → HasTree p limit ts → HasTree p most ts

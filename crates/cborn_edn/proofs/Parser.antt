@@ -11,7 +11,8 @@ use Rattle.cborn_edn.specs.declared.faults.EdnReason.{EdnReason}
 use Rattle.cborn_edn.specs.declared.faults.EdnReason.TheVariants.{UnexpectedToken, UnexpectedEnd, TooDeep}
 use Rattle.cborn_edn.specs.Parse.{Parse, GoesOn, Jam}
 use Rattle.cborn_edn.proofs.Takes.{finish}
-use Rattle.cborn_edn.proofs.Held.{held, open_levels, deep, commas_held, reach, comma_at, After, Grows}
+use Rattle.cborn_edn.specs.devices.Levels.{reach}
+use Rattle.cborn_edn.proofs.Held.{held, open_levels, deep, commas_held, comma_at, After, Grows}
 use Rattle.cborn_edn.proofs.Grows.{grows}
 use Rattle.cborn_edn.proofs.Trailing.{parse_of}
 use Rattle.cborn_edn.proofs.OneTree.{Leads, Ended, IfTree, ends_tree, held_by, good, goes_on, nothing_goes, no_tree, leads_on, same_end, stops}

@@ -13,10 +13,11 @@ use Rattle.cborn_edn.specs.Syntax.{Span, span, token, Item, string, Piece, embed
 use Rattle.cborn_edn.specs.Meaning.{means_input, input_slips, joined, content_length}
 use Rattle.cborn_edn.specs.Counted.{IsShort, Counted, CountedPieces, CountedStringsBefore, CountedRowBefore, CountedContent, CountedPairsBefore, CountedInput, CountedPiece}
 use Rattle.cborn_edn.specs.devices.Ready.{MaySpell, HaveRoom, MayEnd, IsReady, IsHeld, IsTold}
-use Rattle.cborn_edn.specs.devices.Draft.{draft_step, finished, first_state, first_slip, earlier, reach as kept_reach}
+use Rattle.cborn_edn.specs.devices.Draft.{draft_step, finished, first_state, first_slip, earlier}
 use Rattle.cborn_edn.proofs.Machine.{Stack, in_row, in_key, in_value, in_tag, Nest, at_top, in_array, in_embed, Home, as_item, as_chunk, State, wants, has, builds, wants_chunk, wants_number, has_number, start, with_piece, ends, ends_loose, begin, after, after_string, more_string, begin_chunk, begin_number, after_number, step_by, step}
 use Rattle.cborn_edn.proofs.Takes.{finish}
-use Rattle.cborn_edn.proofs.Held.{held_stack, held_nest, held_home, held, open_levels, deep, commas_held, reach, comma_at, After, Grows}
+use Rattle.cborn_edn.specs.devices.Levels.{levels_in, reach}
+use Rattle.cborn_edn.proofs.Held.{held_stack, held_nest, held_home, held, open_levels, deep, commas_held, comma_at, After, Grows}
 use Rattle.cborn_edn.proofs.Grows.{grows}
 use Rattle.cborn_edn.proofs.Kept.{kept, kept_row_before, frames_of, frames_home, kept_state, kept_option}
 use Rattle.cborn_edn.proofs.Steps.{kept_step}
@@ -245,7 +246,7 @@ module _ (limit : ℕ) (ts : List Token) (d : KeptState) (r : Reached limit ts d
   short_state : IsHeld d.phase → ShortState r.state
   short_state h = short_from r.state (subst (λ (x : KeptState). IsHeld x.phase) (sym r.same) h)
 
-  pub next_reached : (t : Token) (e : KeptState) → length ts < 2 ^ 64 → IsModest t.class → IsHeld d.phase → draft_step d t ≡ Some e → kept_reach d.brackets t.class ≤ limit → Reached limit (ts ++ (t ∷ [])) e
+  pub next_reached : (t : Token) (e : KeptState) → length ts < 2 ^ 64 → IsModest t.class → IsHeld d.phase → draft_step d t ≡ Some e → reach (levels_in d.brackets) t.class ≤ limit → Reached limit (ts ++ (t ∷ [])) e
   next_reached t e few modest whole steps low = go (step r.state t) refl (grows r.state t.class (span t)) (counted_step r.state t.class (span t) (omega (arith, ap length r.took)) modest r.counted (short_state whole))
     where
       onto : (o : Option State) → step r.state t ≡ o → kept_option o ≡ Some e
@@ -256,7 +257,7 @@ module _ (limit : ℕ) (ts : List Token) (d : KeptState) (r : Reached limit ts d
       go (Some u) f g h =
           let same : Some (kept_state u) ≡ Some e = onto (Some u) f in
           let reaches = reach_same r.state t.class in
-          let moved : kept_reach d.brackets t.class ≡ kept_reach (kept_state r.state).brackets t.class = ap (λ (x : KeptState). kept_reach x.brackets t.class) (sym r.same) in
+          let moved : reach (levels_in d.brackets) t.class ≡ reach (levels_in (kept_state r.state).brackets) t.class = ap (λ (x : KeptState). reach (levels_in x.brackets) t.class) (sym r.same) in
           record { state = u; same = cc; took = g.held ∙ ap (λ l. l ++ (t ∷ [])) r.took; low = omega (arith, g.deep, r.low); counted = h }
 
   pub ready : limit ≤ 1024 → length ts < 2 ^ 64 → IsReady d

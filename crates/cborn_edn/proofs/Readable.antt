@@ -1,5 +1,5 @@
 -- Where the fixed notation is UTF-8, each text that it shows is.
-use Rattle.std.proofs.Common.{◌≡◌, ◌↔◌, sym, subst, ℕ, ◌+◌, ◌<◌, List, [], ◌∷◌, ◌++◌, length, true, decimal, append-nil, append_assoc, refl, inl, inr, arith}
+use Rattle.std.proofs.Common.{◌≡◌, ◌↔◌, sym, subst, ℕ, ◌<◌, List, [], ◌∷◌, ◌++◌, length, true, decimal, append-nil, append_assoc, refl, inl, inr, arith}
 use Rattle.std.proofs.lemmas.Bool.{cases_lt}
 use Rattle.std.proofs.lemmas.Str.{IsUtf8-append, IsUtf8-from_ascii, IsUtf8-nil, is_utf8-from_IsUtf8}
 use Rattle.std.proofs.lemmas.Str.Ascii.{IsAscii-nil, IsAscii-cons}
@@ -13,7 +13,7 @@ use Rattle.simdutf8.proofs.Chars.{StepsThen-IsUtf8, closed-IsUtf8}
 use Rattle.simdutf8.proofs.StepsLemmas.{StepsThen_parts, StepsThen-append, Steps_ascii, IsUtf8-append_ascii, IsUtf8-after_ascii}
 use Rattle.cborn_model.specs.declared.nodes.Chunk.{Chunk}
 use Rattle.cborn_model.specs.declared.heads.Width.{Width}
-use Rattle.cborn_model.specs.Tree.{Tree, Uint, Nint, Bytes as ByteNode, Text as TextNode, ByteChunks, TextChunks, Items, Pairs as PairNode, Tagged, Simple, Trees, no_item as no_node, more, Entries, no_entry, entry, count, count_entries}
+use Rattle.cborn_model.specs.Tree.{Tree, Text as TextNode, TextChunks, Items, Pairs as PairNode, Tagged, Trees, no_item as no_node, more, Entries, no_entry, entry, count, count_entries}
 use Rattle.cborn_model.specs.Spelled.{Fits, FitsAll, FitsEntries}
 use Rattle.cborn_edn.specs.declared.strings.StringKind.TheVariants.{Text as OfText}
 use Rattle.cborn_edn.specs.Shown.{AreShowable, Shown, mark_for, mark_for_size, escaped, indicator, opened, shown_string, shown_more_chunks, shown, shown_all, shown_more, shown_entries, shown_more_entries, shown_lines, shown_more_lines}
@@ -82,12 +82,7 @@ lines_cut x (more t ts) u = cut x (codes ",\n") (shown_lines (more t ts)) (low_a
 
 mutual
   node_shows : (t : Tree) → Fits t → IsUtf8 (shown t) → IsShowable t
-  node_shows (Uint p w n) h u = tt
-  node_shows (Nint p w n) h u = tt
-  node_shows (ByteNode p w x) h u = tt
   node_shows (TextNode p w x) h u = string_shows w x u
-  node_shows (ByteChunks p cs) h u = tt
-  node_shows (TextChunks p []) h u = tt
   node_shows (TextChunks p (c ∷ cs)) h u = chunks_show c cs (behind (codes "(_ ") _ (low_ascii (codes "(_ ") refl) u)
   node_shows (Items p z ts) h u =
       let o = opened (mark_for_size z (count ts)) in
@@ -99,7 +94,7 @@ mutual
       let l = below w n h.0 in
       let m = indicator (mark_for w n) in
       node_shows t h.1 (before (shown t) (codes ")") (low_ascii (codes ")") refl) (behind (codes "(") (shown t ++ codes ")") (low_ascii (codes "(") refl) (behind m (codes "(" ++ (shown t ++ codes ")")) (low_ascii m (indicator_low (mark_for w n))) (behind (decimal n) (m ++ (codes "(" ++ (shown t ++ codes ")"))) (IsAscii-decimal_wide n (omega arith)) u))))
-  node_shows (Simple p n) h u = tt
+  node_shows _ h u = tt
 
   all_show : (ts : Trees) → FitsAll ts → IsUtf8 (shown_all ts) → EachShowable ts
   all_show no_node h u = tt

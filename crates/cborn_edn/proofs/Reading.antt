@@ -14,10 +14,11 @@ use Rattle.cborn_edn.specs.Syntax.{Input, depth_of_input}
 use Rattle.cborn_edn.specs.Parse.{Parse}
 use Rattle.cborn_edn.specs.Meaning.{means_input, input_slips}
 use Rattle.cborn_edn.specs.Notates.{Notates, IsNoNotation}
-use Rattle.cborn_edn.specs.devices.Draft.{IsFirstSlip, Run, Done, Stuck, draft_run, first_state, IsStuck, is_one, is_behind_comma, reach as kept_reach, finished, first_slip}
+use Rattle.cborn_edn.specs.devices.Draft.{IsFirstSlip, Run, Done, Stuck, draft_run, first_state, IsStuck, is_one, is_behind_comma, finished, first_slip}
 use Rattle.cborn_edn.proofs.Machine.{State, start, step}
 use Rattle.cborn_edn.proofs.Takes.{finish}
-use Rattle.cborn_edn.proofs.Held.{open_levels, reach, comma_at}
+use Rattle.cborn_edn.specs.devices.Levels.{levels_in, reach}
+use Rattle.cborn_edn.proofs.Held.{open_levels, comma_at}
 use Rattle.cborn_edn.proofs.Parser.{Answer, Whole, Jams as JamsAt, forbids, at_end, checked, parse, Meets, parses}
 use Rattle.cborn_edn.proofs.Kept.{kept_state, kept_option}
 use Rattle.cborn_edn.proofs.Steps.{kept_step}
@@ -65,7 +66,7 @@ module _ (profile : Profile) (limit end : ℕ) where
   run_is : (t : Token) (rest : List Token) (s : State) (o : Option State) (b c : Bool) → step s t ≡ o → forbids profile (comma_at s t.class) ≡ b → leb (reach (open_levels s) t.class) limit ≡ c → draft_run profile limit (t ∷ rest) (kept_state s) ≡ run_by profile limit t rest (kept_option o) b c
   run_is t rest s o b c e f g =
       let d = kept_state s in
-      let low = leb (kept_reach d.brackets t.class) limit in
+      let low = leb (reach (levels_in d.brackets) t.class) limit in
       let comma = is_one profile && is_behind_comma d.phase d.brackets t.class in
       ap (λ x. run_by profile limit t rest x comma low) (kept_step s t ∙ ap kept_option e)
       ∙ ap (λ x. run_by profile limit t rest (kept_option o) x low) (comma_same profile s t.class ∙ f)

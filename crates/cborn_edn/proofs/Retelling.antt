@@ -2,7 +2,7 @@
 use Rattle.std.proofs.Common.{◌≡◌, refl, sym, ap, ◌∙◌, ℕ, ◌+◌, ◌≤◌, List, [], ◌∷◌, Bool, true, false, cond, ltb, Option, Some, None, arith}
 use Rattle.std.specs.Prelude.{map as list_map}
 use Rattle.cborn_model.specs.declared.nodes.Chunk.{Chunk}
-use Rattle.cborn_model.specs.Tree.{Tree, Uint, Nint, Bytes as ByteNode, Text as TextNode, ByteChunks, TextChunks, Items, Pairs as PairNode, Tagged, Simple, Trees, no_item as no_node, more, Entries, no_entry, entry, depth_all}
+use Rattle.cborn_model.specs.Tree.{Tree, Uint, ByteChunks, TextChunks, Items, Pairs as PairNode, Tagged, Simple, Trees, no_item as no_node, more, Entries, no_entry, entry, depth_all}
 use Rattle.cborn_model.specs.Spelled.{FitsAll, spelled_all}
 use Rattle.cborn_lex.specs.declared.classes.Mark.TheVariants.{Absent}
 use Rattle.cborn_lex.specs.declared.classes.Token.{Token}
@@ -46,15 +46,13 @@ none-simple n = go (ltb n 20) (ltb n 24)
 mutual
   none : (t : Tree) → commas (notated t) ≡ 0
   none (Uint p w n) = refl
-  none (Nint p w n) = refl
-  none (ByteNode p w x) = refl
-  none (TextNode p w x) = refl
   none (ByteChunks p cs) = none-chunk_item OfBytes cs
   none (TextChunks p cs) = none-chunk_item OfText cs
   none (Items p s ts) = none_content ts
   none (PairNode p s es) = none_fields es
   none (Tagged p w n t) = none t
   none (Simple p n) = none-simple n
+  none _ = refl
 
   none_content : (ts : Trees) → commas_of_content (notated_content ts) ≡ 0
   none_content no_node = refl

@@ -1,7 +1,7 @@
 -- The text of nodes doesn't turn on their places.
 use Rattle.std.proofs.Common.{◌≡◌, refl, sym, ap, ◌∙◌, ℕ, List, [], ◌∷◌, ◌++◌, codes, decimal}
 use Rattle.cborn_model.specs.declared.nodes.Chunk.{Chunk}
-use Rattle.cborn_model.specs.Tree.{Tree, Uint, Nint, Bytes, Text, ByteChunks, TextChunks, Items, Pairs, Tagged, Simple, Trees, no_item, more, Entries, no_entry, entry}
+use Rattle.cborn_model.specs.Tree.{Tree, ByteChunks, TextChunks, Items, Pairs, Tagged, Trees, no_item, more, Entries, no_entry, entry}
 use Rattle.cborn_edn.specs.declared.strings.StringKind.{StringKind}
 use Rattle.cborn_edn.specs.declared.strings.StringKind.TheVariants.{Bytes as OfBytes, Text as OfText}
 use Rattle.cborn_edn.specs.Shown.{Shown, mark_for, mark_for_size, indicator, opened, shown_string, shown_more_chunks, shown_chunks, shown, shown_all, shown_more, shown_entries, shown_more_entries, shown_lines, shown_more_lines}
@@ -20,16 +20,12 @@ chunks OfText (c ∷ cs) = λ i. codes "(_ " ++ (shown_string OfText c.width c.b
 
 mutual
   told : (t : Tree) → shown (unplaced t) ≡ shown t
-  told (Uint p w n) = refl
-  told (Nint p w n) = refl
-  told (Bytes p w b) = refl
-  told (Text p w b) = refl
   told (ByteChunks p cs) = chunks OfBytes cs
   told (TextChunks p cs) = chunks OfText cs
   told (Items p s ts) = λ i. codes "[" ++ (opened (mark_for_size s (count-unplaced ts i)) ++ (told_all ts i ++ codes "]"))
   told (Pairs p s es) = λ i. codes "{" ++ (opened (mark_for_size s (count-unplaced_entries es i)) ++ (told_entries es i ++ codes "}"))
   told (Tagged p w n t) = λ i. decimal n ++ (indicator (mark_for w n) ++ (codes "(" ++ (told t i ++ codes ")")))
-  told (Simple p n) = refl
+  told _ = refl
 
   told_all : (ts : Trees) → shown_all (unplaced_all ts) ≡ shown_all ts
   told_all no_item = refl

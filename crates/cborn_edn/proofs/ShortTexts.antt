@@ -1,5 +1,6 @@
 -- A text of fewer than 2^56 bytes has one answer.
-use Rattle.std.proofs.Common.{◌≡◌, refl, subst, ℕ, ◌^◌, ◌<◌, ◌≤◌, List, [], ◌∷◌, length, ◌⊎◌, inl, inr, arith}
+use Rattle.std.proofs.Common.{◌≡◌, subst, ℕ, ◌^◌, ◌<◌, ◌≤◌, List, length, Option, Some, None, ◌⊎◌, inl, inr, arith}
+use Rattle.cborn_edn.specs.devices.Draft.{first_slip}
 use Rattle.cborn_model.specs.Bytes.{AreBytes}
 use Rattle.cborn_model.specs.Tree.{Trees, depth_all}
 use Rattle.cborn_model.specs.Spelled.{FitsAll}
@@ -17,7 +18,7 @@ use Rattle.cborn_edn.specs.Meaning.{FirstSlip, input_slips}
 use Rattle.cborn_edn.specs.Notates.{Notates, Slips, Jams}
 use Rattle.cborn_edn.proofs.Agree.{says}
 use Rattle.cborn_edn.proofs.Counting.{counted_text}
-use Rattle.cborn_edn.proofs.First.{first, nothing_among}
+use Rattle.cborn_edn.proofs.Earliest.{Tells, tells, nothing_among}
 use Rattle.cborn_edn.proofs.Fit.{said_fits}
 use Rattle.cborn_edn.proofs.NoSlip.{no_slip}
 use Rattle.cborn_edn.proofs.OneTree.{one_tree, answered}
@@ -48,16 +49,17 @@ Answered profile limit text =
     ⊎ ((p : ℕ) × (r : EdnReason) × (Jams profile limit text p r ⊎ Slips profile limit text p r)))
 
 module _ (profile : Profile) (limit : ℕ) (text : List ℕ) (are : AreBytes text) (short : length text < 2 ^ 56) where
-  of_tree : (ts : List Token) (tree : Input) → Lex profile text ts → Parse profile ts tree → depth_of_input tree ≤ limit → (l : List Slip) → input_slips tree ≡ l → Answered profile limit text
-  of_tree ts tree lex parse shallow [] e =
-      let s = says tree (counted_text profile text ts tree are short lex parse) e in
-      inl (s.0, (tree, record { tokens = ts; lex = lex; parse = parse; shallow = shallow }, s.1))
-  of_tree ts tree lex parse shallow (x ∷ l) e =
-      let f = first x l in
-      inr (inr (f.0.place, f.0.reason, inr (tree, record { tokens = ts; lex = lex; parse = parse; shallow = shallow }, rw e f.1)))
+  of_tree : (ts : List Token) (tree : Input) → Lex profile text ts → Parse profile ts tree → depth_of_input tree ≤ limit → Answered profile limit text
+  of_tree ts tree lex parse shallow = go (first_slip (input_slips tree)) (tells (input_slips tree))
+    where
+      go : (o : Option Slip) → Tells (input_slips tree) o → Answered profile limit text
+      go None e =
+          let s = says tree (counted_text profile text ts tree are short lex parse) e in
+          inl (s.0, (tree, record { tokens = ts; lex = lex; parse = parse; shallow = shallow }, s.1))
+      go (Some s) f = inr (inr (s.place, s.reason, inr (tree, record { tokens = ts; lex = lex; parse = parse; shallow = shallow }, f)))
 
   of_tokens : (ts : List Token) → Lex profile text ts → HasTree profile limit ts ⊎ ((p : ℕ) × (r : EdnReason) × Jam profile limit (length text) ts p r) → Answered profile limit text
-  of_tokens ts lex (inl (tree, parse, shallow)) = of_tree ts tree lex parse shallow (input_slips tree) refl
+  of_tokens ts lex (inl (tree, parse, shallow)) = of_tree ts tree lex parse shallow
   of_tokens ts lex (inr (p, r, jam)) = inr (inr (p, r, inl (ts, lex, jam)))
 
   of_text : ((ts : List Token) × Lex profile text ts) ⊎ ((p : ℕ) × (r : LexReason) × Stop profile text p r) → Answered profile limit text

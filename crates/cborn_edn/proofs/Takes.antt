@@ -48,18 +48,7 @@ class_of (embed_end m) = EmbedClose m
 
 pub ended : (st : Stack) (i : Item) (e : Ender) (a : Span) → step_by (landed st i) (class_of e) a ≡ after st i (class_of e) a
 ended st (string ps) array_end a = refl
-ended st (string ps) map_end a = refl
-ended st (string ps) paren_end a = refl
-ended st (string ps) comma a = refl
-ended st (string ps) colon a = refl
-ended st (string ps) (embed_end m) a = refl
-ended st (number b n v m) e a = refl
-ended st (word b n) e a = refl
-ended st (tag b n m i c) e a = refl
-ended st (simple b d n v m c) e a = refl
-ended st (chunked b ss c) e a = refl
-ended st (array b m c d) e a = refl
-ended st (map b m f d) e a = refl
+ended st _ _ a = refl
 
 -- the brackets that end a row
 pub data Close : Type 0 where
@@ -218,10 +207,4 @@ finish _ = None
 pub finish-whole : (t : Input) → finish (whole t) ≡ Some t
 finish-whole nothing = refl
 finish-whole (items (row b (string ps))) = refl
-finish-whole (items (row b (number a n v m))) = refl
-finish-whole (items (row b (word a n))) = refl
-finish-whole (items (row b (tag a n m i e))) = refl
-finish-whole (items (row b (simple a c n v m e))) = refl
-finish-whole (items (row b (chunked a ss e))) = refl
-finish-whole (items (row b (array a m c e))) = refl
-finish-whole (items (row b (map a m f e))) = refl
+finish-whole _ = refl

@@ -1,5 +1,7 @@
 -- A text that is read up to some place.
 use Rattle.std.proofs.Common.{◌≡◌, refl, sym, ap, ◌∙◌, subst, ℕ, ◌^◌, ◌<◌, ◌≤◌, List, [], ◌∷◌, ◌++◌, length, Option, Some, None, append_assoc, arith, ◌⊎◌, inl, inr}
+use Rattle.std.specs.Prelude.{Result, Ok, Err, IfErr}
+use Rattle.std.specs.Result.{IsErr, IsErrAnd}
 use Rattle.cborn_model.specs.Bytes.{AreBytes}
 use Rattle.cborn_model.specs.Tree.{Trees}
 use Rattle.cborn_lex.specs.Lex.{Lex, Between, IsStopAt, IsStopFrom}
@@ -19,6 +21,11 @@ use Rattle.cborn_edn.specs.devices.Ready.{IsReady, IsHeld, IsTold, Steps}
 use Rattle.cborn_edn.specs.devices.Draft.{Done, draft_run, finished, first_state, lexical}
 use Rattle.cborn_edn.proofs.Reached.{Reached, first_reached, next_reached, ready, told}
 use Rattle.cborn_edn.proofs.Reading.{jam_told}
+
+-- a fault that is passed on
+pub passed_on : {A E : Type 0} (r : Result A E) (x : E) (P : E → Type 0) → P x → IsErr r × IsErrAnd r (λ e. e ≡ x) → IfErr r P
+passed_on (Ok a) x P p h = tt
+passed_on (Err e) x P p h = subst P (sym h.1) p
 
 -- the tokens up to a place lead to a state
 pub record Underway (profile : Profile) (limit : ℕ) (text : List ℕ) (at : ℕ) (d : State) : Type 0 where

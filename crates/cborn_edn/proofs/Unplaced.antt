@@ -2,7 +2,7 @@
 use Rattle.std.proofs.Common.{◌≡◌, refl, sym, ap, ◌∙◌, subst, ℕ, suc, List, [], ◌∷◌, length, true, false, ◌⊎◌}
 use Rattle.std.specs.Prelude.{◌≢◌, max, IsUtf8}
 use Rattle.cborn_model.specs.declared.nodes.Chunk.{Chunk}
-use Rattle.cborn_model.specs.Tree.{Tree, Uint, Nint, Bytes, Text, ByteChunks, TextChunks, Items, Pairs, Tagged, Simple, Trees, no_item, more, Entries, no_entry, entry, depth, depth_all, depth_entries}
+use Rattle.cborn_model.specs.Tree.{Tree, ByteChunks, TextChunks, Items, Pairs, Tagged, Trees, no_item, more, Entries, no_entry, entry, depth, depth_all, depth_entries}
 use Rattle.cborn_model.specs.Heads.{WidthFits, SizeFits}
 use Rattle.cborn_model.specs.Bytes.{AreBytes, big_endian}
 use Rattle.cborn_model.specs.Spelled.{ChunksFit, Fits, FitsAll, FitsEntries, spelled_all}
@@ -20,16 +20,12 @@ chunks_fit (c ∷ cs) = λ i. (WidthFits c.width (length c.bytes) × AreBytes c.
 
 mutual
   fits : (t : Tree) → Fits (unplaced t) ≡ Fits t
-  fits (Uint p w n) = refl
-  fits (Nint p w n) = refl
-  fits (Bytes p w b) = refl
-  fits (Text p w b) = refl
   fits (ByteChunks p cs) = chunks_fit cs
   fits (TextChunks p cs) = chunks_fit cs
   fits (Items p s ts) = λ i. SizeFits s (count-unplaced ts i) × fit_all ts i
   fits (Pairs p s es) = λ i. SizeFits s (count-unplaced_entries es i) × fit_entries es i
   fits (Tagged p w n t) = λ i. WidthFits w n × fits t i
-  fits (Simple p n) = refl
+  fits _ = refl
 
   fit_all : (ts : Trees) → FitsAll (unplaced_all ts) ≡ FitsAll ts
   fit_all no_item = refl
@@ -41,16 +37,10 @@ mutual
 
 mutual
   deep : (t : Tree) → depth (unplaced t) ≡ depth t
-  deep (Uint p w n) = refl
-  deep (Nint p w n) = refl
-  deep (Bytes p w b) = refl
-  deep (Text p w b) = refl
-  deep (ByteChunks p cs) = refl
-  deep (TextChunks p cs) = refl
   deep (Items p s ts) = ap suc (deep_all ts)
   deep (Pairs p s es) = ap suc (deep_entries es)
   deep (Tagged p w n t) = ap suc (deep t)
-  deep (Simple p n) = refl
+  deep _ = refl
 
   deep_all : (ts : Trees) → depth_all (unplaced_all ts) ≡ depth_all ts
   deep_all no_item = refl
@@ -68,23 +58,11 @@ are_text [] = refl
 are_text (c ∷ cs) = λ i. IsUtf8 c.bytes × are_text cs i
 
 byte_string : (t : Tree) (b : List ℕ) → IsByteString (unplaced t) b ≡ IsByteString t b
-byte_string (Uint p w n) b = refl
-byte_string (Nint p w n) b = refl
-byte_string (Bytes p w c) b = refl
-byte_string (Text p w c) b = refl
 byte_string (ByteChunks p cs) b = λ i. b ≡ joined cs i
-byte_string (TextChunks p cs) b = refl
-byte_string (Items p s ts) b = refl
-byte_string (Pairs p s es) b = refl
-byte_string (Tagged p w n t) b = refl
-byte_string (Simple p n) b = refl
+byte_string _ b = refl
 
 mutual
   mean : (t : Tree) (v : Value) → Means (unplaced t) v ≡ Means t v
-  mean (Uint p w n) v = refl
-  mean (Nint p w n) v = refl
-  mean (Bytes p w b) v = refl
-  mean (Text p w b) v = refl
   mean (ByteChunks p cs) v = λ i. v ≡ bytes (joined cs i)
   mean (TextChunks p cs) v = λ i. are_text cs i × (v ≡ text (joined cs i))
   mean (Items p s ts) v = λ i. (vs : Values) × mean_all ts vs i × (v ≡ array vs)
@@ -93,19 +71,17 @@ mutual
       ((n ≡ 2) × ((b : List ℕ) × byte_string t b i × IsNumber false (big_endian b) v))
       ⊎ ((n ≡ 3) × ((b : List ℕ) × byte_string t b i × IsNumber true (big_endian b) v))
       ⊎ ((n ≢ 2) × (n ≢ 3) × (u : Value) × mean t u i × (v ≡ tagged n u))
-  mean (Simple p n) v = refl
+  mean _ v = refl
 
   mean_all : (ts : Trees) (vs : Values) → AllMean (unplaced_all ts) vs ≡ AllMean ts vs
   mean_all no_item no_values = refl
-  mean_all no_item (value v vs) = refl
-  mean_all (more t ts) no_values = refl
   mean_all (more t ts) (value v vs) = λ i. mean t v i × mean_all ts vs i
+  mean_all _ _ = refl
 
   mean_entries : (es : Entries) (ps : Couples) → EntriesMean (unplaced_entries es) ps ≡ EntriesMean es ps
   mean_entries no_entry no_pairs = refl
-  mean_entries no_entry (pair a b ps) = refl
-  mean_entries (entry k v es) no_pairs = refl
   mean_entries (entry k v es) (pair a b ps) = λ i. mean k a i × mean v b i × mean_entries es ps i
+  mean_entries _ _ = refl
 
 -- Lists of nodes that are one but for their places.
 module _ (nodes others : Trees) (e : unplaced_all nodes ≡ unplaced_all others) where

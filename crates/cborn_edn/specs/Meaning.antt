@@ -8,12 +8,12 @@ use Rattle.cborn_edn.specs.declared.strings.StringKind.TheVariants.{Bytes as OfB
 use Rattle.std.specs.Str.{is_utf8}
 use Rattle.std.specs.Int.Digits.{digits_of}
 use Rattle.cborn_model.specs.declared.heads.Width.{Width}
-use Rattle.cborn_model.specs.declared.heads.Width.TheVariants.{Direct, One, Two, Four, Eight}
+use Rattle.cborn_model.specs.declared.heads.Width.TheVariants.{Direct}
 use Rattle.cborn_model.specs.declared.heads.Size.{Size}
 use Rattle.cborn_model.specs.declared.heads.Size.TheVariants.{Fixed, Endless as Unending}
 use Rattle.cborn_model.specs.declared.nodes.Chunk.{Chunk}
 use Rattle.cborn_model.specs.Tree.{Tree, Uint, Nint, Bytes as ByteNode, Text as TextNode, ByteChunks, TextChunks, Items, Pairs as PairNode, Tagged, Simple, Trees, no_item as no_node, more, Entries, no_entry, entry, count, count_entries}
-use Rattle.cborn_model.specs.Heads.{least}
+use Rattle.cborn_model.specs.Heads.{holds, least}
 use Rattle.cborn_model.specs.First.{IsFirst}
 use Rattle.cborn_model.specs.Spelled.{spelled_all}
 use Rattle.cborn_lex.specs.declared.classes.Mark.{Mark}
@@ -27,13 +27,6 @@ and_then (Some x) f = f x
 abbrev pub when : {A : Type 0} → Bool → Option A → Option A
 when true x = x
 when false x = None
-
-abbrev pub holds : Width → ℕ → Bool
-holds Direct n = nat_lt n 24
-holds One n = nat_lt n 256
-holds Two n = nat_lt n (2 ^ 16)
-holds Four n = nat_lt n (2 ^ 32)
-holds Eight n = nat_lt n (2 ^ 64)
 
 -- the width of a head that can't be indefinite
 abbrev pub width_for : Mark → ℕ → Option Width

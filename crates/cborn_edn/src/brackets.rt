@@ -1,10 +1,10 @@
 //! What is open around a place in the text.
 
 use crate::contents::{Chunks, Fields, Row, Sequence};
-use crate::lists::{discard, push_one};
+use crate::lists::discard;
 use crate::strings::Pieces;
 use cborn_lex::{Class, Mark};
-use cborn_model::{Node, Width};
+use cborn_model::{Node, Width, push_doubling};
 use std::alloc::{AllocError, Global};
 use std::marker::Model;
 
@@ -92,7 +92,7 @@ impl Bracket {
         Ok(true)
     }
 
-    // Makes the item the key of the next pair, where a map wants one. Whether that is so.
+    /// Makes the item the key of the next pair, where a map wants one. Whether that is so.
     fn key(&mut self, item: Option<Node>) -> bool
         ensures keyed { pure.keyed self.old item ≡ (if result then Some self.new else None) }
         ensures level { is_level self.new ≡ is_level self.old }
@@ -119,7 +119,7 @@ impl Bracket {
         }
     }
 
-    // Itself; what stays in its place owns nothing.
+    /// Itself; what stays in its place owns nothing.
     #[inline]
     fn take(&mut self) -> Bracket
         ensures taken { result ≡ self.old }
@@ -134,7 +134,7 @@ impl Bracket {
         )
     }
 
-    // Whether it makes what stands inside one deeper.
+    /// Whether it makes what stands inside one deeper.
     fn is_level(&self) -> bool
         ensures { result ≡ is_level self.now }
     {
@@ -200,6 +200,7 @@ impl Brackets {
     ghost use Rattle.cborn_edn.specs.devices.Draft as pure;
     ghost use Rattle.cborn_edn.specs.devices.Ready.{MaySpell, HaveRoom};
 
+    /// None are open.
     pub(crate) fn new(alloc: Global) -> Brackets
         ensures { result ≡ [] }
     {
@@ -224,7 +225,7 @@ impl Brackets {
         ensures { OnOk result (self.new ≡ bracket ∷ self.old) }
     {
         let deeper = bracket.is_level();
-        push_one(&mut self.brackets, bracket)?;
+        push_doubling(&mut self.brackets, bracket)?;
         if deeper {
             self.levels += 1;
         }

@@ -38,7 +38,7 @@ impl State {
         }
     }
 
-    // The end of a tag: the item is its content.
+    /// The end of a tag: the item is its content.
     #[inline(never)]
     fn after_content(&mut self, alloc: Global, item: Option<Node>) -> Result<bool, AllocError>
         requires { self.old.phase ≡ Wants }
@@ -71,6 +71,7 @@ impl State {
         }
     }
 
+    /// An array ends.
     #[inline(never)]
     fn ended_array(&mut self) -> bool
         requires { self.old.phase ≡ Wants }
@@ -89,6 +90,7 @@ impl State {
         }
     }
 
+    /// A map ends.
     #[inline(never)]
     fn ended_map(&mut self) -> bool
         requires { self.old.phase ≡ Wants }
@@ -113,6 +115,7 @@ impl State {
         }
     }
 
+    /// An embedded sequence ends: its bytes are a piece of a string.
     #[inline(never)]
     fn ended_embedded(&mut self, alloc: Global, start: u64, mark: Mark) -> Result<bool, AllocError>
         requires { self.old.phase ≡ Wants }
@@ -164,6 +167,7 @@ impl State {
         Ok(true)
     }
 
+    /// The string ends, and something stands behind it.
     #[inline(never)]
     fn after_string(
         &mut self,
@@ -185,6 +189,7 @@ impl State {
         self.after(alloc, item, start, class)
     }
 
+    /// The string was a chunk: a comma, or the end of the chunks.
     #[inline(never)]
     fn after_chunk(&mut self, string: Pieces, class: &Class) -> Result<bool, AllocError>
         requires taken { self.old.phase ≡ Wants }
@@ -221,6 +226,7 @@ impl State {
     }
 }
 
+/// The tag with its content.
 fn tagged(
     alloc: Global,
     place: u64,

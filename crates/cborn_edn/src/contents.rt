@@ -22,6 +22,7 @@ pub(crate) struct Row {
 }
 
 impl Row {
+    /// Nothing yet.
     pub(crate) fn new(alloc: Global) -> Row
         ensures { result ≡ pure.no_row }
     {
@@ -78,6 +79,7 @@ pub(crate) struct Sequence {
 }
 
 impl Sequence {
+    /// Nothing yet.
     pub(crate) fn new(alloc: Global) -> Sequence
         ensures { result ≡ pure.no_sequence }
     {
@@ -128,6 +130,7 @@ pub(crate) struct Fields {
 }
 
 impl Fields {
+    /// Nothing yet.
     pub(crate) fn new(alloc: Global) -> Fields
         ensures { result ≡ pure.no_fields }
     {
@@ -182,6 +185,7 @@ pub(crate) struct Chunks {
 }
 
 impl Chunks {
+    /// Nothing yet.
     pub(crate) fn new(alloc: Global) -> Chunks
         ensures { result ≡ pure.no_chunks }
     {
@@ -218,7 +222,7 @@ impl Chunks {
     }
 }
 
-// The chunks and one more, of the same kind.
+/// The chunks and one more, of the same kind.
 fn appended(
     chunks: Option<ChunkList>,
     chunk: Option<Chunk>,
@@ -241,6 +245,7 @@ fn appended(
     }
 }
 
+/// The kind of the first chunk, where there is one.
 fn kind_or(first: Option<StringKind>, kind: StringKind) -> StringKind
     ensures { result ≡ pure.kind_or first kind }
 {
@@ -250,17 +255,9 @@ fn kind_or(first: Option<StringKind>, kind: StringKind) -> StringKind
     }
 }
 
+/// Whether two chunks are of one kind.
 fn same_kind(one: StringKind, other: StringKind) -> bool
     ensures { result ≡ same_kind one other }
 {
-    match one {
-        StringKind::Bytes => match other {
-            StringKind::Bytes => true,
-            StringKind::Text => false,
-        },
-        StringKind::Text => match other {
-            StringKind::Bytes => false,
-            StringKind::Text => true,
-        },
-    }
+    one == other
 }

@@ -1,6 +1,12 @@
 //! Why a text was not read, or nodes were not shown.
 
+ghost use Rattle.std.specs.Prelude.{◌≡◌};
+ghost use Rattle.cborn_edn.specs.declared.faults.EdnFault.TheVariants.{OutOfMemory};
+ghost use Rattle.cborn_edn.specs.declared.faults.ShowFault.TheVariants.{OutOfMemory as ShowOutOfMemory};
+ghost use Rattle.cborn_edn.specs.devices.Draft.{lexical};
+
 use cborn_lex::LexFault;
+use std::alloc::AllocError;
 use thiserror::Error;
 
 /// What is wrong with the tokens of a text, or with what they mean.
@@ -63,8 +69,35 @@ pub enum ShowFault {
     OutOfMemory,
 }
 
+impl From<AllocError> for EdnFault {
+    ghost from_gives = { λ _ e. e ≡ OutOfMemory };
+
+    fn from(error: AllocError) -> EdnFault {
+        EdnFault::OutOfMemory
+    }
+}
+
+impl From<LexFault> for EdnFault {
+    ghost from_gives = { λ fault e. e ≡ lexical fault };
+
+    /// Want of memory is the crate's own.
+    fn from(fault: LexFault) -> EdnFault {
+        match fault {
+            LexFault::Refused { .. } => EdnFault::Lex(fault),
+            LexFault::OutOfMemory => EdnFault::OutOfMemory,
+        }
+    }
+}
+
+impl From<AllocError> for ShowFault {
+    ghost from_gives = { λ _ e. e ≡ ShowOutOfMemory };
+
+    fn from(error: AllocError) -> ShowFault {
+        ShowFault::OutOfMemory
+    }
+}
+
 impl EdnReason {
-    ghost use Rattle.std.specs.Prelude.{◌≡◌};
     ghost use Rattle.cborn_edn.specs.Meaning.{number_of};
 
     /// The number of the reason: 20 to 22 for the tokens, 30 to 36 for what they mean. At one place the lowest is told.

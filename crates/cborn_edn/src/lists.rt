@@ -1,8 +1,6 @@
 //! Lists of what was read, as values.
 
-ghost use Rattle.std.specs.Prelude.{◌≡◌, [], ◌∷◌, ◌++◌, OnOk, OnErr};
-
-use cborn_model::{Chunk, Node, Spelled};
+use cborn_model::{Chunk, Node, Spelled, push_doubling};
 use std::alloc::{AllocError, Global};
 use std::marker::Model;
 
@@ -28,6 +26,7 @@ impl NodeList {
     ghost use Rattle.cborn_model.specs.Tree.{no_item, trees};
     ghost use Rattle.cborn_edn.specs.Meaning.{snoc};
 
+    /// Nothing yet.
     pub(crate) fn new(alloc: Global) -> NodeList
         ensures { result ≡ no_item }
     {
@@ -36,13 +35,15 @@ impl NodeList {
         }
     }
 
+    /// One more behind the others.
     #[tactic(auto, using(crate::proofs::Snocs::snocs))]
     pub(crate) fn add(&mut self, node: Node) -> Result<(), AllocError>
         ensures { OnOk result (self.new ≡ snoc self.old node) }
     {
-        push_one(&mut self.nodes, node)
+        push_doubling(&mut self.nodes, node)
     }
 
+    /// All of them.
     pub(crate) fn into_vec(self) -> Vec<Node>
         ensures { trees result.items ≡ self }
     {
@@ -72,6 +73,7 @@ impl SpelledList {
     ghost use Rattle.cborn_model.specs.Tree.{no_item, trees};
     ghost use Rattle.cborn_edn.specs.Meaning.{snoc};
 
+    /// Nothing yet.
     pub(crate) fn new(alloc: Global) -> SpelledList
         ensures { result ≡ no_item }
     {
@@ -80,19 +82,22 @@ impl SpelledList {
         }
     }
 
+    /// One more behind the others.
     #[tactic(auto, using(crate::proofs::Snocs::snocs))]
     pub(crate) fn add(&mut self, item: Spelled) -> Result<(), AllocError>
         ensures { OnOk result (self.new ≡ snoc self.old item) }
     {
-        push_one(&mut self.items, item)
+        push_doubling(&mut self.items, item)
     }
 
+    /// All of them, lent.
     pub(crate) fn as_slice(&self) -> &[Spelled]
         ensures { trees result.now ≡ self.now }
     {
         self.items.as_slice()
     }
 
+    /// All of them.
     pub(crate) fn into_vec(self) -> Vec<Spelled>
         ensures { trees result.items ≡ self }
     {
@@ -122,6 +127,7 @@ impl NodePairs {
     ghost use Rattle.cborn_model.specs.Tree.{no_entry, entries};
     ghost use Rattle.cborn_edn.specs.Meaning.{snoc_entry};
 
+    /// Nothing yet.
     pub(crate) fn new(alloc: Global) -> NodePairs
         ensures { result ≡ no_entry }
     {
@@ -130,13 +136,15 @@ impl NodePairs {
         }
     }
 
+    /// One more behind the others.
     #[tactic(auto, using(crate::proofs::Snocs::snocs))]
     pub(crate) fn add(&mut self, key: Node, value: Node) -> Result<(), AllocError>
         ensures { OnOk result (self.new ≡ snoc_entry self.old key value) }
     {
-        push_one(&mut self.pairs, (key, value))
+        push_doubling(&mut self.pairs, (key, value))
     }
 
+    /// All of them.
     pub(crate) fn into_vec(self) -> Vec<(Node, Node)>
         ensures { entries result.items ≡ self }
     {
@@ -162,6 +170,7 @@ impl Model for ChunkList {
 impl ChunkList {
     ghost use Rattle.std.specs.Prelude.{◌≡◌, [], ◌∷◌, ◌++◌, IfOk};
 
+    /// Nothing yet.
     pub(crate) fn new(alloc: Global) -> ChunkList
         ensures { result ≡ [] }
     {
@@ -170,45 +179,21 @@ impl ChunkList {
         }
     }
 
+    /// One more behind the others.
     pub(crate) fn with(self, chunk: Chunk) -> Result<ChunkList, AllocError>
         ensures { IfOk result (λ l. l ≡ self ++ chunk ∷ []) }
     {
         let mut chunks = self.chunks;
-        push_one(&mut chunks, chunk)?;
+        push_doubling(&mut chunks, chunk)?;
         Ok(ChunkList { chunks })
     }
 
+    /// All of them.
     pub(crate) fn into_vec(self) -> Vec<Chunk>
         ensures { result.items ≡ self }
     {
         self.chunks
     }
-}
-
-/// Appends one more. Most lists are short, so the room grows from one, by doubling.
-#[inline]
-pub(crate) fn push_one<T: Drop>(list: &mut Vec<T>, one: T) -> Result<(), AllocError>
-    ensures added { OnOk result (list.new.items ≡ list.old.items ++ one ∷ []) }
-    ensures kept { OnErr result (list.new.items ≡ list.old.items) }
-{
-    if list.len() == list.capacity() {
-        return push_full(list, one);
-    }
-    list.push_reserved(one);
-    Ok(())
-}
-
-// Appends one more to a list without room.
-#[cold]
-#[inline(never)]
-fn push_full<T: Drop>(list: &mut Vec<T>, one: T) -> Result<(), AllocError>
-    ensures added { OnOk result (list.new.items ≡ list.old.items ++ one ∷ []) }
-    ensures kept { OnErr result (list.new.items ≡ list.old.items) }
-{
-    let more = list.len().max(1);
-    list.reserve_exact(more)?;
-    list.push_reserved(one);
-    Ok(())
 }
 
 /// Drops what is of no use, out of line, so that the ways that drop nothing stay short.

@@ -24,7 +24,7 @@ pub(crate) fn width_for(mark: Mark, n: u64) -> Result<Width, EdnReason>
     match mark {
         Mark::Absent => Ok(shortest(n)),
         Mark::Endless => Err(EdnReason::IndicatorNotAllowed),
-        Mark::Wide(width) if holds(width, n) => Ok(width),
+        Mark::Wide(width) if width.holds(n) => Ok(width),
         Mark::Wide(_) => Err(EdnReason::IndicatorTooNarrow),
     }
 }
@@ -37,20 +37,8 @@ pub(crate) fn size_for(mark: Mark, n: u64) -> Result<Size, EdnReason>
     match mark {
         Mark::Absent => Ok(Size::Fixed(shortest(n))),
         Mark::Endless => Ok(Size::Endless),
-        Mark::Wide(width) if holds(width, n) => Ok(Size::Fixed(width)),
+        Mark::Wide(width) if width.holds(n) => Ok(Size::Fixed(width)),
         Mark::Wide(_) => Err(EdnReason::IndicatorTooNarrow),
-    }
-}
-
-fn holds(width: Width, n: u64) -> bool
-    ensures { result ≡ pure.holds width n }
-{
-    match width {
-        Width::Direct => n < 24,
-        Width::One => n < 256,
-        Width::Two => n < 65536,
-        Width::Four => n < 4294967296,
-        Width::Eight => true,
     }
 }
 
@@ -61,14 +49,14 @@ pub(crate) fn is_small(negative: bool, magnitude: u128) -> bool
     argument_of(negative, magnitude) < 18446744073709551616
 }
 
-// Whether it is below zero; -0 isn't.
+/// Whether it is below zero; -0 isn't.
 fn is_below(negative: bool, magnitude: u128) -> bool
     ensures { result ≡ syntax.is_below negative magnitude }
 {
     negative && magnitude > 0
 }
 
-// `n` for `n`, and for `-1-n`.
+/// `n` for `n`, and for `-1-n`.
 fn argument_of(negative: bool, magnitude: u128) -> u128
     ensures { result ≡ syntax.argument_of negative magnitude }
 {
@@ -93,7 +81,7 @@ pub(crate) fn integer(
     let below = is_below(negative, magnitude);
     let argument = argument_of(negative, magnitude);
     if argument >= 18446744073709551616 {
-        if !is_absent(mark) {
+        if mark != Mark::Absent {
             return Ok(Err(EdnReason::IndicatorNotAllowed));
         }
         return Ok(Ok(bignum(alloc, place, below, argument)?));
@@ -105,6 +93,7 @@ pub(crate) fn integer(
     }
 }
 
+/// An integer within 64 bits.
 fn small_integer(place: u64, below: bool, width: Width, n: u64) -> Node
     ensures { result ≡ (if below then tree.Nint place width n else tree.Uint place width n) }
 {
@@ -116,7 +105,7 @@ fn small_integer(place: u64, below: bool, width: Width, n: u64) -> Node
     Node { place, form }
 }
 
-// A tag over the shortest bytes of `n`, with shortest heads.
+/// A tag over the shortest bytes of `n`, with shortest heads.
 #[cold]
 #[inline(never)]
 fn bignum(alloc: Global, place: u64, below: bool, n: u128) -> Result<Node, AllocError>
@@ -136,7 +125,7 @@ fn bignum(alloc: Global, place: u64, below: bool, n: u128) -> Result<Node, Alloc
     Ok(Node { place, form })
 }
 
-// Appends the bytes of `n`, the highest first, without leading zeros.
+/// Appends the bytes of `n`, the highest first, without leading zeros.
 fn push_shortest(bytes: &mut Vec<u8>, n: u128) -> Result<(), AllocError>
     ensures { OnOk result (bytes.new.items ≡ bytes.old.items ++ digits_of 256 n) }
 {
@@ -172,7 +161,7 @@ pub(crate) fn simple(
     ensures slip { result.1 ≡ simple_slip place start negative magnitude mark }
 {
     let good = is_simple(negative, magnitude);
-    let bare = is_absent(mark);
+    let bare = mark == Mark::Absent;
     let slip = earlier(
         slip_unless(good, place, EdnReason::BadSimple),
         slip_unless(bare, start, EdnReason::IndicatorNotAllowed),
@@ -185,20 +174,11 @@ pub(crate) fn simple(
     }
 }
 
+/// Whether there is such a simple value.
 fn is_simple(negative: bool, magnitude: u128) -> bool
     ensures value { result ≡ pure.is_simple negative magnitude }
     ensures small { result ≡ true → magnitude < 256 }
 {
     let below = is_below(negative, magnitude);
     !below && (magnitude < 24 || magnitude >= 32 && magnitude < 256)
-}
-
-fn is_absent(mark: Mark) -> bool
-    ensures { result ≡ pure.is_absent mark }
-{
-    match mark {
-        Mark::Absent => true,
-        Mark::Endless => false,
-        Mark::Wide(_) => false,
-    }
 }

@@ -53,6 +53,7 @@ impl State {
         Ok(true)
     }
 
+    /// An array begins.
     #[inline(never)]
     fn open_array(&mut self, alloc: Global, place: u64, mark: Mark) -> Result<(), AllocError>
         requires { self.old.phase ≡ Wants }
@@ -62,6 +63,7 @@ impl State {
         self.open(Bracket::Array { place, mark, row })
     }
 
+    /// A map begins.
     #[inline(never)]
     fn open_map(&mut self, alloc: Global, place: u64, mark: Mark) -> Result<(), AllocError>
         requires { self.old.phase ≡ Wants }
@@ -75,6 +77,7 @@ impl State {
         })
     }
 
+    /// A string in chunks begins.
     #[inline(never)]
     fn open_chunks(&mut self, alloc: Global, place: u64) -> Result<(), AllocError>
         requires { self.old.phase ≡ Wants }
@@ -86,6 +89,7 @@ impl State {
         Ok(())
     }
 
+    /// A tag begins.
     #[inline(never)]
     fn open_tag(&mut self, place: u64, number: u128, mark: Mark) -> Result<(), AllocError>
         requires { self.old.phase ≡ Wants }
@@ -163,6 +167,7 @@ impl State {
     }
 }
 
+/// The simple value of a word.
 fn word(place: u64, number: u8) -> Node
     ensures { result ≡ SimpleNode place number }
 {

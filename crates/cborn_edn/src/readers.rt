@@ -7,14 +7,14 @@ ghost use Rattle.cborn_lex.specs.declared.faults.LexFault.{LexFault as LexStop};
 ghost use Rattle.cborn_edn.specs.Notates.{Notates, IsNoNotation};
 ghost use Rattle.cborn_edn.specs.declared.faults.EdnFault.TheVariants.{Refused};
 ghost use Rattle.cborn_edn.specs.declared.slips.Slip.{Slip as FoundSlip};
-ghost use Rattle.cborn_edn.specs.devices.Draft.{IsFirstSlip, Done, draft_run, first_state, finished, is_one, lexical};
+ghost use Rattle.cborn_edn.specs.devices.Draft.{IsFirstSlip, Done, draft_run, first_state, finished, lexical};
 ghost use Rattle.cborn_edn.specs.devices.Ready.{IsReady, IsTold, Steps};
 
 use crate::lists::SpelledList;
 use crate::slips::Slip;
 use crate::states::{State, finished};
 use crate::{EdnFault, EdnReason};
-use cborn_lex::{LexFault, Profile, Token, token_from};
+use cborn_lex::{Profile, Token, token_from};
 use cborn_model::{Limit, Spelled};
 use std::alloc::{AllocError, Global};
 
@@ -32,17 +32,14 @@ pub fn read_notation(
     ensures refused { IfErr result (IsNoNotation profile limit text.now) }
 {
     let state = parsed(alloc, limit, profile, text)?;
-    let ended = match finished(alloc, state) {
-        Ok(ended) => ended,
-        Err(_) => return Err(EdnFault::OutOfMemory),
-    };
+    let ended = finished(alloc, state)?;
     match ended {
         Some(whole) => told(whole),
         None => Err(refused(text.len() as u64, EdnReason::UnexpectedEnd)),
     }
 }
 
-// The items, or the first slip.
+/// The items, or the first slip.
 fn told(whole: (Option<SpelledList>, Option<Slip>)) -> Result<Vec<Spelled>, EdnFault>
     requires { IsTold whole }
     ensures items { IfOk result (λ items. whole ≡ (Some (trees items.items), None)) }
@@ -58,53 +55,36 @@ fn told(whole: (Option<SpelledList>, Option<Slip>)) -> Result<Vec<Spelled>, EdnF
     }
 }
 
-fn lexical(fault: LexFault) -> EdnFault
-    ensures { result ≡ lexical fault }
-{
-    match fault {
-        LexFault::Refused { .. } => EdnFault::Lex(fault),
-        LexFault::OutOfMemory => EdnFault::OutOfMemory,
-    }
-}
-
+/// The refusal of what stands at `place`.
 fn refused(place: u64, reason: EdnReason) -> EdnFault
     ensures { result ≡ Refused place reason }
 {
     EdnFault::Refused { place, reason }
 }
 
-// The state behind all tokens of the text.
+/// The state behind all tokens of the text.
 fn parsed(alloc: Global, limit: Limit, profile: Profile, text: &str) -> Result<State, EdnFault>
     ensures ready { IfOk result IsReady }
     ensures told { IfOk result (λ state. (items : Option Trees) (slip : Option FoundSlip) → finished state ≡ Some (items, slip) → IsTold (items, slip)) }
     ensures parsed { IfOk result (λ state. (tokens : List Token) × Lex profile text.now tokens × (draft_run profile limit tokens first_state ≡ Done state)) }
     ensures refused { IfErr result (IsNoNotation profile limit text.now) }
 {
-    let mut state = match State::new(alloc) {
-        Ok(state) => state,
-        Err(_) => return Err(EdnFault::OutOfMemory),
-    };
+    let mut state = State::new(alloc)?;
     let mut at = 0;
     'tokens: loop {
         state.in_memory();
-        let token = match token_from(alloc, profile, text, at) {
-            Ok(Some(token)) => token,
-            Ok(None) => return Ok(state),
-            Err(fault) => return Err(lexical(fault)),
+        let Some(token) = token_from(alloc, profile, text, at)? else {
+            return Ok(state);
         };
         let place = token.start;
         at = token.stop;
-        match step(alloc, limit, profile, &mut state, token) {
-            Ok(None) => {}
-            Ok(Some(reason)) => {
-                return Err(first_fault(alloc, profile, text, at, refused(place, reason)));
-            }
-            Err(_) => return Err(EdnFault::OutOfMemory),
+        if let Some(reason) = step(alloc, limit, profile, &mut state, token)? {
+            return Err(first_fault(alloc, profile, text, at, refused(place, reason)));
         }
     }
 }
 
-// Takes `token`. The reason, where no text of the grammar within the limit goes on with it; then the state is of no use.
+/// Takes `token`. The reason, where no text of the grammar within the limit goes on with it; then the state is of no use.
 fn step(
     alloc: Global,
     limit: Limit,
@@ -115,7 +95,7 @@ fn step(
     requires { IsReady state.old }
     ensures { IfOk result (Steps profile limit state.old token state.new) }
 {
-    let spare = is_one(profile) && state.is_behind_comma(&token.class);
+    let spare = profile == Profile::One && state.is_behind_comma(&token.class);
     let reach = state.reach(&token.class);
     if !state.step(alloc, token)? || spare {
         return Ok(Some(EdnReason::UnexpectedToken));
@@ -126,7 +106,7 @@ fn step(
     Ok(None)
 }
 
-// A fault of the grammar, or the lexical fault that follows from `at` on, which comes first.
+/// A fault of the grammar, or the lexical fault that follows from `at` on, which comes first.
 fn first_fault(alloc: Global, profile: Profile, text: &str, at: u64, fault: EdnFault) -> EdnFault
     requires { at ≤ length text.now }
     ensures { ((tokens : List Token) × Between profile text.now at (length text.now) tokens × (result ≡ fault)) ⊎ ((stop : LexStop) × IsStopFrom profile text.now at stop × (result ≡ lexical stop)) }
@@ -136,18 +116,9 @@ fn first_fault(alloc: Global, profile: Profile, text: &str, at: u64, fault: EdnF
         let token = match token_from(alloc, profile, text, at) {
             Ok(Some(token)) => token,
             Ok(None) => return fault,
-            Err(stop) => return lexical(stop),
+            Err(stop) => return EdnFault::from(stop),
         };
         at = token.stop;
         drop(token);
-    }
-}
-
-fn is_one(profile: Profile) -> bool
-    ensures { result ≡ is_one profile }
-{
-    match profile {
-        Profile::One => true,
-        Profile::Two => false,
     }
 }

@@ -20,17 +20,15 @@ pub fn show(alloc: Global, items: &[Spelled]) -> Result<String, ShowFault>
     ensures shown { IfOk result (λ text. Shown (trees items.now) (string_bytes text)) }
     ensures refused { IfErr result (IsShowFault (trees items.now)) }
 {
-    match lowest_bad_text(items) {
-        Some(place) => Err(ShowFault::NotUtf8 { place }),
-        None => match shown(alloc, items) {
-            // Texts that are UTF-8 in a text that is otherwise ASCII.
-            Ok(text) => Ok(String::from_utf8(text).unwrap()),
-            Err(AllocError) => Err(ShowFault::OutOfMemory),
-        },
+    if let Some(place) = lowest_bad_text(items) {
+        return Err(ShowFault::NotUtf8 { place });
     }
+    let text = shown(alloc, items)?;
+    // Texts that are UTF-8 in a text that is otherwise ASCII.
+    Ok(String::from_utf8(text).unwrap())
 }
 
-// The whole text. Each item was spelled, so it fits its widths.
+/// The whole text. Each item was spelled, so it fits its widths.
 fn shown(alloc: Global, items: &[Spelled]) -> Result<Vec<u8>, AllocError>
     ensures text { IfOk result (λ text. text.items ≡ shown_lines (trees items.now)) }
     ensures fits { IfOk result (λ text. FitsAll (trees items.now)) }

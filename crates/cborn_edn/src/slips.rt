@@ -47,7 +47,7 @@ pub(crate) fn earlier(one: Option<Slip>, other: Option<Slip>) -> Option<Slip>
     }
 }
 
-// Whether `a` is the one that is told: the least place, then the least number.
+/// Whether `a` is the one that is told: the least place, then the least number.
 fn no_later(a: Slip, b: Slip) -> bool
     ensures { result ≡ pure.no_later a b }
 {

@@ -2,6 +2,7 @@
 
 ghost use Rattle.std.specs.Prelude.{◌≡◌, suc, ◌^◌, ◌<◌, [], ◌∷◌, Some, None, IfOk, OnOk, if◌then◌else◌};
 ghost use Rattle.cborn_edn.specs.devices.Draft as pure;
+ghost use Rattle.cborn_edn.specs.devices.Levels.{levels_in, reach};
 ghost use Rattle.cborn_edn.specs.devices.Ready.{IsReady, IsHeld, MayEnd};
 ghost use Rattle.cborn_edn.specs.declared.brackets.Bracket.TheVariants.{Top};
 ghost use Rattle.cborn_edn.specs.declared.states.Phase.TheVariants.{Wants, Has};
@@ -58,7 +59,7 @@ impl State {
 
     /// How deep a token of this class goes here.
     pub(crate) fn reach(&self, class: &Class) -> u64
-        ensures { result ≡ pure.reach self.now.brackets class.now }
+        ensures { result ≡ reach (levels_in self.now.brackets) class.now }
     {
         let levels = self.brackets.levels();
         match class {
@@ -191,6 +192,7 @@ pub(crate) fn finished(
     }
 }
 
+/// The same, by what stands right before the end.
 fn finished_top(
     alloc: Global,
     phase: Phase,

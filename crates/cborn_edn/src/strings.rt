@@ -96,7 +96,7 @@ impl Pieces {
         earlier(bare, mixed)
     }
 
-    // Byte pieces may stand in a text string, text pieces in no byte string.
+    /// Byte pieces may stand in a text string, text pieces in no byte string.
     fn admits(&self, next: &Pieces) -> bool
         ensures { result ≡ pure.admits self.now.kind next.now.kind }
     {
@@ -139,6 +139,7 @@ impl Pieces {
         }
     }
 
+    /// What is wrong with the indicator.
     fn mark_slip(&self, may_end: bool) -> Option<Slip>
         ensures { result ≡ pure.mark_slip may_end self.now.mark_place self.now.mark self.now.bytes }
     {
@@ -155,6 +156,7 @@ impl Pieces {
         }
     }
 
+    /// What is wrong with the text.
     fn text_slip(&self) -> Option<Slip>
         ensures { result ≡ pure.text_slip self.now.kind self.now.place self.now.bytes }
     {
@@ -213,7 +215,7 @@ impl Pieces {
     }
 }
 
-// Text has to be UTF-8.
+/// Text has to be UTF-8.
 fn is_good(kind: StringKind, bytes: &ByteString) -> bool
     ensures { result ≡ is_good kind bytes.now }
 {
@@ -223,7 +225,7 @@ fn is_good(kind: StringKind, bytes: &ByteString) -> bool
     }
 }
 
-// The bytes of both.
+/// The bytes of both.
 fn joined(
     first: Option<ByteString>,
     second: Option<ByteString>,
@@ -240,6 +242,7 @@ fn joined(
     }
 }
 
+/// The string of these bytes, or the one without chunks.
 fn string_node(
     alloc: Global,
     kind: StringKind,
@@ -260,6 +263,7 @@ fn string_node(
     Some(Node { place, form })
 }
 
+/// An indefinite string without chunks.
 fn no_chunks(alloc: Global, kind: StringKind, place: u64) -> Node
     ensures { result ≡ chunked_node kind place [] }
 {
@@ -277,6 +281,7 @@ pub(crate) fn chunked(kind: StringKind, place: u64, chunks: Vec<Chunk>) -> Node
     Node { place, form }
 }
 
+/// The chunk of these bytes.
 fn chunk(place: u64, mark: Mark, bytes: ByteString) -> Option<Chunk>
     ensures { result ≡ and_then (width_for mark (length bytes)) (λ w. Some (record { place = place; width = w; bytes = bytes })) }
 {

@@ -17,6 +17,7 @@ pub(crate) fn lowest_bad_text(items: &[Spelled]) -> Option<u64>
     found
 }
 
+/// The same of a node.
 #[cycle(bad_text)]
 fn bad_text(node: &Node) -> Option<u64>
     ensures { result ≡ pure.bad_text node.now }
@@ -31,6 +32,7 @@ fn bad_text(node: &Node) -> Option<u64>
     }
 }
 
+/// The same of the items of an array.
 #[cycle(bad_text)]
 fn bad_item(items: &[Node]) -> Option<u64>
     ensures { result ≡ pure.bad_item (trees items.now) }
@@ -42,6 +44,7 @@ fn bad_item(items: &[Node]) -> Option<u64>
     found
 }
 
+/// The same of the pairs of a map.
 #[cycle(bad_text)]
 fn bad_pair(pairs: &[(Node, Node)]) -> Option<u64>
     ensures { result ≡ pure.bad_pair (entries pairs.now) }
@@ -53,6 +56,7 @@ fn bad_pair(pairs: &[(Node, Node)]) -> Option<u64>
     found
 }
 
+/// The same of the chunks of a text string.
 fn bad_chunk(chunks: &[Chunk]) -> Option<u64>
     ensures { result ≡ pure.bad_chunk chunks.now }
 {
@@ -63,6 +67,7 @@ fn bad_chunk(chunks: &[Chunk]) -> Option<u64>
     found
 }
 
+/// The place, where the bytes are no text.
 fn bad_bytes(place: u64, bytes: &ByteString) -> Option<u64>
     ensures { result ≡ pure.bad_bytes place bytes.now }
 {
@@ -73,6 +78,7 @@ fn bad_bytes(place: u64, bytes: &ByteString) -> Option<u64>
     }
 }
 
+/// The lower of two places.
 fn lower(one: Option<u64>, other: Option<u64>) -> Option<u64>
     ensures { result ≡ pure.lower one other }
 {

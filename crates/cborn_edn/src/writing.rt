@@ -13,7 +13,7 @@ use cborn_model::{ByteString, Chunk, Form, Node, Size, Width, shortest};
 use itoa::Buffer;
 use std::alloc::{AllocError, Global};
 
-// Appends the text of a node.
+/// Appends the text of a node.
 #[cycle(push_node)]
 pub(crate) fn push_node(alloc: Global, out: &mut Vec<u8>, node: &Node) -> Result<(), AllocError>
     ensures { OnOk result (out.new.items ≡ out.old.items ++ pure.shown node.now) }
@@ -50,6 +50,7 @@ pub(crate) fn push_node(alloc: Global, out: &mut Vec<u8>, node: &Node) -> Result
     }
 }
 
+/// Appends the items of an array.
 #[cycle(push_node)]
 fn push_items(alloc: Global, out: &mut Vec<u8>, items: &[Node]) -> Result<(), AllocError>
     ensures { OnOk result (out.new.items ≡ out.old.items ++ pure.shown_all (trees items.now)) }
@@ -61,6 +62,7 @@ fn push_items(alloc: Global, out: &mut Vec<u8>, items: &[Node]) -> Result<(), Al
     Ok(())
 }
 
+/// Appends the pairs of a map.
 #[cycle(push_node)]
 fn push_pairs(alloc: Global, out: &mut Vec<u8>, pairs: &[(Node, Node)]) -> Result<(), AllocError>
     ensures { OnOk result (out.new.items ≡ out.old.items ++ pure.shown_entries (entries pairs.now)) }
@@ -84,7 +86,7 @@ pub fn push_between(out: &mut Vec<u8>, i: usize, separator: &[u8]) -> Result<(),
     Ok(())
 }
 
-// Appends a number, and its indicator.
+/// Appends a number, and its indicator.
 fn push_number(out: &mut Vec<u8>, width: Width, n: u64) -> Result<(), AllocError>
     ensures { OnOk result (out.new.items ≡ out.old.items ++ (decimal n ++ pure.indicator (mark_for width n))) }
 {
@@ -92,7 +94,7 @@ fn push_number(out: &mut Vec<u8>, width: Width, n: u64) -> Result<(), AllocError
     push_indicator(out, width, n)
 }
 
-// Appends -1-n, and its indicator.
+/// Appends -1-n, and its indicator.
 fn push_below(out: &mut Vec<u8>, width: Width, n: u64) -> Result<(), AllocError>
     ensures { OnOk result (out.new.items ≡ out.old.items ++ (codes "-" ++ (decimal (suc n) ++ pure.indicator (mark_for width n)))) }
 {
@@ -101,6 +103,7 @@ fn push_below(out: &mut Vec<u8>, width: Width, n: u64) -> Result<(), AllocError>
     push_indicator(out, width, n)
 }
 
+/// Appends a number.
 fn push_decimal(out: &mut Vec<u8>, n: u128) -> Result<(), AllocError>
     ensures { OnOk result (out.new.items ≡ out.old.items ++ decimal n) }
 {
@@ -124,7 +127,7 @@ pub fn push_indicator(out: &mut Vec<u8>, width: Width, n: u64) -> Result<(), All
     }
 }
 
-// Appends the indicator of an array or a map of `n` entries, and a space behind it.
+/// Appends the indicator of an array or a map of `n` entries, and a space behind it.
 fn push_size(out: &mut Vec<u8>, size: Size, n: u64) -> Result<(), AllocError>
     ensures { OnOk result (out.new.items ≡ out.old.items ++ pure.opened (mark_for_size size n)) }
 {
@@ -158,6 +161,7 @@ pub fn push_simple(out: &mut Vec<u8>, n: u8) -> Result<(), AllocError>
     }
 }
 
+/// Appends a byte string, or a chunk of one.
 fn push_bytes(
     alloc: Global,
     out: &mut Vec<u8>,
@@ -174,6 +178,7 @@ fn push_bytes(
     push_indicator(out, width, bytes.len() as u64)
 }
 
+/// Appends a text string, or a chunk of one.
 fn push_text(
     alloc: Global,
     out: &mut Vec<u8>,
@@ -204,12 +209,14 @@ pub fn push_escaped(alloc: Global, out: &mut Vec<u8>, text: &[u8]) -> Result<(),
     out.extend_from_slice(&text[from..])
 }
 
+/// Whether a byte of text is written as an escape.
 fn is_escaped(b: u8) -> bool
     ensures { result ≡ is_escaped b }
 {
     b < 32 || b == b'"' || b == b'\\'
 }
 
+/// Appends the escape of a byte.
 fn push_escape(alloc: Global, out: &mut Vec<u8>, b: u8) -> Result<(), AllocError>
     requires { is_escaped b ≡ true }
     ensures { OnOk result (out.new.items ≡ out.old.items ++ pure.escaped b) }
@@ -230,6 +237,7 @@ fn push_escape(alloc: Global, out: &mut Vec<u8>, b: u8) -> Result<(), AllocError
     }
 }
 
+/// Appends a byte string in chunks.
 fn push_byte_chunks(alloc: Global, out: &mut Vec<u8>, chunks: &[Chunk]) -> Result<(), AllocError>
     ensures { OnOk result (out.new.items ≡ out.old.items ++ pure.shown_chunks OfBytes chunks.now) }
 {
@@ -245,6 +253,7 @@ fn push_byte_chunks(alloc: Global, out: &mut Vec<u8>, chunks: &[Chunk]) -> Resul
     Ok(())
 }
 
+/// Appends a text string in chunks.
 fn push_text_chunks(alloc: Global, out: &mut Vec<u8>, chunks: &[Chunk]) -> Result<(), AllocError>
     ensures { OnOk result (out.new.items ≡ out.old.items ++ pure.shown_chunks OfText chunks.now) }
 {

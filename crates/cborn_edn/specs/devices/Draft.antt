@@ -30,8 +30,7 @@ use Rattle.cborn_edn.specs.declared.brackets.Bracket.TheVariants.{Top, Array, Em
 use Rattle.cborn_edn.specs.declared.states.Phase.{Phase}
 use Rattle.cborn_edn.specs.declared.states.Phase.TheVariants.{Wants, Has, Builds, WantsChunk, WantsNumber, HasNumber}
 use Rattle.cborn_edn.specs.declared.states.State.{State}
-use Rattle.cborn_edn.specs.Syntax.{is_small}
-use Rattle.cborn_edn.specs.devices.Levels.{levels_in, filled}
+use Rattle.cborn_edn.specs.devices.Levels.{levels_in, reach, filled}
 use Rattle.cborn_edn.specs.Meaning.{number_of, and_then, when, width_for, size_for, is_absent, snoc, snoc_entry, means_number, is_simple, same_kind, is_good, string_node, chunked_node, width_slips, size_slips, number_slips, tag_slips}
 
 abbrev pub no_later : Slip → Slip → Bool
@@ -333,15 +332,6 @@ abbrev pub is_behind_comma : Phase → List Bracket → Class → Bool
 is_behind_comma Wants fs c = filled fs c
 is_behind_comma _ _ _ = false
 
--- how deep a token goes
-abbrev pub reach : List Bracket → Class → ℕ
-reach fs (ArrayOpen m) = suc (levels_in fs)
-reach fs (MapOpen m) = suc (levels_in fs)
-reach fs EmbedOpen = suc (levels_in fs)
-reach fs (TagOpen n m) = suc (levels_in fs)
-reach fs (Number n v m) = if is_small n v then levels_in fs else suc (levels_in fs)
-reach fs _ = 0
-
 abbrev pub is_one : Profile → Bool
 is_one ProfileOne = true
 is_one ProfileTwo = false
@@ -356,7 +346,7 @@ draft_run p limit [] d = Done d
 draft_run p limit (t ∷ ts) d =
     elim (draft_step d t) [
       | None ↦ Stuck t.start UnexpectedToken
-      | Some u ↦ if (is_one p && is_behind_comma d.phase d.brackets t.class) then Stuck t.start UnexpectedToken else if nat_le (reach d.brackets t.class) limit then draft_run p limit ts u else Stuck t.start TooDeep
+      | Some u ↦ if (is_one p && is_behind_comma d.phase d.brackets t.class) then Stuck t.start UnexpectedToken else if nat_le (reach (levels_in d.brackets) t.class) limit then draft_run p limit ts u else Stuck t.start TooDeep
     ]
 
 -- before the first token

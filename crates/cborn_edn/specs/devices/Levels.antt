@@ -1,9 +1,10 @@
--- A device of the proofs: how deep the open brackets are, and whether something stands in them. No definition cites it.
-use Rattle.std.specs.Prelude.{ℕ, suc, List, [], ◌∷◌, Bool, true, false, nat_lt, if◌then◌else◌}
+-- A device of the proofs: how deep the open brackets are, how deep a token goes, and whether something stands in them. No definition cites it.
+use Rattle.std.specs.Prelude.{ℕ, suc, ◌+◌, List, [], ◌∷◌, Bool, true, false, nat_lt, if◌then◌else◌}
 use Rattle.cborn_lex.specs.declared.classes.Class.{Class}
-use Rattle.cborn_lex.specs.declared.classes.Class.TheVariants.{ArrayClose, MapClose, EmbedClose}
+use Rattle.cborn_lex.specs.declared.classes.Class.TheVariants.{ArrayOpen, MapOpen, ArrayClose, MapClose, EmbedOpen, EmbedClose, Number, TagOpen}
 use Rattle.cborn_edn.specs.declared.brackets.Bracket.{Bracket}
 use Rattle.cborn_edn.specs.declared.brackets.Bracket.TheVariants.{Top, Array, Embedded, Chunked, Key}
+use Rattle.cborn_edn.specs.Syntax.{depth_of_number}
 
 -- how many arrays, maps, tags and embedded sequences are open
 abbrev pub is_level : Bracket → Bool
@@ -34,3 +35,12 @@ comma_before f _ = false
 abbrev pub filled : List Bracket → Class → Bool
 filled [] c = false
 filled (f ∷ fs) c = comma_before f c
+
+-- how deep a token goes that stands inside k
+abbrev pub reach : ℕ → Class → ℕ
+reach k (ArrayOpen m) = suc k
+reach k (MapOpen m) = suc k
+reach k EmbedOpen = suc k
+reach k (TagOpen n m) = suc k
+reach k (Number n v m) = k + depth_of_number n v
+reach k _ = 0

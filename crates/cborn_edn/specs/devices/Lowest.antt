@@ -2,7 +2,7 @@
 use Rattle.std.specs.Prelude.{ℕ, List, [], ◌∷◌, min, if◌then◌else◌, Option, Some, None}
 use Rattle.std.specs.Str.{is_utf8}
 use Rattle.cborn_model.specs.declared.nodes.Chunk.{Chunk}
-use Rattle.cborn_model.specs.Tree.{Tree, Uint, Nint, Bytes as ByteNode, Text as TextNode, ByteChunks, TextChunks, Items, Pairs as PairNode, Tagged, Simple, Trees, no_item as no_node, more, Entries, no_entry, entry}
+use Rattle.cborn_model.specs.Tree.{Tree, Text as TextNode, TextChunks, Items, Pairs as PairNode, Tagged, Trees, no_item as no_node, more, Entries, no_entry, entry}
 
 abbrev pub lower : Option ℕ → Option ℕ → Option ℕ
 lower None b = b
@@ -18,16 +18,12 @@ bad_chunk (c ∷ cs) = lower (bad_bytes c.place c.bytes) (bad_chunk cs)
 
 abbrev mutual
   pub bad_text : Tree → Option ℕ
-  bad_text (Uint p w n) = None
-  bad_text (Nint p w n) = None
-  bad_text (ByteNode p w x) = None
   bad_text (TextNode p w x) = bad_bytes p x
-  bad_text (ByteChunks p cs) = None
   bad_text (TextChunks p cs) = bad_chunk cs
   bad_text (Items p s ts) = bad_item ts
   bad_text (PairNode p s es) = bad_pair es
   bad_text (Tagged p w n t) = bad_text t
-  bad_text (Simple p n) = None
+  bad_text _ = None
 
   pub bad_item : Trees → Option ℕ
   bad_item no_node = None

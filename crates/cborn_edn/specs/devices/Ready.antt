@@ -12,7 +12,8 @@ use Rattle.cborn_edn.specs.declared.states.Phase.{Phase}
 use Rattle.cborn_edn.specs.declared.states.Phase.TheVariants.{Has, Builds}
 use Rattle.cborn_edn.specs.declared.states.State.{State}
 use Rattle.cborn_edn.specs.Counted.{IsShort}
-use Rattle.cborn_edn.specs.devices.Draft.{string_item, draft_step, draft_run, reach, Stuck}
+use Rattle.cborn_edn.specs.devices.Draft.{string_item, draft_step, draft_run, Stuck}
+use Rattle.cborn_edn.specs.devices.Levels.{levels_in, reach}
 
 -- an item that a sequence can keep, if there is one
 abbrev pub MaySpell : Option Tree → Type 0
@@ -53,5 +54,5 @@ IsTold (Some ts, s) = Unit {0}
 
 -- what the token t makes of the state d: the state e within the limit, from which each run goes on, or the reason why each run ends there
 abbrev pub Steps : Profile → ℕ → State → Token → State → Option EdnReason → Type 0
-Steps p limit d t e None = (draft_step d t ≡ Some e) × (reach d.brackets t.class ≤ limit) × ((more : List Token) → draft_run p limit (t ∷ more) d ≡ draft_run p limit more e)
+Steps p limit d t e None = (draft_step d t ≡ Some e) × (reach (levels_in d.brackets) t.class ≤ limit) × ((more : List Token) → draft_run p limit (t ∷ more) d ≡ draft_run p limit more e)
 Steps p limit d t e (Some r) = (more : List Token) → draft_run p limit (t ∷ more) d ≡ Stuck t.start r

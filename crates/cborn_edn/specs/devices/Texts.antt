@@ -2,7 +2,7 @@
 use Rattle.std.specs.Prelude.{◌≡◌, List, [], ◌∷◌, true}
 use Rattle.std.specs.Str.{is_utf8}
 use Rattle.cborn_model.specs.declared.nodes.Chunk.{Chunk}
-use Rattle.cborn_model.specs.Tree.{Tree, Uint, Nint, Bytes as ByteNode, Text as TextNode, ByteChunks, TextChunks, Items, Pairs as PairNode, Tagged, Simple, Trees, no_item as no_node, more, Entries, no_entry, entry}
+use Rattle.cborn_model.specs.Tree.{Tree, Text as TextNode, TextChunks, Items, Pairs as PairNode, Tagged, Trees, no_item as no_node, more, Entries, no_entry, entry}
 
 abbrev pub AreTexts : List Chunk → Type 0
 AreTexts [] = Unit {0}
@@ -10,16 +10,12 @@ AreTexts (c ∷ cs) = (is_utf8 c.bytes ≡ true) × AreTexts cs
 
 abbrev mutual
   pub IsShowable : Tree → Type 0
-  IsShowable (Uint p w n) = Unit {0}
-  IsShowable (Nint p w n) = Unit {0}
-  IsShowable (ByteNode p w x) = Unit {0}
   IsShowable (TextNode p w x) = is_utf8 x ≡ true
-  IsShowable (ByteChunks p cs) = Unit {0}
   IsShowable (TextChunks p cs) = AreTexts cs
   IsShowable (Items p s ts) = EachShowable ts
   IsShowable (PairNode p s es) = ArePairsShowable es
   IsShowable (Tagged p w n t) = IsShowable t
-  IsShowable (Simple p n) = Unit {0}
+  IsShowable _ = Unit {0}
 
   pub EachShowable : Trees → Type 0
   EachShowable no_node = Unit {0}

@@ -28,4 +28,4 @@ returns-in-Ok-None c =
 pub returns-in-Err : goal.returns-in-Err
 returns-in-Err c =
     let inv = c.tokens.invariant in
-    inr (c.in-Err.stop, stops c.args.profile c.args.text.now c.args.at c.tokens.at inv.0.0 c.in-Err.stop inv.0.1 c.in-Err.ensures.refused, c.lexical.ensures)
+    inr (c.in-Err.stop, stops c.args.profile c.args.text.now c.args.at c.tokens.at inv.0.0 c.in-Err.stop inv.0.1 c.in-Err.ensures.refused, c.from.ensures)

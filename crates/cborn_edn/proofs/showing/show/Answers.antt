@@ -11,11 +11,11 @@ returns-in-Some-clause-refused c =
 
 pub unwrap-requires : goal.unwrap-requires
 unwrap-requires c =
-    let text = lines_text (trees c.args.items.now) c.in-Ok.ensures.fits (each_showable (trees c.args.items.now) (none_bad (trees c.args.items.now) (sym c.lowest_bad_text.ensures ∙ c.in-None.is))) in
-    c.from_utf8.ensures.succeeds (subst IsUtf8 (sym c.in-Ok.ensures.text) text)
+    let text = lines_text (trees c.args.items.now) c.in_ok-text.ensures.fits (each_showable (trees c.args.items.now) (none_bad (trees c.args.items.now) (sym c.lowest_bad_text.ensures ∙ c.in_default.is))) in
+    c.from_utf8.ensures.succeeds (subst IsUtf8 (sym c.in_ok-text.ensures.text) text)
 
-pub returns-in-Ok-clause-shown : goal.returns-in-Ok-clause-shown
-returns-in-Ok-clause-shown c =
-    let text = lines_text (trees c.args.items.now) c.in-Ok.ensures.fits (each_showable (trees c.args.items.now) (none_bad (trees c.args.items.now) (sym c.lowest_bad_text.ensures ∙ c.in-None.is))) in
-    let same = ap (λ v. v.items) (rw c.unwrap.ensures at c.from_utf8.ensures.ok) ∙ c.in-Ok.ensures.text in
+pub returns-clause-shown : goal.returns-clause-shown
+returns-clause-shown c =
+    let text = lines_text (trees c.args.items.now) c.in_ok-text.ensures.fits (each_showable (trees c.args.items.now) (none_bad (trees c.args.items.now) (sym c.lowest_bad_text.ensures ∙ c.in_default.is))) in
+    let same = ap (λ v. v.items) (rw c.unwrap.ensures at c.from_utf8.ensures.ok) ∙ c.in_ok-text.ensures.text in
     (subst IsUtf8 (sym same) text, same)
