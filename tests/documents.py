@@ -1,8 +1,8 @@
 #!/usr/bin/env python3
 """Run each line '$ COMMAND' of the README, the guide and the man page, and compare what it prints with the lines below it.
 Then see whether each function, file and clause that docs/PROMISES.md names is in the source, whether each link of the
-documents leads somewhere, whether each target that they give to make is one, and whether all that tells a version tells that
-of bindings/library.mk.
+documents leads somewhere, whether each target that they give to make is one, whether the formats and the man page have the
+words of each fault, and whether all that tells a version tells that of bindings/library.mk.
 
     documents.py PROGRAM
 
@@ -86,6 +86,17 @@ def lost(root):
         yield from (f"{page.relative_to(root)}: no target {name}" for name in {"".join(it) for it in named} - targets)
 
 
+def untold(root):
+    """The words of faults, as docs/LIBRARY.md numbers them, that the formats or the man page lack."""
+    page = (root / "docs/LIBRARY.md").read_text()
+    words = set(re.findall(r"^\| `0x[0-9a-f]{3}` \|.*\| ([^|]*) \|$", page, re.MULTILINE))
+    if not words:
+        yield "docs/LIBRARY.md numbers no fault"
+    for name in ("docs/FORMATS.md", "man/cborn.1"):
+        text = (root / name).read_text().replace("\\-", "-")
+        yield from (f"{name}: there is no {it}" for it in sorted(words) if it not in text)
+
+
 def other_versions(root):
     """What tells a version other than that of bindings/library.mk, or none."""
     rules = (root / "bindings/library.mk").read_text()
@@ -132,7 +143,7 @@ def main():
     for line in lost(root):
         failed += 1
         print(line)
-    for line in other_versions(root):
+    for line in (*untold(root), *other_versions(root)):
         failed += 1
         print(line)
     print(f"{passed} examples passed, {failed} failed")
