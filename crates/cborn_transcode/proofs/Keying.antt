@@ -1,6 +1,6 @@
 -- Pairs that lie in a buffer, whose keys are compared one by one.
-use Rattle.std.proofs.Common.{◌≡◌, ℕ, ◌+◌, ◌<◌, ◌≤◌, List, [], ◌∷◌, ◌++◌, length, take, drop, get_or, refl, sym, ap, ◌∙◌, subst, arith, take_at, drop_at, length-append, Bor, Option, Ordering}
-use Rattle.std.proofs.lemmas.List.{take_more, drop_more, map-append, append_assoc, take-append-drop, length-take-le}
+use Rattle.std.proofs.Common.{◌≡◌, ℕ, ◌+◌, ◌<◌, ◌≤◌, List, [], ◌∷◌, ◌++◌, length, take, drop, reverse, get_or, refl, sym, ap, ◌∙◌, subst, arith, take_at, drop_at, length-append, append-nil, Bor, Option, Ordering}
+use Rattle.std.proofs.lemmas.List.{take_more, drop_more, map-append, append_assoc, take-append-drop, length-take-le, reverse-append}
 use Rattle.cborn_model.specs.Orders.{Rising}
 use Rattle.cborn_det.specs.Det.{Entry, keys, joined}
 use Rattle.cborn_det.proofs.Cutting.{EndsIn, Below, rise_more}
@@ -29,6 +29,15 @@ joined_next b ss i d pair old half new l p e n =
     ∙ ap (λ z. half ++ (z ++ joined (all_spanned b (drop (i + 1) ss)))) p
     ∙ ap (λ z. half ++ joined (all_spanned b z)) (sym (drop_more ss i d l)) ∙ e
 
+-- the same where the last of them is taken
+pub joined_popped : (b : List ℕ) (ss rest : List Span) (s : Span) (pair old half new : List ℕ) → ss ≡ rest ++ s ∷ [] → pair ≡ (spanned b s).0 ++ (spanned b s).1 → half ++ joined (all_spanned b (reverse ss)) ≡ old → new ≡ half ++ pair
+    → new ++ joined (all_spanned b (reverse rest)) ≡ old
+joined_popped b ss rest s pair old half new l p e n =
+    let turned : reverse ss ≡ s ∷ reverse rest = ap reverse l ∙ reverse-append rest (s ∷ []) in
+    ap (λ z. z ++ joined (all_spanned b (reverse rest))) n ∙ append_assoc half pair (joined (all_spanned b (reverse rest)))
+    ∙ ap (λ z. half ++ (z ++ joined (all_spanned b (reverse rest)))) p
+    ∙ ap (λ z. half ++ joined (all_spanned b z)) (sym turned) ∙ e
+
 -- one entry more
 pub spans_more : (p : ℕ) (es : List Entry) (ss : List Span) (e : Entry) (s : Span) → AreSpans p es ss → s.start ≡ p + length (joined es) → s.key_len ≡ length e.0 → s.value_len ≡ length e.1 → AreSpans p (es ++ e ∷ []) (ss ++ s ∷ [])
 spans_more p [] [] e s a b c d = (omega (arith, b), c, d, tt)
@@ -37,20 +46,25 @@ spans_more p (f ∷ es) [] e s a b c d = absurd a
 spans_more p (f ∷ es) (t ∷ ss) e s a b c d =
     (a.0, a.1, a.2, spans_more (p + length f.0 + length f.1) es ss e s a.3 (omega (arith, b, length-append (f.0 ++ f.1) (joined es), length-append f.0 f.1)) c d)
 
--- entries that stand one after another behind a front are found where their spans say
-pub spanned_all : (front : List ℕ) (es : List Entry) (ss : List Span) (p : ℕ) → p ≡ length front → AreSpans p es ss → all_spanned (front ++ joined es) ss ≡ es
-spanned_all front [] [] p q a = refl
-spanned_all front [] (s ∷ ss) p q a = absurd a
-spanned_all front (e ∷ es) [] p q a = absurd a
-spanned_all front (e ∷ es) (s ∷ ss) p q a =
-    let b : List ℕ = front ++ ((e.0 ++ e.1) ++ joined es) in
-    let here : drop s.start b ≡ e.0 ++ (e.1 ++ joined es) = drop_at front ((e.0 ++ e.1) ++ joined es) s.start (sym (a.0 ∙ q)) ∙ append_assoc e.0 e.1 (joined es) in
-    let after : drop s.key_len (drop s.start b) ≡ e.1 ++ joined es = ap (drop s.key_len) here ∙ drop_at e.0 (e.1 ++ joined es) s.key_len (sym a.1) in
-    let key : take s.key_len (drop s.start b) ≡ e.0 = ap (take s.key_len) here ∙ take_at e.0 (e.1 ++ joined es) s.key_len (sym a.1) in
-    let value : take s.value_len (drop s.key_len (drop s.start b)) ≡ e.1 = ap (take s.value_len) after ∙ take_at e.1 (joined es) s.value_len (sym a.2) in
-    let others : all_spanned b ss ≡ es = ap (λ z. all_spanned z ss) (sym (append_assoc front (e.0 ++ e.1) (joined es)))
-    ∙ spanned_all (front ++ (e.0 ++ e.1)) es ss (p + length e.0 + length e.1) (omega (arith, q, length-append front (e.0 ++ e.1), length-append e.0 e.1)) a.3 in
+-- entries that stand one after another between a front and a tail are found where their spans say
+pub spanned_between : (front tail : List ℕ) (es : List Entry) (ss : List Span) (p : ℕ) → p ≡ length front → AreSpans p es ss → all_spanned (front ++ (joined es ++ tail)) ss ≡ es
+spanned_between front tail [] [] p q a = refl
+spanned_between front tail [] (s ∷ ss) p q a = absurd a
+spanned_between front tail (e ∷ es) [] p q a = absurd a
+spanned_between front tail (e ∷ es) (s ∷ ss) p q a =
+    let behind : List ℕ = joined es ++ tail in
+    let b : List ℕ = front ++ (((e.0 ++ e.1) ++ joined es) ++ tail) in
+    let apart : b ≡ front ++ ((e.0 ++ e.1) ++ behind) = ap (λ z. front ++ z) (append_assoc (e.0 ++ e.1) (joined es) tail) in
+    let here : drop s.start b ≡ e.0 ++ (e.1 ++ behind) = ap (drop s.start) apart ∙ drop_at front ((e.0 ++ e.1) ++ behind) s.start (sym (a.0 ∙ q)) ∙ append_assoc e.0 e.1 behind in
+    let after : drop s.key_len (drop s.start b) ≡ e.1 ++ behind = ap (drop s.key_len) here ∙ drop_at e.0 (e.1 ++ behind) s.key_len (sym a.1) in
+    let key : take s.key_len (drop s.start b) ≡ e.0 = ap (take s.key_len) here ∙ take_at e.0 (e.1 ++ behind) s.key_len (sym a.1) in
+    let value : take s.value_len (drop s.key_len (drop s.start b)) ≡ e.1 = ap (take s.value_len) after ∙ take_at e.1 behind s.value_len (sym a.2) in
+    let others : all_spanned b ss ≡ es = ap (λ z. all_spanned z ss) (apart ∙ sym (append_assoc front (e.0 ++ e.1) behind))
+    ∙ spanned_between (front ++ (e.0 ++ e.1)) tail es ss (p + length e.0 + length e.1) (omega (arith, q, length-append front (e.0 ++ e.1), length-append e.0 e.1)) a.3 in
     λ i. (key i, value i) ∷ others i
+
+spanned_all : (front : List ℕ) (es : List Entry) (ss : List Span) (p : ℕ) → p ≡ length front → AreSpans p es ss → all_spanned (front ++ joined es) ss ≡ es
+spanned_all front es ss p q a = ap (λ z. all_spanned (front ++ z) ss) (sym (append-nil (joined es))) ∙ spanned_between front [] es ss p q a
 
 pub spanned_behind : (start : ℕ) (b : List ℕ) (es : List Entry) (ss : List Span) → start ≤ length b → AreSpans start es ss → drop start b ≡ joined es → all_spanned b ss ≡ es
 spanned_behind start b es ss l a e =

@@ -1,7 +1,7 @@
 -- Items that stand as they are encoded.
-use Rattle.std.proofs.Common.{◌≡◌, ◌≢◌, ℕ, ◌+◌, ◌-◌, ◌⊎◌, ◌<◌, ◌≤◌, inl, inr, List, [], ◌∷◌, ◌++◌, length, take, drop, Bool, true, false, refl, sym, ap, ◌∙◌, subst, arith, append_assoc, append-nil, length-append, Option, Some, None, Bor, Ordering}
+use Rattle.std.proofs.Common.{◌≡◌, ◌≢◌, ℕ, ◌+◌, ◌-◌, ◌⊎◌, ◌<◌, ◌≤◌, inl, inr, List, [], ◌∷◌, ◌++◌, length, take, drop, drop_at, IsPermutation, Bool, true, false, refl, sym, ap, ◌∙◌, subst, arith, append_assoc, append-nil, length-append, Option, Some, None, Bor, Ordering, Equal}
 use Rattle.std.specs.Prelude.{IfSome}
-use Rattle.std.proofs.lemmas.List.{map-append, take-append-drop, length-take-le}
+use Rattle.std.proofs.lemmas.List.{map-append, take-append-drop, length-take-le, length-drop}
 use Rattle.std.proofs.lemmas.List.Sorted.{IsPermutation-refl}
 use Rattle.std.proofs.lemmas.Bool.{lt-ltb, le-ltb}
 use Rattle.cborn_model.specs.declared.heads.Width.{Width}
@@ -22,12 +22,12 @@ use Rattle.cborn_wire.specs.declared.heads.Argument.{Argument}
 use Rattle.cborn_wire.specs.declared.heads.Argument.TheVariants as arguments
 use Rattle.cborn_wire.specs.HeadReading.{major_at, IsHeadOf, seen_argument, ArgumentFits}
 use Rattle.cborn_transcode.specs.declared.entries.Span.{Span}
-use Rattle.cborn_transcode.specs.Transcoding.{ContentTaken, StringTaken, BignumTaken, ItemTranscoded, ItemsTranscoded, PairsTranscoded, MapTranscoded, IsTranscoded}
-use Rattle.cborn_transcode.specs.Walking.{Leaves, IsLast, LeastHeadRead, ContentWalked, BignumWalked, ItemWalked, ItemsWalked, PairsWalked, WalkedBehind}
+use Rattle.cborn_transcode.specs.Transcoding.{all_spanned, ContentTaken, StringTaken, BignumTaken, ItemTranscoded, ItemsTranscoded, PairsTranscoded, MapTranscoded, IsTranscoded}
+use Rattle.cborn_transcode.specs.Walking.{Leaves, IsLast, LeastHeadRead, ContentWalked, BignumWalked, ItemWalked, ItemsWalked, PairsFound, PairsWalked, WalkedBehind}
 use Rattle.cborn_transcode.proofs.Heading.{head_split, big_integer, bytes_left, bytes_right}
 use Rattle.cborn_transcode.proofs.Closing.{uint_done, nint_done, bytes_done, text_done, bignum_done, tagged_done}
 use Rattle.cborn_transcode.proofs.Lists.{all_none, all_more, array_done, normalised}
-use Rattle.cborn_transcode.proofs.Keying.{spans_more, one_spanned}
+use Rattle.cborn_transcode.proofs.Keying.{spans_more, one_spanned, spanned_between}
 use Rattle.cborn_transcode.proofs.Pairing.{pairs_none, pairs_more, map_fused}
 
 -- ---- heads
@@ -143,7 +143,58 @@ module _ (order : List ℕ → List ℕ → Ordering) (room : ℕ) where
     items = all_more order room n input mid rest [] s.front (s.front ++ t.front) s.items (item_behind mid rest t.front s.front t.item);
   }
 
-  -- ---- pairs
+  -- ---- pairs in any order
+
+  pub found_none : (input : List ℕ) (spans : List Span) → spans ≡ [] → PairsFound order room 0 spans input input
+  found_none input spans e = subst (λ (ss : List Span). PairsFound order room 0 ss input input) (sym e) (record { front = []; read = refl; pairs = pairs_none order room input [] })
+
+  found_more : (n : ℕ) (spans : List Span) (span : Span) (input half mid rest : List ℕ) → (s : PairsFound order room n spans input half) → (k : ItemWalked order room half mid) → (v : ItemWalked order room mid rest)
+      → span.start ≡ length s.front → span.key_len ≡ length k.front → span.value_len ≡ length v.front
+      → PairsFound order room (n + 1) (spans ++ span ∷ []) input rest
+  found_more n spans span input half mid rest s k v p q r =
+      let first : span.key_len ≡ length (s.front ++ k.front) - length s.front = omega (arith, q, length-append s.front k.front) in
+      let second : span.value_len ≡ length ((s.front ++ k.front) ++ v.front) - length (s.front ++ k.front) = omega (arith, r, length-append (s.front ++ k.front) v.front) in
+      record {
+        front = (s.front ++ k.front) ++ v.front;
+        read = front_more input mid rest (s.front ++ k.front) v.front (front_more input half mid s.front k.front s.read k.read) v.read;
+        pairs = pairs_more order room n spans span input half mid rest [] s.front (s.front ++ k.front) ((s.front ++ k.front) ++ v.front) s.pairs
+            (item_behind half mid k.front s.front k.item) (item_behind mid rest v.front (s.front ++ k.front) v.item) p first second;
+      }
+
+  pub found_at : (n at middle end : ℕ) (spans : List Span) (span : Span) (x : List ℕ) → at ≤ length x → middle ≤ length x → end ≤ length x
+      → PairsFound order room n spans x (drop at x) → ItemWalked order room (drop at x) (drop middle x) → ItemWalked order room (drop middle x) (drop end x)
+      → span.start ≡ at → span.key_len ≡ middle - at → span.value_len ≡ end - middle
+      → PairsFound order room (n + 1) (spans ++ span ∷ []) x (drop end x)
+  found_at n at middle end spans span x a b c s k v p q r =
+      let first : at ≡ length s.front = omega (arith, ap length s.read, length-append s.front (drop at x), length-drop at x) in
+      let second : span.key_len ≡ length k.front = omega (arith, q, ap length k.read, length-append k.front (drop middle x), length-drop at x, length-drop middle x) in
+      let third : span.value_len ≡ length v.front = omega (arith, r, ap length v.read, length-append v.front (drop end x), length-drop middle x, length-drop end x) in
+      found_more n spans span x (drop at x) (drop middle x) (drop end x) s k v (p ∙ first) second third
+
+  -- the pairs, written so that their keys rise
+  pub map_found : (n : ℕ) (spans : List Span) (input rest old new : List ℕ) → PairsFound order room n spans input rest
+      → (fs : List Entry) × IsPermutation (all_spanned input spans) fs × Rising order (keys fs) × (new ≡ old ++ joined fs)
+      → MapTranscoded order room n input rest old new
+  map_found n spans input rest old new s a =
+      let p = s.pairs in
+      let same : all_spanned input spans ≡ p.es = ap (λ b. all_spanned b spans) (s.read ∙ ap (λ l. l ++ rest) p.written) ∙ spanned_between [] rest p.es spans 0 refl p.laid in
+      record {
+        nodes = p.nodes;
+        items = p.items;
+        es = p.es;
+        arranged = a.0;
+        read = p.read;
+        fits = p.fits;
+        shallow = p.shallow;
+        meant = p.meant;
+        det = p.det;
+        moved = subst (λ (z : List Entry). IsPermutation z a.0) same a.1;
+        rises = a.2;
+        written = a.3;
+        count = p.count;
+      }
+
+  -- ---- pairs whose keys rise
 
   pub pairs_start : (input : List ℕ) (before : Option (Bor (List ℕ))) → before ≡ None → PairsWalked order room 0 before input input
   pairs_start input before e = record { front = []; spans = []; es = []; read = refl; pairs = pairs_none order room input []; laid = (tt, refl); rises = tt; last = subst (λ b. EndsIn b []) (sym e) refl }
@@ -160,18 +211,17 @@ module _ (order : List ℕ → List ℕ → Ordering) (room : ℕ) where
 
   pub pairs_on : (n : ℕ) (before : Option (Bor (List ℕ))) (key : Bor (List ℕ)) (input half mid rest : List ℕ) → PairsWalked order room n before input half → (k : ItemWalked order room half mid) → ItemWalked order room mid rest → half ≡ key.now ++ mid → Below order before key.now
       → PairsWalked order room (n + 1) (Some key) input rest
+  unfolding found_more
   pairs_on n before key input half mid rest s k v e b =
       let same : k.front ≡ key.now = same_front half mid k.front key.now k.read e in
       let span : Span = record { hint = (0, 0); start = length s.front; key_len = length k.front; value_len = length v.front } in
-      let first : length k.front ≡ length (s.front ++ k.front) - length s.front = omega (arith, length-append s.front k.front) in
-      let second : length v.front ≡ length ((s.front ++ k.front) ++ v.front) - length (s.front ++ k.front) = omega (arith, length-append (s.front ++ k.front) v.front) in
+      let found : PairsFound order room (n + 1) (s.spans ++ span ∷ []) input rest = found_more n s.spans span input half mid rest (record { front = s.front; read = s.read; pairs = s.pairs }) k v refl refl refl in
       record {
-        front = (s.front ++ k.front) ++ v.front;
+        front = found.front;
         spans = s.spans ++ span ∷ [];
         es = s.es ++ (k.front, v.front) ∷ [];
-        read = front_more input mid rest (s.front ++ k.front) v.front (front_more input half mid s.front k.front s.read k.read) v.read;
-        pairs = pairs_more order room n s.spans span input half mid rest [] s.front (s.front ++ k.front) ((s.front ++ k.front) ++ v.front) s.pairs
-            (item_behind half mid k.front s.front k.item) (item_behind mid rest v.front (s.front ++ k.front) v.item) refl first second;
+        read = found.read;
+        pairs = found.pairs;
         laid = (
           spans_more 0 s.es s.spans (k.front, v.front) span s.laid.0 (omega (arith, ap length s.laid.1)) refl refl,
           append_assoc s.front k.front v.front ∙ ap (λ l. l ++ (k.front ++ v.front)) s.laid.1 ∙ sym (joined_more s.es (k.front, v.front)),
@@ -276,3 +326,21 @@ module _ (order : List ℕ → List ℕ → Ordering) (room : ℕ) where
 
   pub item_within : (input : List ℕ) (len : ℕ) → Leaves (ItemWalked order room input) len → len ≤ length input
   item_within input len s = left_within input s.0 s.2.front len s.1 s.2.read
+
+  -- ---- items without children, told by where they end
+
+  pub leaf_walked : (x tail : List ℕ) (major n left : ℕ) → LeastHeadRead major n x tail → Leaves (WalkedBehind order room (major_at major) n tail) left → Leaves (ItemWalked order room x) left
+  leaf_walked x tail major n left h s = (s.0, s.1, walked_from order room x tail s.0 major n major h refl s.2)
+
+  pub leaf_found : (at left : ℕ) (x : List ℕ) → at ≤ length x → Leaves (ItemWalked order room (drop at x)) left → ItemWalked order room (drop at x) (drop (length x - left) x)
+  leaf_found at left x a s =
+      let front : List ℕ = take at x ++ s.2.front in
+      let whole : x ≡ front ++ s.0 = sym (take-append-drop at x) ∙ ap (λ z. take at x ++ z) s.2.read ∙ sym (append_assoc (take at x) s.2.front s.0) in
+      let len : length front ≡ length x - left = omega (arith, ap length whole, length-append front s.0, s.1) in
+      let same : drop (length x - left) x ≡ s.0 = ap (drop (length x - left)) whole ∙ drop_at front s.0 (length x - left) len in
+      subst (ItemWalked order room (drop at x)) (sym same) s.2
+
+pub leaf_within : (at left : ℕ) (x : List ℕ) → at ≤ length x → ((order : List ℕ → List ℕ → Ordering) (room : ℕ) → Leaves (ItemWalked order room (drop at x)) left) → left ≤ length x
+leaf_within at left x a s =
+    let behind : left ≤ length (drop at x) = item_within (λ y z. Equal) 0 (drop at x) left (s (λ y z. Equal) 0) in
+    omega (arith, behind, length-drop at x)

@@ -68,6 +68,12 @@ module _ (order : List ℕ → List ℕ → Ordering) (room : ℕ) where
     pub read : input ≡ front ++ rest
     pub items : ItemsTranscoded order room n input rest [] front
 
+  -- the encodings of n pairs one after another, which lie where the spans say, in any order
+  pub record PairsFound (n : ℕ) (spans : List Span) (input rest : List ℕ) : Type 0 where
+    pub front : List ℕ
+    pub read : input ≡ front ++ rest
+    pub pairs : PairsTranscoded order room n spans input rest [] front
+
   -- the encodings of n pairs one after another, whose keys rise up to the one before
   pub record PairsWalked (n : ℕ) (before : Option (Bor (List ℕ))) (input rest : List ℕ) : Type 0 where
     pub front : List ℕ

@@ -1,6 +1,6 @@
 //! The pairs of a map, whose keys and values lie one after another in a buffer, and their order.
 
-ghost use Rattle.std.specs.Prelude.{◌≡◌, ◌-◌, ◌≤◌, ◌++◌, ◌∷◌, [], List, length, take, drop, IsTrue, IsPermutation, IfSome, OnSome};
+ghost use Rattle.std.specs.Prelude.{◌≡◌, ◌-◌, ◌≤◌, ◌++◌, ◌∷◌, [], List, length, take, drop, reverse, IsTrue, IsPermutation, IfSome, OnSome};
 ghost use Rattle.cborn_model.specs.Orders.{Rising};
 ghost use Rattle.cborn_det.specs.Det.{Entry, joined, keys};
 ghost use Rattle.cborn_transcode.specs.declared.entries.Span.{Span};
@@ -74,7 +74,22 @@ pub(crate) fn arrange<O: KeyOrder>(
     Some(())
 }
 
-/// The `len` bytes of the pairs, so arranged that the keys rise. The sort may do as it likes: what came out is tested.
+/// Appends the pairs that lie in `bytes` at `spans`, so arranged that their keys rise. None where two keys are equal. The spans
+/// are used up.
+#[inline(never)]
+pub(crate) fn put_arranged<O: KeyOrder>(
+    bytes: &[u8],
+    spans: &mut Vec<Span>,
+    out: &mut Vec<u8>,
+) -> Option<()>
+    ensures { OnSome result ((fs : List Entry) × IsPermutation (all_spanned bytes.now spans.old.items) fs × Rising O.order (keys fs) × (out.new.items ≡ out.old.items ++ joined fs)) }
+{
+    sort_rising::<O>(bytes, spans)?;
+    spans.reverse();
+    pop_pairs(bytes, spans, out)
+}
+
+/// The `len` bytes of the pairs, so arranged that the keys rise.
 fn arranged<O: KeyOrder>(
     alloc: Global,
     len: usize,
@@ -83,13 +98,22 @@ fn arranged<O: KeyOrder>(
 ) -> Option<Vec<u8>>
     ensures { IfSome result (λ v. (fs : List Entry) × IsPermutation (all_spanned written.now spans.old.items) fs × Rising O.order (keys fs) × (v.items ≡ joined fs)) }
 {
+    sort_rising::<O>(written, spans)?;
+    let mut out = Vec::with_capacity(alloc, len).ok()?;
+    push_pairs(written, spans, &mut out)?;
+    Some(out)
+}
+
+/// Arranges pairs so that their keys rise. None where two keys are equal. The sort may do as it likes: what came out is tested.
+fn sort_rising<O: KeyOrder>(written: &[u8], spans: &mut Vec<Span>) -> Option<()>
+    ensures moved { IsPermutation spans.old.items spans.new.items }
+    ensures rises { OnSome result (Rising O.order (keys (all_spanned written.now spans.new.items))) }
+{
     sort::<O>(written, spans);
     if !are_rising::<O>(written, spans) {
         return None;
     }
-    let mut out = Vec::with_capacity(alloc, len).ok()?;
-    push_pairs(written, spans, &mut out)?;
-    Some(out)
+    Some(())
 }
 
 /// Arranges pairs so that their keys rise, where the hints suit the order.
@@ -203,4 +227,28 @@ fn push_pairs(written: &[u8], spans: &[Span], out: &mut Vec<u8>) -> Option<()>
         out.extend_from_slice(pair_in(written, span)?).ok()?;
     }
     Some(())
+}
+
+/// How many spans are used up before their room is given back.
+const STEP: usize = 4096;
+
+/// Appends pairs, the last first. Room for spans is given back on the way, so that what is written takes its place.
+fn pop_pairs(bytes: &[u8], spans: &mut Vec<Span>, out: &mut Vec<u8>) -> Option<()>
+    ensures { OnSome result (out.new.items ≡ out.old.items ++ joined (all_spanned bytes.now (reverse spans.old.items))) }
+{
+    'pairs: while let Some(span) = spans.pop() {
+        out.extend_from_slice(pair_in(bytes, &span)?).ok()?;
+        give_back(spans);
+    }
+    Some(())
+}
+
+/// Gives back the room of spans that are used up, now and then.
+#[inline(always)]
+fn give_back(spans: &mut Vec<Span>)
+    ensures { spans.new.items ≡ spans.old.items }
+{
+    if spans.len() % STEP == 0 {
+        spans.shrink_to_fit();
+    }
 }

@@ -39,6 +39,7 @@ mod items;
 mod leaves;
 mod passes;
 mod runs;
+mod standing;
 #[cfg(test)]
 mod tests;
 #[cfg(test)]

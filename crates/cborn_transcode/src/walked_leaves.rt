@@ -1,11 +1,13 @@
 //! What a walk finds in place of items without children, and of keys.
 
-ghost use Rattle.std.specs.Prelude.{◌≡◌, ◌≤◌, ◌++◌, false, length, IsTrue, IfSome};
+ghost use Rattle.std.specs.Prelude.{◌≡◌, ◌≤◌, ◌++◌, ℕ, List, false, length, IsTrue, IfSome};
+ghost use Rattle.std.specs.declared.cmp.Ordering.{Ordering};
 ghost use Rattle.cborn_det.proofs.Cutting.{Below};
 ghost use Rattle.cborn_model.specs.Bytes.{IsShortest};
 ghost use Rattle.cborn_model.specs.Tree.{Simple};
 ghost use Rattle.cborn_model.specs.Spelled.{Fits};
-ghost use Rattle.cborn_transcode.specs.Walking.{Leaves, IsLast, LeastHeadRead, ContentWalked, BignumWalked};
+ghost use Rattle.cborn_wire.specs.HeadReading.{major_at};
+ghost use Rattle.cborn_transcode.specs.Walking.{Leaves, IsLast, LeastHeadRead, ContentWalked, BignumWalked, WalkedBehind};
 
 use crate::leaves::is_text;
 use cborn_model::{KeyOrder, shortest};
@@ -28,9 +30,30 @@ pub(crate) fn read_least(bytes: &[u8]) -> Option<(u8, u64, &[u8])>
     Some((head.major, n, &bytes[len..]))
 }
 
+/// How many bytes follow what stands behind the shortest head of the major type with the argument `n`, where that head begins no
+/// item that holds others.
+#[inline(always)]
+pub(crate) fn walk_leaf(major: u8, n: u64, bytes: &[u8]) -> Option<usize>
+    ensures { IfSome result (λ left. (order : List ℕ → List ℕ → Ordering) (room : ℕ) → Leaves (WalkedBehind order room (major_at major) n bytes.now) left) }
+{
+    match major {
+        0 => Some(bytes.len()),
+        1 => Some(bytes.len()),
+        2 => walk_content(2, n, bytes),
+        3 => walk_content(3, n, bytes),
+        7 => {
+            if !is_simple(n) {
+                return None;
+            }
+            Some(bytes.len())
+        }
+        _ => None,
+    }
+}
+
 /// How many bytes follow the `n` bytes of a string of the major type, 2 or 3.
 #[inline(always)]
-pub(crate) fn walk_content(major: u8, n: u64, bytes: &[u8]) -> Option<usize>
+fn walk_content(major: u8, n: u64, bytes: &[u8]) -> Option<usize>
     ensures { IfSome result (Leaves (ContentWalked major n bytes.now)) }
 {
     if n > bytes.len() as u64 {
@@ -45,7 +68,7 @@ pub(crate) fn walk_content(major: u8, n: u64, bytes: &[u8]) -> Option<usize>
 
 /// A simple value that has a head (RFC 8949 section 3.3).
 #[inline(always)]
-pub(crate) fn is_simple(n: u64) -> bool
+fn is_simple(n: u64) -> bool
     ensures { IsTrue result → Fits (Simple 0 n) }
 {
     n < 24 || (n >= 32 && n < 256)

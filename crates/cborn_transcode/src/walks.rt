@@ -6,9 +6,7 @@ ghost use Rattle.cborn_transcode.specs.Transcoding.{IsTranscoded};
 ghost use Rattle.cborn_transcode.specs.Walking.{Leaves, ItemWalked, ItemsWalked, WalkedBehind};
 
 use crate::walked_integers::int_len;
-use crate::walked_leaves::{
-    is_simple, last, read_least, rises_above, split_before, walk_bignum, walk_content,
-};
+use crate::walked_leaves::{last, read_least, rises_above, split_before, walk_bignum, walk_leaf};
 use cborn_model::{KeyOrder, Limit};
 
 /// Whether the bytes are the deterministic encodings of the items that they hold, one after another, none deeper than `limit`, the keys of maps in the order `O` (RFC 8949 section 4.2). They are walked over once, in place: no memory is taken. False promises nothing: `transcode`, or the reader that keeps a tree, tells more.
@@ -45,20 +43,10 @@ fn walk_item<O: KeyOrder>(room: u64, bytes: &[u8]) -> Option<usize>
 {
     let (major, n, rest) = read_least(bytes)?;
     match major {
-        0 => Some(rest.len()),
-        1 => Some(rest.len()),
-        2 => walk_content(2, n, rest),
-        3 => walk_content(3, n, rest),
         4 => walk_array::<O>(room, n, rest),
         5 => walk_map::<O>(room, n, rest),
         6 => walk_tagged::<O>(room, n, rest),
-        7 => {
-            if !is_simple(n) {
-                return None;
-            }
-            Some(rest.len())
-        }
-        _ => None,
+        _ => walk_leaf(major, n, rest),
     }
 }
 

@@ -6,6 +6,7 @@ use Rattle.cborn_transcode.specs.Transcoding.{ItemsTranscoded, PairsTranscoded, 
 use Rattle.cborn_transcode.proofs.Closing.{uint_done, nint_done, bytes_done, text_done, byte_chunks_done, text_chunks_done, simple_done, bignum_done, tagged_done}
 use Rattle.cborn_transcode.proofs.Lists.{all_none, run_more, all_more, array_done, endless_array_done}
 use Rattle.cborn_transcode.proofs.Pairing.{pairs_none, pairs_more, map_fused, endless_map_fused, arranged_map}
+use Rattle.cborn_transcode.proofs.Walking.{map_found}
 use Rattle.cborn_transcode.proofs.Iteming.{inside, alone, item_last, under}
 use Rattle.cborn_transcode.proofs.items.+transcoded.Goals.{put_items-else-items-test, put_items-then-items-test+in_ok-after+then-is_done}
 use Rattle.cborn_transcode.proofs.items.+transcoded.Goals as goal
@@ -125,6 +126,16 @@ put_fixed_map-returns g t c w h =
       search rules,
       map_fused g.O.KeyOrder.order g.met.O.KeyOrder.laws c.args.room w c.args.n c.args.bytes.now c.in_ok-rest.rest.now c.args.out.now.items c.put_head.new.out.items c.arrange.new.out.items (omega arith) short h c.in_ok-put_head.ensures
           (subst (λ (k : ℕ). MapTranscoded g.O.KeyOrder.order (c.args.room - 1) k c.args.bytes.now c.in_ok-rest.rest.now c.put_head.new.out.items c.arrange.new.out.items) c.if-count-n.false arranged),
+    )
+
+pub put_fixed_map-returns-in-Some : goal.put_fixed_map-returns-in-Some
+put_fixed_map-returns-in-Some g t c w h =
+    let short : length c.args.bytes.now < 2 ^ 64 = omega arith in
+    let found = c.in-Some.ensures (search rules) (c.args.room - 1) in (
+      found.0,
+      found.1,
+      map_fused g.O.KeyOrder.order g.met.O.KeyOrder.laws c.args.room w c.args.n c.args.bytes.now found.0 c.args.out.now.items c.put_head.new.out.items c.put_arranged.new.out.items (omega arith) short h c.in_ok-put_head.ensures
+          (map_found g.O.KeyOrder.order (c.args.room - 1) c.args.n c.find_pairs.new.spans.items c.args.bytes.now found.0 c.put_head.new.out.items c.put_arranged.new.out.items found.2 c.in_ok-put_arranged.ensures),
     )
 
 pub put_endless_map-returns : goal.put_endless_map-returns

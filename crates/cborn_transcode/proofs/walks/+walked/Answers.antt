@@ -1,27 +1,8 @@
 use Rattle.std.proofs.Common.{◌≡◌, ◌+◌, ◌-◌, ◌<◌, ◌^◌, inl, inr, refl, length, drop, length-drop, Some, None, ℕ, subst, arith, false, true}
 use Rattle.cborn_transcode.specs.Walking.{ItemsWalked, PairsWalked}
-use Rattle.cborn_transcode.proofs.Walking.{walked_from, uint_walked, nint_walked, bytes_walked, text_walked, simple_walked, array_walked, map_walked, tagged_walked, bignum_walked, items_none, items_more, pairs_start, pairs_on, leaving, item_last, item_within}
+use Rattle.cborn_transcode.proofs.Walking.{walked_from, array_walked, map_walked, tagged_walked, bignum_walked, items_none, items_more, pairs_start, pairs_on, leaving, leaf_walked, item_last, item_within}
+use Rattle.cborn_transcode.proofs.Iteming.{under}
 use Rattle.cborn_transcode.proofs.walks.+walked.Goals as goal
-
-pub walk_item-returns-in-0 : goal.walk_item-returns-in-0
-walk_item-returns-in-0 g t c =
-    (c.in_ok-major.rest.now, refl, walked_from g.O.KeyOrder.order c.args.room c.args.bytes.now c.in_ok-major.rest.now c.in_ok-major.rest.now c.in_ok-major.major c.in_ok-major.n 0 c.in_ok-major.ensures c.in-0.is (uint_walked g.O.KeyOrder.order c.args.room c.in_ok-major.n c.in_ok-major.rest.now))
-
-pub walk_item-returns-in-1 : goal.walk_item-returns-in-1
-walk_item-returns-in-1 g t c =
-    (c.in_ok-major.rest.now, refl, walked_from g.O.KeyOrder.order c.args.room c.args.bytes.now c.in_ok-major.rest.now c.in_ok-major.rest.now c.in_ok-major.major c.in_ok-major.n 1 c.in_ok-major.ensures c.in-1.is (nint_walked g.O.KeyOrder.order c.args.room c.in_ok-major.n c.in_ok-major.rest.now))
-
-pub walk_item-returns-in-2 : goal.walk_item-returns-in-2
-walk_item-returns-in-2 g t c =
-    leaving c.walk_content.result
-    (λ rest s. walked_from g.O.KeyOrder.order c.args.room c.args.bytes.now c.in_ok-major.rest.now rest c.in_ok-major.major c.in_ok-major.n 2 c.in_ok-major.ensures c.in-2.is (bytes_walked g.O.KeyOrder.order c.args.room c.in_ok-major.n c.in_ok-major.rest.now rest s))
-    c.walk_content.ensures
-
-pub walk_item-returns-in-3 : goal.walk_item-returns-in-3
-walk_item-returns-in-3 g t c =
-    leaving c.walk_content-in-3.result
-    (λ rest s. walked_from g.O.KeyOrder.order c.args.room c.args.bytes.now c.in_ok-major.rest.now rest c.in_ok-major.major c.in_ok-major.n 3 c.in_ok-major.ensures c.in-3.is (text_walked g.O.KeyOrder.order c.args.room c.in_ok-major.n c.in_ok-major.rest.now rest s))
-    c.walk_content-in-3.ensures
 
 pub walk_item-returns-in-4 : goal.walk_item-returns-in-4
 walk_item-returns-in-4 g t c =
@@ -41,13 +22,11 @@ walk_item-returns-in-6 g t c =
     (λ rest s. walked_from g.O.KeyOrder.order c.args.room c.args.bytes.now c.in_ok-major.rest.now rest c.in_ok-major.major c.in_ok-major.n 6 c.in_ok-major.ensures c.in-6.is s)
     c.walk_tagged.ensures
 
-pub walk_item-returns-else-not-is_simple : goal.walk_item-returns-else-not-is_simple
-walk_item-returns-else-not-is_simple g t c = (
-  c.in_ok-major.rest.now,
-  refl,
-  walked_from g.O.KeyOrder.order c.args.room c.args.bytes.now c.in_ok-major.rest.now c.in_ok-major.rest.now c.in_ok-major.major c.in_ok-major.n 7 c.in_ok-major.ensures c.in-7.is
-      (simple_walked g.O.KeyOrder.order c.args.room c.in_ok-major.n c.in_ok-major.rest.now (c.is_simple.ensures c.if-not-is_simple.false)),
-)
+pub walk_item-returns-in_default : goal.walk_item-returns-in_default
+walk_item-returns-in_default g t c =
+    under c.walk_leaf.result
+    (λ left s. leaf_walked g.O.KeyOrder.order c.args.room c.args.bytes.now c.in_ok-major.rest.now c.in_ok-major.major c.in_ok-major.n left c.in_ok-major.ensures (s g.O.KeyOrder.order c.args.room))
+    c.walk_leaf.ensures
 
 pub walk_array-items-init : goal.walk_array-items-init
 walk_array-items-init g t c =
