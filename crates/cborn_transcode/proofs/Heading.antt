@@ -1,5 +1,5 @@
 -- A head at the front of bytes, and strings behind it.
-use Rattle.std.proofs.Common.{◌≡◌, ℕ, ◌+◌, ◌-◌, ◌<◌, ◌≤◌, List, [], ◌∷◌, ◌++◌, length, take, drop, refl, sym, ap, ◌∙◌, subst, arith, append_assoc, append-nil, length-append, take_at, drop_at, inr, Bool}
+use Rattle.std.proofs.Common.{◌≡◌, ℕ, ◌-◌, ◌<◌, ◌≤◌, List, [], ◌∷◌, ◌++◌, length, take, drop, refl, sym, ap, ◌∙◌, subst, arith, append_assoc, append-nil, length-append, drop_at, inr, Bool}
 use Rattle.std.proofs.lemmas.List.{take-append-drop, length-take-le}
 use Rattle.cborn_model.specs.Bytes.{AreBytes, IsShortest, big_endian}
 use Rattle.cborn_model.specs.Tree.{Bytes}

@@ -1,11 +1,14 @@
 -- Pairs that lie in a buffer, whose keys are compared one by one.
-use Rattle.std.proofs.Common.{◌≡◌, ℕ, ◌+◌, ◌<◌, ◌≤◌, List, [], ◌∷◌, ◌++◌, length, take, drop, reverse, get_or, refl, sym, ap, ◌∙◌, subst, arith, take_at, drop_at, length-append, append-nil, Bor, Option, Ordering}
+use Rattle.std.proofs.Common.{◌≡◌, ℕ, ◌+◌, ◌<◌, ◌≤◌, List, [], ◌∷◌, ◌++◌, length, take, drop, reverse, get_or, refl, sym, ap, ◌∙◌, subst, arith, take_at, drop_at, length-append, append-nil, Bor, Option, None, Some, Ordering, IsPermutation}
 use Rattle.std.proofs.lemmas.List.{take_more, drop_more, map-append, append_assoc, take-append-drop, length-take-le, reverse-append}
 use Rattle.cborn_model.specs.Orders.{Rising}
 use Rattle.cborn_det.specs.Det.{Entry, keys, joined}
 use Rattle.cborn_det.proofs.Cutting.{EndsIn, Below, rise_more}
 use Rattle.cborn_transcode.specs.declared.entries.Span.{Span}
+use Rattle.std.proofs.lemmas.List.Sorted.{IsPermutation-map, IsPermutation-reverse, IsPermutation-trans}
+use Rattle.cborn_transcode.specs.declared.places.Place.{Place}
 use Rattle.cborn_transcode.specs.Transcoding.{spanned, all_spanned, AreSpans}
+use Rattle.cborn_transcode.specs.Walking.{span_of, spans_of}
 
 pub spanned_more : (b : List ℕ) (ss : List Span) (i : ℕ) (d : Span) → i < length ss → all_spanned b (take (i + 1) ss) ≡ all_spanned b (take i ss) ++ spanned b (get_or ss i d) ∷ []
 spanned_more b ss i d l = ap (all_spanned b) (take_more ss i d l) ∙ map-append (spanned b) (take i ss) (get_or ss i d ∷ [])
@@ -29,14 +32,9 @@ joined_next b ss i d pair old half new l p e n =
     ∙ ap (λ z. half ++ (z ++ joined (all_spanned b (drop (i + 1) ss)))) p
     ∙ ap (λ z. half ++ joined (all_spanned b z)) (sym (drop_more ss i d l)) ∙ e
 
--- the same where the last of them is taken
-pub joined_popped : (b : List ℕ) (ss rest : List Span) (s : Span) (pair old half new : List ℕ) → ss ≡ rest ++ s ∷ [] → pair ≡ (spanned b s).0 ++ (spanned b s).1 → half ++ joined (all_spanned b (reverse ss)) ≡ old → new ≡ half ++ pair
-    → new ++ joined (all_spanned b (reverse rest)) ≡ old
-joined_popped b ss rest s pair old half new l p e n =
-    let turned : reverse ss ≡ s ∷ reverse rest = ap reverse l ∙ reverse-append rest (s ∷ []) in
-    ap (λ z. z ++ joined (all_spanned b (reverse rest))) n ∙ append_assoc half pair (joined (all_spanned b (reverse rest)))
-    ∙ ap (λ z. half ++ (z ++ joined (all_spanned b (reverse rest)))) p
-    ∙ ap (λ z. half ++ joined (all_spanned b z)) (sym turned) ∙ e
+pub joined_more : (es : List Entry) (e : Entry) → joined (es ++ e ∷ []) ≡ joined es ++ (e.0 ++ e.1)
+joined_more [] e = append-nil (e.0 ++ e.1)
+joined_more (f ∷ es) e = ap (λ l. (f.0 ++ f.1) ++ l) (joined_more es e) ∙ sym (append_assoc (f.0 ++ f.1) (joined es) (e.0 ++ e.1))
 
 -- one entry more
 pub spans_more : (p : ℕ) (es : List Entry) (ss : List Span) (e : Entry) (s : Span) → AreSpans p es ss → s.start ≡ p + length (joined es) → s.key_len ≡ length e.0 → s.value_len ≡ length e.1 → AreSpans p (es ++ e ∷ []) (ss ++ s ∷ [])
@@ -74,3 +72,37 @@ spanned_behind start b es ss l a e =
 -- spans say which entries there are
 pub one_spanned : (es fs : List Entry) (ss : List Span) (b : List ℕ) → AreSpans 0 es ss → b ≡ joined es → AreSpans 0 fs ss → b ≡ joined fs → es ≡ fs
 one_spanned es fs ss b a e c f = sym (spanned_all [] es ss 0 refl a) ∙ ap (λ z. all_spanned z ss) (sym e ∙ f) ∙ spanned_all [] fs ss 0 refl c
+
+-- ---- pairs that are written from where they stand, the last place first
+
+-- what was written of all places, when these are left
+pub record WrittenUpTo (order : List ℕ → List ℕ → Ordering) (b : List ℕ) (before : Option (Bor (List ℕ))) (left all : List Place) (old now : List ℕ) : Type 0 where
+  pub es : List Entry
+  pub others : es ++ all_spanned b (spans_of (reverse left)) ≡ all_spanned b (spans_of (reverse all))
+  pub rises : Rising order (keys es)
+  pub last : EndsIn before (keys es)
+  pub written : now ≡ old ++ joined es
+
+pub written_none : (order : List ℕ → List ℕ → Ordering) (b : List ℕ) (all : List Place) (old : List ℕ) → WrittenUpTo order b None all all old old
+written_none order b all old = record { es = []; others = refl; rises = tt; last = refl; written = sym (append-nil old) }
+
+pub written_more : (order : List ℕ → List ℕ → Ordering) (b : List ℕ) (before : Option (Bor (List ℕ))) (key : Bor (List ℕ)) (left rest all : List Place) (p : Place) (pair old half new : List ℕ) → WrittenUpTo order b before left all old half
+    → left ≡ rest ++ p ∷ [] → key.now ≡ (spanned b (span_of p)).0 → pair ≡ (spanned b (span_of p)).0 ++ (spanned b (span_of p)).1 → Below order before key.now → new ≡ half ++ pair
+    → WrittenUpTo order b (Some key) rest all old new
+written_more order b before key left rest all p pair old half new s l k q h n =
+    let e : Entry = spanned b (span_of p) in
+    let turned : reverse left ≡ p ∷ reverse rest = ap reverse l ∙ reverse-append rest (p ∷ []) in
+    record {
+      es = s.es ++ e ∷ [];
+      others = append_assoc s.es (e ∷ []) (all_spanned b (spans_of (reverse rest))) ∙ ap (λ z. s.es ++ all_spanned b (spans_of z)) (sym turned) ∙ s.others;
+      rises = rise_more order before s.es e s.rises s.last (subst (Below order before) k h);
+      last = (keys s.es, map-append (λ (z : Entry). z.0) s.es (e ∷ []) ∙ ap (λ z. keys s.es ++ z ∷ []) (sym k));
+      written = n ∙ (λ i. s.written i ++ q i) ∙ append_assoc old (joined s.es) (e.0 ++ e.1) ∙ ap (λ z. old ++ z) (sym (joined_more s.es e));
+    }
+
+pub written_all : (order : List ℕ → List ℕ → Ordering) (b : List ℕ) (before : Option (Bor (List ℕ))) (places all : List Place) (old new : List ℕ) → IsPermutation places all → WrittenUpTo order b before [] all old new
+    → (fs : List Entry) × IsPermutation (all_spanned b (spans_of places)) fs × Rising order (keys fs) × (new ≡ old ++ joined fs)
+written_all order b before places all old new m s =
+    let turned : IsPermutation places (reverse all) = IsPermutation-trans places all (reverse all) m (IsPermutation-reverse all) in
+    let moved : IsPermutation (all_spanned b (spans_of places)) (all_spanned b (spans_of (reverse all))) = IsPermutation-map (spanned b) _ _ (IsPermutation-map span_of places (reverse all) turned) in
+    (s.es, subst (λ (z : List Entry). IsPermutation (all_spanned b (spans_of places)) z) (sym s.others ∙ append-nil s.es) moved, s.rises, s.written)

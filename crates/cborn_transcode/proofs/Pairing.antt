@@ -22,7 +22,7 @@ use Rattle.cborn_det.proofs.Canon.{one_of_same}
 use Rattle.cborn_det.proofs.Steps.{map_done}
 use Rattle.cborn_transcode.specs.declared.entries.Span.{Span}
 use Rattle.cborn_transcode.specs.Transcoding.{ItemTranscoded, PairsTranscoded, MapTranscoded, SetsHead, AreSpans}
-use Rattle.cborn_transcode.proofs.Keying.{spans_more}
+use Rattle.cborn_transcode.proofs.Keying.{spans_more, joined_more}
 
 -- ---- one pair more
 
@@ -43,10 +43,6 @@ mean_more [] [] k v a b m f g = (f, g, tt)
 mean_more [] (p ∷ ps) k v a b m f g = absurd m
 mean_more (n ∷ ns) [] k v a b m f g = absurd m
 mean_more (n ∷ ns) (p ∷ ps) k v a b m f g = (m.0, m.1, mean_more ns ps k v a b m.2 f g)
-
-joined_more : (es : List Entry) (e : Entry) → joined (es ++ e ∷ []) ≡ joined es ++ (e.0 ++ e.1)
-joined_more [] e = append-nil (e.0 ++ e.1)
-joined_more (f ∷ es) e = ap (λ l. (f.0 ++ f.1) ++ l) (joined_more es e) ∙ sym (append_assoc (f.0 ++ f.1) (joined es) (e.0 ++ e.1))
 
 module _ (order : List ℕ → List ℕ → Ordering) where
   det_more : (ps : List (Value × Value)) (p : Value × Value) (es : List Entry) (e : Entry) → DetPairs order (pairs_of ps) es → Det order p.0 e.0 → Det order p.1 e.1 → DetPairs order (pairs_of (ps ++ p ∷ [])) (es ++ e ∷ [])

@@ -7,27 +7,26 @@ use Rattle.std.proofs.lemmas.Bool.{lt-ltb, le-ltb}
 use Rattle.cborn_model.specs.declared.heads.Width.{Width}
 use Rattle.cborn_model.specs.declared.heads.Width.TheVariants.{Direct, One}
 use Rattle.cborn_model.specs.Bytes.{AreBytes, IsShortest}
-use Rattle.cborn_model.specs.Heads.{Major, Unsigned, Negative, ByteString, TextString, Array, Map, Tag, Other, Given, head, head_bytes, WidthFits, least, IsLeastHead}
+use Rattle.cborn_model.specs.Heads.{Unsigned, Negative, ByteString, TextString, Array, Map, Tag, Other, Given, head, head_bytes, WidthFits, least, IsLeastHead}
 use Rattle.cborn_model.specs.Tree.{Simple, Bytes}
 use Rattle.cborn_model.specs.Spelled.{Fits, simple_width}
-use Rattle.cborn_model.specs.Value.{simple, integer}
+use Rattle.cborn_model.specs.Value.{simple}
 use Rattle.cborn_model.specs.Orders.{IsKeyOrder, Rising}
 use Rattle.cborn_model.proofs.OneHead.{append_same}
 use Rattle.cborn_judge.proofs.Meanings.{Short}
-use Rattle.cborn_det.specs.Det.{IsSimple, IsInteger, bignum_tag, Entry, joined, keys}
-use Rattle.cborn_det.specs.Appending.{Appends}
+use Rattle.cborn_det.specs.Det.{IsSimple, bignum_tag, Entry, joined, keys}
 use Rattle.cborn_det.proofs.Cutting.{EndsIn, Below, rise_more}
 use Rattle.cborn_wire.specs.declared.heads.Head.{Head}
 use Rattle.cborn_wire.specs.declared.heads.Argument.{Argument}
 use Rattle.cborn_wire.specs.declared.heads.Argument.TheVariants as arguments
 use Rattle.cborn_wire.specs.HeadReading.{major_at, IsHeadOf, seen_argument, ArgumentFits}
 use Rattle.cborn_transcode.specs.declared.entries.Span.{Span}
-use Rattle.cborn_transcode.specs.Transcoding.{all_spanned, ContentTaken, StringTaken, BignumTaken, ItemTranscoded, ItemsTranscoded, PairsTranscoded, MapTranscoded, IsTranscoded}
+use Rattle.cborn_transcode.specs.Transcoding.{all_spanned, StringTaken, BignumTaken, ItemTranscoded, ItemsTranscoded, MapTranscoded, IsTranscoded}
 use Rattle.cborn_transcode.specs.Walking.{Leaves, IsLast, LeastHeadRead, ContentWalked, BignumWalked, ItemWalked, ItemsWalked, PairsFound, PairsWalked, WalkedBehind}
 use Rattle.cborn_transcode.proofs.Heading.{head_split, big_integer, bytes_left, bytes_right}
 use Rattle.cborn_transcode.proofs.Closing.{uint_done, nint_done, bytes_done, text_done, bignum_done, tagged_done}
 use Rattle.cborn_transcode.proofs.Lists.{all_none, all_more, array_done, normalised}
-use Rattle.cborn_transcode.proofs.Keying.{spans_more, one_spanned, spanned_between}
+use Rattle.cborn_transcode.proofs.Keying.{spans_more, joined_more, one_spanned, spanned_between}
 use Rattle.cborn_transcode.proofs.Pairing.{pairs_none, pairs_more, map_fused}
 
 -- ---- heads
@@ -198,10 +197,6 @@ module _ (order : List ℕ → List ℕ → Ordering) (room : ℕ) where
 
   pub pairs_start : (input : List ℕ) (before : Option (Bor (List ℕ))) → before ≡ None → PairsWalked order room 0 before input input
   pairs_start input before e = record { front = []; spans = []; es = []; read = refl; pairs = pairs_none order room input []; laid = (tt, refl); rises = tt; last = subst (λ b. EndsIn b []) (sym e) refl }
-
-  joined_more : (es : List Entry) (e : Entry) → joined (es ++ e ∷ []) ≡ joined es ++ (e.0 ++ e.1)
-  joined_more [] e = append-nil (e.0 ++ e.1)
-  joined_more (f ∷ es) e = ap (λ l. (f.0 ++ f.1) ++ l) (joined_more es e) ∙ sym (append_assoc (f.0 ++ f.1) (joined es) (e.0 ++ e.1))
 
   -- what stands before what follows the item is the item
   same_front : (input rest x y : List ℕ) → input ≡ x ++ rest → input ≡ y ++ rest → x ≡ y

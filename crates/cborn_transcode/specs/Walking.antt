@@ -1,5 +1,5 @@
 -- What a walk finds in place: the front of its input spells what it encodes, so that it is its own deterministic encoding.
-use Rattle.std.specs.Prelude.{◌≡◌, ℕ, ◌+◌, ◌*◌, ◌/◌, ◌%◌, ◌⊎◌, ◌<◌, List, [], ◌++◌, length, Option, IsUtf8}
+use Rattle.std.specs.Prelude.{◌≡◌, ℕ, ◌+◌, ◌*◌, ◌/◌, ◌%◌, ◌⊎◌, ◌<◌, List, [], ◌++◌, map, length, Option, IsUtf8}
 use Rattle.std.specs.declared.cmp.Ordering.{Ordering}
 use Rattle.std.proofs.Common.{Bor}
 use Rattle.cborn_model.specs.Bytes.{AreBytes, IsShortest}
@@ -8,8 +8,16 @@ use Rattle.cborn_model.specs.Orders.{Rising}
 use Rattle.cborn_det.specs.Det.{Entry, joined, keys}
 use Rattle.cborn_det.proofs.Cutting.{EndsIn}
 use Rattle.cborn_transcode.specs.declared.entries.Span.{Span}
+use Rattle.cborn_transcode.specs.declared.places.Place.{Place}
 use Rattle.cborn_wire.specs.HeadReading.{major_at}
 use Rattle.cborn_transcode.specs.Transcoding.{ItemTranscoded, ItemsTranscoded, PairsTranscoded, AreSpans}
+
+-- a place as a span
+abbrev pub span_of : Place → Span
+span_of p = record { hint = p.hint; start = p.start; key_len = p.key_len; value_len = p.value_len }
+
+abbrev pub spans_of : List Place → List Span
+spans_of = map span_of
 
 -- P holds of some rest, which has so many bytes
 abbrev pub Leaves : (List ℕ → Type 0) → ℕ → Type 0

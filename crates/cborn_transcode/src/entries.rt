@@ -1,6 +1,6 @@
 //! The pairs of a map, whose keys and values lie one after another in a buffer, and their order.
 
-ghost use Rattle.std.specs.Prelude.{◌≡◌, ◌-◌, ◌≤◌, ◌++◌, ◌∷◌, [], List, length, take, drop, reverse, IsTrue, IsPermutation, IfSome, OnSome};
+ghost use Rattle.std.specs.Prelude.{◌≡◌, ◌-◌, ◌≤◌, ◌++◌, ◌∷◌, [], List, length, take, drop, IsTrue, IsPermutation, IfSome, OnSome};
 ghost use Rattle.cborn_model.specs.Orders.{Rising};
 ghost use Rattle.cborn_det.specs.Det.{Entry, joined, keys};
 ghost use Rattle.cborn_transcode.specs.declared.entries.Span.{Span};
@@ -74,22 +74,7 @@ pub(crate) fn arrange<O: KeyOrder>(
     Some(())
 }
 
-/// Appends the pairs that lie in `bytes` at `spans`, so arranged that their keys rise. None where two keys are equal. The spans
-/// are used up.
-#[inline(never)]
-pub(crate) fn put_arranged<O: KeyOrder>(
-    bytes: &[u8],
-    spans: &mut Vec<Span>,
-    out: &mut Vec<u8>,
-) -> Option<()>
-    ensures { OnSome result ((fs : List Entry) × IsPermutation (all_spanned bytes.now spans.old.items) fs × Rising O.order (keys fs) × (out.new.items ≡ out.old.items ++ joined fs)) }
-{
-    sort_rising::<O>(bytes, spans)?;
-    spans.reverse();
-    pop_pairs(bytes, spans, out)
-}
-
-/// The `len` bytes of the pairs, so arranged that the keys rise.
+/// The `len` bytes of the pairs, so arranged that the keys rise. The sort may do as it likes: what came out is tested.
 fn arranged<O: KeyOrder>(
     alloc: Global,
     len: usize,
@@ -98,22 +83,13 @@ fn arranged<O: KeyOrder>(
 ) -> Option<Vec<u8>>
     ensures { IfSome result (λ v. (fs : List Entry) × IsPermutation (all_spanned written.now spans.old.items) fs × Rising O.order (keys fs) × (v.items ≡ joined fs)) }
 {
-    sort_rising::<O>(written, spans)?;
-    let mut out = Vec::with_capacity(alloc, len).ok()?;
-    push_pairs(written, spans, &mut out)?;
-    Some(out)
-}
-
-/// Arranges pairs so that their keys rise. None where two keys are equal. The sort may do as it likes: what came out is tested.
-fn sort_rising<O: KeyOrder>(written: &[u8], spans: &mut Vec<Span>) -> Option<()>
-    ensures moved { IsPermutation spans.old.items spans.new.items }
-    ensures rises { OnSome result (Rising O.order (keys (all_spanned written.now spans.new.items))) }
-{
     sort::<O>(written, spans);
     if !are_rising::<O>(written, spans) {
         return None;
     }
-    Some(())
+    let mut out = Vec::with_capacity(alloc, len).ok()?;
+    push_pairs(written, spans, &mut out)?;
+    Some(out)
 }
 
 /// Arranges pairs so that their keys rise, where the hints suit the order.
@@ -127,7 +103,7 @@ fn sort<O: KeyOrder>(written: &[u8], spans: &mut Vec<Span>)
 }
 
 /// How the keys of two pairs compare. A pair that doesn't lie in the bytes has an empty key.
-fn compare_keys<O: KeyOrder>(written: &[u8], a: &Span, b: &Span) -> Ordering {
+pub(crate) fn compare_keys<O: KeyOrder>(written: &[u8], a: &Span, b: &Span) -> Ordering {
     O::compare(
         key_in(written, a).unwrap_or(&[]),
         key_in(written, b).unwrap_or(&[]),
@@ -141,13 +117,13 @@ fn is_by_length<O: KeyOrder>() -> bool {
 
 /// The number that has these halves.
 #[inline(always)]
-fn whole(halves: (u32, u32)) -> u64 {
+pub(crate) fn whole(halves: (u32, u32)) -> u64 {
     (u64::from(halves.0) << 32) | u64::from(halves.1)
 }
 
 /// The hint for the key that lies there.
 #[inline(always)]
-fn hint_at<O: KeyOrder>(out: &[u8], start: usize, end: usize) -> (u32, u32) {
+pub(crate) fn hint_at<O: KeyOrder>(out: &[u8], start: usize, end: usize) -> (u32, u32) {
     let hint = match out.get(start..end) {
         Some(key) => hint(key, is_by_length::<O>()),
         None => 0,
@@ -177,7 +153,7 @@ fn short_hint(key: &[u8]) -> u64 {
 
 /// The key of a pair; none where it doesn't lie in the bytes.
 #[inline(always)]
-fn key_in<'a>(written: &'a [u8], span: &Span) -> Option<&'a [u8]>
+pub(crate) fn key_in<'a>(written: &'a [u8], span: &Span) -> Option<&'a [u8]>
     ensures { IfSome result (λ key. key.now ≡ (spanned written.now span.now).0) }
 {
     bytes_at(written, span.start as usize, span.key_len as usize)
@@ -185,7 +161,7 @@ fn key_in<'a>(written: &'a [u8], span: &Span) -> Option<&'a [u8]>
 
 /// The key and the value of a pair; none where they don't lie in the bytes.
 #[inline(always)]
-fn pair_in<'a>(written: &'a [u8], span: &Span) -> Option<&'a [u8]>
+pub(crate) fn pair_in<'a>(written: &'a [u8], span: &Span) -> Option<&'a [u8]>
     ensures { IfSome result (λ pair. pair.now ≡ (spanned written.now span.now).0 ++ (spanned written.now span.now).1) }
 {
     let len = span.key_len as usize + span.value_len as usize;
@@ -227,28 +203,4 @@ fn push_pairs(written: &[u8], spans: &[Span], out: &mut Vec<u8>) -> Option<()>
         out.extend_from_slice(pair_in(written, span)?).ok()?;
     }
     Some(())
-}
-
-/// How many spans are used up before their room is given back.
-const STEP: usize = 4096;
-
-/// Appends pairs, the last first. Room for spans is given back on the way, so that what is written takes its place.
-fn pop_pairs(bytes: &[u8], spans: &mut Vec<Span>, out: &mut Vec<u8>) -> Option<()>
-    ensures { OnSome result (out.new.items ≡ out.old.items ++ joined (all_spanned bytes.now (reverse spans.old.items))) }
-{
-    'pairs: while let Some(span) = spans.pop() {
-        out.extend_from_slice(pair_in(bytes, &span)?).ok()?;
-        give_back(spans);
-    }
-    Some(())
-}
-
-/// Gives back the room of spans that are used up, now and then.
-#[inline(always)]
-fn give_back(spans: &mut Vec<Span>)
-    ensures { spans.new.items ≡ spans.old.items }
-{
-    if spans.len() % STEP == 0 {
-        spans.shrink_to_fit();
-    }
 }

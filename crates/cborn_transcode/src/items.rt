@@ -5,13 +5,13 @@ ghost use Rattle.cborn_model.specs.declared.heads.Width.{Width};
 ghost use Rattle.cborn_model.specs.Heads.{Array, Map, Tag, Given, Unbounded, head, WidthFits};
 ghost use Rattle.cborn_transcode.specs.Transcoding.{ItemTranscoded, ItemLeaves, ItemsTranscoded, PairsTranscoded};
 
-use crate::entries::{Span, arrange, push_span, put_arranged};
+use crate::entries::{Span, arrange, push_span};
 use crate::heads::{put_head, set_head};
 use crate::leaves::{
     behind_break, put_bignum, put_long_string_leaving, put_simple, put_string_leaving,
 };
+use crate::places::{find_pairs, put_places};
 use crate::runs::put_run;
-use crate::standing::find_pairs;
 use cborn_model::KeyOrder;
 use cborn_wire::{Argument, HeadRead, read_head};
 use std::alloc::Global;
@@ -172,8 +172,7 @@ fn is_done(count: u64, most: u64, may_end: bool, bytes: &[u8]) -> bool
     count == most || (may_end && matches!(bytes, [255, ..]))
 }
 
-/// How many pairs a map announces at least of which it is asked first whether they can be written from where they stand: of fewer
-/// it is of no account.
+/// From how many announced pairs on it is tried first to write them from where they stand: fewer need little room either way.
 const GREAT: u64 = 1000;
 
 /// The map of the `n` pairs at the front of `bytes`.
@@ -195,14 +194,14 @@ fn put_fixed_map<O: KeyOrder>(
     }
     put_head(5, n, out)?;
     let start = out.len();
-    let mut spans = Vec::with_capacity(alloc, n.min(64) as usize).ok()?;
     if n >= GREAT {
-        if let Some(left) = find_pairs::<O>(n, bytes, &mut spans) {
-            put_arranged::<O>(bytes, &mut spans, out)?;
+        let mut places = Vec::new(alloc);
+        if let Some(left) = find_pairs::<O>(n, bytes, &mut places) {
+            put_places::<O>(bytes, &mut places, out)?;
             return Some(left);
         }
     }
-    spans.clear();
+    let mut spans = Vec::with_capacity(alloc, n.min(64) as usize).ok()?;
     let (rest, count) = put_pairs::<O>(alloc, room - 1, n, false, bytes, out, &mut spans)?;
     if count != n {
         return None;

@@ -10,6 +10,8 @@
 //! head is set there later.
 //! The pairs of a map are written as they come; where their keys don't rise, the map's part of the
 //! buffer is arranged anew.
+//! Where a map of many pairs holds nothing but items without children, all in order as they stand, its
+//! pairs are written from the input, in their order, and nothing is moved.
 //! How the pairs are sorted is of no account, as long as none is lost: what came out is tested, key
 //! by key, and equal keys
 //! have no answer.
@@ -24,6 +26,7 @@
 //! * `leaves`: strings, chunks, bignums and simple values.
 //! * `runs`: integers that are copied as they stand.
 //! * `entries`: the pairs of a map, and their order.
+//! * `places`: the pairs of a great map, by where they stand in the input.
 //! * `items`: what holds other items, which calls itself for each level.
 //! * `passes`: a whole input.
 //!
@@ -38,8 +41,8 @@ mod item_tests;
 mod items;
 mod leaves;
 mod passes;
+mod places;
 mod runs;
-mod standing;
 #[cfg(test)]
 mod tests;
 #[cfg(test)]

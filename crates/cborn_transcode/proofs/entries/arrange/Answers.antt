@@ -1,4 +1,4 @@
-use Rattle.std.proofs.Common.{rules, ◌≡◌, ◌++◌, List, take, drop, sym, ap, ◌∙◌, subst, IsPermutation}
+use Rattle.std.proofs.Common.{rules, ◌≡◌, ◌++◌, List, take, sym, ap, ◌∙◌, subst, IsPermutation}
 use Rattle.std.proofs.lemmas.List.{take-append-drop}
 use Rattle.std.proofs.lemmas.List.Sorted.{IsPermutation-refl}
 use Rattle.cborn_model.specs.Orders.{Rising}

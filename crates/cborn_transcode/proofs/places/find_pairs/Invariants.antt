@@ -1,6 +1,6 @@
 use Rattle.std.proofs.Common.{◌≡◌, ◌-◌, ◌≤◌, ℕ, [], length, drop}
-use Rattle.cborn_transcode.specs.Walking.{PairsFound}
-use Rattle.cborn_transcode.proofs.standing.find_pairs.Given as goal
+use Rattle.cborn_transcode.specs.Walking.{PairsFound, spans_of}
+use Rattle.cborn_transcode.proofs.places.find_pairs.Given as goal
 
 abbrev pub decreases-pairs : goal.decreases-pairs
 decreases-pairs g l = l.left
@@ -10,5 +10,5 @@ abbrev pub invariant-pairs : goal.invariant-pairs
 invariant-pairs g l = record {
   most : l.left ≤ l.n;
   inside : l.at ≤ length l.bytes;
-  pairs : l.initial.spans.items ≡ [] → (room : ℕ) → PairsFound g.O.KeyOrder.order room (l.n - l.left) l.spans.items l.bytes (drop l.at l.bytes);
+  pairs : l.initial.places.items ≡ [] → (room : ℕ) → PairsFound g.O.KeyOrder.order room (l.n - l.left) (spans_of l.places.items) l.bytes (drop l.at l.bytes);
 }

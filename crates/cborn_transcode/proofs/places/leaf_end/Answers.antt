@@ -1,8 +1,8 @@
-use Rattle.std.proofs.Common.{List, ℕ, drop, subst, ◌∙◌, arith}
+use Rattle.std.proofs.Common.{List, ℕ, drop, subst, arith}
 use Rattle.std.proofs.lemmas.List.{drop-drop, take_rest}
 use Rattle.cborn_transcode.specs.Walking.{LeastHeadRead, ItemWalked}
 use Rattle.cborn_transcode.proofs.Walking.{leaf_walked, leaf_found, leaf_within}
-use Rattle.cborn_transcode.proofs.standing.leaf_end.Goals as goal
+use Rattle.cborn_transcode.proofs.places.leaf_end.Goals as goal
 
 pub returns-then-len-gt0-clause-walked : goal.returns-then-len-gt0-clause-walked
 returns-then-len-gt0-clause-walked c order room =

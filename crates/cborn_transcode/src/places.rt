@@ -1,0 +1,165 @@
+//! Great maps whose pairs stand in the input as they are written, only out of order: they are written straight from there.
+
+ghost use Rattle.std.specs.Prelude.{◌≡◌, ◌-◌, ◌≤◌, ◌++◌, ◌∷◌, ℕ, List, [], length, drop, IsPermutation, IfSome, OnSome};
+ghost use Rattle.std.specs.declared.cmp.Ordering.{Ordering};
+ghost use Rattle.cborn_det.specs.Det.{Entry, joined, keys};
+ghost use Rattle.cborn_model.specs.Orders.{Rising};
+ghost use Rattle.cborn_transcode.specs.declared.places.Place.{Place};
+ghost use Rattle.cborn_transcode.specs.Transcoding.{all_spanned};
+ghost use Rattle.cborn_transcode.specs.Walking.{Leaves, ItemWalked, PairsFound, span_of, spans_of};
+
+use crate::entries::{Span, compare_keys, hint_at, key_in, pair_in, whole};
+use crate::walked_integers::int_len;
+use crate::walked_leaves::{read_least, rises_above, walk_leaf};
+use cborn_model::KeyOrder;
+use std::cmp::Ordering;
+
+/// Where a short pair lies in the input: a span in 16 bytes, since all of them are kept until the first pair is written.
+#[derive(Clone, Copy)]
+pub(crate) struct Place {
+    /// As that of a span.
+    pub hint: (u32, u32),
+    /// How many bytes stand before the key.
+    pub start: u32,
+    /// The length of the key in bytes.
+    pub key_len: u16,
+    /// The length of the value in bytes.
+    pub value_len: u16,
+}
+
+impl Place {
+    /// The same place as a span.
+    #[inline(always)]
+    fn span(self) -> Span
+        ensures { result ≡ span_of self }
+    {
+        Span {
+            hint: self.hint,
+            start: self.start,
+            key_len: u32::from(self.key_len),
+            value_len: u32::from(self.value_len),
+        }
+    }
+}
+
+/// How many places are used up before their room is given back.
+const STEP: usize = 1024;
+
+/// Finds the `n` pairs at the front of `bytes`, and answers how many bytes follow them. Where each lies joins `places`. None where
+/// a key or a value is long, isn't in its deterministic encoding, or holds other items, which aren't walked: else a nest would be
+/// walked again at each of its levels.
+#[inline(never)]
+pub(crate) fn find_pairs<O: KeyOrder>(
+    n: u64,
+    bytes: &[u8],
+    places: &mut Vec<Place>,
+) -> Option<usize>
+    ensures { IfSome result (λ left. places.old.items ≡ [] → (room : ℕ) → Leaves (PairsFound O.order room n (spans_of places.new.items) bytes.now) left) }
+{
+    let mut at = 0;
+    let mut left = n;
+    'pairs: while left > 0 {
+        let middle = leaf_end(bytes, at)?;
+        let end = leaf_end(bytes, middle)?;
+        push_place::<O>(at, middle, end, bytes, places)?;
+        at = end;
+        left -= 1;
+    }
+    Some(bytes.len() - at)
+}
+
+/// Where the item ends that begins at `at`, if it stands there in its deterministic encoding and holds no others.
+#[inline(always)]
+fn leaf_end(bytes: &[u8], at: usize) -> Option<usize>
+    requires { at ≤ length bytes.now }
+    ensures inside { IfSome result (λ end. end ≤ length bytes.now) }
+    ensures walked { IfSome result (λ end. (order : List ℕ → List ℕ → Ordering) (room : ℕ) → ItemWalked order room (drop at bytes.now) (drop end bytes.now)) }
+{
+    let rest = &bytes[at..];
+    let len = int_len(rest);
+    if len > 0 {
+        return Some(at + len);
+    }
+    let (major, n, after) = read_least(rest)?;
+    let left = walk_leaf(major, n, after)?;
+    Some(bytes.len() - left)
+}
+
+/// Adds the place of the pair that begins at `start`, whose value begins at `middle` and ends at `end`. None where it is long, or
+/// begins behind the first 4 GB.
+#[inline(always)]
+fn push_place<O: KeyOrder>(
+    start: usize,
+    middle: usize,
+    end: usize,
+    bytes: &[u8],
+    places: &mut Vec<Place>,
+) -> Option<()>
+    ensures { OnSome result ((p : Place) × (places.new.items ≡ places.old.items ++ p ∷ []) × (p.start ≡ start) × (p.key_len ≡ middle - start) × (p.value_len ≡ end - middle)) }
+{
+    let place = Place {
+        hint: hint_at::<O>(bytes, start, middle),
+        start: u32::try_from(start).ok()?,
+        key_len: short_length(start, middle)?,
+        value_len: short_length(middle, end)?,
+    };
+    places.push(place).ok()?;
+    Some(())
+}
+
+/// How much the end is above the start, where that fits 16 bits.
+#[inline(always)]
+fn short_length(start: usize, end: usize) -> Option<u16>
+    ensures { IfSome result (λ n. n ≡ end - start) }
+{
+    if end < start {
+        return None;
+    }
+    u16::try_from(end - start).ok()
+}
+
+/// Appends the pairs that lie in `bytes` at `places`, so arranged that their keys rise. None where two keys are equal. Room for
+/// places is given back on the way, so that what is written takes its place.
+#[inline(never)]
+pub(crate) fn put_places<O: KeyOrder>(
+    bytes: &[u8],
+    places: &mut Vec<Place>,
+    out: &mut Vec<u8>,
+) -> Option<()>
+    ensures { OnSome result ((fs : List Entry) × IsPermutation (all_spanned bytes.now (spans_of places.old.items)) fs × Rising O.order (keys fs) × (out.new.items ≡ out.old.items ++ joined fs)) }
+{
+    sort_falling::<O>(bytes, places);
+    let mut before: Option<&[u8]> = None;
+    'pairs: while let Some(place) = places.pop() {
+        let span = place.span();
+        let key = key_in(bytes, &span)?;
+        if !rises_above::<O>(before, key) {
+            return None;
+        }
+        before = Some(key);
+        out.extend_from_slice(pair_in(bytes, &span)?).ok()?;
+        give_back(places);
+    }
+    Some(())
+}
+
+/// Arranges places so that their keys fall, where the hints suit the order: the last is the next to be written. The sort may do as it
+/// likes: what is written is tested.
+fn sort_falling<O: KeyOrder>(bytes: &[u8], places: &mut Vec<Place>)
+    ensures { IsPermutation places.old.items places.new.items }
+{
+    places.sort_unstable_by(|a, b| match whole(b.hint).cmp(&whole(a.hint)) {
+        Ordering::Equal => compare_keys::<O>(bytes, &b.span(), &a.span()),
+        unequal => unequal,
+    });
+}
+
+/// Gives back the room of places that are used up, now and then.
+#[inline(always)]
+fn give_back(places: &mut Vec<Place>)
+    ensures { places.new.items ≡ places.old.items }
+{
+    if places.len() % STEP == 0 {
+        places.shrink_to_fit();
+    }
+}
