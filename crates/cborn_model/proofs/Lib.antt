@@ -1,3 +1,4 @@
+pub mod Majors
 pub mod OneHead
 pub mod OneMagnitude
 pub mod SomeMagnitude

@@ -1,15 +1,14 @@
 -- Heads (RFC 8949 section 3): an initial byte with the major type in its high three bits and the additional information in its low five, and the bytes of an argument that follows it.
-use Rattle.std.specs.Prelude.{◌≡◌, ℕ, ◌+◌, ◌*◌, ◌^◌, ◌<◌, List, [], ◌∷◌, Bool, if◌then◌else◌, nat_lt}
+use Rattle.std.specs.Prelude.{◌≡◌, ℕ, zero, suc, ◌+◌, ◌*◌, ◌^◌, ◌<◌, List, [], ◌∷◌, Bool, if◌then◌else◌, nat_lt}
 use Rattle.std.specs.Int.{w16, w32, w64, to_be_bytes}
 use Rattle.cborn_model.specs.declared.heads.Width.{Width}
 use Rattle.cborn_model.specs.declared.heads.Width.TheVariants.{Direct, One, Two, Four, Eight}
 use Rattle.cborn_model.specs.declared.heads.Size.{Size}
 use Rattle.cborn_model.specs.declared.heads.Size.TheVariants.{Fixed, Endless}
+pub use Rattle.cborn_model.specs.declared.heads.Major.{Major}
+pub use Rattle.cborn_model.specs.declared.heads.Major.TheVariants.{Unsigned, Negative, ByteString, TextString, Array, Map, Tag, Other}
 
--- the eight major types, from 0 to 7
-pub data Major : Type 0 where
-  Unsigned Negative ByteString TextString Array Map Tag Other : Major
-
+-- the number of a major type
 abbrev pub code : Major → ℕ
 code Unsigned = 0
 code Negative = 1
@@ -19,6 +18,17 @@ code Array = 4
 code Map = 5
 code Tag = 6
 code Other = 7
+
+-- the major type with this number, 0 to 7
+abbrev pub major_at : ℕ → Major
+major_at zero = Unsigned
+major_at (suc zero) = Negative
+major_at (suc (suc zero)) = ByteString
+major_at (suc (suc (suc zero))) = TextString
+major_at (suc (suc (suc (suc zero)))) = Array
+major_at (suc (suc (suc (suc (suc zero))))) = Map
+major_at (suc (suc (suc (suc (suc (suc zero)))))) = Tag
+major_at (suc (suc (suc (suc (suc (suc (suc n))))))) = Other
 
 -- a head of this width has room for the argument n
 abbrev pub WidthFits : Width → ℕ → Type 0

@@ -1,7 +1,93 @@
-//! Widths of heads (RFC 8949 section 3).
+//! Major types and widths of heads (RFC 8949 section 3).
 
-ghost use Rattle.std.specs.Prelude.{◌≡◌};
-ghost use Rattle.cborn_model.specs.Heads.{least};
+ghost use Rattle.std.specs.Prelude.{◌≡◌, ◌+◌, ◌*◌, ◌/◌, ◌<◌};
+ghost use Rattle.cborn_model.specs.Heads.{code, major_at, least};
+
+/// The major type of a data item (RFC 8949 section 3.1).
+#[derive(Clone, Copy, PartialEq, Eq, Debug)]
+pub enum Major {
+    /// 0: an integer that isn't negative.
+    Unsigned,
+    /// 1: a negative integer, -1 - n for the argument n.
+    Negative,
+    /// 2: a byte string.
+    ByteString,
+    /// 3: a text string.
+    TextString,
+    /// 4: an array.
+    Array,
+    /// 5: a map.
+    Map,
+    /// 6: a tag.
+    Tag,
+    /// 7: a simple value, a float or the break.
+    Other,
+}
+
+impl Major {
+    /// Its number, from 0 to 7.
+    #[inline(always)]
+    pub fn number(self) -> u8
+        ensures { result ≡ code self }
+    {
+        match self {
+            Major::Unsigned => 0,
+            Major::Negative => 1,
+            Major::ByteString => 2,
+            Major::TextString => 3,
+            Major::Array => 4,
+            Major::Map => 5,
+            Major::Tag => 6,
+            Major::Other => 7,
+        }
+    }
+
+    /// The major type with this number; `Other` from 7 on.
+    #[inline(always)]
+    pub fn at(number: u8) -> Major
+        ensures { result ≡ major_at number }
+    {
+        match number {
+            0 => Major::Unsigned,
+            1 => Major::Negative,
+            2 => Major::ByteString,
+            3 => Major::TextString,
+            4 => Major::Array,
+            5 => Major::Map,
+            6 => Major::Tag,
+            _ => Major::Other,
+        }
+    }
+
+    /// The major type of the head that begins with this byte.
+    #[inline(always)]
+    #[tactic(auto, using(crate::proofs::Majors::code_at))]
+    pub fn of_initial_byte(byte: u8) -> Major
+        ensures { code result ≡ byte / 32 }
+    {
+        Major::at(byte / 32)
+    }
+
+    /// The initial byte of a head with this additional information, at most 31.
+    #[inline(always)]
+    pub fn initial_byte(self, information: u8) -> u8
+        requires { information < 32 }
+        ensures { result ≡ 32 * code self + information }
+    {
+        32 * self.number() + information
+    }
+
+    /// The head of an indefinite length, one byte (RFC 8949 section 3.2); of `Other` it is the break.
+    #[inline(always)]
+    pub fn endless_head(self) -> u8
+        ensures { result ≡ 32 * code self + 31 }
+    {
+        self.initial_byte(31)
+    }
+}
+
+/// The break, which ends what is of indefinite length (RFC 8949 section 3.2.1).
+pub const BREAK: u8 = 0xff;
 
 /// How many bytes the argument of a head takes beside the initial byte.
 #[derive(Clone, Copy, PartialEq, Eq, Debug)]

@@ -45,7 +45,7 @@ mod validity;
 
 pub use comparisons::same;
 pub use growth::push_doubling;
-pub use heads::{Size, Width, shortest};
+pub use heads::{BREAK, Major, Size, Width, shortest};
 pub use items::{Item, ItemBox, ItemList, PairList};
 pub use limits::Limit;
 pub use magnitudes::{Magnitude, Number};
