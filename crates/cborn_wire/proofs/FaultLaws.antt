@@ -1,7 +1,7 @@
 -- The laws of faults.
 use Rattle.std.proofs.Common.{◌≡◌, refl, sym, ap, ◌∙◌, subst, ℕ, ◌+◌, ◌/◌, ◌%◌, ◌<◌, ◌≤◌, List, [], ◌∷◌, ◌++◌, length, Bool, true, false, cond, ◌&&◌, leb, Option, Some, None, ◌⊎◌, inl, inr, arith, append_assoc, append-nil, length-append}
 use Rattle.cborn_model.specs.Bytes.{AreBytes}
-use Rattle.cborn_model.specs.Heads.{Major}
+use Rattle.cborn_model.specs.declared.heads.Major.{Major}
 use Rattle.cborn_model.specs.Tree.{Trees, no_item}
 use Rattle.cborn_model.specs.Spelled.{spelled_all, Wellformed}
 use Rattle.cborn_model.specs.Placed.{PlacedAll}

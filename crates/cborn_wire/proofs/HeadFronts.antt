@@ -5,7 +5,9 @@ use Rattle.std.proofs.Math.ListN.{replicate}
 use Rattle.cborn_model.specs.Bytes.{AreBytes}
 use Rattle.cborn_model.specs.declared.heads.Width.{Width}
 use Rattle.cborn_model.specs.declared.heads.Width.TheVariants.{Direct, One, Two, Four, Eight}
-use Rattle.cborn_model.specs.Heads.{Major, Unsigned, Negative, ByteString, TextString, Array, Map, Tag, Other, code, information, following}
+use Rattle.cborn_model.specs.declared.heads.Major.{Major}
+use Rattle.cborn_model.specs.declared.heads.Major.TheVariants.{Unsigned, Negative, ByteString, TextString, Array, Map, Tag, Other}
+use Rattle.cborn_model.specs.Heads.{code, information, following}
 use Rattle.cborn_model.specs.Heads as heads
 use Rattle.cborn_wire.specs.declared.heads.Argument.TheVariants.{Given, Endless}
 use Rattle.cborn_wire.specs.declared.heads.HeadRead.{HeadRead}
@@ -119,15 +121,25 @@ unended_is (Next w) e = cc
 unended_is Reserved e = cc
 unended_is Unended e = refl
 
-no_other : (n : ℕ) → n < 8 → (n ≡ 7 → ⊥) → is_other (major_at n) ≡ false
-no_other zero h e = refl
-no_other (suc zero) h e = refl
-no_other (suc (suc zero)) h e = refl
-no_other (suc (suc (suc zero))) h e = refl
-no_other (suc (suc (suc (suc zero)))) h e = refl
-no_other (suc (suc (suc (suc (suc zero))))) h e = refl
-no_other (suc (suc (suc (suc (suc (suc zero)))))) h e = refl
-no_other (suc (suc (suc (suc (suc (suc (suc n))))))) h e = absurd (e (omega arith))
+no_other : (m : Major) → (m ≡ Other → ⊥) → is_other (major_at (code m)) ≡ false
+no_other Unsigned h = refl
+no_other Negative h = refl
+no_other ByteString h = refl
+no_other TextString h = refl
+no_other Array h = refl
+no_other Map h = refl
+no_other Tag h = refl
+no_other Other h = absurd (h refl)
+
+pub code_small : (m : Major) → code m < 8
+code_small Unsigned = omega arith
+code_small Negative = omega arith
+code_small ByteString = omega arith
+code_small TextString = omega arith
+code_small Array = omega arith
+code_small Map = omega arith
+code_small Tag = omega arith
+code_small Other = omega arith
 
 next_free : (y : List ℕ) (m : Major) (w : Width) → is_other m ≡ false → head_reason element_or_end false m (Next w) y ≡ None
 next_free y Unsigned w e = refl
@@ -139,20 +151,23 @@ next_free y Map w e = refl
 next_free y Tag w e = refl
 next_free y Other w e = cc
 
-pub direct_front : (x : List ℕ) → AreBytes x → 1 ≤ length x → get_or x 0 0 % 32 < 24 → IsHeadOf x (record { major = get_or x 0 0 / 32; argument = Given Direct (get_or x 0 0 % 32) }) 1
-direct_front [] are h low = absurd (omega arith)
-direct_front (b ∷ y) are h low = direct_head y b are.0 low
+pub direct_front : (x : List ℕ) (m : Major) → AreBytes x → 1 ≤ length x → code m ≡ get_or x 0 0 / 32 → get_or x 0 0 % 32 < 24
+    → IsHeadOf x (record { major = code m; argument = Given Direct (get_or x 0 0 % 32) }) 1
+direct_front [] m are h first low = absurd (omega arith)
+direct_front (b ∷ y) m are h first low =
+    subst (λ (n : ℕ). IsHeadOf (b ∷ y) (record { major = n; argument = Given Direct (b % 32) }) 1) (sym first) (direct_head y b are.0 low)
 
-pub endless_front : (x : List ℕ) (r : HeadRead) → 1 ≤ length x → is_unended (info_at (get_or x 0 0 % 32)) ≡ true
-    → ((b : ℕ) (y : List ℕ) → b / 32 ≡ get_or x 0 0 / 32 → info_at (b % 32) ≡ Unended → ReadsHead (b ∷ y) r) → ReadsHead x r
-endless_front [] r h e reads = absurd (omega arith)
-endless_front (b ∷ y) r h e reads = reads b y refl (unended_is (info_at (b % 32)) e)
+pub endless_front : (x : List ℕ) (r : HeadRead) (m : Major) → 1 ≤ length x → code m ≡ get_or x 0 0 / 32 → is_unended (info_at (get_or x 0 0 % 32)) ≡ true
+    → ((b : ℕ) (y : List ℕ) → b / 32 ≡ code m → info_at (b % 32) ≡ Unended → ReadsHead (b ∷ y) r) → ReadsHead x r
+endless_front [] r m h first e reads = absurd (omega arith)
+endless_front (b ∷ y) r m h first e reads = reads b y (sym first) (unended_is (info_at (b % 32)) e)
 
-pub wide_fronts : (x rest : List ℕ) (r : HeadRead) (w : Width) → rest ≡ drop 1 x → AreBytes x → 1 ≤ length x → info_at (get_or x 0 0 % 32) ≡ Next w → (get_or x 0 0 / 32 ≡ 7 → ⊥)
-    → ((b : ℕ) → b / 32 ≡ get_or x 0 0 / 32 → info_at (b % 32) ≡ Next w → reason_alone (b ∷ rest) ≡ None → ReadsHead (b ∷ rest) r) → ReadsHead x r
-wide_fronts [] rest r w same are h i e reads = absurd (omega arith)
-wide_fronts (b ∷ y) rest r w same are h i e reads =
-    subst (λ (l : List ℕ). ReadsHead (b ∷ l) r) same (reads b refl i (same_alone b rest ∙ ap (λ j. head_reason element_or_end false (major_at (b / 32)) j rest) i ∙ next_free rest (major_at (b / 32)) w (no_other (b / 32) (omega (arith, are.0)) e)))
+pub wide_fronts : (x rest : List ℕ) (r : HeadRead) (m : Major) (w : Width) → rest ≡ drop 1 x → 1 ≤ length x → code m ≡ get_or x 0 0 / 32 → info_at (get_or x 0 0 % 32) ≡ Next w → (m ≡ Other → ⊥)
+    → ((b : ℕ) → b / 32 ≡ code m → info_at (b % 32) ≡ Next w → reason_alone (b ∷ rest) ≡ None → ReadsHead (b ∷ rest) r) → ReadsHead x r
+wide_fronts [] rest r m w same h first i e reads = absurd (omega arith)
+wide_fronts (b ∷ y) rest r m w same h first i e reads =
+    let other : is_other (major_at (b / 32)) ≡ false = ap (λ n. is_other (major_at n)) (sym first) ∙ no_other m e in
+    subst (λ (l : List ℕ). ReadsHead (b ∷ l) r) same (reads b (sym first) i (same_alone b rest ∙ ap (λ j. head_reason element_or_end false (major_at (b / 32)) j rest) i ∙ next_free rest (major_at (b / 32)) w other))
 
 -- A byte below 24 is the head of an unsigned integer.
 pub small_head : (x : List ℕ) → 0 < length x → get_or x 0 0 < 24 → IsHeadOf x (record { major = 0; argument = Given Direct (get_or x 0 0) }) 1

@@ -1,6 +1,6 @@
 -- The reason that an initial byte gives alone.
 use Rattle.std.proofs.Common.{◌≡◌, refl, sym, ap, ◌∙◌, [], Bool, true, false, ◌&&◌, cond, Option, Some, None}
-use Rattle.cborn_model.specs.Heads.{Major}
+use Rattle.cborn_model.specs.declared.heads.Major.{Major}
 use Rattle.cborn_wire.specs.declared.faults.WireReason.{WireReason}
 use Rattle.cborn_wire.specs.declared.faults.WireReason.TheVariants.{ReservedInfo, EndlessNotAllowed, BadChunk, UnexpectedBreak, FloatLeftOut, BadSimple, TooDeep}
 use Rattle.cborn_wire.specs.Slots.{Slot}

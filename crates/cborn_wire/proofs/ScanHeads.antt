@@ -3,8 +3,10 @@ use Rattle.std.proofs.Common.{◌≡◌, refl, sym, ap, ◌∙◌, subst, ℕ, �
 use Rattle.std.proofs.lemmas.Bool.{lt-leb, le-leb}
 use Rattle.cborn_model.specs.declared.heads.Width.{Width}
 use Rattle.cborn_model.specs.declared.heads.Width.TheVariants.{Direct, One, Two, Four, Eight}
-use Rattle.cborn_model.specs.Heads as heads
-use Rattle.cborn_model.specs.Heads.{Major, Unsigned, Negative, ByteString, TextString, Other, Argument, Given, Unbounded, head, code}
+use Rattle.cborn_model.specs.declared.heads.Major.TheVariants as majors
+use Rattle.cborn_model.specs.declared.heads.Major.{Major}
+use Rattle.cborn_model.specs.declared.heads.Major.TheVariants.{Unsigned, Negative, ByteString, TextString, Other}
+use Rattle.cborn_model.specs.Heads.{Argument, Given, Unbounded, head, code}
 use Rattle.cborn_model.specs.Tree.{Uint, Nint, Simple, Trees, no_item, no_entry}
 use Rattle.cborn_wire.specs.declared.faults.WireReason.TheVariants.{BadSimple}
 use Rattle.cborn_wire.specs.declared.levels.Level.{Level}
@@ -58,11 +60,11 @@ module _ (limit : ℕ) (ready : Trees) (os : List Begun) (h : AreBegun limit os)
     no_break : (m : Major) (a : Argument) → is_other m ≡ false → is_break m (info_for a) ≡ false
     no_break m a e = ap (λ o. o && is_unended (info_for a)) e
 
-    items_begin : (a : Argument) → IsNoChunk (slot os) → IsScanned fed (begin_items (levels_of os) a) (after_head fed p ready os heads.Array a)
+    items_begin : (a : Argument) → IsNoChunk (slot os) → IsScanned fed (begin_items (levels_of os) a) (after_head fed p ready os majors.Array a)
     items_begin (Given w n) free = chosen fed (leb n 0) (finish (levels_of os)) (Array n ∷ levels_of os) _ _ (scans_item limit fed ready os (machine.items_tree p (Given w n) no_item) free h) (refl, ap (λ k. Array k ∷ levels_of os) (omega arith))
     items_begin Unbounded free = (refl, refl)
 
-    pairs_begin : (a : Argument) → IsNoChunk (slot os) → IsScanned fed (begin_pairs (levels_of os) a) (after_head fed p ready os heads.Map a)
+    pairs_begin : (a : Argument) → IsNoChunk (slot os) → IsScanned fed (begin_pairs (levels_of os) a) (after_head fed p ready os majors.Map a)
     pairs_begin (Given w n) free = chosen fed (leb n 0) (finish (levels_of os)) (Map n ∷ levels_of os) _ _ (scans_item limit fed ready os (machine.pairs_tree p (Given w n) no_entry) free h) (refl, ap (λ k. Map k ∷ levels_of os) (omega arith))
     pairs_begin Unbounded free = (refl, refl)
 
@@ -80,10 +82,10 @@ module _ (limit : ℕ) (ready : Trees) (os : List Begun) (h : AreBegun limit os)
     head_scanned ByteString Unbounded y suits low e = alone fed _ _ y e (refl, refl)
     head_scanned TextString (Given w n) y suits low e = string_taken fed p OfText w n y e
     head_scanned TextString Unbounded y suits low e = alone fed _ _ y e (refl, refl)
-    head_scanned heads.Array a y suits low e = alone fed _ _ y e (items_begin a (free_at heads.Array a suits (other_kind heads.Array refl refl) (no_break heads.Array a refl)))
-    head_scanned heads.Map a y suits low e = alone fed _ _ y e (pairs_begin a (free_at heads.Map a suits (other_kind heads.Map refl refl) (no_break heads.Map a refl)))
-    head_scanned heads.Tag (Given w n) y suits low e = alone fed _ _ y e (refl, refl)
-    head_scanned heads.Tag Unbounded y suits low e = cc (is_clear (slot os) full heads.Tag Unended [] suits).bounded
+    head_scanned majors.Array a y suits low e = alone fed _ _ y e (items_begin a (free_at majors.Array a suits (other_kind majors.Array refl refl) (no_break majors.Array a refl)))
+    head_scanned majors.Map a y suits low e = alone fed _ _ y e (pairs_begin a (free_at majors.Map a suits (other_kind majors.Map refl refl) (no_break majors.Map a refl)))
+    head_scanned majors.Tag (Given w n) y suits low e = alone fed _ _ y e (refl, refl)
+    head_scanned majors.Tag Unbounded y suits low e = cc (is_clear (slot os) full majors.Tag Unended [] suits).bounded
     head_scanned Other (Given Direct n) y suits low e = alone fed _ _ y e (scans_item limit fed ready os (Simple p n) (free_at Other (Given Direct n) suits (other_kind Other refl refl) refl) h)
     head_scanned Other (Given One n) y suits low e = alone fed _ _ y e (high n low (free_at Other (Given One n) suits (other_kind Other refl refl) refl))
     head_scanned Other (Given Two n) y suits low e = cc (is_clear (slot os) full Other (Next Two) [] suits).float
@@ -99,7 +101,7 @@ module _ (limit : ℕ) (ready : Trees) (os : List Begun) (h : AreBegun limit os)
     head_cut TextString Unbounded y e = absurd (omega (arith, e))
     head_cut Unsigned a y e = absurd (omega (arith, e))
     head_cut Negative a y e = absurd (omega (arith, e))
-    head_cut heads.Array a y e = absurd (omega (arith, e))
-    head_cut heads.Map a y e = absurd (omega (arith, e))
-    head_cut heads.Tag a y e = absurd (omega (arith, e))
+    head_cut majors.Array a y e = absurd (omega (arith, e))
+    head_cut majors.Map a y e = absurd (omega (arith, e))
+    head_cut majors.Tag a y e = absurd (omega (arith, e))
     head_cut Other a y e = absurd (omega (arith, e))

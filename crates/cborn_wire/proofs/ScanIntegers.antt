@@ -4,7 +4,8 @@ use Rattle.std.proofs.lemmas.Bool.{lt-leb}
 use Rattle.std.proofs.lemmas.List.{take_more, length-take-le}
 use Rattle.cborn_model.specs.declared.heads.Width.{Width}
 use Rattle.cborn_model.specs.declared.heads.Width.TheVariants.{Direct}
-use Rattle.cborn_model.specs.Heads.{Unsigned, Given, Unbounded}
+use Rattle.cborn_model.specs.declared.heads.Major.TheVariants.{Unsigned}
+use Rattle.cborn_model.specs.Heads.{Given, Unbounded}
 use Rattle.cborn_model.specs.Tree.{Trees, Uint, count}
 use Rattle.cborn_wire.specs.declared.levels.Level.{Level}
 use Rattle.cborn_wire.specs.declared.levels.Level.TheVariants.{Array, EndlessArray}

@@ -3,8 +3,10 @@ use Rattle.std.proofs.Common.{◌≡◌, refl, sym, ap, ◌∙◌, subst, ℕ, s
 use Rattle.std.proofs.lemmas.Bool.{lt-leb, le-leb, leb-true, leb-false}
 use Rattle.cborn_model.specs.declared.heads.Width.{Width}
 use Rattle.cborn_model.specs.declared.heads.Size.TheVariants.{Endless}
-use Rattle.cborn_model.specs.Heads as heads
-use Rattle.cborn_model.specs.Heads.{Major, Unsigned, Negative, ByteString, TextString, Other, Argument, Given, Unbounded}
+use Rattle.cborn_model.specs.declared.heads.Major.TheVariants as majors
+use Rattle.cborn_model.specs.declared.heads.Major.{Major}
+use Rattle.cborn_model.specs.declared.heads.Major.TheVariants.{Unsigned, Negative, ByteString, TextString, Other}
+use Rattle.cborn_model.specs.Heads.{Argument, Given, Unbounded}
 use Rattle.cborn_model.specs.Tree.{Tree, Items, Pairs, Tagged, Trees, count, count_entries}
 use Rattle.cborn_wire.specs.declared.levels.Level.{Level}
 use Rattle.cborn_wire.specs.declared.levels.Level.TheVariants.{Array, Map}
@@ -60,12 +62,12 @@ in_chunks k Unsigned i f g = refl
 in_chunks k Negative i f g = refl
 in_chunks k ByteString i f g = refl
 in_chunks k TextString i f g = refl
-in_chunks OfBytes heads.Array i f g = refl
-in_chunks OfText heads.Array i f g = refl
-in_chunks OfBytes heads.Map i f g = refl
-in_chunks OfText heads.Map i f g = refl
-in_chunks OfBytes heads.Tag i f g = refl
-in_chunks OfText heads.Tag i f g = refl
+in_chunks OfBytes majors.Array i f g = refl
+in_chunks OfText majors.Array i f g = refl
+in_chunks OfBytes majors.Map i f g = refl
+in_chunks OfText majors.Map i f g = refl
+in_chunks OfBytes majors.Tag i f g = refl
+in_chunks OfText majors.Tag i f g = refl
 in_chunks k Other i f g = refl
 
 any_slot : (s : Slot) (limit j k : ℕ) (m : Major) (i : Info) → (IsNoChunk s → j ≡ k) → head_reason s (leb limit j) m i [] ≡ head_reason s (leb limit k) m i []

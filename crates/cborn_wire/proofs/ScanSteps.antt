@@ -5,7 +5,9 @@ use Rattle.std.proofs.lemmas.List.{length-take-le, length-drop, take-append-drop
 use Rattle.std.proofs.Math.Seq.{take-add}
 use Rattle.cborn_model.specs.declared.heads.Width.{Width}
 use Rattle.cborn_model.specs.declared.heads.Width.TheVariants.{Direct, One, Two, Four, Eight}
-use Rattle.cborn_model.specs.Heads.{Major, Unsigned, Other, Argument, Given, Unbounded, head, code}
+use Rattle.cborn_model.specs.declared.heads.Major.{Major}
+use Rattle.cborn_model.specs.declared.heads.Major.TheVariants.{Unsigned, Other}
+use Rattle.cborn_model.specs.Heads.{Argument, Given, Unbounded, head, code}
 use Rattle.cborn_model.specs.Tree.{Trees}
 use Rattle.cborn_wire.specs.declared.faults.WireReason.{WireReason}
 use Rattle.cborn_wire.specs.declared.faults.WireReason.TheVariants.{BadSimple}
@@ -49,12 +51,12 @@ is_high Other (Given Four n) b z rest e free = tt
 is_high Other (Given Eight n) b z rest e free = tt
 is_high Other Unbounded b z rest e free = tt
 is_high Unsigned a b z rest e free = tt
-is_high Rattle.cborn_model.specs.Heads.Negative a b z rest e free = tt
-is_high Rattle.cborn_model.specs.Heads.ByteString a b z rest e free = tt
-is_high Rattle.cborn_model.specs.Heads.TextString a b z rest e free = tt
-is_high Rattle.cborn_model.specs.Heads.Array a b z rest e free = tt
-is_high Rattle.cborn_model.specs.Heads.Map a b z rest e free = tt
-is_high Rattle.cborn_model.specs.Heads.Tag a b z rest e free = tt
+is_high Rattle.cborn_model.specs.declared.heads.Major.TheVariants.Negative a b z rest e free = tt
+is_high Rattle.cborn_model.specs.declared.heads.Major.TheVariants.ByteString a b z rest e free = tt
+is_high Rattle.cborn_model.specs.declared.heads.Major.TheVariants.TextString a b z rest e free = tt
+is_high Rattle.cborn_model.specs.declared.heads.Major.TheVariants.Array a b z rest e free = tt
+is_high Rattle.cborn_model.specs.declared.heads.Major.TheVariants.Map a b z rest e free = tt
+is_high Rattle.cborn_model.specs.declared.heads.Major.TheVariants.Tag a b z rest e free = tt
 
 module _ (limit at : ℕ) (ready : Trees) (os : List Begun) (ls : List Level) (begun : AreBegun limit os) (is : levels_of os ≡ ls) (piece : List ℕ) (some : 0 < length piece) where
   abbrev full : Bool

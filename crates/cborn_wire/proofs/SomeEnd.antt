@@ -5,7 +5,9 @@ use Rattle.cborn_model.specs.Bytes.{AreBytes}
 use Rattle.cborn_model.specs.declared.heads.Width.{Width}
 use Rattle.cborn_model.specs.declared.heads.Width.TheVariants.{Direct, One, Two, Four, Eight}
 use Rattle.cborn_model.specs.declared.heads.Size.TheVariants.{Endless}
-use Rattle.cborn_model.specs.Heads.{Major, Unsigned, Negative, ByteString, TextString, Array, Map, Tag, Other, Argument, Given, Unbounded}
+use Rattle.cborn_model.specs.declared.heads.Major.{Major}
+use Rattle.cborn_model.specs.declared.heads.Major.TheVariants.{Unsigned, Negative, ByteString, TextString, Array, Map, Tag, Other}
+use Rattle.cborn_model.specs.Heads.{Argument, Given, Unbounded}
 use Rattle.cborn_model.specs.Tree.{Tree, Uint, Items, Pairs, Tagged, Simple, Trees, no_item, Entries, no_entry, count, count_entries}
 use Rattle.cborn_wire.specs.declared.faults.WireReason.{WireReason}
 use Rattle.cborn_wire.specs.declared.faults.WireReason.TheVariants.{BadSimple}

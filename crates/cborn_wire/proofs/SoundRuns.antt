@@ -6,8 +6,11 @@ use Rattle.std.proofs.lemmas.Nat.{be_bytes_2, be_bytes_4, be_bytes_8}
 use Rattle.cborn_model.specs.Bytes.{AreBytes}
 use Rattle.cborn_model.specs.declared.heads.Width.{Width}
 use Rattle.cborn_model.specs.declared.heads.Width.TheVariants.{Direct, One, Two, Four, Eight}
-use Rattle.cborn_model.specs.Heads.{Major, Unsigned, Negative, ByteString, TextString, Array, Map, Tag, Other, Given, Unbounded, code, information, following, head, WidthFits}
+use Rattle.cborn_model.specs.declared.heads.Major.{Major}
+use Rattle.cborn_model.specs.declared.heads.Major.TheVariants.{Unsigned, Negative, ByteString, TextString, Array, Map, Tag, Other}
+use Rattle.cborn_model.specs.Heads.{Given, Unbounded, code, information, following, head, WidthFits}
 use Rattle.cborn_model.specs.Tree.{Trees}
+pub use Rattle.cborn_model.proofs.Majors.{code_at}
 use Rattle.cborn_wire.specs.declared.faults.WireReason.{WireReason}
 use Rattle.cborn_wire.specs.declared.faults.WireReason.TheVariants.{BadSimple, TooDeep}
 use Rattle.cborn_wire.specs.Slots.{major_of, Slot, Begun, slot, open_depth}
@@ -19,16 +22,6 @@ use Rattle.cborn_wire.proofs.AllBytes.{bytes-append}
 use Rattle.cborn_wire.proofs.TakesHeads.{info_for}
 use Rattle.cborn_wire.proofs.SoundItems.{Ground, SoundLive, Sound}
 use Rattle.cborn_wire.proofs.SoundSteps.{Clear, is_clear, sound_head, sound_content}
-
-pub code_at : (q : ℕ) → q < 8 → code (major_at q) ≡ q
-code_at zero h = refl
-code_at (suc zero) h = refl
-code_at (suc (suc zero)) h = refl
-code_at (suc (suc (suc zero))) h = refl
-code_at (suc (suc (suc (suc zero)))) h = refl
-code_at (suc (suc (suc (suc (suc zero))))) h = refl
-code_at (suc (suc (suc (suc (suc (suc zero)))))) h = refl
-code_at (suc (suc (suc (suc (suc (suc (suc n))))))) h = omega arith
 
 pub initial : (b : ℕ) → b < 256 → b ≡ 32 * code (major_at (b / 32)) + b % 32
 initial b h = omega (arith, code_at (b / 32) (omega arith))

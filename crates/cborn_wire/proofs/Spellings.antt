@@ -7,13 +7,13 @@ use Rattle.cborn_model.specs.declared.heads.Size.{Size}
 use Rattle.cborn_model.specs.declared.nodes.Chunk.{Chunk}
 use Rattle.cborn_model.specs.declared.nodes.Form.{Form}
 use Rattle.cborn_model.specs.declared.nodes.Form.TheVariants as forms
-use Rattle.cborn_model.specs.Heads.{WidthFits, SizeFits, head, head_bytes, argument}
+use Rattle.cborn_model.specs.declared.heads.Major.{Major}
+use Rattle.cborn_model.specs.declared.heads.Major.TheVariants.{Array, Map}
+use Rattle.cborn_model.specs.Heads.{code, WidthFits, SizeFits, head, head_bytes, argument}
 use Rattle.cborn_model.specs.Tree.{Tree, Items, Pairs, trees, entries, depth, depth_all, depth_entries}
 use Rattle.cborn_model.specs.Spelled.{ending, chunk_bytes, spelled, spelled_all, ChunksFit, Fits, FitsAll, FitsEntries}
 use Rattle.cborn_model.specs.View.{tree_of}
 use Rattle.cborn_model.proofs.Trees.{spelled_all-trees, spelled_entries-entries, count-trees, count_entries-entries, spelled_pair}
-use Rattle.cborn_wire.specs.HeadReading.{major_at}
-use Rattle.cborn_wire.proofs.SoundRuns.{code_at}
 
 pub chunk_fits : (cs : List Chunk) (i : ℕ) (c : Chunk) → ChunksFit cs → i < length cs → c ≡ get_or cs i c → WidthFits c.width (length c.bytes)
 chunk_fits [] i c h below is = absurd (omega arith)
@@ -35,13 +35,12 @@ part_more : {A : Type 0} (f : A → List ℕ) (xs : List A) (i : ℕ) (x : A) �
 part_more f xs i x below is =
     ap (flat_map f) (take_more xs i x below) ∙ flat_map-append f (take i xs) (get_or xs i x ∷ []) ∙ ap (λ l. flat_map f (take i xs) ++ l) (append-nil (f (get_or xs i x)) ∙ ap f (sym is))
 
-pub chunk_pushed : (major : ℕ) (cs : List Chunk) (i : ℕ) (c : Chunk) (old out new : List ℕ) → major ≤ 7 → i < length cs → c ≡ get_or cs i c → out ≡ old ++ flat_map (chunk_bytes (major_at major)) (take i cs)
-    → new ≡ out ++ (head_bytes major c.width (length c.bytes) ++ c.bytes) → new ≡ old ++ flat_map (chunk_bytes (major_at major)) (take (i + 1) cs)
-chunk_pushed major cs i c old out new small below is done more =
-    more ∙ ap (λ k. out ++ (head_bytes k c.width (length c.bytes) ++ c.bytes)) (sym (code_at major (omega arith)))
-    ∙ ap (λ l. l ++ chunk_bytes (major_at major) c) done
-    ∙ append_assoc old (flat_map (chunk_bytes (major_at major)) (take i cs)) (chunk_bytes (major_at major) c)
-    ∙ ap (λ l. old ++ l) (sym (part_more (chunk_bytes (major_at major)) cs i c below is))
+pub chunk_pushed : (major : Major) (cs : List Chunk) (i : ℕ) (c : Chunk) (old out new : List ℕ) → i < length cs → c ≡ get_or cs i c → out ≡ old ++ flat_map (chunk_bytes major) (take i cs)
+    → new ≡ out ++ (head_bytes (code major) c.width (length c.bytes) ++ c.bytes) → new ≡ old ++ flat_map (chunk_bytes major) (take (i + 1) cs)
+chunk_pushed major cs i c old out new below is done more =
+    more ∙ ap (λ l. l ++ chunk_bytes major c) done
+    ∙ append_assoc old (flat_map (chunk_bytes major) (take i cs)) (chunk_bytes major c)
+    ∙ ap (λ l. old ++ l) (sym (part_more (chunk_bytes major) cs i c below is))
 
 pub array_fits : (p n : ℕ) (f : Form) (t : Tree) (s : Size) (v : _) → tree_of p f ≡ t → f ≡ forms.Items s v → n ≡ length v.items → Fits t → SizeFits s n × FitsAll (trees v.items) × (depth t ≡ suc (depth_all (trees v.items)))
 array_fits p n f t s v is e many h =
@@ -54,11 +53,11 @@ map_fits p n f t s v is e many h =
     (subst (SizeFits s) (count_entries-entries v.items ∙ sym many) g.0, g.1, ap depth (sym is ∙ ap (tree_of p) e))
 
 -- what a loop over the parts leaves, with what stands before and behind them
-pub items_spelled : (p : ℕ) (s : Size) (xs ys : List Tree) (n i : ℕ) (old opened all closed : List ℕ) → ys ≡ xs → n ≡ length xs → length ys ≤ i → opened ≡ old ++ head (major_at 4) (argument s n) → all ≡ opened ++ flat_map spelled (take i ys) → closed ≡ all ++ ending s → closed ≡ old ++ spelled (Items p s (trees xs))
+pub items_spelled : (p : ℕ) (s : Size) (xs ys : List Tree) (n i : ℕ) (old opened all closed : List ℕ) → ys ≡ xs → n ≡ length xs → length ys ≤ i → opened ≡ old ++ head Array (argument s n) → all ≡ opened ++ flat_map spelled (take i ys) → closed ≡ all ++ ending s → closed ≡ old ++ spelled (Items p s (trees xs))
 items_spelled p s xs ys n i old opened all closed e hn hi ho ha hc =
     rw (spelled_all-trees xs, count-trees xs, ← e, hc, ha, ho, hn, ← e, take_all i ys hi) (simp append_assoc)
 
-pub pairs_spelled : (p : ℕ) (s : Size) (xs ys : List (Tree × Tree)) (n i : ℕ) (old opened all closed : List ℕ) → ys ≡ xs → n ≡ length xs → length ys ≤ i → opened ≡ old ++ head (major_at 5) (argument s n) → all ≡ opened ++ flat_map spelled_pair (take i ys) → closed ≡ all ++ ending s → closed ≡ old ++ spelled (Pairs p s (entries xs))
+pub pairs_spelled : (p : ℕ) (s : Size) (xs ys : List (Tree × Tree)) (n i : ℕ) (old opened all closed : List ℕ) → ys ≡ xs → n ≡ length xs → length ys ≤ i → opened ≡ old ++ head Map (argument s n) → all ≡ opened ++ flat_map spelled_pair (take i ys) → closed ≡ all ++ ending s → closed ≡ old ++ spelled (Pairs p s (entries xs))
 pairs_spelled p s xs ys n i old opened all closed e hn hi ho ha hc =
     rw (spelled_entries-entries xs, count_entries-entries xs, ← e, hc, ha, ho, hn, ← e, take_all i ys hi) (simp append_assoc)
 

@@ -4,8 +4,11 @@ use Rattle.std.proofs.lemmas.Bool.{lt-leb, le-leb, lt-ltb}
 use Rattle.std.proofs.lemmas.Nat.{from_be_bytes-to_be_bytes_2, from_be_bytes-to_be_bytes_4, from_be_bytes-to_be_bytes_8}
 use Rattle.cborn_model.specs.declared.heads.Width.{Width}
 use Rattle.cborn_model.specs.declared.heads.Width.TheVariants.{Direct, One, Two, Four, Eight}
-use Rattle.cborn_model.specs.Heads.{Major, Unsigned, Negative, ByteString, TextString, Array, Map, Tag, Other, Argument, Given, Unbounded, code, following, head}
+use Rattle.cborn_model.specs.declared.heads.Major.{Major}
+use Rattle.cborn_model.specs.declared.heads.Major.TheVariants.{Unsigned, Negative, ByteString, TextString, Array, Map, Tag, Other}
+use Rattle.cborn_model.specs.Heads.{Argument, Given, Unbounded, code, following, head}
 use Rattle.cborn_model.specs.Tree.{Trees}
+pub use Rattle.cborn_model.proofs.Majors.{major_at-code}
 use Rattle.cborn_wire.specs.HeadReading.{major_at, ArgumentFits}
 use Rattle.cborn_wire.specs.Slots.{Begun, slot, open_depth}
 use Rattle.cborn_wire.specs.InitialBytes.{Info, Now, Next, Unended, info_at, head_reason}
@@ -16,16 +19,6 @@ quotient c i h = omega arith
 
 pub remainder : (c i : ℕ) → i < 32 → (32 * c + i) % 32 ≡ i
 remainder c i h = omega arith
-
-pub major_at-code : (m : Major) → major_at (code m) ≡ m
-major_at-code Unsigned = refl
-major_at-code Negative = refl
-major_at-code ByteString = refl
-major_at-code TextString = refl
-major_at-code Array = refl
-major_at-code Map = refl
-major_at-code Tag = refl
-major_at-code Other = refl
 
 pub gathers : (limit : ℕ) (y : List ℕ) (fed p : ℕ) (ready : Trees) (os : List Begun) (g : Goal) (n : ℕ) (got x : List ℕ) → length got + length y ≤ n
     → run limit (gather fed p ready os g n got) (y ++ x) ≡ run limit (gather (fed + length y) p ready os g n (got ++ y)) x

@@ -8,7 +8,9 @@ use Rattle.cborn_model.specs.declared.heads.Width.TheVariants.{Direct, One, Two,
 use Rattle.cborn_model.specs.declared.heads.Size.{Size}
 use Rattle.cborn_model.specs.declared.heads.Size.TheVariants.{Fixed, Endless}
 use Rattle.cborn_model.specs.declared.nodes.Chunk.{Chunk}
-use Rattle.cborn_model.specs.Heads.{Major, Unsigned, Negative, ByteString, TextString, Array, Map, Tag, Other, Argument, Given, Unbounded, head, WidthFits, argument, SizeFits}
+use Rattle.cborn_model.specs.declared.heads.Major.{Major}
+use Rattle.cborn_model.specs.declared.heads.Major.TheVariants.{Unsigned, Negative, ByteString, TextString, Array, Map, Tag, Other}
+use Rattle.cborn_model.specs.Heads.{Argument, Given, Unbounded, head, WidthFits, argument, SizeFits}
 use Rattle.cborn_model.specs.Tree.{Tree, Uint, Nint, Bytes, Text, ByteChunks, TextChunks, Items, Pairs, Tagged, Simple, Trees, no_item, more, Entries, no_entry, entry, count, count_entries, depth, depth_all, depth_entries}
 use Rattle.cborn_model.specs.Spelled.{ending, string, chunk_bytes, chunks, simple_width, spelled, spelled_all, spelled_entries, ChunksFit, Fits, FitsAll, FitsEntries}
 use Rattle.cborn_model.specs.Placed.{ChunksPlaced, Placed, PlacedAll, PlacedEntries}

@@ -2,7 +2,8 @@
 use Rattle.std.proofs.Common.{◌≡◌, refl, sym, ap, ◌∙◌, subst, ℕ, suc, ◌+◌, ◌≤◌, List, [], ◌∷◌, ◌++◌, length, false, cond, leb, arith, append_assoc, length-append, add-one, add-zero}
 use Rattle.std.proofs.lemmas.Bool.{lt-leb}
 use Rattle.std.specs.List.{flat_map}
-use Rattle.cborn_model.specs.Heads.{Array, Map, Tag, Argument, Given, Unbounded, head}
+use Rattle.cborn_model.specs.declared.heads.Major.TheVariants.{Array, Map, Tag}
+use Rattle.cborn_model.specs.Heads.{Argument, Given, Unbounded, head}
 use Rattle.cborn_model.specs.Tree.{Trees, no_item, Entries, no_entry, count, count_entries, depth_all, depth_entries}
 use Rattle.cborn_model.specs.Spelled.{chunk_bytes, chunks, spelled, spelled_all, spelled_entries, FitsAll, FitsEntries}
 use Rattle.cborn_model.specs.Placed.{Placed}

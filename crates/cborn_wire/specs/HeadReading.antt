@@ -1,8 +1,10 @@
 -- What stands at the front of some bytes, read as a head (RFC 8949 section 3).
-use Rattle.std.specs.Prelude.{◌≡◌, ℕ, zero, suc, ◌<◌, List, ◌++◌, length, Bool, true, false, Option, Some, None}
+use Rattle.std.specs.Prelude.{◌≡◌, ℕ, ◌<◌, List, ◌++◌, length, Bool, true, false, Option, Some, None}
 use Rattle.cborn_model.specs.declared.heads.Size.{Size}
 use Rattle.cborn_model.specs.declared.heads.Size.TheVariants.{Fixed, Endless}
-use Rattle.cborn_model.specs.Heads.{Major, Unsigned, Negative, ByteString, TextString, Array, Map, Tag, Other, WidthFits, Given, Unbounded, head}
+use Rattle.cborn_model.specs.declared.heads.Major.{Major}
+use Rattle.cborn_model.specs.Heads.{WidthFits, Given, Unbounded, head}
+pub use Rattle.cborn_model.specs.Heads.{major_at}
 use Rattle.cborn_model.specs.Heads as heads
 use Rattle.cborn_wire.specs.declared.faults.WireReason.{WireReason}
 use Rattle.cborn_wire.specs.declared.heads.Argument.{Argument}
@@ -12,17 +14,6 @@ use Rattle.cborn_wire.specs.declared.heads.HeadRead.{HeadRead}
 use Rattle.cborn_wire.specs.declared.heads.HeadRead.TheVariants.{Full, Short, Bad}
 use Rattle.cborn_wire.specs.Slots.{element_or_end}
 use Rattle.cborn_wire.specs.Faults.{reason_at}
-
--- the major type with this number, 0 to 7
-abbrev pub major_at : ℕ → Major
-major_at zero = Unsigned
-major_at (suc zero) = Negative
-major_at (suc (suc zero)) = ByteString
-major_at (suc (suc (suc zero))) = TextString
-major_at (suc (suc (suc (suc zero)))) = Array
-major_at (suc (suc (suc (suc (suc zero))))) = Map
-major_at (suc (suc (suc (suc (suc (suc zero)))))) = Tag
-major_at (suc (suc (suc (suc (suc (suc (suc n))))))) = Other
 
 abbrev pub seen_argument : Argument → heads.Argument
 seen_argument (arguments.Given w n) = Given w n

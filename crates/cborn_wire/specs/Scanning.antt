@@ -1,6 +1,9 @@
 -- A device of the proofs: what a scan keeps of what is open, and what items and heads make of that. No definition cites it; the contracts of the crate's own functions do.
 use Rattle.std.specs.Prelude.{◌≡◌, ℕ, ◌+◌, ◌-◌, ◌<◌, ◌≤◌, List, [], ◌∷◌, length, take, Option, Some, None, if◌then◌else◌, nat_le}
-use Rattle.cborn_model.specs.Heads.{Major, Unsigned, Negative, ByteString, TextString, Other, Given, Unbounded}
+use Rattle.cborn_model.specs.declared.heads.Major.{Major}
+use Rattle.cborn_model.specs.declared.heads.Major.TheVariants.{Unsigned, Negative, ByteString, TextString, Other}
+use Rattle.cborn_model.specs.Heads.{Given, Unbounded}
+use Rattle.cborn_model.specs.declared.heads.Major.TheVariants as majors
 use Rattle.cborn_model.specs.Heads as heads
 use Rattle.cborn_model.specs.Tree.{Trees, count, count_entries}
 use Rattle.cborn_wire.specs.declared.faults.WireReason.{WireReason}
@@ -67,9 +70,9 @@ take_head ls ByteString (Given w n) = finish ls
 take_head ls ByteString Unbounded = Chunks kinds.Bytes ∷ ls
 take_head ls TextString (Given w n) = finish ls
 take_head ls TextString Unbounded = Chunks kinds.Text ∷ ls
-take_head ls heads.Array a = begin_items ls a
-take_head ls heads.Map a = begin_pairs ls a
-take_head ls heads.Tag a = Tag ∷ ls
+take_head ls majors.Array a = begin_items ls a
+take_head ls majors.Map a = begin_pairs ls a
+take_head ls majors.Tag a = Tag ∷ ls
 take_head ls Other (Given w n) = finish ls
 take_head ls Other Unbounded = finish (leave ls)
 

@@ -1,14 +1,14 @@
 //! Heads: an initial byte, with the major type in its high three bits and the additional information in its low five, and the bytes of an argument behind it (RFC 8949 section 3).
 
 ghost use Rattle.std.specs.Prelude.{◌≡◌, ◌≤◌, ◌<◌, ◌++◌, ◌+◌, ◌%◌, ◌∷◌, ◌/◌, ℕ, List, length, ◌&&◌, take, MatchOption, OnOk, OnErr};
-ghost use Rattle.cborn_model.specs.Heads.{WidthFits, IsHead, head_bytes};
+ghost use Rattle.cborn_model.specs.Heads.{code, major_at, WidthFits, IsHead, head_bytes};
 ghost use Rattle.cborn_wire.specs.InitialBytes.{Next, Unended, info_at, is_reserved, is_unended, is_always_bounded, is_break, is_other, is_float, is_container};
 ghost use Rattle.cborn_wire.specs.Machine.{width_bytes, number, is_full};
-ghost use Rattle.cborn_wire.specs.HeadReading.{major_at, ReadsHead, reason_alone, seen_argument, seen_bounded, seen_size};
+ghost use Rattle.cborn_wire.specs.HeadReading.{ReadsHead, reason_alone, seen_argument, seen_bounded, seen_size};
 ghost use Rattle.cborn_model.specs.declared.heads.Width.TheVariants.{One};
 
 use crate::WireReason;
-use cborn_model::{Size, Width};
+use cborn_model::{Major, Size, Width};
 use std::alloc::AllocError;
 
 /// What a head says beside its major type.
@@ -58,6 +58,16 @@ pub struct Head {
     pub argument: Argument,
 }
 
+impl Head {
+    /// The major type.
+    #[inline(always)]
+    pub fn major_type(&self) -> Major
+        ensures { result ≡ major_at self.now.major }
+    {
+        Major::at(self.major)
+    }
+}
+
 /// What stands at the front of some bytes.
 #[derive(Clone, Copy, PartialEq, Eq, Debug)]
 pub enum HeadRead {
@@ -77,11 +87,11 @@ pub fn read_head(bytes: &[u8]) -> HeadRead
     let [first, rest @ ..] = bytes else {
         return HeadRead::Short;
     };
-    let major = *first / 32;
+    let major = Major::of_initial_byte(*first);
     let information = *first % 32;
     if information < 24 {
         let argument = Argument::Given(Width::Direct, information as u64);
-        return HeadRead::Full(Head { major, argument }, 1);
+        return HeadRead::Full(head_of(major, argument), 1);
     }
     if is_endless(information) {
         return read_endless(major);
@@ -89,27 +99,44 @@ pub fn read_head(bytes: &[u8]) -> HeadRead
     if is_reserved(information) {
         return HeadRead::Bad(WireReason::ReservedInfo);
     }
-    if major != 7 {
-        return read_wide(major, wide_width(information), rest);
+    match major {
+        Major::Other => read_other(information, rest),
+        _ => read_wide(major, wide_width(information), rest),
     }
-    if is_float(major, information) {
-        return HeadRead::Bad(WireReason::FloatLeftOut);
-    }
-    read_simple(rest)
+}
+
+/// The head of this major type.
+#[inline(always)]
+fn head_of(major: Major, argument: Argument) -> Head
+    ensures { result ≡ record { major = code major; argument = argument } }
+{
+    let major = major.number();
+    Head { major, argument }
 }
 
 // A head whose argument is `rest`'s front.
-fn read_wide(major: u8, width: Width, rest: &[u8]) -> HeadRead
-    requires { major < 8 }
-    ensures { (first : ℕ) → first / 32 ≡ major → info_at (first % 32) ≡ Next width → reason_alone (first ∷ rest.now) ≡ None → ReadsHead (first ∷ rest.now) result }
+fn read_wide(major: Major, width: Width, rest: &[u8]) -> HeadRead
+    ensures { (first : ℕ) → first / 32 ≡ code major → info_at (first % 32) ≡ Next width → reason_alone (first ∷ rest.now) ≡ None → ReadsHead (first ∷ rest.now) result }
 {
     match read_number(width, rest) {
         Some(n) => {
             let argument = Argument::Given(width, n);
-            HeadRead::Full(Head { major, argument }, 1 + width_len(width))
+            HeadRead::Full(head_of(major, argument), 1 + width_len(width))
         }
         None => HeadRead::Short,
     }
+}
+
+/// A head of major type 7 whose argument follows the initial byte: of a float, or of a simple value.
+fn read_other(information: u8, rest: &[u8]) -> HeadRead
+    requires least { 24 ≤ information }
+    requires most { information ≤ 27 }
+    ensures { (first : ℕ) → first / 32 ≡ 7 → first % 32 ≡ information → ReadsHead (first ∷ rest.now) result }
+{
+    if is_float(Major::Other.number(), information) {
+        return HeadRead::Bad(WireReason::FloatLeftOut);
+    }
+    read_simple(rest)
 }
 
 // A simple value of two bytes, the second of which is `rest`'s first (RFC 8949 section 3.3).
@@ -118,20 +145,19 @@ fn read_simple(rest: &[u8]) -> HeadRead
 {
     match rest {
         [0..32, ..] => HeadRead::Bad(WireReason::BadSimple),
-        _ => read_wide(7, Width::One, rest),
+        _ => read_wide(Major::Other, Width::One, rest),
     }
 }
 
 // A head of an indefinite length, or the break (RFC 8949 section 3.2).
-fn read_endless(major: u8) -> HeadRead
-    requires { major < 8 }
-    ensures { (first : ℕ) (rest : List ℕ) → first / 32 ≡ major → info_at (first % 32) ≡ Unended → ReadsHead (first ∷ rest) result }
+fn read_endless(major: Major) -> HeadRead
+    ensures { (first : ℕ) (rest : List ℕ) → first / 32 ≡ code major → info_at (first % 32) ≡ Unended → ReadsHead (first ∷ rest) result }
 {
-    if is_always_bounded(major) {
+    if is_always_bounded(major.number()) {
         return HeadRead::Bad(WireReason::EndlessNotAllowed);
     }
     let argument = Argument::Endless;
-    HeadRead::Full(Head { major, argument }, 1)
+    HeadRead::Full(head_of(major, argument), 1)
 }
 
 // How many bytes follow the initial byte in a head of this width.
@@ -165,36 +191,35 @@ pub(crate) fn is_endless(information: u8) -> bool
 
 /// The major types that have no indefinite form.
 pub(crate) fn is_always_bounded(major: u8) -> bool
-    requires { major < 8 }
     ensures { result ≡ is_always_bounded (major_at major) }
 {
-    matches!(major, 0 | 1 | 6)
+    matches!(
+        Major::at(major),
+        Major::Unsigned | Major::Negative | Major::Tag
+    )
 }
 
 /// The break.
 pub(crate) fn is_break(major: u8, information: u8) -> bool
-    requires major { major < 8 }
-    requires information { information < 32 }
+    requires { information < 32 }
     ensures { result ≡ is_break (major_at major) (info_at information) }
 {
-    major == 7 && is_endless(information)
+    Major::at(major) == Major::Other && is_endless(information)
 }
 
 /// A float (RFC 8949 section 3.3).
 pub(crate) fn is_float(major: u8, information: u8) -> bool
-    requires major { major < 8 }
-    requires information { information < 32 }
+    requires { information < 32 }
     ensures { result ≡ (is_other (major_at major) && is_float (info_at information)) }
 {
-    major == 7 && matches!(information, 25..=27)
+    Major::at(major) == Major::Other && matches!(information, 25..=27)
 }
 
 /// Arrays, maps and tags.
 pub(crate) fn is_container(major: u8) -> bool
-    requires { major < 8 }
     ensures { result ≡ is_container (major_at major) }
 {
-    matches!(major, 4..=6)
+    matches!(Major::at(major), Major::Array | Major::Map | Major::Tag)
 }
 
 /// The width of a head with this additional information, from 24 to 27.
@@ -231,45 +256,42 @@ pub fn head_bytes(major: u8, width: Width, n: u64) -> ([u8; 9], usize)
     ensures len { result.1 ≤ 9 }
     ensures head { IsHead major width n (take result.1 result.0) }
 {
-    first_bytes(major, width, n)
+    first_bytes(Major::at(major), width, n)
 }
 
 // The head, of any major type.
-fn first_bytes(major: u8, width: Width, n: u64) -> ([u8; 9], usize)
-    requires major { major ≤ 7 }
-    requires fits { WidthFits width n }
+fn first_bytes(major: Major, width: Width, n: u64) -> ([u8; 9], usize)
+    requires { WidthFits width n }
     ensures len { result.1 ≤ 9 }
-    ensures head { take result.1 result.0 ≡ head_bytes major width n }
+    ensures head { take result.1 result.0 ≡ head_bytes (code major) width n }
 {
-    let first = 32 * major;
     let mut bytes = [0; 9];
     match width {
-        Width::Direct => bytes[0] = first + n as u8,
+        Width::Direct => bytes[0] = major.initial_byte(n as u8),
         Width::One => {
-            bytes[0] = first + 24;
+            bytes[0] = major.initial_byte(24);
             bytes[1] = n as u8;
         }
         Width::Two => {
-            bytes[0] = first + 25;
+            bytes[0] = major.initial_byte(25);
             bytes[1..3].copy_from_slice(&(n as u16).to_be_bytes());
         }
         Width::Four => {
-            bytes[0] = first + 26;
+            bytes[0] = major.initial_byte(26);
             bytes[1..5].copy_from_slice(&(n as u32).to_be_bytes());
         }
         Width::Eight => {
-            bytes[0] = first + 27;
+            bytes[0] = major.initial_byte(27);
             bytes[1..9].copy_from_slice(&n.to_be_bytes());
         }
     }
     (bytes, 1 + width_len(width))
 }
 
-/// Appends the head of major type `major`, from 0 to 7, with the argument `n`, which fits the width (RFC 8949 section 3). An error says that memory was refused; `out` then stays as it was.
-pub fn push_head(out: &mut Vec<u8>, major: u8, width: Width, n: u64) -> Result<(), AllocError>
-    requires major { major ≤ 7 }
-    requires fits { WidthFits width n }
-    ensures added { OnOk result (out.new.items ≡ out.old.items ++ head_bytes major width n) }
+/// Appends the head of the major type with the argument `n`, which fits the width (RFC 8949 section 3). An error says that memory was refused; `out` then stays as it was.
+pub fn push_head(out: &mut Vec<u8>, major: Major, width: Width, n: u64) -> Result<(), AllocError>
+    requires { WidthFits width n }
+    ensures added { OnOk result (out.new.items ≡ out.old.items ++ head_bytes (code major) width n) }
     ensures kept { OnErr result (out.new.items ≡ out.old.items) }
 {
     let (bytes, len) = first_bytes(major, width, n);

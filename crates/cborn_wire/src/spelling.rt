@@ -1,14 +1,13 @@
 //! The bytes that nodes spell (RFC 8949 sections 3.1 to 3.4).
 
 ghost use Rattle.std.specs.Prelude.{◌≡◌, ◌≤◌, ◌++◌, length, IfOk, OnOk};
-ghost use Rattle.cborn_model.specs.Heads.{WidthFits, SizeFits, head_bytes, head, argument};
+ghost use Rattle.cborn_model.specs.Heads.{code, WidthFits, SizeFits, head_bytes, head, argument};
 ghost use Rattle.cborn_model.specs.Tree.{trees};
 ghost use Rattle.cborn_model.specs.Spelled.{spelled, spelled_all, chunks, ending, ChunksFit, Fits};
 ghost use Rattle.cborn_model.specs.declared.heads.Size.TheVariants.{Endless};
-ghost use Rattle.cborn_wire.specs.HeadReading.{major_at};
 
 use crate::push_head;
-use cborn_model::{ByteString, Chunk, Form, Node, Size, Spelled, Width};
+use cborn_model::{BREAK, ByteString, Chunk, Form, Major, Node, Size, Spelled, Width};
 use std::alloc::{AllocError, Global};
 
 /// The bytes that `item` spells. An error says that memory was refused.
@@ -37,14 +36,14 @@ fn push_node(out: &mut Vec<u8>, node: &Node) -> Result<(), AllocError>
     ensures { OnOk result (out.new.items ≡ out.old.items ++ spelled node.now) }
 {
     match &node.form {
-        Form::Uint(width, n) => push_head(out, 0, *width, *n),
-        Form::Nint(width, n) => push_head(out, 1, *width, *n),
-        Form::Bytes(width, bytes) => push_string(out, 2, *width, bytes),
-        Form::Text(width, bytes) => push_string(out, 3, *width, bytes),
-        Form::ByteChunks(chunks) => push_chunks(out, 2, chunks),
-        Form::TextChunks(chunks) => push_chunks(out, 3, chunks),
+        Form::Uint(width, n) => push_head(out, Major::Unsigned, *width, *n),
+        Form::Nint(width, n) => push_head(out, Major::Negative, *width, *n),
+        Form::Bytes(width, bytes) => push_string(out, Major::ByteString, *width, bytes),
+        Form::Text(width, bytes) => push_string(out, Major::TextString, *width, bytes),
+        Form::ByteChunks(chunks) => push_chunks(out, Major::ByteString, chunks),
+        Form::TextChunks(chunks) => push_chunks(out, Major::TextString, chunks),
         Form::Items(size, items) => {
-            push_opening(out, 4, *size, items.len())?;
+            push_opening(out, Major::Array, *size, items.len())?;
             for item in items {
                 push_node(out, item)?;
             }
@@ -52,7 +51,7 @@ fn push_node(out: &mut Vec<u8>, node: &Node) -> Result<(), AllocError>
             Ok(())
         }
         Form::Pairs(size, pairs) => {
-            push_opening(out, 5, *size, pairs.len())?;
+            push_opening(out, Major::Map, *size, pairs.len())?;
             for (key, value) in pairs {
                 push_node(out, key)?;
                 push_node(out, value)?;
@@ -61,12 +60,12 @@ fn push_node(out: &mut Vec<u8>, node: &Node) -> Result<(), AllocError>
             Ok(())
         }
         Form::Tagged(width, n, item) => {
-            push_head(out, 6, *width, *n)?;
+            push_head(out, Major::Tag, *width, *n)?;
             push_node(out, item)
         }
         Form::Simple(n) => {
             let width = if *n < 24 { Width::Direct } else { Width::One };
-            push_head(out, 7, width, *n as u64)
+            push_head(out, Major::Other, width, *n as u64)
         }
     }
 }
@@ -74,13 +73,12 @@ fn push_node(out: &mut Vec<u8>, node: &Node) -> Result<(), AllocError>
 // Appends a definite string.
 fn push_string(
     out: &mut Vec<u8>,
-    major: u8,
+    major: Major,
     width: Width,
     bytes: &ByteString,
 ) -> Result<(), AllocError>
-    requires major { major ≤ 7 }
-    requires fits { WidthFits width (length bytes.now) }
-    ensures { OnOk result (out.new.items ≡ out.old.items ++ (head_bytes major width (length bytes.now) ++ bytes.now)) }
+    requires { WidthFits width (length bytes.now) }
+    ensures { OnOk result (out.new.items ≡ out.old.items ++ (head_bytes (code major) width (length bytes.now) ++ bytes.now)) }
 {
     let slice = bytes.as_slice();
     push_head(out, major, width, slice.len() as u64)?;
@@ -88,29 +86,27 @@ fn push_string(
 }
 
 // Appends an indefinite string.
-fn push_chunks(out: &mut Vec<u8>, major: u8, parts: &Vec<Chunk>) -> Result<(), AllocError>
-    requires major { major ≤ 7 }
-    requires fits { ChunksFit parts.now.items }
-    ensures { OnOk result (out.new.items ≡ out.old.items ++ (chunks (major_at major) parts.now.items ++ ending Endless)) }
+fn push_chunks(out: &mut Vec<u8>, major: Major, parts: &Vec<Chunk>) -> Result<(), AllocError>
+    requires { ChunksFit parts.now.items }
+    ensures { OnOk result (out.new.items ≡ out.old.items ++ (chunks major parts.now.items ++ ending Endless)) }
 {
-    out.push(32 * major + 31)?;
+    out.push(major.endless_head())?;
     for chunk in parts {
         push_string(out, major, chunk.width, &chunk.bytes)?;
     }
-    out.push(0xff)?;
+    out.push(BREAK)?;
     Ok(())
 }
 
 // Appends what stands before `count` items or pairs.
-fn push_opening(out: &mut Vec<u8>, major: u8, size: Size, count: usize) -> Result<(), AllocError>
-    requires major { major ≤ 7 }
-    requires fits { SizeFits size count }
-    ensures { OnOk result (out.new.items ≡ out.old.items ++ head (major_at major) (argument size count)) }
+fn push_opening(out: &mut Vec<u8>, major: Major, size: Size, count: usize) -> Result<(), AllocError>
+    requires { SizeFits size count }
+    ensures { OnOk result (out.new.items ≡ out.old.items ++ head major (argument size count)) }
 {
     match size {
         Size::Fixed(width) => push_head(out, major, width, count as u64),
         Size::Endless => {
-            out.push(32 * major + 31)?;
+            out.push(major.endless_head())?;
             Ok(())
         }
     }
@@ -121,7 +117,7 @@ fn push_ending(out: &mut Vec<u8>, size: Size) -> Result<(), AllocError>
     ensures { OnOk result (out.new.items ≡ out.old.items ++ ending size) }
 {
     if let Size::Endless = size {
-        out.push(0xff)?;
+        out.push(BREAK)?;
     }
     Ok(())
 }

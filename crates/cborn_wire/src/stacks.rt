@@ -2,7 +2,7 @@
 
 ghost use Rattle.std.specs.Prelude.{◌≡◌, ◌∷◌, ◌+◌, ◌<◌, ◌≤◌, ◌^◌, ℕ, [], length, true, false};
 ghost use Rattle.cborn_model.specs.Tree.{no_item, no_entry};
-ghost use Rattle.cborn_model.specs.Heads as heads;
+ghost use Rattle.cborn_model.specs.declared.heads.Major.TheVariants as heads;
 ghost use Rattle.cborn_wire.specs.Slots.{major_of};
 ghost use Rattle.cborn_wire.specs.Machine.{nothing, Live, start, items_at, pairs_at, string_done, ended, after_head, IsReached};
 ghost use Rattle.cborn_wire.specs.HeadReading.{major_at, seen_argument, ArgumentFits};

@@ -1,8 +1,8 @@
 //! Heads alone.
 use crate::WireReason::{BadSimple, EndlessNotAllowed, FloatLeftOut, ReservedInfo};
 use crate::{Argument, Head, HeadRead, WireReason, head_bytes, push_head, read_head};
-use cborn_model::Width;
 use cborn_model::Width::{Direct, Eight, Four, One, Two};
+use cborn_model::{Major, Width};
 use std::alloc::{AllocError, Global};
 use std::process::Abort;
 use std::test::Fail;
@@ -137,9 +137,9 @@ fn makes_heads(rt: HostRuntime) {
 #[test]
 fn appends_heads(rt: HostRuntime) -> Result<(), Fail> {
     let mut out = Vec::new(rt.alloc());
-    push_head(&mut out, 0, Direct, 0)?;
-    push_head(&mut out, 7, One, 255)?;
-    push_head(&mut out, 6, Two, 55799)?;
+    push_head(&mut out, Major::Unsigned, Direct, 0)?;
+    push_head(&mut out, Major::Other, One, 255)?;
+    push_head(&mut out, Major::Tag, Two, 55799)?;
     assert_eq!(rt; out.as_slice(), b"\x00\xf8\xff\xd9\xd9\xf7".as_slice());
     Ok(())
 }

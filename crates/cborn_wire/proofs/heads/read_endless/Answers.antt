@@ -1,6 +1,7 @@
 use Rattle.std.proofs.Common.{sym, ◌∙◌}
-use Rattle.cborn_wire.proofs.HeadFronts.{endless_head}
+use Rattle.cborn_model.specs.Heads.{code}
+use Rattle.cborn_wire.proofs.HeadFronts.{code_small, endless_head}
 use Rattle.cborn_wire.proofs.heads.read_endless.Goals as goal
 
 pub returns : goal.returns
-returns c = λ first rest e i. endless_head rest first c.args.major c.requires e i (sym c.is_always_bounded.ensures ∙ c.if-is_always_bounded.false)
+returns c = λ first rest e i. rw c.head_of.ensures (endless_head rest first (code c.args.major) (code_small c.args.major) e i (rw c.number.ensures at (sym c.is_always_bounded.ensures ∙ c.if-is_always_bounded.false)))

@@ -3,8 +3,8 @@ use Rattle.cborn_model.proofs.Trees.{depth_of_item, depth_of_pair}
 use Rattle.cborn_wire.proofs.Spellings.{items_spelled, pairs_spelled, array_fits, map_fits, item_fits, pair_fits}
 use Rattle.cborn_wire.proofs.spelling.+push_node.Goals as goal
 
-pub push_opening-requires-clause-fits : goal.push_opening-requires-clause-fits
-push_opening-requires-clause-fits t c =
+pub push_opening-requires : goal.push_opening-requires
+push_opening-requires t c =
     let many : c.len.result ≡ length c.in-Items.items.items = omega (arith, c.len.ensures, c.in-Items.items.ok.0) in
     let fit = array_fits c.node.inside.place c.len.result c.node.inside.form c.args.node.now c.in-Items.size c.in-Items.items c.node.view_is c.in-Items.is many c.requires in
     fit.0
@@ -26,8 +26,8 @@ returns-in_ok-push_ending-in-Items t c =
     let many : c.len.result ≡ length c.in-Items.items.items = omega (arith, c.len.ensures, c.in-Items.items.ok.0) in
     rw (← c.node.view_is, c.in-Items.is) (items_spelled c.node.inside.place c.in-Items.size c.in-Items.items.items c.deref-item-items.result.now c.len.result c.loop-item.item-index c.args.out.now.items c.push_opening.new.out.items c.loop-item.out.items c.push_ending.new.out.items c.deref-item-items.ensures.value many c.loop-item-test.false c.in_ok-push_opening-in-Items.ensures c.loop-item.invariant c.in_ok-push_ending-in-Items.ensures)
 
-pub push_opening-requires-in-Pairs-clause-fits : goal.push_opening-requires-in-Pairs-clause-fits
-push_opening-requires-in-Pairs-clause-fits t c =
+pub push_opening-requires-in-Pairs : goal.push_opening-requires-in-Pairs
+push_opening-requires-in-Pairs t c =
     let many : c.len-in-Pairs.result ≡ length c.in-Pairs.pairs.items = omega (arith, c.len-in-Pairs.ensures, c.in-Pairs.pairs.ok.0) in
     let fit = map_fits c.node.inside.place c.len-in-Pairs.result c.node.inside.form c.args.node.now c.in-Pairs.size c.in-Pairs.pairs c.node.view_is c.in-Pairs.is many c.requires in
     fit.0
