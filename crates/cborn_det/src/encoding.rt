@@ -10,7 +10,7 @@ ghost use Rattle.cborn_det.specs.Det.{Det, DetSeq, DetPairs, Entry};
 
 use crate::entries::arrange;
 use crate::parts::{push_integer, push_shortest, push_simple, push_string};
-use cborn_model::{Item, KeyOrder, Valid};
+use cborn_model::{Item, KeyOrder, Major, Valid};
 use std::alloc::{AllocError, Global};
 
 /// The deterministic encoding of `valid`, the keys of its maps in the order `O` (RFC 8949 section
@@ -85,11 +85,11 @@ fn push_item<O: KeyOrder>(alloc: Global, item: &Item, out: &mut Vec<u8>) -> Resu
             negative,
             magnitude,
         } => push_integer(*negative, magnitude, out),
-        Item::Bytes(bytes) => push_string(2, bytes.as_slice(), out),
-        Item::Text(text) => push_string(3, text.as_bytes(), out),
+        Item::Bytes(bytes) => push_string(Major::ByteString, bytes.as_slice(), out),
+        Item::Text(text) => push_string(Major::TextString, text.as_bytes(), out),
         Item::Items(items) => {
             let items = items.as_slice();
-            push_shortest(4, items.len() as u64, out)?;
+            push_shortest(Major::Array, items.len() as u64, out)?;
             push_items::<O>(alloc, items, out)?;
             Ok(())
         }
@@ -98,7 +98,7 @@ fn push_item<O: KeyOrder>(alloc: Global, item: &Item, out: &mut Vec<u8>) -> Resu
             Ok(())
         }
         Item::Tagged(tag, content) => {
-            push_shortest(6, *tag, out)?;
+            push_shortest(Major::Tag, *tag, out)?;
             push_item::<O>(alloc, content.get(), out)?;
             Ok(())
         }
@@ -133,7 +133,7 @@ fn push_map<O: KeyOrder>(
     requires new { HasNewKeys (pairs_of (map pair_value pairs.now)) }
     ensures { Writes result (Det O.order (dict (pairs_of (map pair_value pairs.now)))) out.old.items out.new.items }
 {
-    push_shortest(5, pairs.len() as u64, out)?;
+    push_shortest(Major::Map, pairs.len() as u64, out)?;
     let start = out.len();
     let lengths = push_pairs::<O>(alloc, pairs, out)?;
     arrange::<O>(alloc, &lengths, start, out)?;

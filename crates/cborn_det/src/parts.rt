@@ -1,27 +1,25 @@
 //! What an encoding is made of, at the end of a buffer: heads, strings, integers and simple values.
 
-ghost use Rattle.std.specs.Prelude.{◌<◌, ◌≤◌, ◌⊎◌};
-ghost use Rattle.cborn_model.specs.Heads.{IsLeastHead};
+ghost use Rattle.std.specs.Prelude.{◌≡◌, ◌<◌, ◌≤◌, ◌⊎◌};
+ghost use Rattle.cborn_model.specs.Heads.{code, IsLeastHead};
 ghost use Rattle.cborn_det.specs.Writing.{Writes};
-ghost use Rattle.cborn_det.specs.Det.{IsInteger, IsSimple, IsString};
+ghost use Rattle.cborn_det.specs.Det.{IsInteger, IsSimple, IsString, major_of};
 
-use cborn_model::{Magnitude, Number, shortest};
+use cborn_model::{Magnitude, Major, Number, Width, shortest};
 use cborn_wire::push_head;
 use std::alloc::AllocError;
 
 /// Appends the shortest head of the major type with the argument `n`.
-pub(crate) fn push_shortest(major: u8, n: u64, out: &mut Vec<u8>) -> Result<(), AllocError>
-    requires { major < 8 }
-    ensures { Writes result (IsLeastHead major n) out.old.items out.new.items }
+pub(crate) fn push_shortest(major: Major, n: u64, out: &mut Vec<u8>) -> Result<(), AllocError>
+    ensures { Writes result (IsLeastHead (code major) n) out.old.items out.new.items }
 {
     let width = shortest(n);
     push_head(out, major, width, n)
 }
 
 /// Appends a string of the major type.
-pub(crate) fn push_string(major: u8, bytes: &[u8], out: &mut Vec<u8>) -> Result<(), AllocError>
-    requires { major < 8 }
-    ensures { Writes result (IsString major bytes.now) out.old.items out.new.items }
+pub(crate) fn push_string(major: Major, bytes: &[u8], out: &mut Vec<u8>) -> Result<(), AllocError>
+    ensures { Writes result (IsString (code major) bytes.now) out.old.items out.new.items }
 {
     push_shortest(major, bytes.len() as u64, out)?;
     out.extend_from_slice(bytes)?;
@@ -38,16 +36,26 @@ pub(crate) fn push_integer(
 {
     match magnitude.number() {
         Number::Word(n) => {
-            let major = if negative { 1 } else { 0 };
-            push_shortest(major, n, out)?;
+            push_shortest(major_of(negative), n, out)?;
             Ok(())
         }
         Number::Long(bytes) => {
             let tag = if negative { 3 } else { 2 };
-            push_shortest(6, tag, out)?;
-            push_string(2, bytes, out)?;
+            push_shortest(Major::Tag, tag, out)?;
+            push_string(Major::ByteString, bytes, out)?;
             Ok(())
         }
+    }
+}
+
+/// The major type of an integer within 64 bits.
+fn major_of(negative: bool) -> Major
+    ensures { code result ≡ major_of negative }
+{
+    if negative {
+        Major::Negative
+    } else {
+        Major::Unsigned
     }
 }
 
@@ -56,11 +64,6 @@ pub(crate) fn push_simple(n: u8, out: &mut Vec<u8>) -> Result<(), AllocError>
     requires { (n < 24) ⊎ (32 ≤ n) }
     ensures { Writes result (IsSimple n) out.old.items out.new.items }
 {
-    if n < 24 {
-        out.push(224 + n)?;
-    } else {
-        out.push(248)?;
-        out.push(n)?;
-    }
-    Ok(())
+    let width = if n < 24 { Width::Direct } else { Width::One };
+    push_head(out, Major::Other, width, u64::from(n))
 }
