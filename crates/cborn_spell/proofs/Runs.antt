@@ -96,17 +96,11 @@ module _ (tail : List ℕ) (at found : ℕ) (room : at + 16 ≤ length tail) (e 
 pub more_plain : (tail : List ℕ) (at n : ℕ) → list_all is_plain (take at tail) ≡ true → list_all is_plain (take n (drop at tail)) ≡ true → list_all is_plain (take (at + n) tail) ≡ true
 more_plain tail at n h k = ap (list_all is_plain) (take-add at n tail) ∙ list_all-append is_plain (take at tail) (take n (drop at tail)) ∙ and_from _ _ h k
 
-pub one_plain : (tail : List ℕ) (at : ℕ) → at < length tail → list_all is_plain (take at tail) ≡ true → is_plain (get_or tail at 0) ≡ true → list_all is_plain (take (at + 1) tail) ≡ true
-one_plain tail at l h k = ap (list_all is_plain) (take_more tail at 0 l) ∙ list_all-append is_plain (take at tail) (get_or tail at 0 ∷ []) ∙ and_from _ _ h (and_from _ _ k refl)
-
 -- A block that is appended whole, and cut.
 pub block_cut : (tail old block whole cut : List ℕ) (l n : ℕ) → n ≤ 16 → block ≡ take 16 tail → whole ≡ old ++ block → l ≡ length old → cut ≡ take (l + n) whole → cut ≡ old ++ take n tail
 block_cut tail old block whole cut l n h b w e c = c ∙ ap₂ (λ m z. take (m + n) z) e w ∙ take-append-add old block n ∙ ap (λ z. old ++ z) (ap (take n) b ∙ take-take n 16 tail h)
 
 -- Letters so far.
-
-pub letters_none : (tail old : List ℕ) → LettersSoFar tail 0 old old
-letters_none tail old = record { inside = refl; letters = []; allowed = refl; whole = refl; written = sym (append-nil old) }
 
 letters_also : (tail old mid new : List ℕ) (at n : ℕ) (ls : List Letter) → LettersSoFar tail at old mid → list_all (is_letter 34) ls ≡ true → is_content 34 (flat_map written ls) ≡ true → take n tail ≡ take at tail ++ flat_map written ls → new ≡ mid ++ flat_map meant ls → LettersSoFar tail n old new
 letters_also tail old mid new at n ls s a i w e = record {

@@ -6,7 +6,7 @@ use Rattle.std.proofs.lemmas.Int.Digits.{length-digits_of-le}
 use Rattle.cborn_model.specs.declared.heads.Width.TheVariants.{Direct}
 use Rattle.cborn_model.specs.declared.heads.Width.{Width}
 use Rattle.cborn_model.specs.declared.heads.Size.TheVariants.{Fixed, Endless as Unending}
-use Rattle.cborn_model.specs.Heads.{head_bytes, least}
+use Rattle.cborn_model.specs.Heads.{holds, head_bytes, least}
 use Rattle.cborn_model.specs.Tree.{Tree, Uint, Nint, Bytes as ByteNode, Items, Pairs as PairNode, Tagged, Simple, Trees, no_item as no_node, more, Entries, no_entry, entry, count, count_entries}
 use Rattle.cborn_model.specs.Spelled.{spelled, spelled_all, spelled_entries}
 use Rattle.cborn_lex.specs.declared.classes.Profile.{Profile}
@@ -22,7 +22,7 @@ use Rattle.cborn_edn.proofs.Trailing.{parse_of}
 use Rattle.cborn_edn.specs.Syntax.{Span, depth_of_number, tokens_of_content, depth_of_content, tokens_of_fields, depth_of_fields, tokens_of_pairs, number, word, tag, simple, array, map, tokens_of, row, no_item, after_row, Content, loose, tight, tokens_of_row, pairs, no_pair, after_pairs, Fields, loose_fields, tight_fields, nothing as nothing_there, items, is_small, is_below, argument_of}
 use Rattle.cborn_edn.specs.devices.Commas.{commas_of_content, commas_of_fields, AllowsCount}
 use Rattle.std.specs.Prelude.{nat_lt}
-use Rattle.cborn_edn.specs.Meaning.{integer, bignum, holds, means_content, means_fields, and_then, when, means, snoc, snoc_entry, width_for, size_for}
+use Rattle.cborn_edn.specs.Meaning.{integer, bignum, means_content, means_fields, and_then, when, means, snoc, snoc_entry, width_for, size_for}
 use Rattle.cborn_spell.specs.Descent.{AddsHead, SetsHead, AddsMarked, AddsNumber, AddsBignum, AddsSimple, Opens, Closes, TokenAt, Ends, ItemTaken, RowTaken, BeforeTaken, PairsTaken, PairsBeforeTaken, IsSpelling}
 use Rattle.cborn_spell.proofs.Allowing.{allows_none, allows_sum, allows_any}
 

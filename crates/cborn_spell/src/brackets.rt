@@ -8,7 +8,7 @@ ghost use Rattle.cborn_edn.specs.declared.strings.StringKind.TheVariants as kind
 ghost use Rattle.cborn_spell.specs.Descent.{TokenAt, Ends, Opens, Closes, ClosesFixed, ClosesString, ClosesChunks, major_of};
 
 use crate::heads::{set_head, set_wide_head};
-use crate::leaves::{holds, is_text};
+use crate::leaves::is_text;
 use crate::scans::{behind, skip};
 use crate::tokens::next_token;
 use cborn_edn::StringKind;
@@ -64,7 +64,7 @@ pub(crate) fn close_fixed(
         Mark::Absent => set_head(alloc, major, n, start, out),
         Mark::Endless => None,
         Mark::Wide(width) => {
-            if !holds(width, n) {
+            if !width.holds(n) {
                 return None;
             }
             set_wide_head(alloc, major, width, n, start, out)
@@ -95,6 +95,7 @@ pub(crate) fn close_string(
     Some(())
 }
 
+/// The length of a string.
 fn len_of(content: &[u8]) -> u64
     ensures { result ≡ length content.now }
 {
@@ -123,6 +124,7 @@ pub(crate) fn close_chunks(kind: StringKind, start: usize, out: &mut Vec<u8>) ->
     Some(())
 }
 
+/// The major type of a string.
 fn major_of(kind: StringKind) -> u8
     ensures is { result ≡ major_of kind }
     ensures small { result < 8 }
@@ -146,6 +148,7 @@ pub(crate) fn ending(c: u8, profile: Profile, text: &str, at: usize) -> Option<u
     }
 }
 
+/// The same, behind a comma.
 #[inline(never)]
 fn ending_behind_comma(c: u8, profile: Profile, text: &str, at: usize) -> Option<usize>
     requires { at ≤ length text.now }
@@ -171,6 +174,7 @@ pub(crate) fn is_last(profile: Profile, text: &str, at: usize) -> bool
     }
 }
 
+/// Whether a closing bracket is next.
 fn is_closing(profile: Profile, text: &str, at: usize) -> bool
     requires { at ≤ length text.now }
 {
@@ -215,6 +219,7 @@ pub(crate) fn embed_ending(
     }
 }
 
+/// The same, where the comma stands.
 fn embed_end_behind_comma(
     alloc: Global,
     profile: Profile,

@@ -16,6 +16,7 @@ pub(crate) fn joins(profile: Profile, text: &str, at: usize) -> bool
     is_piece(profile, text, at)
 }
 
+/// Whether a piece of a string begins behind white space and comments.
 #[inline(never)]
 fn is_piece(profile: Profile, text: &str, at: usize) -> bool
     requires { at ≤ length text.now }

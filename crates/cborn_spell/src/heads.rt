@@ -29,6 +29,7 @@ pub(crate) fn put_head(major: u8, n: u64, out: &mut Vec<u8>) -> Option<()>
     }
 }
 
+/// Appends an initial byte and an argument of two bytes.
 #[inline]
 fn put_two(first: u8, n: u16, out: &mut Vec<u8>) -> Option<()>
     ensures { OnSome result (out.new.items ≡ out.old.items ++ first ∷ to_be_bytes w16 n) }
@@ -37,6 +38,7 @@ fn put_two(first: u8, n: u16, out: &mut Vec<u8>) -> Option<()>
     out.extend_from_slice(&[first, a, b]).ok()
 }
 
+/// The same of four bytes.
 #[inline]
 fn put_four(first: u8, n: u32, out: &mut Vec<u8>) -> Option<()>
     ensures { OnSome result (out.new.items ≡ out.old.items ++ first ∷ to_be_bytes w32 n) }
@@ -45,6 +47,7 @@ fn put_four(first: u8, n: u32, out: &mut Vec<u8>) -> Option<()>
     out.extend_from_slice(&[first, a, b, c, d]).ok()
 }
 
+/// The same of eight bytes.
 #[inline]
 fn put_eight(first: u8, n: u64, out: &mut Vec<u8>) -> Option<()>
     ensures { OnSome result (out.new.items ≡ out.old.items ++ first ∷ to_be_bytes w64 n) }
@@ -75,6 +78,7 @@ pub(crate) fn set_head(
     widen_head(alloc, major, n, start, out)
 }
 
+/// The same, of a head that takes more than the byte.
 #[inline(never)]
 fn widen_head(alloc: Global, major: u8, n: u64, start: usize, out: &mut Vec<u8>) -> Option<()>
     requires major { major < 8 }

@@ -4,7 +4,7 @@ ghost use Rattle.std.specs.Prelude.{◌≡◌, ◌⊎◌, ◌<◌, ◌≤◌, �
 ghost use Rattle.cborn_model.specs.declared.heads.Width.{Width};
 ghost use Rattle.cborn_model.specs.Heads.{head_bytes};
 ghost use Rattle.cborn_lex.specs.declared.classes.Class.TheVariants as classes;
-ghost use Rattle.cborn_edn.specs.Meaning.{width_for, holds, is_simple, is_absent};
+ghost use Rattle.cborn_edn.specs.Meaning.{width_for, is_simple, is_absent};
 ghost use Rattle.cborn_spell.specs.Descent.{AddsMarked, AddsString, AddsEmpty, AddsSimple, TokenAt, ItemTaken, suits};
 
 use crate::heads::put_head;
@@ -24,24 +24,11 @@ pub(crate) fn put_marked(major: u8, mark: Mark, n: u64, out: &mut Vec<u8>) -> Op
         Mark::Absent => put_head(major, n, out),
         Mark::Endless => None,
         Mark::Wide(width) => {
-            if !holds(width, n) {
+            if !width.holds(n) {
                 return None;
             }
             push_head(out, major, width, n).ok()
         }
-    }
-}
-
-/// Whether a head of this width has room for the argument.
-pub(crate) fn holds(width: Width, n: u64) -> bool
-    ensures { result ≡ holds width n }
-{
-    match width {
-        Width::Direct => n < 24,
-        Width::One => n < 256,
-        Width::Two => n < 65536,
-        Width::Four => n < 4294967296,
-        Width::Eight => true,
     }
 }
 
@@ -83,6 +70,7 @@ fn put_empty(major: u8, quoted: bool, content: &[u8], out: &mut Vec<u8>) -> Opti
     Some(())
 }
 
+/// Whether there are no bytes.
 fn is_empty(content: &[u8]) -> bool
     ensures { IsTrue result → content.now ≡ [] }
 {
@@ -117,11 +105,7 @@ pub(crate) fn put_simple(n: u64, out: &mut Vec<u8>) -> Option<()>
 pub(crate) fn is_bare(mark: Mark) -> bool
     ensures { result ≡ is_absent mark }
 {
-    match mark {
-        Mark::Absent => true,
-        Mark::Endless => false,
-        Mark::Wide(_) => false,
-    }
+    mark == Mark::Absent
 }
 
 /// Whether a piece of the kind `other` may stand in a string of the kind `kind`.

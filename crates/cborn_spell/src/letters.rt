@@ -41,6 +41,7 @@ fn plain_rest(tail: &[u8], from: usize) -> usize
     at
 }
 
+/// Whether a letter stands for itself and closes no string.
 fn is_plain(c: u8) -> bool
     ensures { result ≡ is_plain c }
 {

@@ -70,6 +70,7 @@ fn begins_word(tail: &[u8]) -> bool
     tail.len() > 0 && is_word(tail[0])
 }
 
+/// Whether a character is one of words and indicators.
 #[inline(always)]
 fn is_word(c: u8) -> bool
     ensures { result ≡ is_word c }

@@ -34,6 +34,7 @@ pub(crate) fn put_number(
     Some(())
 }
 
+/// The major type of an integer.
 fn major_of(below: bool) -> u8
     ensures { result ≡ (if below then 1 else 0) }
 {

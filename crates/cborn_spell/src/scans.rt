@@ -26,6 +26,7 @@ pub(crate) fn skip(profile: Profile, text: &str, at: usize) -> Option<usize>
     skip_gaps(profile, bytes, at)
 }
 
+/// The same, where one may stand.
 fn skip_gaps(profile: Profile, bytes: &[u8], at: usize) -> Option<usize>
     requires { at ≤ length bytes.now }
     ensures within { IfSome result (λ end. end ≤ length bytes.now) }
@@ -94,6 +95,7 @@ fn line_len(tail: &[u8]) -> usize
     tail.len()
 }
 
+/// Whether a character is white space.
 #[inline(always)]
 fn is_white(c: u8) -> bool
     ensures { result ≡ is_white c }

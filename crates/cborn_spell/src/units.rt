@@ -1,9 +1,10 @@
 //! Escapes `\uXXXX` between the quotes of a text string: a unit of UTF-16, or two that are a surrogate pair (RFC 8259 section 7).
 
 ghost use Rattle.std.specs.Prelude.{◌≡◌, ◌≤◌, ◌<◌, ◌+◌, ◌++◌, true, length, slice_index, encode_utf8, IfSome, OnSome};
-ghost use Rattle.std.specs.Char.{digit_value};
-ghost use Rattle.cborn_lex.specs.Strings.{are_hex, code, is_high, is_low};
+ghost use Rattle.cborn_lex.specs.Strings.{is_high};
 ghost use Rattle.cborn_spell.specs.Descent.{HasUnit, LetterTaken};
+
+use cborn_lex::{are_hex, hex_code, is_high, is_low};
 
 /// Appends what the escape stands for whose backslash stands at the place, before a `u`, and answers where it ends.
 #[inline(never)]
@@ -68,44 +69,5 @@ fn unit_at(tail: &[u8], at: usize) -> Option<u32>
     if !are_hex(a, b, c, d) {
         return None;
     }
-    Some(code(a, b, c, d))
-}
-
-fn are_hex(a: u8, b: u8, c: u8, d: u8) -> bool
-    ensures { result ≡ are_hex a b c d }
-{
-    digit_of(a) < 16 && digit_of(b) < 16 && digit_of(c) < 16 && digit_of(d) < 16
-}
-
-fn code(a: u8, b: u8, c: u8, d: u8) -> u32
-    requires { are_hex a b c d ≡ true }
-    ensures value { result ≡ code a b c d }
-    ensures small { result < 65536 }
-{
-    ((digit_of(a) as u32 * 16 + digit_of(b) as u32) * 16 + digit_of(c) as u32) * 16
-        + digit_of(d) as u32
-}
-
-/// The value of a digit or a letter, and 36 for any other character.
-fn digit_of(c: u8) -> u8
-    ensures { result ≡ digit_value c }
-{
-    match c {
-        b'0'..=b'9' => c - b'0',
-        b'A'..=b'Z' => c - b'A' + 10,
-        b'a'..=b'z' => c - b'a' + 10,
-        _ => 36,
-    }
-}
-
-fn is_high(n: u32) -> bool
-    ensures { result ≡ is_high n }
-{
-    0xD800 <= n && n < 0xDC00
-}
-
-fn is_low(n: u32) -> bool
-    ensures { result ≡ is_low n }
-{
-    0xDC00 <= n && n < 0xE000
+    Some(hex_code(a, b, c, d))
 }
