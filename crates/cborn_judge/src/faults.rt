@@ -21,7 +21,7 @@ pub enum InvalidReason {
     DuplicateKey,
 }
 
-/// Why there is no valid item. A refusal has the number of its reason, from 1 to 3; want of memory has the number 4.
+/// Why there is no valid item.
 #[derive(Clone, Copy, PartialEq, Eq, Debug, Error)]
 pub enum Invalid {
     /// The node means nothing. `place` is that of the head of the string or chunk that is not UTF-8, of the tag, or of the later key: its offset in bytes, from the start of the input that the node was read from.

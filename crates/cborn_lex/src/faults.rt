@@ -6,7 +6,7 @@ ghost use Rattle.cborn_lex.specs.declared.faults.LexFault.TheVariants.{OutOfMemo
 use std::alloc::{AllocError, AllocFailed};
 use thiserror::Error;
 
-/// What is wrong with a token. The number of a reason is its place in this list, from 1; want of memory has the number 12.
+/// What is wrong with a token. docs/LIBRARY.md numbers the reasons in this order, and no number ever changes: a new one stands last.
 #[derive(Clone, Copy, PartialEq, Eq, Debug, Error)]
 pub enum LexReason {
     /// No token begins like this.
