@@ -4,7 +4,8 @@ use Rattle.std.specs.Prelude.{◌↔◌}
 use Rattle.cborn_model.specs.declared.heads.Width.{Width}
 use Rattle.cborn_model.specs.declared.heads.Size.{Size}
 use Rattle.cborn_model.specs.declared.heads.Size.TheVariants.{Fixed, Endless}
-use Rattle.cborn_model.specs.Heads.{Map, Given, Unbounded, head, WidthFits}
+use Rattle.cborn_model.specs.declared.heads.Major.TheVariants.{Map}
+use Rattle.cborn_model.specs.Heads.{Given, Unbounded, head, WidthFits}
 use Rattle.cborn_model.specs.Orders.{bytewise}
 use Rattle.cborn_model.specs.Tree.{Tree, Pairs, entries}
 use Rattle.cborn_judge.specs.Flaws.{Flaw}

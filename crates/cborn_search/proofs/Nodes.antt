@@ -5,7 +5,9 @@ use Rattle.std.specs.List.{flat_map}
 use Rattle.cborn_model.specs.declared.heads.Width.{Width}
 use Rattle.cborn_model.specs.declared.heads.Size.TheVariants.{Fixed, Endless}
 use Rattle.cborn_model.specs.declared.nodes.Chunk.{Chunk}
-use Rattle.cborn_model.specs.Heads.{Major, Unsigned, Negative, ByteString, TextString, Array, Tag, Other, Given, Unbounded, head, WidthFits}
+use Rattle.cborn_model.specs.declared.heads.Major.{Major}
+use Rattle.cborn_model.specs.declared.heads.Major.TheVariants.{Unsigned, Negative, ByteString, TextString, Array, Tag, Other}
+use Rattle.cborn_model.specs.Heads.{Given, Unbounded, head, WidthFits}
 use Rattle.cborn_model.specs.Tree.{Tree, Uint, Nint, Bytes, Text, ByteChunks, TextChunks, Items, Tagged, Simple, trees, depth_all, count}
 use Rattle.cborn_model.specs.Spelled.{spelled, spelled_all, Fits, FitsAll, ChunksFit, chunk_bytes, ending}
 use Rattle.cborn_model.specs.Placed.{Placed, PlacedAll, ChunksPlaced}
@@ -78,34 +80,34 @@ chunks_placed_one m p (d ∷ cs) c h e =
     let z : p + length (chunk_bytes m d ++ flat_map (chunk_bytes m) cs) ≡ (p + length (chunk_bytes m d)) + length (flat_map (chunk_bytes m) cs) = omega (arith, length-append (chunk_bytes m d) (flat_map (chunk_bytes m) cs)) in
     (h.0, chunks_placed_one m (p + length (chunk_bytes m d)) cs c h.1 (e ∙ z))
 
-pub no_chunk : (P : List Chunk → Type 0) (major total : ℕ) (input : List ℕ) → P [] → ChunksRead P major total input input
+pub no_chunk : (P : List Chunk → Type 0) (major : Major) (total : ℕ) (input : List ℕ) → P [] → ChunksRead P major total input input
 no_chunk P major total input h = record { chunks = []; read = refl; fits = tt; placed = tt; holds = h }
 
-pub chunk_more : (P Q : List Chunk → Type 0) (R : Chunk → Type 0) (major total : ℕ) (input mid rest : List ℕ) → length input ≤ total → ChunksRead P major total input mid → ChunkRead R major total mid rest → ((cs : List Chunk) (c : Chunk) → P cs → R c → Q (cs ++ c ∷ []))
+pub chunk_more : (P Q : List Chunk → Type 0) (R : Chunk → Type 0) (major : Major) (total : ℕ) (input mid rest : List ℕ) → length input ≤ total → ChunksRead P major total input mid → ChunkRead R major total mid rest → ((cs : List Chunk) (c : Chunk) → P cs → R c → Q (cs ++ c ∷ []))
     → ChunksRead Q major total input rest
 chunk_more P Q R major total input mid rest l x y f =
-    let laid : List ℕ = flat_map (chunk_bytes (major_at major)) x.chunks in
+    let laid : List ℕ = flat_map (chunk_bytes major) x.chunks in
     let p : total - length mid ≡ (total - length input) + length laid = behind total input laid mid l x.read in
     record {
       chunks = x.chunks ++ y.chunk ∷ [];
-      read = x.read ∙ ap (λ z. laid ++ z) y.read ∙ sym (append_assoc laid (chunk_bytes (major_at major) y.chunk) rest) ∙ ap (λ z. z ++ rest) (sym (bytes_one (major_at major) x.chunks y.chunk));
+      read = x.read ∙ ap (λ z. laid ++ z) y.read ∙ sym (append_assoc laid (chunk_bytes major y.chunk) rest) ∙ ap (λ z. z ++ rest) (sym (bytes_one major x.chunks y.chunk));
       fits = chunks_fit_one x.chunks y.chunk x.fits (y.fits, tt);
-      placed = chunks_placed_one (major_at major) (total - length input) x.chunks y.chunk x.placed (y.placed ∙ p);
+      placed = chunks_placed_one major (total - length input) x.chunks y.chunk x.placed (y.placed ∙ p);
       holds = f x.chunks y.chunk x.holds y.holds;
     }
 
 -- what is left is no longer
-pub chunks_left : (P : List Chunk → Type 0) (major total : ℕ) (input rest : List ℕ) → length input ≤ total → ChunksRead P major total input rest → length rest ≤ total
-chunks_left P major total input rest l x = omega (arith, l, ap length x.read ∙ length-append (flat_map (chunk_bytes (major_at major)) x.chunks) rest)
+pub chunks_left : (P : List Chunk → Type 0) (major : Major) (total : ℕ) (input rest : List ℕ) → length input ≤ total → ChunksRead P major total input rest → length rest ≤ total
+chunks_left P major total input rest l x = omega (arith, l, ap length x.read ∙ length-append (flat_map (chunk_bytes major) x.chunks) rest)
 
-pub chunk_read : (P : Chunk → Type 0) (major total : ℕ) (x tail content rest : List ℕ) (h : Head) (n k : ℕ) (w : Width) → tail ≡ drop n x → IsHeadOf x h n → h.major ≡ major → h.argument ≡ arguments.Given w k → StringRead k tail content rest → P (record { place = total - length x; width = w; bytes = content })
+pub chunk_read : (P : Chunk → Type 0) (major : Major) (total : ℕ) (x tail content rest : List ℕ) (h : Head) (n k : ℕ) (w : Width) → tail ≡ drop n x → IsHeadOf x h n → major_at h.major ≡ major → h.argument ≡ arguments.Given w k → StringRead k tail content rest → P (record { place = total - length x; width = w; bytes = content })
     → ChunkRead P major total x rest
 chunk_read P major total x tail content rest h n k w t i e f c g =
     let fits : WidthFits w k = subst (λ (a : Argument). ArgumentFits (seen_argument a)) f i.fits in
-    let split : x ≡ head (major_at major) (Given w k) ++ tail = head_split x h n i ∙ (λ j. head (major_at (e j)) (seen_argument (f j)) ++ sym t j) in
+    let split : x ≡ head major (Given w k) ++ tail = head_split x h n i ∙ (λ j. head (e j) (seen_argument (f j)) ++ sym t j) in
     record {
       chunk = record { place = total - length x; width = w; bytes = content };
-      read = split ∙ (λ j. head (major_at major) (Given w (sym c.len j)) ++ c.read j) ∙ sym (append_assoc (head (major_at major) (Given w (length content))) content rest);
+      read = split ∙ (λ j. head major (Given w (sym c.len j)) ++ c.read j) ∙ sym (append_assoc (head major (Given w (length content))) content rest);
       fits = (subst (WidthFits w) (sym c.len) fits, c.bytes);
       placed = refl;
       holds = g;
@@ -119,7 +121,7 @@ chunks_spelled m cs input after rest e f =
     ∙ sym (append_assoc (head m Unbounded ++ flat_map (chunk_bytes m) cs) (ending Endless) rest)
 
 module _ (P : List Chunk → Type 0) (Q : Tree → Type 0) (room total place : ℕ) (input after rest : List ℕ) where
-  pub byte_chunks_read : length (head ByteString Unbounded ++ input) ≤ total → after ≡ 255 ∷ rest → place ≡ total - length (head ByteString Unbounded ++ input) → ChunksRead P 2 total input after → ((cs : List Chunk) → P cs → Q (ByteChunks place cs))
+  pub byte_chunks_read : length (head ByteString Unbounded ++ input) ≤ total → after ≡ 255 ∷ rest → place ≡ total - length (head ByteString Unbounded ++ input) → ChunksRead P ByteString total input after → ((cs : List Chunk) → P cs → Q (ByteChunks place cs))
       → NodeRead Q room total (head ByteString Unbounded ++ input) rest
   byte_chunks_read l e at s f =
       let q : total - length input ≡ suc (total - length (head ByteString Unbounded ++ input)) = omega (arith, l) in
@@ -132,7 +134,7 @@ module _ (P : List Chunk → Type 0) (Q : Tree → Type 0) (room total place : �
         holds = f s.chunks s.holds;
       }
 
-  pub text_chunks_read : length (head TextString Unbounded ++ input) ≤ total → after ≡ 255 ∷ rest → place ≡ total - length (head TextString Unbounded ++ input) → ChunksRead P 3 total input after → ((cs : List Chunk) → P cs → Q (TextChunks place cs))
+  pub text_chunks_read : length (head TextString Unbounded ++ input) ≤ total → after ≡ 255 ∷ rest → place ≡ total - length (head TextString Unbounded ++ input) → ChunksRead P TextString total input after → ((cs : List Chunk) → P cs → Q (TextChunks place cs))
       → NodeRead Q room total (head TextString Unbounded ++ input) rest
   text_chunks_read l e at s f =
       let q : total - length input ≡ suc (total - length (head TextString Unbounded ++ input)) = omega (arith, l) in
@@ -239,23 +241,23 @@ tagged_read P Q room total place w n input rest r h l at x f = record {
 
 -- ---- behind a head that was read
 
-pub read_from : (F : List ℕ → Type 0) (total place : ℕ) (x tail : List ℕ) (h : Head) (n major : ℕ) (a : Argument) → tail ≡ drop n x → IsHeadOf x h n → h.major ≡ major → h.argument ≡ a → length x ≤ total → place ≡ total - length x
-    → (ArgumentFits (seen_argument a) → length (head (major_at major) (seen_argument a) ++ tail) ≤ total → place ≡ total - length (head (major_at major) (seen_argument a) ++ tail) → F (head (major_at major) (seen_argument a) ++ tail))
+pub read_from : (F : List ℕ → Type 0) (total place : ℕ) (x tail : List ℕ) (h : Head) (n : ℕ) (major : Major) (a : Argument) → tail ≡ drop n x → IsHeadOf x h n → major_at h.major ≡ major → h.argument ≡ a → length x ≤ total → place ≡ total - length x
+    → (ArgumentFits (seen_argument a) → length (head major (seen_argument a) ++ tail) ≤ total → place ≡ total - length (head major (seen_argument a) ++ tail) → F (head major (seen_argument a) ++ tail))
     → F x
 read_from F total place x tail h n major a t i e f l p done =
-    let split : x ≡ head (major_at major) (seen_argument a) ++ tail = head_split x h n i ∙ (λ j. head (major_at (e j)) (seen_argument (f j)) ++ sym t j) in
+    let split : x ≡ head major (seen_argument a) ++ tail = head_split x h n i ∙ (λ j. head (e j) (seen_argument (f j)) ++ sym t j) in
     subst F (sym split)
     (done (subst (λ (b : Argument). ArgumentFits (seen_argument b)) f i.fits) (subst (λ (y : List ℕ). length y ≤ total) split l) (subst (λ (y : List ℕ). place ≡ total - length y) split p))
 
 -- the head is the whole node
-pub head_alone : (P : Tree → Type 0) (room total place : ℕ) (x tail : List ℕ) (left : ℕ) (h : Head) (n major : ℕ) (a : Argument) → tail ≡ drop n x → IsHeadOf x h n → h.major ≡ major → h.argument ≡ a → length x ≤ total → place ≡ total - length x → length tail ≡ left
-    → (ArgumentFits (seen_argument a) → place ≡ total - length (head (major_at major) (seen_argument a) ++ tail) → NodeRead P room total (head (major_at major) (seen_argument a) ++ tail) tail)
+pub head_alone : (P : Tree → Type 0) (room total place : ℕ) (x tail : List ℕ) (left : ℕ) (h : Head) (n : ℕ) (major : Major) (a : Argument) → tail ≡ drop n x → IsHeadOf x h n → major_at h.major ≡ major → h.argument ≡ a → length x ≤ total → place ≡ total - length x → length tail ≡ left
+    → (ArgumentFits (seen_argument a) → place ≡ total - length (head major (seen_argument a) ++ tail) → NodeRead P room total (head major (seen_argument a) ++ tail) tail)
     → Leaves (NodeRead P room total x) left
 head_alone P room total place x tail left h n major a t i e f l p c done = read_from (λ (y : List ℕ). Leaves (NodeRead P room total y) left) total place x tail h n major a t i e f l p (λ fits m q. (tail, c, done fits q))
 
 -- the node goes on behind its head
-pub head_before : (P : Tree → Type 0) (room total place : ℕ) (x tail : List ℕ) (left : ℕ) (h : Head) (n major : ℕ) (a : Argument) → tail ≡ drop n x → IsHeadOf x h n → h.major ≡ major → h.argument ≡ a → length x ≤ total → place ≡ total - length x
-    → (ArgumentFits (seen_argument a) → length (head (major_at major) (seen_argument a) ++ tail) ≤ total → place ≡ total - length (head (major_at major) (seen_argument a) ++ tail) → Leaves (NodeRead P room total (head (major_at major) (seen_argument a) ++ tail)) left)
+pub head_before : (P : Tree → Type 0) (room total place : ℕ) (x tail : List ℕ) (left : ℕ) (h : Head) (n : ℕ) (major : Major) (a : Argument) → tail ≡ drop n x → IsHeadOf x h n → major_at h.major ≡ major → h.argument ≡ a → length x ≤ total → place ≡ total - length x
+    → (ArgumentFits (seen_argument a) → length (head major (seen_argument a) ++ tail) ≤ total → place ≡ total - length (head major (seen_argument a) ++ tail) → Leaves (NodeRead P room total (head major (seen_argument a) ++ tail)) left)
     → Leaves (NodeRead P room total x) left
 head_before P room total place x tail left h n major a t i e f l p done = read_from (λ (y : List ℕ). Leaves (NodeRead P room total y) left) total place x tail h n major a t i e f l p done
 

@@ -1,11 +1,13 @@
 -- The first flaw of single nodes, of chunks, of arrays and of tags.
 use Rattle.std.proofs.Common.{◌≡◌, ◌≢◌, ℕ, ◌+◌, ◌-◌, ◌⊎◌, ◌≤◌, inl, inr, List, [], ◌∷◌, ◌++◌, length, Bool, true, false, refl, sym, ap, subst, arith, drop, Option, None, Some}
 use Rattle.std.specs.Prelude.{◌↔◌, IsUtf8}
+use Rattle.cborn_model.specs.declared.heads.Major.{Major}
 use Rattle.cborn_model.specs.declared.heads.Width.{Width}
 use Rattle.cborn_model.specs.declared.heads.Size.TheVariants.{Fixed, Endless}
 use Rattle.cborn_model.specs.declared.nodes.Chunk.{Chunk}
 use Rattle.cborn_model.specs.First.{IsFirst}
-use Rattle.cborn_model.specs.Heads.{Unsigned, Negative, ByteString, TextString, Array, Tag, Other, Given, Unbounded, head, WidthFits}
+use Rattle.cborn_model.specs.declared.heads.Major.TheVariants.{Unsigned, Negative, ByteString, TextString, Array, Tag, Other}
+use Rattle.cborn_model.specs.Heads.{Given, Unbounded, head, WidthFits}
 use Rattle.cborn_model.specs.Meaning.{joined_chunks, IsByteString}
 use Rattle.cborn_model.specs.Tree.{Tree, Text, TextChunks, Items, Tagged, trees}
 use Rattle.cborn_wire.specs.declared.heads.Argument.{Argument}
@@ -74,28 +76,28 @@ one_chunk cs c p r = (to, (λ h. elim (bad_after cs c p h.1) [ inl k ↦ inl (h.
     to (inr h) = (h.1, bad_last cs c p (h.0, h.2))
 
 -- of a text the chunks' first flaw
-abbrev OfText : ℕ → Option Told → List Chunk → Type 0
-OfText major flaw cs = major ≡ 3 → FindsTold (ChunkFlaw cs) flaw
+abbrev OfText : Major → Option Told → List Chunk → Type 0
+OfText major flaw cs = major ≡ TextString → FindsTold (ChunkFlaw cs) flaw
 
-module _ (major total : ℕ) where
+module _ (major : Major) (total : ℕ) where
   pub chunks_none : (input : List ℕ) → ChunksSeen major total input input None
   chunks_none input = no_chunk (OfText major None) major total input (λ e p r f. f.1)
 
   pub chunks_more : (input mid rest : List ℕ) (a b o : Option Told) → length input ≤ total → ChunksSeen major total input mid a → ChunkSeen major total mid rest b → IsEarliestTold a b o → ChunksSeen major total input rest o
   chunks_more input mid rest a b o l x y e =
-      chunk_more (OfText major a) (OfText major o) (λ c. major ≡ 3 → FindsTold (BadChunk c) b) major total input mid rest l x y
+      chunk_more (OfText major a) (OfText major o) (λ c. major ≡ TextString → FindsTold (BadChunk c) b) major total input mid rest l x y
       (λ cs c f g m. alike_told (Either (ChunkFlaw cs) (BadChunk c)) (ChunkFlaw (cs ++ c ∷ [])) o (one_chunk cs c) (both_told (ChunkFlaw cs) (BadChunk c) a b o (f m) (g m) e))
 
 module _ (room total : ℕ) (input after rest : List ℕ) (flaw : Option Told) where
-  pub byte_chunks_seen : length (head ByteString Unbounded ++ input) ≤ total → after ≡ 255 ∷ rest → ChunksSeen 2 total input after flaw → Scanned room total (head ByteString Unbounded ++ input) rest None true
+  pub byte_chunks_seen : length (head ByteString Unbounded ++ input) ≤ total → after ≡ 255 ∷ rest → ChunksSeen ByteString total input after flaw → Scanned room total (head ByteString Unbounded ++ input) rest None true
   byte_chunks_seen l e s =
-      byte_chunks_read (OfText 2 flaw) (HasFlaw None true) room total (total - length (head ByteString Unbounded ++ input)) input after rest l e refl s
+      byte_chunks_read (OfText ByteString flaw) (HasFlaw None true) room total (total - length (head ByteString Unbounded ++ input)) input after rest l e refl s
       (λ cs h. ((λ k r f. subst (λ z. FlawAt z k r) f.1 f.2), (joined_chunks cs, refl)))
 
-  pub text_chunks_seen : length (head TextString Unbounded ++ input) ≤ total → after ≡ 255 ∷ rest → ChunksSeen 3 total input after flaw → Scanned room total (head TextString Unbounded ++ input) rest flaw false
+  pub text_chunks_seen : length (head TextString Unbounded ++ input) ≤ total → after ≡ 255 ∷ rest → ChunksSeen TextString total input after flaw → Scanned room total (head TextString Unbounded ++ input) rest flaw false
   text_chunks_seen l e s =
       let p : ℕ = total - length (head TextString Unbounded ++ input) in
-      text_chunks_read (OfText 3 flaw) (HasFlaw flaw false) room total p input after rest l e refl s
+      text_chunks_read (OfText TextString flaw) (HasFlaw flaw false) room total p input after rest l e refl s
       (λ cs h. (alike_told (ChunkFlaw cs) (Flaw (TextChunks p cs)) flaw (λ k r. ((λ f. (TextChunks p cs, refl, f)), (λ f. subst (λ z. FlawAt z k r) f.1 f.2))) (h refl), (λ b k. k)))
 
 -- ---- nodes one after another

@@ -3,10 +3,12 @@ use Rattle.std.proofs.Common.{◌≡◌, ◌≢◌, ◌⊎◌, ℕ, ◌+◌, ◌
 use Rattle.std.specs.Prelude.{◌↔◌}
 use Rattle.std.proofs.Math.Seq.{drop-append_seam, take-append_seam}
 use Rattle.std.proofs.lemmas.List.{take_all}
+use Rattle.cborn_model.specs.declared.heads.Major.{Major}
 use Rattle.cborn_model.specs.declared.heads.Size.TheVariants.{Fixed, Endless}
 use Rattle.cborn_model.specs.declared.heads.Width.{Width}
 use Rattle.cborn_model.specs.declared.nodes.Chunk.{Chunk}
-use Rattle.cborn_model.specs.Heads.{Unsigned, Negative, ByteString, TextString, Array, Map, Tag, Other, Given, Unbounded, head, WidthFits}
+use Rattle.cborn_model.specs.declared.heads.Major.TheVariants.{Unsigned, Negative, ByteString, TextString, Array, Map, Tag, Other}
+use Rattle.cborn_model.specs.Heads.{Given, Unbounded, head, WidthFits}
 use Rattle.cborn_model.specs.Orders.{IsKeyOrder}
 use Rattle.cborn_model.specs.Tree.{Tree, Simple, entries, place}
 use Rattle.cborn_model.specs.Meaning.{Means, joined_chunks}
@@ -52,10 +54,10 @@ by_steps {A} P Q xs x step p =
 first_endless : (q : ℕ) → FindsDefect (ChunksDefect q []) (Some (record { place = q; reason = EndlessLength }))
 first_endless q = record { is = inl (refl, refl); first = λ k r t. elim t [ inl u ↦ inr (sym u.0, (let e : defect_rank EndlessLength ≡ defect_rank r = ap defect_rank (sym u.1) in omega arith)) | inr u ↦ absurd u.1 ] }
 
-pub chunks_none : (q major total : ℕ) (input : List ℕ) → ChunksWalked q major total input input (Some (record { place = q; reason = EndlessLength }))
+pub chunks_none : (q : ℕ) (major : Major) (total : ℕ) (input : List ℕ) → ChunksWalked q major total input input (Some (record { place = q; reason = EndlessLength }))
 chunks_none q major total input = no_chunk (HaveLongChunk q (Some (record { place = q; reason = EndlessLength }))) major total input (first_endless q)
 
-pub chunks_more : (q major total : ℕ) (input mid content rest : List ℕ) (a b o : Option Defect) → length input ≤ total → ChunksWalked q major total input mid a → ChunkWalked major total mid content rest b → IsEarliestDefect a b o
+pub chunks_more : (q : ℕ) (major : Major) (total : ℕ) (input mid content rest : List ℕ) (a b o : Option Defect) → length input ≤ total → ChunksWalked q major total input mid a → ChunkWalked major total mid content rest b → IsEarliestDefect a b o
     → ChunksWalked q major total input rest o
 chunks_more q major total input mid content rest a b o l x y e =
     chunk_more (HaveLongChunk q a) (HaveLongChunk q o) (λ c. LongChunk b c × (c.bytes ≡ content)) major total input mid rest l x y
@@ -71,12 +73,12 @@ abbrev pub Digital : ℕ → Option Defect → Digits → List Chunk → Type 0
 Digital q o d cs = HaveLongChunk q o cs × AreDigits d (joined_chunks cs)
 
 pub digits_none : (q total : ℕ) (input : List ℕ) → DigitsWalked q total input input (Some (record { place = q; reason = EndlessLength })) (record { len = 0; front = 0 })
-digits_none q total input = no_chunk (Digital q (Some (record { place = q; reason = EndlessLength })) (record { len = 0; front = 0 })) 2 total input (first_endless q, (refl, tt))
+digits_none q total input = no_chunk (Digital q (Some (record { place = q; reason = EndlessLength })) (record { len = 0; front = 0 })) ByteString total input (first_endless q, (refl, tt))
 
-pub digits_more : (q total : ℕ) (input mid content rest : List ℕ) (a b o : Option Defect) (d e : Digits) → length input ≤ total → DigitsWalked q total input mid a d → ChunkWalked 2 total mid content rest b → IsEarliestDefect a b o → ((x : List ℕ) → AreDigits d x → AreDigits e (x ++ content))
+pub digits_more : (q total : ℕ) (input mid content rest : List ℕ) (a b o : Option Defect) (d e : Digits) → length input ≤ total → DigitsWalked q total input mid a d → ChunkWalked ByteString total mid content rest b → IsEarliestDefect a b o → ((x : List ℕ) → AreDigits d x → AreDigits e (x ++ content))
     → DigitsWalked q total input rest o e
 digits_more q total input mid content rest a b o d e l x y m f =
-    chunk_more (Digital q a d) (Digital q o e) (λ c. LongChunk b c × (c.bytes ≡ content)) 2 total input mid rest l x y
+    chunk_more (Digital q a d) (Digital q o e) (λ c. LongChunk b c × (c.bytes ≡ content)) ByteString total input mid rest l x y
     (λ cs c g h. (
       by_steps (HaveLongChunk q a) (HaveLongChunk q o) cs c (λ ys i n at k. chunk-take_more q ys i c a b o n at k h.0 m) g.0,
       subst (AreDigits e) (sym (joined_one cs c ∙ ap (λ z. joined_chunks cs ++ z) h.1)) (f (joined_chunks cs) g.1),
@@ -126,10 +128,10 @@ module _ (order : List ℕ → List ℕ → Ordering) where
   simple_walked room total a rest s = simple_read (HasDefect order None) room total (total - length (head Other (seen_argument a) ++ rest)) a rest refl s (no_defect (total - length (head Other (seen_argument a) ++ rest)) s.0)
 
   module _ (room total place : ℕ) (input after rest : List ℕ) (o : Option Defect) where
-    pub byte_chunks_walked : length (head ByteString Unbounded ++ input) ≤ total → after ≡ 255 ∷ rest → place ≡ total - length (head ByteString Unbounded ++ input) → ChunksWalked place 2 total input after o → Walked order room total (head ByteString Unbounded ++ input) rest o
+    pub byte_chunks_walked : length (head ByteString Unbounded ++ input) ≤ total → after ≡ 255 ∷ rest → place ≡ total - length (head ByteString Unbounded ++ input) → ChunksWalked place ByteString total input after o → Walked order room total (head ByteString Unbounded ++ input) rest o
     byte_chunks_walked l e at s = byte_chunks_read (HaveLongChunk place o) (HasDefect order o) room total place input after rest l e at s (λ cs h. byte_chunks_found order place cs o h)
 
-    pub text_chunks_walked : length (head TextString Unbounded ++ input) ≤ total → after ≡ 255 ∷ rest → place ≡ total - length (head TextString Unbounded ++ input) → ChunksWalked place 3 total input after o → Walked order room total (head TextString Unbounded ++ input) rest o
+    pub text_chunks_walked : length (head TextString Unbounded ++ input) ≤ total → after ≡ 255 ∷ rest → place ≡ total - length (head TextString Unbounded ++ input) → ChunksWalked place TextString total input after o → Walked order room total (head TextString Unbounded ++ input) rest o
     text_chunks_walked l e at s = text_chunks_read (HaveLongChunk place o) (HasDefect order o) room total place input after rest l e at s (λ cs h. text_chunks_found order place cs o h)
 
   -- ---- nodes one after another, and arrays

@@ -2,6 +2,7 @@
 use Rattle.std.specs.Prelude.{◌≡◌, ◌≢◌, ℕ, ◌-◌, ◌⊎◌, List, length, take, Option}
 use Rattle.std.specs.declared.cmp.Ordering.{Ordering}
 use Rattle.cborn_model.specs.Tree.{Tree, trees, entries}
+use Rattle.cborn_model.specs.declared.heads.Major.{Major}
 use Rattle.cborn_model.specs.declared.nodes.Chunk.{Chunk}
 use Rattle.cborn_judge.specs.Checked.{FindsDefect, IsEarliestDefect, LongAt, DefectIn, DefectInAll, NotAboveAt, MapDefect, TagDefect}
 use Rattle.cborn_judge.specs.Defects.{ChunksDefect}
@@ -16,14 +17,14 @@ abbrev pub LongChunk : Option Defect → Chunk → Type 0
 LongChunk o c = FindsDefect (LongAt c.place c.width (length c.bytes)) o
 
 -- of a chunk with this content
-abbrev pub ChunkWalked : ℕ → ℕ → List ℕ → List ℕ → List ℕ → Option Defect → Type 0
+abbrev pub ChunkWalked : Major → ℕ → List ℕ → List ℕ → List ℕ → Option Defect → Type 0
 ChunkWalked major total input content rest o = ChunkRead (λ c. LongChunk o c × (c.bytes ≡ content)) major total input rest
 
 -- chunks of a string at this place, and the first defect of the string
 abbrev pub HaveLongChunk : ℕ → Option Defect → List Chunk → Type 0
 HaveLongChunk place o cs = FindsDefect (ChunksDefect place cs) o
 
-abbrev pub ChunksWalked : ℕ → ℕ → ℕ → List ℕ → List ℕ → Option Defect → Type 0
+abbrev pub ChunksWalked : ℕ → Major → ℕ → List ℕ → List ℕ → Option Defect → Type 0
 ChunksWalked place major total input rest o = ChunksRead (HaveLongChunk place o) major total input rest
 
 module _ (order : List ℕ → List ℕ → Ordering) where

@@ -1,5 +1,7 @@
 -- What the search for flaws finds.
 use Rattle.std.specs.Prelude.{◌≡◌, ℕ, List, Bool, IsUtf8, Option, MatchBool}
+use Rattle.cborn_model.specs.declared.heads.Major.{Major}
+use Rattle.cborn_model.specs.declared.heads.Major.TheVariants.{TextString}
 use Rattle.cborn_model.specs.Meaning.{IsByteString}
 use Rattle.cborn_model.specs.Tree.{Tree, trees, entries}
 use Rattle.cborn_model.specs.declared.nodes.Chunk.{Chunk}
@@ -38,11 +40,11 @@ abbrev pub BadChunk : Chunk → ℕ → InvalidReason → Type 0
 BadChunk c = TextFlaw c.place c.bytes
 
 -- of a text its first flaw
-abbrev pub ChunkSeen : ℕ → ℕ → List ℕ → List ℕ → Option Told → Type 0
-ChunkSeen major total input rest flaw = ChunkRead (λ c. major ≡ 3 → FindsTold (BadChunk c) flaw) major total input rest
+abbrev pub ChunkSeen : Major → ℕ → List ℕ → List ℕ → Option Told → Type 0
+ChunkSeen major total input rest flaw = ChunkRead (λ c. major ≡ TextString → FindsTold (BadChunk c) flaw) major total input rest
 
-abbrev pub ChunksSeen : ℕ → ℕ → List ℕ → List ℕ → Option Told → Type 0
-ChunksSeen major total input rest flaw = ChunksRead (λ cs. major ≡ 3 → FindsTold (ChunkFlaw cs) flaw) major total input rest
+abbrev pub ChunksSeen : Major → ℕ → List ℕ → List ℕ → Option Told → Type 0
+ChunksSeen major total input rest flaw = ChunksRead (λ cs. major ≡ TextString → FindsTold (ChunkFlaw cs) flaw) major total input rest
 
 -- whether the node is a byte string
 abbrev pub IsKind : Bool → Tree → Type 0

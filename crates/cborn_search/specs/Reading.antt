@@ -2,12 +2,12 @@
 use Rattle.std.specs.Prelude.{◌≡◌, ℕ, ◌-◌, ◌≤◌, List, ◌++◌, length}
 use Rattle.std.specs.List.{flat_map}
 use Rattle.cborn_model.specs.Bytes.{AreBytes}
+use Rattle.cborn_model.specs.declared.heads.Major.{Major}
 use Rattle.cborn_model.specs.Heads.{WidthFits}
 use Rattle.cborn_model.specs.Placed.{Placed, PlacedAll, PlacedEntries, ChunksPlaced}
 use Rattle.cborn_model.specs.Spelled.{spelled, spelled_all, spelled_entries, Fits, FitsAll, FitsEntries, ChunksFit, chunk_bytes, simple_width}
 use Rattle.cborn_model.specs.Tree.{Tree, trees, entries, depth, depth_all, depth_entries, Simple}
 use Rattle.cborn_model.specs.declared.nodes.Chunk.{Chunk}
-use Rattle.cborn_wire.specs.HeadReading.{major_at}
 use Rattle.cborn_wire.specs.declared.heads.Argument.{Argument}
 use Rattle.cborn_wire.specs.declared.heads.Argument.TheVariants as arguments
 
@@ -26,19 +26,19 @@ abbrev pub IsSimpleArgument : Argument → Type 0
 IsSimpleArgument a = (n : ℕ) × (a ≡ arguments.Given (simple_width n) n) × Fits (Simple 0 n)
 
 -- a chunk of which P holds, whose place is the number of bytes before the input
-pub record ChunkRead (P : Chunk → Type 0) (major total : ℕ) (input rest : List ℕ) : Type 0 where
+pub record ChunkRead (P : Chunk → Type 0) (major : Major) (total : ℕ) (input rest : List ℕ) : Type 0 where
   pub chunk : Chunk
-  pub read : input ≡ chunk_bytes (major_at major) chunk ++ rest
+  pub read : input ≡ chunk_bytes major chunk ++ rest
   pub fits : WidthFits chunk.width (length chunk.bytes) × AreBytes chunk.bytes
   pub placed : chunk.place ≡ total - length input
   pub holds : P chunk
 
 -- chunks one after another, of which P holds
-pub record ChunksRead (P : List Chunk → Type 0) (major total : ℕ) (input rest : List ℕ) : Type 0 where
+pub record ChunksRead (P : List Chunk → Type 0) (major : Major) (total : ℕ) (input rest : List ℕ) : Type 0 where
   pub chunks : List Chunk
-  pub read : input ≡ flat_map (chunk_bytes (major_at major)) chunks ++ rest
+  pub read : input ≡ flat_map (chunk_bytes major) chunks ++ rest
   pub fits : ChunksFit chunks
-  pub placed : ChunksPlaced (major_at major) (total - length input) chunks
+  pub placed : ChunksPlaced major (total - length input) chunks
   pub holds : P chunks
 
 -- a node of which P holds, no deeper than the room, whose place is the number of bytes before the input

@@ -2,7 +2,8 @@
 
 ghost use Rattle.std.specs.Prelude.{◌≡◌, ◌≤◌, ◌-◌, ◌++◌, length, IfSome};
 ghost use Rattle.cborn_judge.specs.Checked.{FindsDefect, TagDefect};
-ghost use Rattle.cborn_model.specs.Heads.{Array, Map, Unbounded, head};
+ghost use Rattle.cborn_model.specs.declared.heads.Major.TheVariants.{Array, Map};
+ghost use Rattle.cborn_model.specs.Heads.{Unbounded, head};
 ghost use Rattle.cborn_transcode.specs.Walking.{Leaves};
 ghost use Rattle.cborn_search.specs.Departed.{PairsWalked, Walked, WalkedAll};
 ghost use Rattle.cborn_search.specs.Reading.{NodeRead};
@@ -13,7 +14,7 @@ use crate::departures::{
 use crate::leaves::{behind_break, is_bignum, is_done, is_simple, last, string_at};
 use crate::walked_maps::WalkedMap;
 use cborn_judge::{Defect, DefectReason};
-use cborn_model::KeyOrder;
+use cborn_model::{KeyOrder, Major};
 use cborn_wire::{Argument, HeadRead, read_head};
 use std::alloc::Global;
 
@@ -54,42 +55,43 @@ fn walk_node<O: KeyOrder>(
     };
     let rest = &bytes[len..];
     let place = total - bytes.len() as u64;
+    let major = head.major_type();
     match head.argument {
-        Argument::Given(width, n) => match head.major {
-            0 => {
+        Argument::Given(width, n) => match major {
+            Major::Unsigned => {
                 *found = head_defect(place, width, n);
                 Some(rest.len())
             }
-            1 => {
+            Major::Negative => {
                 *found = head_defect(place, width, n);
                 Some(rest.len())
             }
-            2 => {
+            Major::ByteString => {
                 let (_, after) = string_at(n, rest)?;
                 *found = head_defect(place, width, n);
                 Some(after.len())
             }
-            3 => {
+            Major::TextString => {
                 let (_, after) = string_at(n, rest)?;
                 *found = head_defect(place, width, n);
                 Some(after.len())
             }
-            4 => {
+            Major::Array => {
                 let left = walk_fixed_array::<O>(alloc, room, total, n, rest, found)?;
                 add_head(place, width, n, found);
                 Some(left)
             }
-            5 => {
+            Major::Map => {
                 let left = walk_fixed_map::<O>(alloc, room, total, n, rest, found)?;
                 add_head(place, width, n, found);
                 Some(left)
             }
-            6 => {
+            Major::Tag => {
                 let left = walk_tag::<O>(alloc, room, total, place, n, rest, found)?;
                 add_head(place, width, n, found);
                 Some(left)
             }
-            7 => {
+            Major::Other => {
                 if is_simple(head.argument) {
                     *found = None;
                     Some(rest.len())
@@ -97,13 +99,12 @@ fn walk_node<O: KeyOrder>(
                     None
                 }
             }
-            _ => None,
         },
-        Argument::Endless => match head.major {
-            2 => walk_long_string(2, total, place, rest, found),
-            3 => walk_long_string(3, total, place, rest, found),
-            4 => walk_endless_array::<O>(alloc, room, total, place, rest, found),
-            5 => walk_endless_map::<O>(alloc, room, total, place, rest, found),
+        Argument::Endless => match major {
+            Major::ByteString => walk_long_string(Major::ByteString, total, place, rest, found),
+            Major::TextString => walk_long_string(Major::TextString, total, place, rest, found),
+            Major::Array => walk_endless_array::<O>(alloc, room, total, place, rest, found),
+            Major::Map => walk_endless_map::<O>(alloc, room, total, place, rest, found),
             _ => None,
         },
     }

@@ -10,7 +10,7 @@ ghost use Rattle.cborn_search.specs.Digits.{AreDigits, BeginsWith, DigitsWalked}
 use crate::leaves::{behind_break, string_at};
 use crate::told::comes_first;
 use cborn_judge::{Defect, DefectReason};
-use cborn_model::{KeyOrder, Width, shortest};
+use cborn_model::{KeyOrder, Major, Width, shortest};
 use cborn_wire::{Argument, HeadRead, read_head};
 
 /// The number of a reason.
@@ -92,7 +92,12 @@ pub(crate) fn order_defect<O: KeyOrder>(
 }
 
 /// The chunks of a string at `place`, up to a break: what follows them, and the first defect of the string. None promises nothing.
-fn walk_chunks(major: u8, total: u64, place: u64, bytes: &[u8]) -> Option<(&[u8], Option<Defect>)>
+fn walk_chunks(
+    major: Major,
+    total: u64,
+    place: u64,
+    bytes: &[u8],
+) -> Option<(&[u8], Option<Defect>)>
     requires { length bytes.now ≤ total }
     ensures { IfSome result (λ r. ChunksWalked place major total bytes.now r.0.now r.1) }
 {
@@ -113,7 +118,7 @@ fn walk_chunks(major: u8, total: u64, place: u64, bytes: &[u8]) -> Option<(&[u8]
 /// The chunks of a string at `place`, and its break; answers how many bytes follow it.
 #[inline(never)]
 pub(crate) fn walk_long_string(
-    major: u8,
+    major: Major,
     total: u64,
     place: u64,
     bytes: &[u8],
@@ -129,14 +134,14 @@ pub(crate) fn walk_long_string(
 }
 
 /// A chunk: its content, what follows it, and the defect of its head.
-fn walk_chunk(major: u8, total: u64, bytes: &[u8]) -> Option<(&[u8], &[u8], Option<Defect>)>
+fn walk_chunk(major: Major, total: u64, bytes: &[u8]) -> Option<(&[u8], &[u8], Option<Defect>)>
     requires { length bytes.now ≤ total }
     ensures { IfSome result (λ r. ChunkWalked major total bytes.now r.0.now r.1.now r.2) }
 {
     let HeadRead::Full(head, len) = read_head(bytes) else {
         return None;
     };
-    if head.major != major {
+    if head.major_type() != major {
         return None;
     }
     let place = total - bytes.len() as u64;
@@ -158,7 +163,7 @@ fn walk_bignum(total: u64, place: u64, bytes: &[u8]) -> Option<(&[u8], Option<De
     let HeadRead::Full(head, len) = read_head(bytes) else {
         return None;
     };
-    if head.major != 2 {
+    if head.major_type() != Major::ByteString {
         return None;
     }
     let inner = total - bytes.len() as u64;
@@ -216,7 +221,7 @@ fn walk_digits(total: u64, place: u64, bytes: &[u8]) -> Option<(&[u8], Option<De
         if let [255, ..] = rest {
             break;
         }
-        let (content, after, defect) = walk_chunk(2, total, rest)?;
+        let (content, after, defect) = walk_chunk(Major::ByteString, total, rest)?;
         digits = more_digits(digits, content)?;
         rest = after;
         first = earliest_defect(first, defect);

@@ -4,7 +4,8 @@
 
 ghost use Rattle.std.specs.Prelude.{◌≡◌, ◌≢◌, ◌≤◌, ◌-◌, ◌++◌, ◌∷◌, ◌⊎◌, ℕ, false, length, IfSome};
 ghost use Rattle.cborn_model.specs.declared.heads.Width.{Width};
-ghost use Rattle.cborn_model.specs.Heads.{Array, Map, Tag, Given, Unbounded, head, WidthFits};
+ghost use Rattle.cborn_model.specs.declared.heads.Major.TheVariants.{Array, Map, Tag};
+ghost use Rattle.cborn_model.specs.Heads.{Given, Unbounded, head, WidthFits};
 ghost use Rattle.cborn_transcode.specs.Walking.{Leaves};
 ghost use Rattle.cborn_search.specs.Flawed.{Scanned, ScannedAll};
 ghost use Rattle.cborn_search.specs.Marks.{MapSeen};
@@ -16,6 +17,7 @@ use crate::leaves::{
 use crate::scanned_maps::ScannedMap;
 use crate::told::{Finding, earliest};
 use cborn_judge::InvalidReason;
+use cborn_model::Major;
 use cborn_wire::{Argument, HeadRead, read_head};
 use std::alloc::Global;
 
@@ -60,39 +62,39 @@ fn scan_node(
         flaw: None,
         is_string: false,
     };
+    let major = head.major_type();
     match head.argument {
-        Argument::Given(_, n) => match head.major {
-            0 => Some(rest.len()),
-            1 => Some(rest.len()),
-            2 => {
+        Argument::Given(_, n) => match major {
+            Major::Unsigned => Some(rest.len()),
+            Major::Negative => Some(rest.len()),
+            Major::ByteString => {
                 let (_, after) = string_at(n, rest)?;
                 found.is_string = true;
                 Some(after.len())
             }
-            3 => scan_text(place, n, rest, found),
-            4 => scan_fixed_array(alloc, room, total, n, rest, found),
-            5 => scan_fixed_map(alloc, room, total, n, rest, found),
-            6 => {
+            Major::TextString => scan_text(place, n, rest, found),
+            Major::Array => scan_fixed_array(alloc, room, total, n, rest, found),
+            Major::Map => scan_fixed_map(alloc, room, total, n, rest, found),
+            Major::Tag => {
                 if is_bignum(n) {
                     scan_bignum(alloc, room, total, place, rest, found)
                 } else {
                     scan_tagged(alloc, room, total, rest, found)
                 }
             }
-            7 => {
+            Major::Other => {
                 if is_simple(head.argument) {
                     Some(rest.len())
                 } else {
                     None
                 }
             }
-            _ => None,
         },
-        Argument::Endless => match head.major {
-            2 => scan_long_bytes(total, rest, found),
-            3 => scan_long_text(total, rest, found),
-            4 => scan_endless_array(alloc, room, total, rest, found),
-            5 => scan_endless_map(alloc, room, total, rest, found),
+        Argument::Endless => match major {
+            Major::ByteString => scan_long_bytes(total, rest, found),
+            Major::TextString => scan_long_text(total, rest, found),
+            Major::Array => scan_endless_array(alloc, room, total, rest, found),
+            Major::Map => scan_endless_map(alloc, room, total, rest, found),
             _ => None,
         },
     }

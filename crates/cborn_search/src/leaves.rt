@@ -2,7 +2,8 @@
 
 ghost use Rattle.std.specs.Prelude.{◌≡◌, ◌≢◌, ◌≤◌, ◌-◌, ◌++◌, ◌∷◌, ◌⊎◌, ℕ, List, false, length, IsTrue, IfSome, MatchBool};
 ghost use Rattle.cborn_model.specs.declared.heads.Width.{Width};
-ghost use Rattle.cborn_model.specs.Heads.{ByteString, TextString, Given, Unbounded, head, WidthFits};
+ghost use Rattle.cborn_model.specs.declared.heads.Major.TheVariants.{ByteString, TextString};
+ghost use Rattle.cborn_model.specs.Heads.{Given, Unbounded, head, WidthFits};
 ghost use Rattle.cborn_transcode.specs.Walking.{Leaves};
 ghost use Rattle.cborn_wire.specs.HeadReading.{ArgumentFits, seen_argument};
 ghost use Rattle.cborn_search.specs.Flawed.{FindsTold, TextFlaw, ChunkSeen, ChunksSeen, Scanned};
@@ -10,7 +11,7 @@ ghost use Rattle.cborn_search.specs.Reading.{StringRead, IsSimpleArgument};
 
 use crate::told::{Finding, earliest};
 use cborn_judge::InvalidReason;
-use cborn_model::Width;
+use cborn_model::{Major, Width};
 use cborn_wire::{Argument, HeadRead, read_head};
 
 /// Whether no more is to be taken: all that there may be is taken, or a break ends it.
@@ -87,7 +88,7 @@ pub(crate) fn is_simple(argument: Argument) -> bool
 
 /// Chunks up to a break: what follows them, and of a text their first flaw.
 pub(crate) fn scan_chunks(
-    major: u8,
+    major: Major,
     total: u64,
     bytes: &[u8],
 ) -> Option<(&[u8], Option<(u64, InvalidReason)>)>
@@ -108,14 +109,18 @@ pub(crate) fn scan_chunks(
 }
 
 /// A chunk.
-fn scan_chunk(major: u8, total: u64, bytes: &[u8]) -> Option<(&[u8], Option<(u64, InvalidReason)>)>
+fn scan_chunk(
+    major: Major,
+    total: u64,
+    bytes: &[u8],
+) -> Option<(&[u8], Option<(u64, InvalidReason)>)>
     requires { length bytes.now ≤ total }
     ensures { IfSome result (λ r. ChunkSeen major total bytes.now r.0.now r.1) }
 {
     let HeadRead::Full(head, len) = read_head(bytes) else {
         return None;
     };
-    if head.major != major {
+    if head.major_type() != major {
         return None;
     }
     let place = total - bytes.len() as u64;
@@ -130,10 +135,10 @@ fn scan_chunk(major: u8, total: u64, bytes: &[u8]) -> Option<(&[u8], Option<(u64
 
 /// The flaw of a chunk of a text.
 #[inline]
-fn chunk_flaw(major: u8, place: u64, bytes: &[u8]) -> Option<(u64, InvalidReason)>
-    ensures { major ≡ 3 → FindsTold (TextFlaw place bytes.now) result }
+fn chunk_flaw(major: Major, place: u64, bytes: &[u8]) -> Option<(u64, InvalidReason)>
+    ensures { major ≡ TextString → FindsTold (TextFlaw place bytes.now) result }
 {
-    if major == 3 {
+    if major == Major::TextString {
         text_flaw(place, bytes)
     } else {
         None
@@ -160,7 +165,7 @@ pub(crate) fn scan_long_bytes(total: u64, bytes: &[u8], found: &mut Finding) -> 
     requires { length bytes.now ≤ total }
     ensures { IfSome result (λ left. (room : ℕ) → length (head ByteString Unbounded ++ bytes.now) ≤ total → Leaves (λ rest. Scanned room total (head ByteString Unbounded ++ bytes.now) rest found.new.flaw found.new.is_string) left) }
 {
-    let (after, _) = scan_chunks(2, total, bytes)?;
+    let (after, _) = scan_chunks(Major::ByteString, total, bytes)?;
     let end = behind_break(after)?;
     *found = Finding {
         flaw: None,
@@ -175,7 +180,7 @@ pub(crate) fn scan_long_text(total: u64, bytes: &[u8], found: &mut Finding) -> O
     requires { length bytes.now ≤ total }
     ensures { IfSome result (λ left. (room : ℕ) → length (head TextString Unbounded ++ bytes.now) ≤ total → Leaves (λ rest. Scanned room total (head TextString Unbounded ++ bytes.now) rest found.new.flaw found.new.is_string) left) }
 {
-    let (after, flaw) = scan_chunks(3, total, bytes)?;
+    let (after, flaw) = scan_chunks(Major::TextString, total, bytes)?;
     let end = behind_break(after)?;
     *found = Finding {
         flaw,

@@ -1,3 +1,4 @@
+use Rattle.cborn_model.specs.declared.heads.Major.TheVariants.{Unsigned, Negative, ByteString, TextString, Array, Map, Tag, Other}
 use Rattle.std.proofs.Common.{rules, ◌≡◌, ◌≢◌, ◌+◌, ◌-◌, ◌<◌, ◌≤◌, ◌^◌, ℕ, List, length, refl, subst, arith, sym, ap, ◌∙◌, Option, None}
 use Rattle.std.proofs.lemmas.List.{take_rest}
 use Rattle.cborn_wire.specs.declared.heads.Argument.TheVariants.{Given, Endless}
@@ -18,20 +19,20 @@ walk_item-returns t g c =
 
 pub walk_node-returns-then-is_simple : goal.walk_node-returns-then-is_simple
 walk_node-returns-then-is_simple t g c =
-    head_alone (HasDefect t.O.KeyOrder.order None) c.args.room c.args.total (c.args.total - length c.args.bytes.now) c.args.bytes.now _ _ c.in-Full.head c.in-Full.len 7 c.in-Full.head.argument (take_rest c.args.bytes.now c.in-Full.len) c.in-Full.ensures c.in-7.is refl c.requires.within refl (search rules)
+    head_alone (HasDefect t.O.KeyOrder.order None) c.args.room c.args.total (c.args.total - length c.args.bytes.now) c.args.bytes.now _ _ c.in-Full.head c.in-Full.len Other c.in-Full.head.argument (take_rest c.args.bytes.now c.in-Full.len) c.in-Full.ensures (sym c.major_type-major.ensures ∙ c.in-Other.is) refl c.requires.within refl (search rules)
     (λ fits p. simple_walked t.O.KeyOrder.order c.args.room c.args.total c.in-Full.head.argument _ (c.if-is_simple.ensures refl))
 
-pub walk_node-returns-in-4-major : goal.walk_node-returns-in-4-major
-walk_node-returns-in-4-major t g c =
+pub walk_node-returns-in-Array-major : goal.walk_node-returns-in-Array-major
+walk_node-returns-in-Array-major t g c =
     under c.walk_endless_array.result
-    (λ left s. head_before (HasDefect t.O.KeyOrder.order c.walk_endless_array.new.found) c.args.room c.args.total (c.args.total - length c.args.bytes.now) c.args.bytes.now _ left c.in-Full.head c.in-Full.len 4 Endless (take_rest c.args.bytes.now c.in-Full.len) c.in-Full.ensures c.in-4-major.is c.in-Endless.is c.requires.within refl
+    (λ left s. head_before (HasDefect t.O.KeyOrder.order c.walk_endless_array.new.found) c.args.room c.args.total (c.args.total - length c.args.bytes.now) c.args.bytes.now _ left c.in-Full.head c.in-Full.len Array Endless (take_rest c.args.bytes.now c.in-Full.len) c.in-Full.ensures (sym c.major_type-major.ensures ∙ c.in-Array-major.is) c.in-Endless.is c.requires.within refl
     (λ fits l p. s l p))
     c.walk_endless_array.ensures
 
-pub walk_node-returns-in-5-major : goal.walk_node-returns-in-5-major
-walk_node-returns-in-5-major t g c =
+pub walk_node-returns-in-Map-major : goal.walk_node-returns-in-Map-major
+walk_node-returns-in-Map-major t g c =
     under c.walk_endless_map.result
-    (λ left s. head_before (HasDefect t.O.KeyOrder.order c.walk_endless_map.new.found) c.args.room c.args.total (c.args.total - length c.args.bytes.now) c.args.bytes.now _ left c.in-Full.head c.in-Full.len 5 Endless (take_rest c.args.bytes.now c.in-Full.len) c.in-Full.ensures c.in-5-major.is c.in-Endless.is c.requires.within refl
+    (λ left s. head_before (HasDefect t.O.KeyOrder.order c.walk_endless_map.new.found) c.args.room c.args.total (c.args.total - length c.args.bytes.now) c.args.bytes.now _ left c.in-Full.head c.in-Full.len Map Endless (take_rest c.args.bytes.now c.in-Full.len) c.in-Full.ensures (sym c.major_type-major.ensures ∙ c.in-Map-major.is) c.in-Endless.is c.requires.within refl
     (λ fits l p. s l p))
     c.walk_endless_map.ensures
 
@@ -55,57 +56,57 @@ walk_endless_array-returns t g c l p = (
   endless_array_walked t.O.KeyOrder.order c.args.room c.args.total c.args.place _ c.args.bytes.now c.in_ok-rest.rest.now c.in_ok-after.after.now c.in_ok-rest.inner c.earliest_defect.result (omega arith) c.in_ok-after.ensures l p c.in_ok-rest.ensures c.earliest_defect.ensures,
 )
 
-pub walk_node-returns-in-0 : goal.walk_node-returns-in-0
-walk_node-returns-in-0 t g c =
-    head_alone (HasDefect t.O.KeyOrder.order c.head_defect.result) c.args.room c.args.total (c.args.total - length c.args.bytes.now) c.args.bytes.now _ _ c.in-Full.head c.in-Full.len 0 (Given c.in-Given.width c.in-Given.n) (take_rest c.args.bytes.now c.in-Full.len) c.in-Full.ensures c.in-0.is c.in-Given.is c.requires.within refl (search rules)
+pub walk_node-returns-in-Unsigned : goal.walk_node-returns-in-Unsigned
+walk_node-returns-in-Unsigned t g c =
+    head_alone (HasDefect t.O.KeyOrder.order c.head_defect.result) c.args.room c.args.total (c.args.total - length c.args.bytes.now) c.args.bytes.now _ _ c.in-Full.head c.in-Full.len Unsigned (Given c.in-Given.width c.in-Given.n) (take_rest c.args.bytes.now c.in-Full.len) c.in-Full.ensures (sym c.major_type-major.ensures ∙ c.in-Unsigned.is) c.in-Given.is c.requires.within refl (search rules)
     (λ fits p. uint_walked t.O.KeyOrder.order c.args.room c.args.total (c.args.total - length c.args.bytes.now) c.in-Given.width c.in-Given.n c.head_defect.result _ fits p c.head_defect.ensures)
 
-pub walk_node-returns-in-1 : goal.walk_node-returns-in-1
-walk_node-returns-in-1 t g c =
-    head_alone (HasDefect t.O.KeyOrder.order c.head_defect-in-1.result) c.args.room c.args.total (c.args.total - length c.args.bytes.now) c.args.bytes.now _ _ c.in-Full.head c.in-Full.len 1 (Given c.in-Given.width c.in-Given.n) (take_rest c.args.bytes.now c.in-Full.len) c.in-Full.ensures c.in-1.is c.in-Given.is c.requires.within refl (search rules)
-    (λ fits p. nint_walked t.O.KeyOrder.order c.args.room c.args.total (c.args.total - length c.args.bytes.now) c.in-Given.width c.in-Given.n c.head_defect-in-1.result _ fits p c.head_defect-in-1.ensures)
+pub walk_node-returns-in-Negative : goal.walk_node-returns-in-Negative
+walk_node-returns-in-Negative t g c =
+    head_alone (HasDefect t.O.KeyOrder.order c.head_defect-in-Negative.result) c.args.room c.args.total (c.args.total - length c.args.bytes.now) c.args.bytes.now _ _ c.in-Full.head c.in-Full.len Negative (Given c.in-Given.width c.in-Given.n) (take_rest c.args.bytes.now c.in-Full.len) c.in-Full.ensures (sym c.major_type-major.ensures ∙ c.in-Negative.is) c.in-Given.is c.requires.within refl (search rules)
+    (λ fits p. nint_walked t.O.KeyOrder.order c.args.room c.args.total (c.args.total - length c.args.bytes.now) c.in-Given.width c.in-Given.n c.head_defect-in-Negative.result _ fits p c.head_defect-in-Negative.ensures)
 
-pub walk_node-returns-in_ok-after-in-2 : goal.walk_node-returns-in_ok-after-in-2
-walk_node-returns-in_ok-after-in-2 t g c =
-    head_before (HasDefect t.O.KeyOrder.order c.head_defect-in-2.result) c.args.room c.args.total (c.args.total - length c.args.bytes.now) c.args.bytes.now _ _ c.in-Full.head c.in-Full.len 2 (Given c.in-Given.width c.in-Given.n) (take_rest c.args.bytes.now c.in-Full.len) c.in-Full.ensures c.in-2.is c.in-Given.is c.requires.within refl
-    (λ fits l p. (c.in_ok-after-in-2.after.now, search rules, bytes_walked t.O.KeyOrder.order c.args.room c.args.total (c.args.total - length c.args.bytes.now) c.in-Given.width c.in-Given.n c.head_defect-in-2.result _ _ c.in_ok-after-in-2.after.now fits p c.in_ok-after-in-2.ensures c.head_defect-in-2.ensures))
+pub walk_node-returns-in_ok-after-in-ByteString : goal.walk_node-returns-in_ok-after-in-ByteString
+walk_node-returns-in_ok-after-in-ByteString t g c =
+    head_before (HasDefect t.O.KeyOrder.order c.head_defect-in-ByteString.result) c.args.room c.args.total (c.args.total - length c.args.bytes.now) c.args.bytes.now _ _ c.in-Full.head c.in-Full.len ByteString (Given c.in-Given.width c.in-Given.n) (take_rest c.args.bytes.now c.in-Full.len) c.in-Full.ensures (sym c.major_type-major.ensures ∙ c.in-ByteString.is) c.in-Given.is c.requires.within refl
+    (λ fits l p. (c.in_ok-after-in-ByteString.after.now, search rules, bytes_walked t.O.KeyOrder.order c.args.room c.args.total (c.args.total - length c.args.bytes.now) c.in-Given.width c.in-Given.n c.head_defect-in-ByteString.result _ _ c.in_ok-after-in-ByteString.after.now fits p c.in_ok-after-in-ByteString.ensures c.head_defect-in-ByteString.ensures))
 
-pub walk_node-returns-in_ok-after-in-3 : goal.walk_node-returns-in_ok-after-in-3
-walk_node-returns-in_ok-after-in-3 t g c =
-    head_before (HasDefect t.O.KeyOrder.order c.head_defect-in-3.result) c.args.room c.args.total (c.args.total - length c.args.bytes.now) c.args.bytes.now _ _ c.in-Full.head c.in-Full.len 3 (Given c.in-Given.width c.in-Given.n) (take_rest c.args.bytes.now c.in-Full.len) c.in-Full.ensures c.in-3.is c.in-Given.is c.requires.within refl
-    (λ fits l p. (c.in_ok-after-in-3.after.now, search rules, text_walked t.O.KeyOrder.order c.args.room c.args.total (c.args.total - length c.args.bytes.now) c.in-Given.width c.in-Given.n c.head_defect-in-3.result _ _ c.in_ok-after-in-3.after.now fits p c.in_ok-after-in-3.ensures c.head_defect-in-3.ensures))
+pub walk_node-returns-in_ok-after-in-TextString : goal.walk_node-returns-in_ok-after-in-TextString
+walk_node-returns-in_ok-after-in-TextString t g c =
+    head_before (HasDefect t.O.KeyOrder.order c.head_defect-in-TextString.result) c.args.room c.args.total (c.args.total - length c.args.bytes.now) c.args.bytes.now _ _ c.in-Full.head c.in-Full.len TextString (Given c.in-Given.width c.in-Given.n) (take_rest c.args.bytes.now c.in-Full.len) c.in-Full.ensures (sym c.major_type-major.ensures ∙ c.in-TextString.is) c.in-Given.is c.requires.within refl
+    (λ fits l p. (c.in_ok-after-in-TextString.after.now, search rules, text_walked t.O.KeyOrder.order c.args.room c.args.total (c.args.total - length c.args.bytes.now) c.in-Given.width c.in-Given.n c.head_defect-in-TextString.result _ _ c.in_ok-after-in-TextString.after.now fits p c.in_ok-after-in-TextString.ensures c.head_defect-in-TextString.ensures))
 
-pub walk_node-returns-in_ok-left-in-4 : goal.walk_node-returns-in_ok-left-in-4
-walk_node-returns-in_ok-left-in-4 t g c =
-    let s = c.in_ok-left-in-4.ensures in
-    head_before (HasDefect t.O.KeyOrder.order c.add_head.new.found) c.args.room c.args.total (c.args.total - length c.args.bytes.now) c.args.bytes.now _ _ c.in-Full.head c.in-Full.len 4 (Given c.in-Given.width c.in-Given.n) (take_rest c.args.bytes.now c.in-Full.len) c.in-Full.ensures c.in-4.is c.in-Given.is c.requires.within refl
+pub walk_node-returns-in_ok-left-in-Array : goal.walk_node-returns-in_ok-left-in-Array
+walk_node-returns-in_ok-left-in-Array t g c =
+    let s = c.in_ok-left-in-Array.ensures in
+    head_before (HasDefect t.O.KeyOrder.order c.add_head.new.found) c.args.room c.args.total (c.args.total - length c.args.bytes.now) c.args.bytes.now _ _ c.in-Full.head c.in-Full.len Array (Given c.in-Given.width c.in-Given.n) (take_rest c.args.bytes.now c.in-Full.len) c.in-Full.ensures (sym c.major_type-major.ensures ∙ c.in-Array.is) c.in-Given.is c.requires.within refl
     (λ fits l p. (s.1.0, s.1.1, array_walked t.O.KeyOrder.order c.args.room c.args.total (c.args.total - length c.args.bytes.now) c.in-Given.width c.in-Given.n _ s.1.0 c.add_head.ensures.0 c.walk_fixed_array.new.found c.add_head.new.found s.0 fits l p s.1.2 c.add_head.ensures.1 c.add_head.ensures.2))
 
-pub walk_node-returns-in_ok-left-in-5 : goal.walk_node-returns-in_ok-left-in-5
-walk_node-returns-in_ok-left-in-5 t g c =
-    let s = c.in_ok-left-in-5.ensures in
-    head_before (HasDefect t.O.KeyOrder.order c.add_head-in-5.new.found) c.args.room c.args.total (c.args.total - length c.args.bytes.now) c.args.bytes.now _ _ c.in-Full.head c.in-Full.len 5 (Given c.in-Given.width c.in-Given.n) (take_rest c.args.bytes.now c.in-Full.len) c.in-Full.ensures c.in-5.is c.in-Given.is c.requires.within refl
-    (λ fits l p. (s.1.0, s.1.1, map_walked t.O.KeyOrder.order c.args.room c.args.total (c.args.total - length c.args.bytes.now) c.in-Given.width c.in-Given.n _ s.1.0 c.add_head-in-5.ensures.0 c.walk_fixed_map.new.found c.add_head-in-5.new.found s.0 fits l p s.1.2 c.add_head-in-5.ensures.1 c.add_head-in-5.ensures.2))
+pub walk_node-returns-in_ok-left-in-Map : goal.walk_node-returns-in_ok-left-in-Map
+walk_node-returns-in_ok-left-in-Map t g c =
+    let s = c.in_ok-left-in-Map.ensures in
+    head_before (HasDefect t.O.KeyOrder.order c.add_head-in-Map.new.found) c.args.room c.args.total (c.args.total - length c.args.bytes.now) c.args.bytes.now _ _ c.in-Full.head c.in-Full.len Map (Given c.in-Given.width c.in-Given.n) (take_rest c.args.bytes.now c.in-Full.len) c.in-Full.ensures (sym c.major_type-major.ensures ∙ c.in-Map.is) c.in-Given.is c.requires.within refl
+    (λ fits l p. (s.1.0, s.1.1, map_walked t.O.KeyOrder.order c.args.room c.args.total (c.args.total - length c.args.bytes.now) c.in-Given.width c.in-Given.n _ s.1.0 c.add_head-in-Map.ensures.0 c.walk_fixed_map.new.found c.add_head-in-Map.new.found s.0 fits l p s.1.2 c.add_head-in-Map.ensures.1 c.add_head-in-Map.ensures.2))
 
-pub walk_node-returns-in_ok-left-in-6 : goal.walk_node-returns-in_ok-left-in-6
-walk_node-returns-in_ok-left-in-6 t g c =
-    let s = c.in_ok-left-in-6.ensures in
-    head_before (HasDefect t.O.KeyOrder.order c.add_head-in-6.new.found) c.args.room c.args.total (c.args.total - length c.args.bytes.now) c.args.bytes.now _ _ c.in-Full.head c.in-Full.len 6 (Given c.in-Given.width c.in-Given.n) (take_rest c.args.bytes.now c.in-Full.len) c.in-Full.ensures c.in-6.is c.in-Given.is c.requires.within refl
-    (λ fits l p. (s.1.0, s.1.1, bignum_walked t.O.KeyOrder.order c.args.room c.args.total (c.args.total - length c.args.bytes.now) c.in-Given.width c.in-Given.n _ s.1.0 c.add_head-in-6.ensures.0 c.walk_tag.new.found c.add_head-in-6.new.found s.0 fits l p s.1.2 c.add_head-in-6.ensures.1 c.add_head-in-6.ensures.2))
+pub walk_node-returns-in_ok-left-in-Tag : goal.walk_node-returns-in_ok-left-in-Tag
+walk_node-returns-in_ok-left-in-Tag t g c =
+    let s = c.in_ok-left-in-Tag.ensures in
+    head_before (HasDefect t.O.KeyOrder.order c.add_head-in-Tag.new.found) c.args.room c.args.total (c.args.total - length c.args.bytes.now) c.args.bytes.now _ _ c.in-Full.head c.in-Full.len Tag (Given c.in-Given.width c.in-Given.n) (take_rest c.args.bytes.now c.in-Full.len) c.in-Full.ensures (sym c.major_type-major.ensures ∙ c.in-Tag.is) c.in-Given.is c.requires.within refl
+    (λ fits l p. (s.1.0, s.1.1, bignum_walked t.O.KeyOrder.order c.args.room c.args.total (c.args.total - length c.args.bytes.now) c.in-Given.width c.in-Given.n _ s.1.0 c.add_head-in-Tag.ensures.0 c.walk_tag.new.found c.add_head-in-Tag.new.found s.0 fits l p s.1.2 c.add_head-in-Tag.ensures.1 c.add_head-in-Tag.ensures.2))
 
-pub walk_node-returns-in-2-major : goal.walk_node-returns-in-2-major
-walk_node-returns-in-2-major t g c =
+pub walk_node-returns-in-ByteString-major : goal.walk_node-returns-in-ByteString-major
+walk_node-returns-in-ByteString-major t g c =
     under c.walk_long_string.result
-    (λ left s. head_before (HasDefect t.O.KeyOrder.order c.walk_long_string.new.found) c.args.room c.args.total (c.args.total - length c.args.bytes.now) c.args.bytes.now _ left c.in-Full.head c.in-Full.len 2 Endless (take_rest c.args.bytes.now c.in-Full.len) c.in-Full.ensures c.in-2-major.is c.in-Endless.is c.requires.within refl
+    (λ left s. head_before (HasDefect t.O.KeyOrder.order c.walk_long_string.new.found) c.args.room c.args.total (c.args.total - length c.args.bytes.now) c.args.bytes.now _ left c.in-Full.head c.in-Full.len ByteString Endless (take_rest c.args.bytes.now c.in-Full.len) c.in-Full.ensures (sym c.major_type-major.ensures ∙ c.in-ByteString-major.is) c.in-Endless.is c.requires.within refl
     (λ fits l p. (s.1, s.4, byte_chunks_walked t.O.KeyOrder.order c.args.room c.args.total (c.args.total - length c.args.bytes.now) _ s.0 s.1 c.walk_long_string.new.found l s.3 p s.2)))
     c.walk_long_string.ensures
 
-pub walk_node-returns-in-3-major : goal.walk_node-returns-in-3-major
-walk_node-returns-in-3-major t g c =
-    under c.walk_long_string-in-3-major.result
-    (λ left s. head_before (HasDefect t.O.KeyOrder.order c.walk_long_string-in-3-major.new.found) c.args.room c.args.total (c.args.total - length c.args.bytes.now) c.args.bytes.now _ left c.in-Full.head c.in-Full.len 3 Endless (take_rest c.args.bytes.now c.in-Full.len) c.in-Full.ensures c.in-3-major.is c.in-Endless.is c.requires.within refl
-    (λ fits l p. (s.1, s.4, text_chunks_walked t.O.KeyOrder.order c.args.room c.args.total (c.args.total - length c.args.bytes.now) _ s.0 s.1 c.walk_long_string-in-3-major.new.found l s.3 p s.2)))
-    c.walk_long_string-in-3-major.ensures
+pub walk_node-returns-in-TextString-major : goal.walk_node-returns-in-TextString-major
+walk_node-returns-in-TextString-major t g c =
+    under c.walk_long_string-in-TextString-major.result
+    (λ left s. head_before (HasDefect t.O.KeyOrder.order c.walk_long_string-in-TextString-major.new.found) c.args.room c.args.total (c.args.total - length c.args.bytes.now) c.args.bytes.now _ left c.in-Full.head c.in-Full.len TextString Endless (take_rest c.args.bytes.now c.in-Full.len) c.in-Full.ensures (sym c.major_type-major.ensures ∙ c.in-TextString-major.is) c.in-Endless.is c.requires.within refl
+    (λ fits l p. (s.1, s.4, text_chunks_walked t.O.KeyOrder.order c.args.room c.args.total (c.args.total - length c.args.bytes.now) _ s.0 s.1 c.walk_long_string-in-TextString-major.new.found l s.3 p s.2)))
+    c.walk_long_string-in-TextString-major.ensures
 
 pub walk_fixed_array-returns : goal.walk_fixed_array-returns
 walk_fixed_array-returns t g c =

@@ -1,7 +1,8 @@
-use Rattle.std.proofs.Common.{rules, [], ◌++◌, Bool, List, Option, ◌≢◌, ◌≡◌, ◌≤◌, ◌+◌, ◌-◌, refl, sym, length, ℕ, true, false, subst, arith, None}
+use Rattle.std.proofs.Common.{rules, [], ◌++◌, Bool, List, Option, ◌≢◌, ◌≡◌, ◌≤◌, ◌+◌, ◌-◌, refl, sym, length, ℕ, true, false, subst, arith, None, ◌∙◌}
 use Rattle.std.proofs.lemmas.List.{take_rest}
 use Rattle.cborn_wire.specs.declared.heads.Argument.TheVariants.{Given, Endless}
-use Rattle.cborn_model.specs.Heads.{Map, Unbounded, head}
+use Rattle.cborn_model.specs.declared.heads.Major.TheVariants.{Map, Unsigned, Negative, ByteString, TextString, Array, Tag, Other}
+use Rattle.cborn_model.specs.Heads.{Unbounded, head}
 use Rattle.cborn_model.specs.Heads as heads
 use Rattle.cborn_search.specs.declared.scanned_maps.ScannedMap.{ScannedMap}
 use Rattle.cborn_search.specs.Flawed.{Told, IsEarliestTold, HasFlaw, Scanned, ScannedAll, PairsSeen}
@@ -17,86 +18,86 @@ scan_item-returns t c =
     (λ rest e. node_last (HasFlaw c.scan_node.new.found.flaw c.scan_node.new.found.is_string) c.args.room c.args.total c.args.bytes.now rest.now c.in_ok-left.left c.in_ok-left.ensures e)
     c.last.ensures
 
-pub scan_node-returns-in-0 : goal.scan_node-returns-in-0
-scan_node-returns-in-0 t c =
-    head_alone (HasFlaw None false) c.args.room c.args.total (c.args.total - length c.args.bytes.now) c.args.bytes.now _ _ c.in-Full.head c.in-Full.len 0 (Given c.in-Given.field-0 c.in-Given.n) (take_rest c.args.bytes.now c.in-Full.len) c.in-Full.ensures c.in-0.is c.in-Given.is c.requires.within refl (search rules)
+pub scan_node-returns-in-Unsigned : goal.scan_node-returns-in-Unsigned
+scan_node-returns-in-Unsigned t c =
+    head_alone (HasFlaw None false) c.args.room c.args.total (c.args.total - length c.args.bytes.now) c.args.bytes.now _ _ c.in-Full.head c.in-Full.len Unsigned (Given c.in-Given.field-0 c.in-Given.n) (take_rest c.args.bytes.now c.in-Full.len) c.in-Full.ensures (sym c.major_type-major.ensures ∙ c.in-Unsigned.is) c.in-Given.is c.requires.within refl (search rules)
     (λ fits p. uint_seen c.args.room c.args.total c.in-Given.field-0 c.in-Given.n _ fits)
 
-pub scan_node-returns-in-1 : goal.scan_node-returns-in-1
-scan_node-returns-in-1 t c =
-    head_alone (HasFlaw None false) c.args.room c.args.total (c.args.total - length c.args.bytes.now) c.args.bytes.now _ _ c.in-Full.head c.in-Full.len 1 (Given c.in-Given.field-0 c.in-Given.n) (take_rest c.args.bytes.now c.in-Full.len) c.in-Full.ensures c.in-1.is c.in-Given.is c.requires.within refl (search rules)
+pub scan_node-returns-in-Negative : goal.scan_node-returns-in-Negative
+scan_node-returns-in-Negative t c =
+    head_alone (HasFlaw None false) c.args.room c.args.total (c.args.total - length c.args.bytes.now) c.args.bytes.now _ _ c.in-Full.head c.in-Full.len Negative (Given c.in-Given.field-0 c.in-Given.n) (take_rest c.args.bytes.now c.in-Full.len) c.in-Full.ensures (sym c.major_type-major.ensures ∙ c.in-Negative.is) c.in-Given.is c.requires.within refl (search rules)
     (λ fits p. nint_seen c.args.room c.args.total c.in-Given.field-0 c.in-Given.n _ fits)
 
-pub scan_node-returns-in_ok-after-in-2 : goal.scan_node-returns-in_ok-after-in-2
-scan_node-returns-in_ok-after-in-2 t c =
-    head_before (HasFlaw None true) c.args.room c.args.total (c.args.total - length c.args.bytes.now) c.args.bytes.now _ _ c.in-Full.head c.in-Full.len 2 (Given c.in-Given.field-0 c.in-Given.n) (take_rest c.args.bytes.now c.in-Full.len) c.in-Full.ensures c.in-2.is c.in-Given.is c.requires.within refl
-    (λ fits l p. (c.in_ok-after-in-2.after.now, search rules, bytes_seen c.args.room c.args.total c.in-Given.field-0 c.in-Given.n _ _ c.in_ok-after-in-2.after.now fits c.in_ok-after-in-2.ensures))
+pub scan_node-returns-in_ok-after-in-ByteString : goal.scan_node-returns-in_ok-after-in-ByteString
+scan_node-returns-in_ok-after-in-ByteString t c =
+    head_before (HasFlaw None true) c.args.room c.args.total (c.args.total - length c.args.bytes.now) c.args.bytes.now _ _ c.in-Full.head c.in-Full.len ByteString (Given c.in-Given.field-0 c.in-Given.n) (take_rest c.args.bytes.now c.in-Full.len) c.in-Full.ensures (sym c.major_type-major.ensures ∙ c.in-ByteString.is) c.in-Given.is c.requires.within refl
+    (λ fits l p. (c.in_ok-after-in-ByteString.after.now, search rules, bytes_seen c.args.room c.args.total c.in-Given.field-0 c.in-Given.n _ _ c.in_ok-after-in-ByteString.after.now fits c.in_ok-after-in-ByteString.ensures))
 
-pub scan_node-returns-in-3 : goal.scan_node-returns-in-3
-scan_node-returns-in-3 t c =
+pub scan_node-returns-in-TextString : goal.scan_node-returns-in-TextString
+scan_node-returns-in-TextString t c =
     under c.scan_text.result
-    (λ left s. head_before (HasFlaw c.scan_text.new.found.flaw c.scan_text.new.found.is_string) c.args.room c.args.total (c.args.total - length c.args.bytes.now) c.args.bytes.now _ left c.in-Full.head c.in-Full.len 3 (Given c.in-Given.field-0 c.in-Given.n) (take_rest c.args.bytes.now c.in-Full.len) c.in-Full.ensures c.in-3.is c.in-Given.is c.requires.within refl
+    (λ left s. head_before (HasFlaw c.scan_text.new.found.flaw c.scan_text.new.found.is_string) c.args.room c.args.total (c.args.total - length c.args.bytes.now) c.args.bytes.now _ left c.in-Full.head c.in-Full.len TextString (Given c.in-Given.field-0 c.in-Given.n) (take_rest c.args.bytes.now c.in-Full.len) c.in-Full.ensures (sym c.major_type-major.ensures ∙ c.in-TextString.is) c.in-Given.is c.requires.within refl
     (λ fits l p. s c.args.room c.args.total c.in-Given.field-0 fits p))
     c.scan_text.ensures
 
-pub scan_node-returns-in-4 : goal.scan_node-returns-in-4
-scan_node-returns-in-4 t c =
+pub scan_node-returns-in-Array : goal.scan_node-returns-in-Array
+scan_node-returns-in-Array t c =
     under c.scan_fixed_array.result
-    (λ left s. head_before (HasFlaw c.scan_fixed_array.new.found.flaw c.scan_fixed_array.new.found.is_string) c.args.room c.args.total (c.args.total - length c.args.bytes.now) c.args.bytes.now _ left c.in-Full.head c.in-Full.len 4 (Given c.in-Given.field-0 c.in-Given.n) (take_rest c.args.bytes.now c.in-Full.len) c.in-Full.ensures c.in-4.is c.in-Given.is c.requires.within refl
+    (λ left s. head_before (HasFlaw c.scan_fixed_array.new.found.flaw c.scan_fixed_array.new.found.is_string) c.args.room c.args.total (c.args.total - length c.args.bytes.now) c.args.bytes.now _ left c.in-Full.head c.in-Full.len Array (Given c.in-Given.field-0 c.in-Given.n) (take_rest c.args.bytes.now c.in-Full.len) c.in-Full.ensures (sym c.major_type-major.ensures ∙ c.in-Array.is) c.in-Given.is c.requires.within refl
     (λ fits l p. s c.in-Given.field-0 fits l))
     c.scan_fixed_array.ensures
 
-pub scan_node-returns-in-5 : goal.scan_node-returns-in-5
-scan_node-returns-in-5 t c =
+pub scan_node-returns-in-Map : goal.scan_node-returns-in-Map
+scan_node-returns-in-Map t c =
     under c.scan_fixed_map.result
-    (λ left s. head_before (HasFlaw c.scan_fixed_map.new.found.flaw c.scan_fixed_map.new.found.is_string) c.args.room c.args.total (c.args.total - length c.args.bytes.now) c.args.bytes.now _ left c.in-Full.head c.in-Full.len 5 (Given c.in-Given.field-0 c.in-Given.n) (take_rest c.args.bytes.now c.in-Full.len) c.in-Full.ensures c.in-5.is c.in-Given.is c.requires.within refl
+    (λ left s. head_before (HasFlaw c.scan_fixed_map.new.found.flaw c.scan_fixed_map.new.found.is_string) c.args.room c.args.total (c.args.total - length c.args.bytes.now) c.args.bytes.now _ left c.in-Full.head c.in-Full.len Map (Given c.in-Given.field-0 c.in-Given.n) (take_rest c.args.bytes.now c.in-Full.len) c.in-Full.ensures (sym c.major_type-major.ensures ∙ c.in-Map.is) c.in-Given.is c.requires.within refl
     (λ fits l p. s c.in-Given.field-0 fits l))
     c.scan_fixed_map.ensures
 
 pub scan_node-returns-then-is_bignum : goal.scan_node-returns-then-is_bignum
 scan_node-returns-then-is_bignum t c =
     under c.scan_bignum.result
-    (λ left s. head_before (HasFlaw c.scan_bignum.new.found.flaw c.scan_bignum.new.found.is_string) c.args.room c.args.total (c.args.total - length c.args.bytes.now) c.args.bytes.now _ left c.in-Full.head c.in-Full.len 6 (Given c.in-Given.field-0 c.in-Given.n) (take_rest c.args.bytes.now c.in-Full.len) c.in-Full.ensures c.in-6.is c.in-Given.is c.requires.within refl
+    (λ left s. head_before (HasFlaw c.scan_bignum.new.found.flaw c.scan_bignum.new.found.is_string) c.args.room c.args.total (c.args.total - length c.args.bytes.now) c.args.bytes.now _ left c.in-Full.head c.in-Full.len Tag (Given c.in-Given.field-0 c.in-Given.n) (take_rest c.args.bytes.now c.in-Full.len) c.in-Full.ensures (sym c.major_type-major.ensures ∙ c.in-Tag.is) c.in-Given.is c.requires.within refl
     (λ fits l p. s c.in-Given.field-0 c.in-Given.n c.if-is_bignum.ensures fits l p))
     c.scan_bignum.ensures
 
 pub scan_node-returns-else-is_bignum : goal.scan_node-returns-else-is_bignum
 scan_node-returns-else-is_bignum t c =
     under c.scan_tagged.result
-    (λ left s. head_before (HasFlaw c.scan_tagged.new.found.flaw c.scan_tagged.new.found.is_string) c.args.room c.args.total (c.args.total - length c.args.bytes.now) c.args.bytes.now _ left c.in-Full.head c.in-Full.len 6 (Given c.in-Given.field-0 c.in-Given.n) (take_rest c.args.bytes.now c.in-Full.len) c.in-Full.ensures c.in-6.is c.in-Given.is c.requires.within refl
+    (λ left s. head_before (HasFlaw c.scan_tagged.new.found.flaw c.scan_tagged.new.found.is_string) c.args.room c.args.total (c.args.total - length c.args.bytes.now) c.args.bytes.now _ left c.in-Full.head c.in-Full.len Tag (Given c.in-Given.field-0 c.in-Given.n) (take_rest c.args.bytes.now c.in-Full.len) c.in-Full.ensures (sym c.major_type-major.ensures ∙ c.in-Tag.is) c.in-Given.is c.requires.within refl
     (λ fits l p. s c.in-Given.field-0 c.in-Given.n c.if-is_bignum.ensures.0 c.if-is_bignum.ensures.1 fits l))
     c.scan_tagged.ensures
 
 pub scan_node-returns-then-is_simple : goal.scan_node-returns-then-is_simple
 scan_node-returns-then-is_simple t c =
-    head_alone (HasFlaw None false) c.args.room c.args.total (c.args.total - length c.args.bytes.now) c.args.bytes.now _ _ c.in-Full.head c.in-Full.len 7 c.in-Full.head.argument (take_rest c.args.bytes.now c.in-Full.len) c.in-Full.ensures c.in-7.is refl c.requires.within refl (search rules)
+    head_alone (HasFlaw None false) c.args.room c.args.total (c.args.total - length c.args.bytes.now) c.args.bytes.now _ _ c.in-Full.head c.in-Full.len Other c.in-Full.head.argument (take_rest c.args.bytes.now c.in-Full.len) c.in-Full.ensures (sym c.major_type-major.ensures ∙ c.in-Other.is) refl c.requires.within refl (search rules)
     (λ fits p. simple_seen c.args.room c.args.total c.in-Full.head.argument _ (c.if-is_simple.ensures refl))
 
-pub scan_node-returns-in-2-major : goal.scan_node-returns-in-2-major
-scan_node-returns-in-2-major t c =
+pub scan_node-returns-in-ByteString-major : goal.scan_node-returns-in-ByteString-major
+scan_node-returns-in-ByteString-major t c =
     under c.scan_long_bytes.result
-    (λ left s. head_before (HasFlaw c.scan_long_bytes.new.found.flaw c.scan_long_bytes.new.found.is_string) c.args.room c.args.total (c.args.total - length c.args.bytes.now) c.args.bytes.now _ left c.in-Full.head c.in-Full.len 2 Endless (take_rest c.args.bytes.now c.in-Full.len) c.in-Full.ensures c.in-2-major.is c.in-Endless.is c.requires.within refl
+    (λ left s. head_before (HasFlaw c.scan_long_bytes.new.found.flaw c.scan_long_bytes.new.found.is_string) c.args.room c.args.total (c.args.total - length c.args.bytes.now) c.args.bytes.now _ left c.in-Full.head c.in-Full.len ByteString Endless (take_rest c.args.bytes.now c.in-Full.len) c.in-Full.ensures (sym c.major_type-major.ensures ∙ c.in-ByteString-major.is) c.in-Endless.is c.requires.within refl
     (λ fits l p. s c.args.room l))
     c.scan_long_bytes.ensures
 
-pub scan_node-returns-in-3-major : goal.scan_node-returns-in-3-major
-scan_node-returns-in-3-major t c =
+pub scan_node-returns-in-TextString-major : goal.scan_node-returns-in-TextString-major
+scan_node-returns-in-TextString-major t c =
     under c.scan_long_text.result
-    (λ left s. head_before (HasFlaw c.scan_long_text.new.found.flaw c.scan_long_text.new.found.is_string) c.args.room c.args.total (c.args.total - length c.args.bytes.now) c.args.bytes.now _ left c.in-Full.head c.in-Full.len 3 Endless (take_rest c.args.bytes.now c.in-Full.len) c.in-Full.ensures c.in-3-major.is c.in-Endless.is c.requires.within refl
+    (λ left s. head_before (HasFlaw c.scan_long_text.new.found.flaw c.scan_long_text.new.found.is_string) c.args.room c.args.total (c.args.total - length c.args.bytes.now) c.args.bytes.now _ left c.in-Full.head c.in-Full.len TextString Endless (take_rest c.args.bytes.now c.in-Full.len) c.in-Full.ensures (sym c.major_type-major.ensures ∙ c.in-TextString-major.is) c.in-Endless.is c.requires.within refl
     (λ fits l p. s c.args.room l))
     c.scan_long_text.ensures
 
-pub scan_node-returns-in-4-major : goal.scan_node-returns-in-4-major
-scan_node-returns-in-4-major t c =
+pub scan_node-returns-in-Array-major : goal.scan_node-returns-in-Array-major
+scan_node-returns-in-Array-major t c =
     under c.scan_endless_array.result
-    (λ left s. head_before (HasFlaw c.scan_endless_array.new.found.flaw c.scan_endless_array.new.found.is_string) c.args.room c.args.total (c.args.total - length c.args.bytes.now) c.args.bytes.now _ left c.in-Full.head c.in-Full.len 4 Endless (take_rest c.args.bytes.now c.in-Full.len) c.in-Full.ensures c.in-4-major.is c.in-Endless.is c.requires.within refl
+    (λ left s. head_before (HasFlaw c.scan_endless_array.new.found.flaw c.scan_endless_array.new.found.is_string) c.args.room c.args.total (c.args.total - length c.args.bytes.now) c.args.bytes.now _ left c.in-Full.head c.in-Full.len Array Endless (take_rest c.args.bytes.now c.in-Full.len) c.in-Full.ensures (sym c.major_type-major.ensures ∙ c.in-Array-major.is) c.in-Endless.is c.requires.within refl
     (λ fits l p. s l))
     c.scan_endless_array.ensures
 
-pub scan_node-returns-in-5-major : goal.scan_node-returns-in-5-major
-scan_node-returns-in-5-major t c =
+pub scan_node-returns-in-Map-major : goal.scan_node-returns-in-Map-major
+scan_node-returns-in-Map-major t c =
     under c.scan_endless_map.result
-    (λ left s. head_before (HasFlaw c.scan_endless_map.new.found.flaw c.scan_endless_map.new.found.is_string) c.args.room c.args.total (c.args.total - length c.args.bytes.now) c.args.bytes.now _ left c.in-Full.head c.in-Full.len 5 Endless (take_rest c.args.bytes.now c.in-Full.len) c.in-Full.ensures c.in-5-major.is c.in-Endless.is c.requires.within refl
+    (λ left s. head_before (HasFlaw c.scan_endless_map.new.found.flaw c.scan_endless_map.new.found.is_string) c.args.room c.args.total (c.args.total - length c.args.bytes.now) c.args.bytes.now _ left c.in-Full.head c.in-Full.len Map Endless (take_rest c.args.bytes.now c.in-Full.len) c.in-Full.ensures (sym c.major_type-major.ensures ∙ c.in-Map-major.is) c.in-Endless.is c.requires.within refl
     (λ fits l p. s l))
     c.scan_endless_map.ensures
 
