@@ -24,13 +24,10 @@ pub mod WholeInput
 pub mod Outcomes
 pub mod Putting
 pub mod Opening
-pub mod Settled
 pub mod Advancing
 pub mod Refusing
 pub mod HeadSteps
 pub mod HeadFronts
-pub mod HeadTaken
-pub mod FeederKeeps
 pub mod Spellings
 pub mod OpenLevels
 pub mod ScanItems

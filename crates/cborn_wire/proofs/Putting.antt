@@ -1,6 +1,6 @@
 -- A whole item in what is open.
 use Rattle.std.proofs.Common.{◌≡◌, refl, sym, ap, ◌∙◌, ℕ, List, [], ◌∷◌, ◌++◌, length, Bool, true, false, cond, subst, Option, Some, None, Result, Ok, Err}
-use Rattle.cborn_model.specs.Tree.{Tree, Trees, Items, Pairs, trees, entries, count, count_entries}
+use Rattle.cborn_model.specs.Tree.{Tree, Trees, Items, Pairs, no_item, trees, entries, count, count_entries}
 use Rattle.cborn_model.proofs.Trees.{count-trees, count_entries-entries}
 use Rattle.cborn_wire.specs.declared.heads.Argument.{Argument}
 use Rattle.cborn_wire.specs.declared.heads.Argument.TheVariants.{Given, Endless}
@@ -9,8 +9,7 @@ use Rattle.cborn_wire.specs.declared.faults.WireFault.{WireFault}
 use Rattle.cborn_wire.specs.declared.faults.WireFault.TheVariants.{Refused, OutOfMemory}
 use Rattle.cborn_wire.specs.declared.faults.WireReason.{WireReason}
 use Rattle.cborn_wire.specs.declared.frames.Frame.{Frame}
-use Rattle.cborn_wire.specs.declared.stacks.Stack.{Stack}
-use Rattle.cborn_wire.specs.StackView.{seen_frame, ready_of, PutGives, Puts, PutLeaves}
+use Rattle.cborn_wire.specs.StackView.{seen_frame, FailsAs, PutGives, Puts}
 use Rattle.cborn_wire.specs.Slots.{Begun, begun_items, begun_pairs, begun_value}
 use Rattle.cborn_wire.specs.Machine.{snoc, snoc_entry, is_full, items_tree, pairs_tree, nothing, Live, Failed, State, finished}
 use Rattle.cborn_wire.proofs.TreeLists.{trees-push, entries-push}
@@ -73,7 +72,7 @@ module _ (at : ℕ) (f g : Frame) (t : Tree) (r : Result (Option Tree) WireFault
   pub put_refused : (p : ℕ) (reason : WireReason) → r ≡ Err (Refused p reason) → finished at ready (seen_frame f ∷ os) t ≡ Failed ready p reason
   put_refused p reason e = gives (Err (Refused p reason)) e
 
-pub leaves_failed : (s : State) (old new : Stack) (at : ℕ) (f g : Frame) (t : Tree) (r : Result (Option Tree) WireFault) (e : WireFault)
-    → Puts at f g t r → (os : List Begun) → finished at (ready_of old) (seen_frame f ∷ os) t ≡ s → r ≡ Err e → PutLeaves s old new (Err e)
-leaves_failed s old new at f g t r (Refused p reason) h os is e = sym is ∙ put_refused at f g t r h (ready_of old) os p reason e
-leaves_failed s old new at f g t r OutOfMemory h os is e = tt
+-- a fault of `put`, where no item was whole
+pub put_fails : (at : ℕ) (f g : Frame) (t : Tree) (r : Result (Option Tree) WireFault) (e : WireFault) → Puts at f g t r → (os : List Begun) → r ≡ Err e → FailsAs (finished at no_item (seen_frame f ∷ os) t) e
+put_fails at f g t r (Refused p reason) h os e = put_refused at f g t r h no_item os p reason e
+put_fails at f g t r OutOfMemory h os e = tt

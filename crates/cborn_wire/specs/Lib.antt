@@ -7,6 +7,8 @@ pub mod FeedingCode
 pub mod Reading
 pub mod HeadReading
 pub mod InitialBytes
+pub mod Standing
 pub mod StackView
+pub mod StackKeeps
 pub mod FeederView
 pub mod Scanning

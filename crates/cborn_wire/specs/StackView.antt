@@ -1,8 +1,9 @@
 -- A device of the proofs: what the stack that a reader keeps is to the machine. No definition cites it; the contracts of the crate's own functions do.
-use Rattle.std.specs.Prelude.{◌≡◌, ℕ, ◌+◌, ◌≤◌, ◌<◌, List, [], ◌∷◌, length, take, vec_len, Option, Some, None, Result, Ok, Err, MatchResult}
+use Rattle.std.specs.Prelude.{◌≡◌, ℕ, ◌+◌, ◌≤◌, ◌<◌, List, [], ◌∷◌, ◌++◌, length, take, vec_len, Option, Some, None, Result, Ok, Err, MatchResult}
+use Rattle.std.specs.declared.alloc.AllocError.{AllocError}
 use Rattle.std.specs.Option.{option_to_list}
 use Rattle.cborn_model.specs.Heads as heads
-use Rattle.cborn_model.specs.Tree.{Tree, Trees, trees, entries}
+use Rattle.cborn_model.specs.Tree.{Tree, Trees, no_item, more, trees, entries}
 use Rattle.cborn_wire.specs.declared.faults.WireFault.{WireFault}
 use Rattle.cborn_wire.specs.declared.faults.WireFault.TheVariants.{Refused, OutOfMemory}
 use Rattle.cborn_wire.specs.declared.faults.WireReason.TheVariants.{UnexpectedBreak}
@@ -12,7 +13,10 @@ use Rattle.cborn_wire.specs.declared.frames.Frame.{Frame}
 use Rattle.cborn_wire.specs.declared.frames.Frame.TheVariants as frames
 use Rattle.cborn_wire.specs.declared.frames.Partial.{Partial}
 use Rattle.cborn_wire.specs.declared.frames.Partial.TheVariants as partials
-use Rattle.cborn_wire.specs.declared.stacks.Stack.{Stack}
+use Rattle.cborn_wire.specs.declared.nests.Nest.{Nest}
+use Rattle.cborn_wire.specs.declared.nests.Outcome.{Outcome}
+use Rattle.cborn_wire.specs.declared.nests.Outcome.TheVariants.{Open, Whole, Part}
+use Rattle.cborn_wire.specs.Standing.{Standing}
 use Rattle.cborn_wire.specs.HeadReading.{major_at, seen_argument}
 use Rattle.cborn_wire.specs.Slots as slots
 use Rattle.cborn_wire.specs.Slots.{OfBytes, OfText, Begun, begun_items, begun_pairs, begun_value, begun_tag, begun_chunks}
@@ -48,35 +52,48 @@ seen_partial partials.Nothing = nothing
 seen_partial (partials.Argument p m w bytes n) = gathering p (argument_of (major_at m) w) (width_bytes w) (take n bytes)
 seen_partial (partials.Content p k w n bytes) = gathering p (content_of (seen_kind k) w) n bytes.items
 
-abbrev pub opened : Stack → List Begun
-opened s = seen_open s.top s.outer.items
-
-abbrev pub ready_of : Stack → Trees
-ready_of s = trees s.ready.items
-
--- the stack, with this part
-abbrev pub seen_with : Stack → machine.Partial → State
-seen_with s part = Live s.at (ready_of s) (opened s) part
-
-abbrev pub seen : Stack → State
-seen s = seen_with s (seen_partial s.partial)
+abbrev pub opened : Nest → List Begun
+opened n = seen_open n.top n.outer.items
 
 -- what is open around the innermost
-abbrev pub around : Stack → List Begun
-around s = seen_outer [] s.outer.items
+abbrev pub around : Nest → List Begun
+around n = seen_outer [] n.outer.items
 
 -- how many frames there are
-abbrev pub open_len : Stack → ℕ
-open_len s = length (option_to_list s.top) + vec_len s.outer
+abbrev pub open_len : Nest → ℕ
+open_len n = length (option_to_list n.top) + vec_len n.outer
 
--- What a call leaves that failed where the machine comes to this state: the fault is the machine's, or memory was refused. The whole items are as they were.
-abbrev pub Fails : State → List Tree → List Tree → WireFault → Type 0
-Fails s before now (Refused p r) = (now ≡ before) × (s ≡ Failed (trees now) p r)
-Fails s before now OutOfMemory = now ≡ before
+-- more bytes of the part are to come
+abbrev pub IsShort : Partial → Type 0
+IsShort partials.Nothing = Unit {0}
+IsShort (partials.Argument p m w bytes n) = length (take n bytes) < width_bytes w
+IsShort (partials.Content p k w n bytes) = length bytes.items < n
 
--- the stack comes to the machine's state, or the call failed
-abbrev pub Becomes : {T : Type 0} → State → Stack → Stack → Result T WireFault → Type 0
-Becomes s old new r = MatchResult r (λ _. seen new ≡ s) (Fails s old.ready.items new.ready.items)
+-- What the machine then is, up to `at`. Here and below it is told where no item was whole before: a nest knows of none.
+abbrev pub left : ℕ → List Begun → Outcome → State
+left at os Open = Live at no_item os nothing
+left at os (Whole t) = Live at (more t no_item) os nothing
+left at os (Part p) = Live at no_item os (seen_partial p)
+
+-- what the machine comes to where a call failed: that fault, or memory was refused
+abbrev pub FailsAs : State → WireFault → Type 0
+FailsAs s (Refused p r) = s ≡ Failed no_item p r
+FailsAs s OutOfMemory = Unit {0}
+
+-- the nest and the outcome are what the machine comes to, up to `at`, or the call failed
+abbrev pub Gives : State → ℕ → Nest → Result Outcome WireFault → Type 0
+Gives s at new r = MatchResult r (λ o. s ≡ left at (opened new) o) (FailsAs s)
+
+-- Of the piece, which stands at `at` behind the part, so many bytes were taken, at least one, with no more than one item that is whole now.
+pub record Took (limit at : ℕ) (part : machine.Partial) (piece : List ℕ) (old new : Nest) (n : ℕ) (o : Outcome) : Type 0 where
+  pub some : 0 < n
+  pub within : n ≤ length piece
+  pub goes : run limit (Live at no_item (opened old) part) (take n piece) ≡ left (at + n) (opened new) o
+  pub settles : Settles no_item (left (at + n) (opened new) o)
+
+abbrev pub Takes : ℕ → ℕ → machine.Partial → List ℕ → Nest → Nest → Result (ℕ × Outcome) WireFault → Type 0
+Takes limit at part piece old new r =
+    MatchResult r (λ t. Took limit at part piece old new t.0 t.1) (FailsAs (run limit (Live at no_item (opened old) part) piece))
 
 -- What the machine comes to where a whole item is put into the frame f and the call answers this: f is then g, or is whole.
 abbrev pub PutGives : State → ℕ → Trees → List Begun → Frame → Result (Option Tree) WireFault → Type 0
@@ -88,28 +105,51 @@ PutGives s at ready os g (Err OutOfMemory) = Unit {0}
 abbrev pub Puts : ℕ → Frame → Frame → Tree → Result (Option Tree) WireFault → Type 0
 Puts at f g t r = (ready : Trees) (os : List Begun) → PutGives (finished at ready (seen_frame f ∷ os) t) at ready os g r
 
--- The same of the stack: the innermost of what is open stays open, or it is whole and taken off.
-abbrev pub PutLeaves : State → Stack → Stack → Result (Option Tree) WireFault → Type 0
-PutLeaves s old new (Ok None) = (s ≡ Live old.at (ready_of old) (opened new) nothing) × (new.at ≡ old.at) × (new.partial ≡ old.partial)
-PutLeaves s old new (Ok (Some t)) = (s ≡ finished old.at (ready_of old) (opened new) t) × (new.at ≡ old.at) × (new.partial ≡ old.partial) × (open_len new + 1 ≡ open_len old)
-PutLeaves s old new (Err (Refused p r)) = s ≡ Failed (ready_of old) p r
-PutLeaves s old new (Err OutOfMemory) = Unit {0}
+-- The same of the nest: the innermost of what is open stays open, or it is whole and taken off.
+abbrev pub PutLeaves : State → ℕ → Nest → Nest → Result (Option Tree) WireFault → Type 0
+PutLeaves s at old new (Ok None) = s ≡ Live at no_item (opened new) nothing
+PutLeaves s at old new (Ok (Some t)) = (s ≡ finished at no_item (opened new) t) × (open_len new + 1 ≡ open_len old)
+PutLeaves s at old new (Err e) = FailsAs s e
 
 -- what the machine comes to at a break in the frame f, where closing it answers this
 abbrev pub Closes : Frame → Option Tree → Type 0
 Closes f None = (at : ℕ) (ready : Trees) (os : List Begun) → ended at ready (seen_frame f ∷ os) ≡ Failed ready at UnexpectedBreak
 Closes f (Some t) = (at : ℕ) (ready : Trees) (os : List Begun) → ended at ready (seen_frame f ∷ os) ≡ finished at ready os t
 
--- some bytes make this state, under some limit
-abbrev pub IsMade : State → Type 0
-IsMade s = (limit : ℕ) × (base : ℕ) × (limit ≤ 1024) × IsReached limit base s
+abbrev pub seen : Standing → State
+seen s = Live s.at (trees s.items) (opened s.nest) (seen_partial s.partial)
 
--- So many bytes of the piece are taken, at least one, and the machine comes from the state to the stack by them, with no more than one item that is whole now; or the call failed.
-abbrev pub Advances : ℕ → State → List ℕ → Stack → Stack → Result ℕ WireFault → Type 0
-Advances limit s piece old new r =
-    MatchResult r (λ n. (0 < n) × (n ≤ length piece) × (run limit s (take n piece) ≡ seen new) × Settles (ready_of old) (seen new))
-    (Fails (run limit s piece) old.ready.items new.ready.items)
+-- some bytes make it
+abbrev pub IsMade : Standing → Type 0
+IsMade s = (base : ℕ) × IsReached s.limit base (seen s)
+
+-- the item stands behind the others, or memory was refused
+abbrev pub Added : List Tree → Tree → List Tree → Result (Unit {0}) AllocError → Type 0
+Added old t new r = MatchResult r (λ _. new ≡ old ++ t ∷ []) (λ _. new ≡ old)
+
+-- What a call leaves that failed where the machine comes to this state: the fault is the machine's, or memory was refused. The whole items are as they were.
+abbrev pub Fails : State → List Tree → List Tree → WireFault → Type 0
+Fails s before now (Refused p r) = (now ≡ before) × (s ≡ Failed (trees now) p r)
+Fails s before now OutOfMemory = now ≡ before
+
+-- What a stack is after a call that failed.
+pub record IsFailed (old new : Standing) (e : WireFault) : Type 0 where
+  pub fault : new.fault ≡ Some e
+  pub limit : new.limit ≡ old.limit
+
+-- What it is after one that took these bytes.
+pub record IsMoved (old new : Standing) (x : List ℕ) : Type 0 where
+  pub fault : new.fault ≡ None
+  pub limit : new.limit ≡ old.limit
+  pub at : new.at ≡ old.at + length x
+  pub goes : run old.limit (seen old) x ≡ seen new
+
+-- So many bytes of the piece are taken, at least one, with no more than one item that is whole now; or the call failed.
+abbrev pub Advances : List ℕ → Standing → Standing → Result ℕ WireFault → Type 0
+Advances piece old new r =
+    MatchResult r (λ n. (0 < n) × (n ≤ length piece) × IsMoved old new (take n piece) × Settles (trees old.items) (seen new))
+    (λ e. IsFailed old new e × Fails (run old.limit (seen old) piece) old.items new.items e)
 
 -- a piece is taken, or the reader stops
-abbrev pub Runs : {T : Type 0} → ℕ → List ℕ → Stack → Stack → Result T WireFault → Type 0
-Runs limit piece old new r = MatchResult r (λ _. run limit (seen old) piece ≡ seen new) (λ e. Stops limit (seen old) piece e (ready_of new))
+abbrev pub Runs : {T : Type 0} → List ℕ → Standing → Standing → Result T WireFault → Type 0
+Runs piece old new r = MatchResult r (λ _. IsMoved old new piece) (λ e. IsFailed old new e × Stops old.limit (seen old) piece e (trees new.items))

@@ -9,9 +9,7 @@ use std::marker::Model;
 /// Reads a sequence of items (RFC 8742) that comes in pieces, cut anywhere. What it keeps of the bytes is the items to take and the unfinished item; nothing is reserved by a length or a count that the bytes declare. A piece costs time in proportion to its length, and to take an item costs no more than moving it.
 #[derive(Drop)]
 pub struct Feeder {
-    limit: u64,
     fed: u64,
-    fault: Option<WireFault>,
     stack: Stack,
 }
 
@@ -47,10 +45,8 @@ impl Feeder {
         ensures { result ≡ fresh limit }
     {
         Feeder {
-            limit: limit.get(),
             fed: 0,
-            fault: None,
-            stack: Stack::new(alloc, 0),
+            stack: Stack::new(alloc, limit, 0),
         }
     }
 
@@ -67,20 +63,12 @@ impl Feeder {
         ensures fed { self.old.fault ≡ None → Feeds piece.now self.old result self.new }
         ensures again { (e : WireFault) → self.old.fault ≡ Some e → (result ≡ Err e) × (self.new ≡ self.old) }
     {
-        match self.fault {
-            Some(fault) => return Err(fault),
-            None => {}
+        if let Some(fault) = self.stack.fault() {
+            return Err(fault);
         }
-        match self.stack.feed(self.limit, piece) {
-            Ok(()) => {
-                self.fed += piece.len() as u64;
-                Ok(())
-            }
-            Err(fault) => {
-                self.fault = Some(fault);
-                Err(fault)
-            }
-        }
+        self.stack.read_piece(piece)?;
+        self.fed += piece.len() as u64;
+        Ok(())
     }
 
     /// The first complete item that was not yet taken. Takes no memory.
@@ -91,7 +79,7 @@ impl Feeder {
         ensures held { self.old.fault ≡ None → self.old.held ≡ flat_map spelled (option_to_list result) ++ self.new.held }
         ensures fed { self.old.fault ≡ None → IsFed self.new }
     {
-        self.stack.ready.pop_front()
+        self.stack.pop_item()
     }
 
     /// The complete items that were not yet taken, where the input ends here: `Truncated`, at its length, where an item is unfinished, and the fault of an earlier refusal. Takes no memory.
@@ -100,13 +88,8 @@ impl Feeder {
         ensures cut { self.fault ≡ None → OnErr result ((result ≡ Err (Refused self.fed Truncated)) × Fault self.limit self.held (length self.held) Truncated) }
         ensures again { (e : WireFault) → self.fault ≡ Some e → result ≡ Err e }
     {
-        let Feeder {
-            limit: _,
-            fed,
-            fault,
-            stack,
-        } = self;
-        if let Some(fault) = fault {
+        let Feeder { fed, stack } = self;
+        if let Some(fault) = stack.fault() {
             return Err(fault);
         }
         if !stack.is_whole() {
@@ -115,7 +98,6 @@ impl Feeder {
                 reason: WireReason::Truncated,
             });
         }
-        let Stack { ready, .. } = stack;
-        Ok(ready.into_vec())
+        Ok(stack.into_items())
     }
 }

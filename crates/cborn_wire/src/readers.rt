@@ -35,12 +35,11 @@ pub fn read_one(
     ensures item { IfOk result (λ r. (r.1 ≤ length bytes.now) × IsFirstItem limit start r.0 (drop start bytes.now) (drop r.1 bytes.now)) }
     ensures fault { (p : ℕ) (r : WireReason) → result ≡ Err (Refused p r) → (q : ℕ) × (p ≡ start + q) × ItemFault limit (drop start bytes.now) q r }
 {
-    let limit = limit.get();
-    let mut stack = Stack::new(alloc, start as u64);
+    let mut stack = Stack::new(alloc, limit, start as u64);
     let mut end = start;
     while end < bytes.len() {
-        end += stack.advance(limit, &bytes[end..])?;
-        if let Some(item) = stack.ready.pop_front() {
+        end += stack.advance(&bytes[end..])?;
+        if let Some(item) = stack.pop_item() {
             return Ok((item, end));
         }
     }

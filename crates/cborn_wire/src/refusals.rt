@@ -10,9 +10,9 @@ ghost use Rattle.cborn_wire.specs.StackView.{opened};
 use crate::WireReason;
 use crate::frames::{Frame, StringKind};
 use crate::heads::{is_always_bounded, is_break, is_container, is_endless, is_float, is_reserved};
-use crate::stacks::Stack;
+use crate::nests::Nest;
 
-impl Stack {
+impl Nest {
     /// Why a head with this initial byte may not stand here, as far as that byte tells.
     #[inline(always)]
     pub(crate) fn refusal(&self, limit: u64, first: u8) -> Option<WireReason>

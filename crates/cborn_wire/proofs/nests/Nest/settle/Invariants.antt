@@ -1,0 +1,12 @@
+use Rattle.std.proofs.Common.{◌≡◌}
+use Rattle.cborn_model.specs.Tree.{no_item}
+use Rattle.cborn_wire.specs.Machine.{finished}
+use Rattle.cborn_wire.specs.StackView.{opened, open_len}
+use Rattle.cborn_wire.proofs.nests.Nest.settle.Given as goal
+
+-- what the item comes to now is what it came to at first
+abbrev pub invariant-loop-self : goal.invariant-loop-self
+invariant-loop-self l = finished l.at no_item (opened l.initial.self) l.initial.node ≡ finished l.at no_item (opened l.self) l.node
+
+abbrev pub decreases-loop-self : goal.decreases-loop-self
+decreases-loop-self l = open_len l.self

@@ -1,0 +1,439 @@
+//! What is open around the next byte, and what a head there comes to.
+
+ghost use Rattle.std.specs.Prelude.{◌≡◌, ◌∷◌, ◌+◌, ◌<◌, ◌^◌, ℕ, [], length, take};
+ghost use Rattle.cborn_model.specs.Tree.{no_item, no_entry};
+ghost use Rattle.cborn_model.specs.declared.heads.Major.TheVariants as heads;
+ghost use Rattle.cborn_wire.specs.Slots.{major_of, AreBegun};
+ghost use Rattle.cborn_wire.specs.Machine.{nothing, content_of, gathering, width_bytes, items_at, pairs_at, string_done, ended, after_head, Live};
+ghost use Rattle.cborn_wire.specs.HeadReading.{major_at, seen_argument, ArgumentFits};
+ghost use Rattle.cborn_wire.specs.StackView.{seen_kind, seen_frame, opened, seen_partial, IsShort, Gives, Takes};
+
+use crate::frames::{Frame, Partial, StringKind};
+use crate::heads::{read_number, wide_width};
+use crate::{Argument, Head, HeadRead, WireFault, WireReason, read_head};
+use cborn_model::{ByteString, Chunk, Form, Node, Width, push_doubling};
+use std::alloc::Global;
+
+/// What is open, one inside another.
+#[derive(Drop)]
+pub(crate) struct Nest {
+    pub(crate) alloc: Global,
+    /// The innermost.
+    pub(crate) top: Option<Frame>,
+    /// What is open around it, the innermost last.
+    pub(crate) outer: Vec<Frame>,
+}
+
+/// What became of a head, or of bytes of a string.
+#[derive(Drop)]
+pub(crate) enum Outcome {
+    /// It stands in what is open, or is open.
+    Open,
+    /// An item is whole, and nothing is open.
+    Whole(Node),
+    /// A head or a string of which a part came.
+    Part(Partial),
+}
+
+impl Nest {
+    /// Nothing is open.
+    pub(crate) fn new(alloc: Global) -> Nest
+        ensures { opened result ≡ [] }
+    {
+        Nest {
+            alloc,
+            top: None,
+            outer: Vec::new(alloc),
+        }
+    }
+
+    /// Takes what stands at the front of `piece`, behind the part that came before, and answers how many bytes that was. The part is then used up.
+    #[inline(always)]
+    pub(crate) fn take(
+        &mut self,
+        limit: u64,
+        at: u64,
+        part: &mut Partial,
+        piece: &[u8],
+    ) -> Result<(usize, Outcome), WireFault>
+        requires begun { AreBegun limit (opened self.old) }
+        requires short { IsShort part.old }
+        requires some { 0 < length piece.now }
+        requires room { at + length piece.now < 2 ^ 64 }
+        ensures taken { Takes limit at (seen_partial part.old) piece.now self.old self.new result }
+        ensures used { part.new ≡ Partial.Nothing }
+    {
+        if let Partial::Nothing = part {
+            return self.take_head(limit, at, piece);
+        }
+        self.take_more(limit, at, part, piece)
+    }
+
+    // The same where there may be a part. It stands apart, since a head that has none would pay for its locals.
+    #[inline(never)]
+    fn take_more(
+        &mut self,
+        limit: u64,
+        at: u64,
+        part: &mut Partial,
+        piece: &[u8],
+    ) -> Result<(usize, Outcome), WireFault>
+        requires begun { AreBegun limit (opened self.old) }
+        requires short { IsShort part.old }
+        requires some { 0 < length piece.now }
+        requires room { at + length piece.now < 2 ^ 64 }
+        ensures taken { Takes limit at (seen_partial part.old) piece.now self.old self.new result }
+        ensures used { part.new ≡ Partial.Nothing }
+    {
+        match std::mem::replace(part, Partial::Nothing) {
+            Partial::Nothing => self.take_head(limit, at, piece),
+            Partial::Argument {
+                place,
+                major,
+                width,
+                bytes,
+                len,
+            } => self.take_argument(at, place, major, width, bytes, len, piece),
+            Partial::Content {
+                place,
+                kind,
+                width,
+                len,
+                bytes,
+            } => self.take_content(at, place, kind, width, len, bytes, piece),
+        }
+    }
+
+    // A head, or the initial byte of one that ends behind the piece. The commonest, an integer that is its initial byte, is taken here, and any other apart.
+    #[inline(always)]
+    fn take_head(
+        &mut self,
+        limit: u64,
+        at: u64,
+        piece: &[u8],
+    ) -> Result<(usize, Outcome), WireFault>
+        requires begun { AreBegun limit (opened self.old) }
+        requires some { 0 < length piece.now }
+        requires room { at + length piece.now < 2 ^ 64 }
+        ensures { Takes limit at nothing piece.now self.old self.new result }
+    {
+        let first = piece[0];
+        if first < 24 && self.refusal(limit, first).is_none() {
+            let argument = Argument::Given(Width::Direct, first as u64);
+            let outcome = self.put_head(at + 1, at, Head { major: 0, argument })?;
+            return Ok((1, outcome));
+        }
+        self.take_any_head(limit, at, piece)
+    }
+
+    // The same of any head.
+    #[inline(always)]
+    fn take_any_head(
+        &mut self,
+        limit: u64,
+        at: u64,
+        piece: &[u8],
+    ) -> Result<(usize, Outcome), WireFault>
+        requires begun { AreBegun limit (opened self.old) }
+        requires some { 0 < length piece.now }
+        requires room { at + length piece.now < 2 ^ 64 }
+        ensures { Takes limit at nothing piece.now self.old self.new result }
+    {
+        let first = piece[0];
+        if let Some(reason) = self.refusal(limit, first) {
+            return Err(WireFault::Refused { place: at, reason });
+        }
+        match read_head(piece) {
+            HeadRead::Full(head, len) => {
+                let outcome = self.put_head(at + len as u64, at, head)?;
+                Ok((len, outcome))
+            }
+            HeadRead::Short => {
+                let part = Partial::Argument {
+                    place: at,
+                    major: first / 32,
+                    width: wide_width(first % 32),
+                    bytes: [0; 8],
+                    len: 0,
+                };
+                Ok((1, Outcome::Part(part)))
+            }
+            HeadRead::Bad(reason) => Err(WireFault::Refused { place: at, reason }),
+        }
+    }
+
+    // The next byte of an argument whose head began in an earlier piece: the first `len` of `bytes` came before.
+    #[inline(never)]
+    fn take_argument(
+        &mut self,
+        at: u64,
+        place: u64,
+        major: u8,
+        width: Width,
+        mut bytes: [u8; 8],
+        len: usize,
+        piece: &[u8],
+    ) -> Result<(usize, Outcome), WireFault>
+        requires short { length (take len bytes) < width_bytes width }
+        requires some { 0 < length piece.now }
+        requires room { at + length piece.now < 2 ^ 64 }
+        ensures { (limit : ℕ) → Takes limit at (seen_partial (Partial.Argument place major width bytes len)) piece.now self.old self.new result }
+    {
+        bytes[len] = piece[0];
+        let len = len + 1;
+        let Some(n) = read_number(width, &bytes[..len]) else {
+            let part = Partial::Argument {
+                place,
+                major,
+                width,
+                bytes,
+                len,
+            };
+            return Ok((1, Outcome::Part(part)));
+        };
+        let argument = Argument::Given(width, n);
+        let outcome = self.put_head(at + 1, place, Head { major, argument })?;
+        Ok((1, outcome))
+    }
+
+    // The next bytes of a string of `len` bytes, of which these came before.
+    #[inline(never)]
+    fn take_content(
+        &mut self,
+        at: u64,
+        place: u64,
+        kind: StringKind,
+        width: Width,
+        len: u64,
+        mut bytes: Vec<u8>,
+        piece: &[u8],
+    ) -> Result<(usize, Outcome), WireFault>
+        requires short { length bytes.items < len }
+        requires some { 0 < length piece.now }
+        requires room { at + length piece.now < 2 ^ 64 }
+        ensures { (limit : ℕ) → Takes limit at (gathering place (content_of (seen_kind kind) width) len bytes.items) piece.now self.old self.new result }
+    {
+        let missing = len - bytes.len() as u64;
+        let taken = missing.min(piece.len() as u64) as usize;
+        bytes.extend_from_slice(&piece[..taken])?;
+        if taken as u64 != missing {
+            let part = Partial::Content {
+                place,
+                kind,
+                width,
+                len,
+                bytes,
+            };
+            return Ok((taken, Outcome::Part(part)));
+        }
+        let outcome = self.put_string(at + taken as u64, place, kind, width, bytes)?;
+        Ok((taken, outcome))
+    }
+
+    // A whole head that stands at `place`, and ends at `at`.
+    #[inline(always)]
+    fn put_head(&mut self, at: u64, place: u64, head: Head) -> Result<Outcome, WireFault>
+        requires { ArgumentFits (seen_argument head.argument) }
+        ensures { Gives (after_head at place no_item (opened self.old) (major_at head.major) (seen_argument head.argument)) at self.new result }
+    {
+        let form = match (head.major, head.argument) {
+            (0, Argument::Given(width, n)) => Form::Uint(width, n),
+            (1, Argument::Given(width, n)) => Form::Nint(width, n),
+            (0 | 1, Argument::Endless) => {
+                return Err(WireFault::Refused {
+                    place,
+                    reason: WireReason::EndlessNotAllowed,
+                });
+            }
+            _ => return self.put_further_head(at, place, head),
+        };
+        self.put_in(at, Node { place, form })
+    }
+
+    // A head of no integer. It stands apart, so that the integers, which are the most, pay nothing for it.
+    #[inline(never)]
+    fn put_further_head(&mut self, at: u64, place: u64, head: Head) -> Result<Outcome, WireFault>
+        requires further { 1 < head.major }
+        requires fits { ArgumentFits (seen_argument head.argument) }
+        ensures { Gives (after_head at place no_item (opened self.old) (major_at head.major) (seen_argument head.argument)) at self.new result }
+    {
+        match (head.major, head.argument) {
+            (2, argument) => self.begin_string(at, place, StringKind::Bytes, argument),
+            (3, argument) => self.begin_string(at, place, StringKind::Text, argument),
+            (4, argument) => self.begin_items(at, place, argument),
+            (5, argument) => self.begin_pairs(at, place, argument),
+            (6, Argument::Given(width, number)) => self.begin(
+                at,
+                Frame::Tag {
+                    place,
+                    width,
+                    number,
+                },
+            ),
+            (6, Argument::Endless) => Err(WireFault::Refused {
+                place,
+                reason: WireReason::EndlessNotAllowed,
+            }),
+            (_, argument) => self.put_simple_or_break(at, place, argument),
+        }
+    }
+
+    // A head of major type 7: a simple value or the break.
+    fn put_simple_or_break(
+        &mut self,
+        at: u64,
+        place: u64,
+        argument: Argument,
+    ) -> Result<Outcome, WireFault>
+        requires { ArgumentFits (seen_argument argument) }
+        ensures { Gives (after_head at place no_item (opened self.old) heads.Other (seen_argument argument)) at self.new result }
+    {
+        match argument {
+            Argument::Given(Width::Direct, n) => {
+                let form = Form::Simple(n as u8);
+                self.put_in(at, Node { place, form })
+            }
+            Argument::Given(Width::One, n) if n >= 32 => {
+                let form = Form::Simple(n as u8);
+                self.put_in(at, Node { place, form })
+            }
+            Argument::Given(Width::One, _) => Err(WireFault::Refused {
+                place,
+                reason: WireReason::BadSimple,
+            }),
+            Argument::Given(_, _) => Err(WireFault::Refused {
+                place,
+                reason: WireReason::FloatLeftOut,
+            }),
+            Argument::Endless => self.close(at),
+        }
+    }
+
+    // Opens `frame` inside what is open.
+    fn begin(&mut self, at: u64, frame: Frame) -> Result<Outcome, WireFault>
+        ensures { Gives (Live at no_item (seen_frame frame ∷ opened self.old) nothing) at self.new result }
+    {
+        let Some(outer) = self.top.replace(frame) else {
+            self.outer.clear();
+            return Ok(Outcome::Open);
+        };
+        self.outer.push(outer)?;
+        Ok(Outcome::Open)
+    }
+
+    fn begin_string(
+        &mut self,
+        at: u64,
+        place: u64,
+        kind: StringKind,
+        argument: Argument,
+    ) -> Result<Outcome, WireFault>
+        ensures { Gives (after_head at place no_item (opened self.old) (major_of (seen_kind kind)) (seen_argument argument)) at self.new result }
+    {
+        match argument {
+            Argument::Given(width, 0) => {
+                self.put_string(at, place, kind, width, Vec::new(self.alloc))
+            }
+            Argument::Given(width, len) => Ok(Outcome::Part(Partial::Content {
+                place,
+                kind,
+                width,
+                len,
+                bytes: Vec::new(self.alloc),
+            })),
+            Argument::Endless => self.begin(
+                at,
+                Frame::Chunks {
+                    place,
+                    kind,
+                    chunks: Vec::new(self.alloc),
+                },
+            ),
+        }
+    }
+
+    fn begin_items(&mut self, at: u64, place: u64, argument: Argument) -> Result<Outcome, WireFault>
+        ensures { Gives (items_at at no_item (opened self.old) place (seen_argument argument) no_item) at self.new result }
+    {
+        let items = Vec::new(self.alloc);
+        if argument.is_met(0) {
+            let form = Form::Items(argument.size(), items);
+            return self.put_in(at, Node { place, form });
+        }
+        self.begin(
+            at,
+            Frame::Items {
+                place,
+                argument,
+                items,
+            },
+        )
+    }
+
+    fn begin_pairs(&mut self, at: u64, place: u64, argument: Argument) -> Result<Outcome, WireFault>
+        ensures { Gives (pairs_at at no_item (opened self.old) place (seen_argument argument) no_entry) at self.new result }
+    {
+        let pairs = Vec::new(self.alloc);
+        if argument.is_met(0) {
+            let form = Form::Pairs(argument.size(), pairs);
+            return self.put_in(at, Node { place, form });
+        }
+        self.begin(
+            at,
+            Frame::Pairs {
+                place,
+                argument,
+                pairs,
+                key: None,
+            },
+        )
+    }
+
+    // A break.
+    fn close(&mut self, at: u64) -> Result<Outcome, WireFault>
+        ensures { Gives (ended at no_item (opened self.old)) at self.new result }
+    {
+        let closed = match self.top.take() {
+            Some(frame) => frame.close(),
+            None => None,
+        };
+        match closed {
+            Some(node) => {
+                self.leave();
+                self.put_in(at, node)
+            }
+            None => Err(WireFault::Refused {
+                place: at,
+                reason: WireReason::UnexpectedBreak,
+            }),
+        }
+    }
+
+    // A whole definite string: a chunk, or an item.
+    fn put_string(
+        &mut self,
+        at: u64,
+        place: u64,
+        kind: StringKind,
+        width: Width,
+        bytes: Vec<u8>,
+    ) -> Result<Outcome, WireFault>
+        ensures { Gives (string_done at place no_item (opened self.old) (seen_kind kind) width bytes.items) at self.new result }
+    {
+        let bytes = ByteString::new(bytes);
+        if let Some(Frame::Chunks { chunks, .. }) = &mut self.top {
+            let chunk = Chunk {
+                place,
+                width,
+                bytes,
+            };
+            push_doubling(chunks, chunk)?;
+            return Ok(Outcome::Open);
+        }
+        let form = match kind {
+            StringKind::Bytes => Form::Bytes(width, bytes),
+            StringKind::Text => Form::Text(width, bytes),
+        };
+        self.put_in(at, Node { place, form })
+    }
+}
