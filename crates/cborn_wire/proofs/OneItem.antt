@@ -10,7 +10,7 @@ use Rattle.cborn_wire.specs.declared.faults.WireReason.TheVariants.{Truncated}
 use Rattle.cborn_wire.specs.Slots.{Begun}
 use Rattle.cborn_wire.specs.Faults.{Fault}
 use Rattle.cborn_wire.specs.Reading.{IsFirstItem, ItemFault}
-use Rattle.cborn_wire.specs.Machine.{snoc, Partial, nothing, State, Live, Failed, start, IsLive, ready_in, run, IsReached, Stops, Settles}
+use Rattle.cborn_wire.specs.Machine.{snoc, Partial, nothing, State, Live, Failed, start, IsLive, ready_in, run, Stops, Settles}
 use Rattle.cborn_wire.proofs.Running.{run-append}
 use Rattle.cborn_wire.proofs.Outcomes.{refused_is}
 use Rattle.cborn_wire.proofs.AllBytes.{bytes-left, bytes-right}
@@ -49,9 +49,6 @@ module _ (limit from : ℕ) (bytes : List ℕ) (are : AreBytes bytes) where
 
   pub are_read : (end : ℕ) (s : State) (h : ReadSoFar limit from end bytes s) → AreBytes h.read
   are_read end s h = bytes-left h.read (drop end bytes) (subst AreBytes h.cut are_later)
-
-  pub read_reached : (end : ℕ) (s : State) → ReadSoFar limit from end bytes s → (base : ℕ) × IsReached limit base s
-  read_reached end s h = (from, (h.read, are_read end s h, h.makes))
 
   pub read_more : (end n : ℕ) (s u : State) → ReadSoFar limit from end bytes s → n ≤ length (drop end bytes) → run limit s (take n (drop end bytes)) ≡ u → ReadSoFar limit from (end + n) bytes u
   read_more end n s u h fits goes =

@@ -33,10 +33,6 @@ left_around (Some l) d n xs e some h = sym (ap (turned []) (is n some h) ∙ tur
     is : (n : ℕ) → (n ≡ 0 → ⊥) → n ≤ length xs → take n xs ≡ take (n - 1) xs ++ get_or xs (n - 1) d ∷ []
     is n some h = ap (λ k. take k xs) (omega (arith, some)) ∙ take_more xs (n - 1) d (omega (arith, some, h))
 
-pub left_one : (top : Option Level) (n : ℕ) (xs : List Level) → n ≡ 0 → [] ≡ leave (open_levels top (take n xs))
-left_one None n xs e = refl
-left_one (Some l) n xs e = rw e refl
-
 -- something is open exactly if there is an innermost
 pub some_open : (top : Option Level) (xs : List Level) → true ≡ is_some top → open_levels top xs ≡ [] → ⊥
 some_open None xs e h = cc

@@ -45,9 +45,6 @@ module _ (limit : ℕ) (x : List ℕ) (bytes : AreBytes x) where
   amid (Live fed ready os (gathering p g n got)) e h = cut fed ready os (gathering p g n got) e (λ a b. cc b)
   amid (Failed ready p r) e h = absurd h
 
-  pub scan_starts : IsScanned 0 [] (run limit (start 0) (take 0 x))
-  scan_starts = (refl, refl)
-
   module _ (at : ℕ) (ls : List Level) (here : IsScanned at ls (run limit (start 0) (take at x))) where
     pub scan_begun : (os : List Begun) × AreBegun limit os × (levels_of os ≡ ls)
     scan_begun =

@@ -57,7 +57,11 @@ impl Feeder {
         self.fed
     }
 
-    /// Takes a piece, the next bytes of the input: all that were fed with it may be at most 2^64-1 bytes. It is refused, at the offset of the head in the whole input, where a head in it may stand in no well-formed input that begins so; `OutOfMemory` where memory was. After either, this and each later call answers that same fault, `fed` stays as it is, and the items that were complete before the fault's place are still to take (where memory was refused, some of them).
+    /// Takes a piece, the next bytes of the input: all that were fed with it may be at most 2^64-1 bytes.
+    ///
+    /// # Errors
+    ///
+    /// The piece is refused, at the offset of the head in the whole input, where a head in it may stand in no well-formed input that begins so; `OutOfMemory` where memory was. After either, this and each later call answers that same fault, `fed` stays as it is, and the items that were complete before the fault's place are still to take (where memory was refused, some of them).
     pub fn feed(&mut self, piece: &[u8]) -> Result<(), WireFault>
         requires { self.old.fed + length piece.now < 2 ^ 64 }
         ensures fed { self.old.fault ≡ None → Feeds piece.now self.old result self.new }
@@ -82,7 +86,11 @@ impl Feeder {
         self.stack.pop_item()
     }
 
-    /// The complete items that were not yet taken, where the input ends here: `Truncated`, at its length, where an item is unfinished, and the fault of an earlier refusal. Takes no memory.
+    /// The complete items that were not yet taken, where the input ends here. Takes no memory.
+    ///
+    /// # Errors
+    ///
+    /// `Truncated`, at the input's length, where an item is unfinished, and the fault of an earlier refusal.
     pub fn finish(self) -> Result<Vec<Spelled>, WireFault>
         ensures items { self.fault ≡ None → IfOk result (λ v. (v.items ≡ self.items) × Wellformed self.limit (trees self.items) self.held) }
         ensures cut { self.fault ≡ None → OnErr result ((result ≡ Err (Refused self.fed Truncated)) × Fault self.limit self.held (length self.held) Truncated) }

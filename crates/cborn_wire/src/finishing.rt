@@ -33,7 +33,7 @@ impl Nest {
         self.settle(at, node)
     }
 
-    // Any whole item. Where what it stands in is whole with it, that is an item too.
+    /// Any whole item. Where what it stands in is whole with it, that is an item too.
     #[inline(never)]
     fn settle(&mut self, at: u64, node: Node) -> Result<Outcome, WireFault>
         ensures { Gives (finished at no_item (opened self.old) node) at self.new result }
@@ -48,7 +48,7 @@ impl Nest {
         Ok(Outcome::Whole(node))
     }
 
-    // Puts a whole item into the innermost of what is open: none where that stays open, else the node that it is, which is taken off.
+    /// Puts a whole item into the innermost of what is open: none where that stays open, else the node that it is, which is taken off.
     fn put_in_innermost(&mut self, at: u64, node: Node) -> Result<Option<Node>, WireFault>
         requires { IsSome self.old.top }
         ensures { PutLeaves (finished at no_item (opened self.old) node) at self.old self.new result }

@@ -147,7 +147,7 @@ impl Levels {
         self.finish_any();
     }
 
-    // The same of anything that may be open.
+    /// The same of anything that may be open.
     #[inline(always)]
     fn finish_any(&mut self)
         requires kept { self.old.len ≤ 1025 }
@@ -163,7 +163,7 @@ impl Levels {
         }
     }
 
-    // The same, where the innermost is whole.
+    /// The same, where the innermost is whole.
     #[inline(never)]
     fn settle(&mut self)
         requires kept { self.old.len ≤ 1025 }

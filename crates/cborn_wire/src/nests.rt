@@ -69,7 +69,7 @@ impl Nest {
         self.take_more(limit, at, part, piece)
     }
 
-    // The same where there may be a part. It stands apart, since a head that has none would pay for its locals.
+    /// The same where there may be a part. It stands apart, since a head that has none would pay for its locals.
     #[inline(never)]
     fn take_more(
         &mut self,
@@ -104,7 +104,7 @@ impl Nest {
         }
     }
 
-    // A head, or the initial byte of one that ends behind the piece. The commonest, an integer that is its initial byte, is taken here, and any other apart.
+    /// A head, or the initial byte of one that ends behind the piece. The commonest, an integer that is its initial byte, is taken here, and any other apart.
     #[inline(always)]
     fn take_head(
         &mut self,
@@ -126,7 +126,7 @@ impl Nest {
         self.take_any_head(limit, at, piece)
     }
 
-    // The same of any head.
+    /// The same of any head.
     #[inline(always)]
     fn take_any_head(
         &mut self,
@@ -162,7 +162,7 @@ impl Nest {
         }
     }
 
-    // The next byte of an argument whose head began in an earlier piece: the first `len` of `bytes` came before.
+    /// The next byte of an argument whose head began in an earlier piece: the first `len` of `bytes` came before.
     #[inline(never)]
     fn take_argument(
         &mut self,
@@ -196,7 +196,7 @@ impl Nest {
         Ok((1, outcome))
     }
 
-    // The next bytes of a string of `len` bytes, of which these came before.
+    /// The next bytes of a string of `len` bytes, of which these came before.
     #[inline(never)]
     fn take_content(
         &mut self,
@@ -230,7 +230,7 @@ impl Nest {
         Ok((taken, outcome))
     }
 
-    // A whole head that stands at `place`, and ends at `at`.
+    /// A whole head that stands at `place`, and ends at `at`.
     #[inline(always)]
     fn put_head(&mut self, at: u64, place: u64, head: Head) -> Result<Outcome, WireFault>
         requires { ArgumentFits (seen_argument head.argument) }
@@ -250,7 +250,7 @@ impl Nest {
         self.put_in(at, Node { place, form })
     }
 
-    // A head of no integer. It stands apart, so that the integers, which are the most, pay nothing for it.
+    /// A head of no integer. It stands apart, so that the integers, which are the most, pay nothing for it.
     #[inline(never)]
     fn put_further_head(&mut self, at: u64, place: u64, head: Head) -> Result<Outcome, WireFault>
         requires further { 1 < head.major }
@@ -278,7 +278,7 @@ impl Nest {
         }
     }
 
-    // A head of major type 7: a simple value or the break.
+    /// A head of major type 7: a simple value or the break.
     fn put_simple_or_break(
         &mut self,
         at: u64,
@@ -309,7 +309,7 @@ impl Nest {
         }
     }
 
-    // Opens `frame` inside what is open.
+    /// Opens `frame` inside what is open.
     fn begin(&mut self, at: u64, frame: Frame) -> Result<Outcome, WireFault>
         ensures { Gives (Live at no_item (seen_frame frame ∷ opened self.old) nothing) at self.new result }
     {
@@ -389,7 +389,7 @@ impl Nest {
         )
     }
 
-    // A break.
+    /// A break.
     fn close(&mut self, at: u64) -> Result<Outcome, WireFault>
         ensures { Gives (ended at no_item (opened self.old)) at self.new result }
     {
@@ -409,7 +409,7 @@ impl Nest {
         }
     }
 
-    // A whole definite string: a chunk, or an item.
+    /// A whole definite string: a chunk, or an item.
     fn put_string(
         &mut self,
         at: u64,

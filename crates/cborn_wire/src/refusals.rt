@@ -28,7 +28,7 @@ impl Nest {
         self.refusal_in_order(limit, first)
     }
 
-    // The same for any initial byte. The tests stand in the order of the reasons.
+    /// The same for any initial byte. The tests stand in the order of the reasons.
     #[inline(never)]
     fn refusal_in_order(&self, limit: u64, first: u8) -> Option<WireReason>
         requires { AreBegun limit (opened self.now) }
@@ -57,7 +57,7 @@ impl Nest {
         None
     }
 
-    // In an indefinite string, neither a break nor a definite string of its kind.
+    /// In an indefinite string, neither a break nor a definite string of its kind.
     fn is_bad_chunk(&self, major: u8, information: u8) -> bool
         requires major { major < 8 }
         requires information { information < 32 }
@@ -75,7 +75,7 @@ impl Nest {
         }
     }
 
-    // An item has to stand here, and no break.
+    /// An item has to stand here, and no break.
     fn needs_item(&self) -> bool
         ensures { result ≡ needs_item (slot (opened self.now)) }
     {
@@ -85,7 +85,7 @@ impl Nest {
         }
     }
 
-    // How much is open.
+    /// How much is open.
     fn len(&self) -> u64
         ensures { result ≡ length (opened self.now) }
     {

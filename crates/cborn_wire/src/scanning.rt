@@ -65,7 +65,7 @@ impl Levels {
         self.take_any(limit, piece)
     }
 
-    // The same where an integer that is its initial byte comes first.
+    /// The same where an integer that is its initial byte comes first.
     #[inline(always)]
     fn take_small(&mut self, limit: u64, piece: &[u8]) -> Step
         requires kept { self.old.len ≤ 1025 }
@@ -87,7 +87,7 @@ impl Levels {
         Step::Taken(1)
     }
 
-    // Takes integers that are their initial bytes, where nothing is open, or an array that goes on behind them. Answers how many they are.
+    /// Takes integers that are their initial bytes, where nothing is open, or an array that goes on behind them. Answers how many they are.
     #[inline(always)]
     fn take_run(&mut self, piece: &[u8]) -> usize
         requires kept { self.old.len ≤ 1025 }
@@ -107,7 +107,7 @@ impl Levels {
         }
     }
 
-    // An indefinite string is open.
+    /// An indefinite string is open.
     #[inline(always)]
     fn is_chunked(&self) -> bool
         ensures { result ≡ false → IsNoChunk (slot_at (levels self.now)) }
@@ -115,7 +115,7 @@ impl Levels {
         matches!(self.top, Some(Level::Chunks(_)))
     }
 
-    // The same for any head.
+    /// The same for any head.
     #[inline(never)]
     fn take_any(&mut self, limit: u64, piece: &[u8]) -> Step
         requires kept { self.old.len ≤ 1025 }
@@ -142,7 +142,7 @@ impl Levels {
         }
     }
 
-    // Why a head with this initial byte may not stand here, as far as that byte tells.
+    /// Why a head with this initial byte may not stand here, as far as that byte tells.
     #[inline(always)]
     fn refusal(&self, limit: u64, first: u8) -> Option<WireReason>
         requires { self.now.len ≤ 1025 }
@@ -157,7 +157,7 @@ impl Levels {
         self.refusal_in_order(limit, first)
     }
 
-    // The same for any initial byte. The tests stand in the order of the reasons.
+    /// The same for any initial byte. The tests stand in the order of the reasons.
     #[inline(never)]
     fn refusal_in_order(&self, limit: u64, first: u8) -> Option<WireReason>
         requires { self.now.len ≤ 1025 }
@@ -186,7 +186,7 @@ impl Levels {
         None
     }
 
-    // In an indefinite string, neither a break nor a definite string of its kind.
+    /// In an indefinite string, neither a break nor a definite string of its kind.
     fn is_bad_chunk(&self, major: u8, information: u8) -> bool
         requires major { major < 8 }
         requires information { information < 32 }
@@ -204,7 +204,7 @@ impl Levels {
         }
     }
 
-    // An item has to stand here, and no break.
+    /// An item has to stand here, and no break.
     fn needs_item(&self) -> bool
         ensures { result ≡ needs_item (slot_at (levels self.now)) }
     {
@@ -214,7 +214,7 @@ impl Levels {
         }
     }
 
-    // A whole head, and the bytes of a string with it.
+    /// A whole head, and the bytes of a string with it.
     #[inline(always)]
     fn take_head(&mut self, head: Head)
         requires kept { self.old.len ≤ 1025 }
@@ -238,7 +238,7 @@ impl Levels {
     }
 }
 
-// How many bytes of a string follow its head.
+/// How many bytes of a string follow its head.
 #[inline(always)]
 fn content_len(head: Head) -> u64
     requires { head.major < 8 }
@@ -250,7 +250,7 @@ fn content_len(head: Head) -> u64
     }
 }
 
-// How many integers that are their initial bytes stand at the front, fewer than `below` if any.
+/// How many integers that are their initial bytes stand at the front, fewer than `below` if any.
 #[inline(always)]
 fn small_run(bytes: &[u8], below: u64) -> usize
     ensures len { result ≤ length bytes.now }

@@ -149,7 +149,7 @@ impl Stack {
     }
 }
 
-// Puts an item behind those that are ready. The most find room, and the others stand apart.
+/// Puts an item behind those that are ready. The most find room, and the others stand apart.
 #[inline(always)]
 fn keep(ready: &mut VecDeque<Spelled>, item: Spelled) -> Result<(), AllocError>
     ensures { Added ready.old.items item ready.new.items result }
@@ -161,7 +161,7 @@ fn keep(ready: &mut VecDeque<Spelled>, item: Spelled) -> Result<(), AllocError>
     Ok(())
 }
 
-// The same where there may be no room.
+/// The same where there may be no room.
 #[inline(never)]
 fn keep_growing(ready: &mut VecDeque<Spelled>, item: Spelled) -> Result<(), AllocError>
     ensures { Added ready.old.items item ready.new.items result }
