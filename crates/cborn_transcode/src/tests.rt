@@ -2,6 +2,7 @@
 //! refused.
 //! An answer of none meets the contract everywhere, so a form that is forgotten shows here alone.
 
+mod great_maps;
 mod maps;
 mod refusals;
 
