@@ -9,7 +9,8 @@ use Rattle.cborn_model.specs.declared.heads.Size.{Size}
 use Rattle.cborn_model.specs.declared.heads.Size.TheVariants.{Fixed, Endless as Unending}
 use Rattle.cborn_model.specs.declared.nodes.Chunk.{Chunk}
 use Rattle.cborn_model.specs.Tree.{Tree, Uint, Nint, Bytes as ByteNode, Text as TextNode, ByteChunks, TextChunks, Items, Pairs as PairNode, Tagged, Simple, Trees, no_item as no_node, more, Entries, no_entry, entry, count, count_entries, depth as node_depth, depth_all, depth_entries}
-use Rattle.cborn_model.specs.Heads.{holds, following, least, WidthFits, SizeFits, ByteString, TextString}
+use Rattle.cborn_model.specs.declared.heads.Major.TheVariants.{ByteString, TextString}
+use Rattle.cborn_model.specs.Heads.{holds, following, least, WidthFits, SizeFits}
 use Rattle.cborn_model.specs.Spelled.{ChunksFit, Fits, FitsAll, FitsEntries, spelled, spelled_all, spelled_entries, chunk_bytes}
 use Rattle.cborn_lex.specs.declared.classes.Mark.{Mark}
 use Rattle.cborn_lex.specs.declared.classes.Mark.TheVariants.{Absent, Endless, Wide}

@@ -10,7 +10,9 @@ use Rattle.cborn_model.specs.declared.heads.Size.{Size}
 use Rattle.cborn_model.specs.declared.heads.Size.TheVariants.{Fixed, Endless as Unending}
 use Rattle.cborn_model.specs.declared.nodes.Chunk.{Chunk}
 use Rattle.cborn_model.specs.Bytes.{AreBytes}
-use Rattle.cborn_model.specs.Heads.{Major, ByteString, TextString, Array, Map, Tag, Unsigned, Negative, Other, Argument, Given, Unbounded, head, argument}
+use Rattle.cborn_model.specs.declared.heads.Major.{Major}
+use Rattle.cborn_model.specs.declared.heads.Major.TheVariants.{ByteString, TextString, Array, Map, Tag, Unsigned, Negative, Other}
+use Rattle.cborn_model.specs.Heads.{Argument, Given, Unbounded, head, argument}
 use Rattle.cborn_model.specs.Tree.{Tree, Uint, Nint, Bytes as ByteNode, Items, Pairs as PairNode, Tagged, Simple, Trees, no_item as no_node, more, Entries, no_entry, entry, count, count_entries}
 use Rattle.cborn_model.specs.Spelled.{ending, chunk_bytes, simple_width, spelled, spelled_all, spelled_entries}
 use Rattle.cborn_lex.specs.declared.classes.Profile.{Profile}

@@ -4,15 +4,38 @@ use Rattle.std.proofs.lemmas.List.{drop-drop}
 use Rattle.std.specs.Str.{is_utf8}
 use Rattle.cborn_model.specs.declared.heads.Width.{Width}
 use Rattle.cborn_model.specs.declared.heads.Width.TheVariants.{Direct}
-use Rattle.cborn_model.specs.Heads.{Major, Unsigned, Negative, ByteString, TextString, Array, Map, Tag, Other, Argument, Given, Unbounded, head, code, information, WidthFits}
+use Rattle.cborn_model.specs.declared.heads.Major.{Major}
+use Rattle.cborn_model.specs.declared.heads.Major.TheVariants.{Unsigned, Negative, ByteString, TextString, Array, Map, Tag, Other}
+use Rattle.cborn_model.specs.Heads.{Argument, Given, Unbounded, head, code, information, WidthFits}
+use Rattle.cborn_model.proofs.Majors.{major_at-code}
 use Rattle.cborn_model.proofs.OneHead.{one_head}
 use Rattle.cborn_wire.specs.declared.heads.Head.{Head}
 use Rattle.cborn_wire.specs.HeadReading.{major_at, IsHeadOf, seen_argument, ArgumentFits}
 use Rattle.cborn_wire.specs.Scanning.{content_of}
-use Rattle.cborn_wire.proofs.TakesHeads.{major_at-code}
 use Rattle.cborn_show.specs.declared.bad_texts.Look.TheVariants.{Passed}
 use Rattle.cborn_show.specs.Pieces.{Piece, PieceFits, piece_bytes, IsBadPiece, all_bytes, AllFit, BadAt, IsFirstBad, Looks, Remaining}
 use Rattle.cborn_show.proofs.Heading.{head_split}
+
+-- Only a definite string has content.
+pub endless_content : (m : Major) → content_of m Unbounded ≡ 0
+endless_content Unsigned = refl
+endless_content Negative = refl
+endless_content ByteString = refl
+endless_content TextString = refl
+endless_content Array = refl
+endless_content Map = refl
+endless_content Tag = refl
+endless_content Other = refl
+
+pub no_content : (m : Major) (w : Width) (n : ℕ) → (m ≡ ByteString → ⊥) → (m ≡ TextString → ⊥) → content_of m (Given w n) ≡ 0
+no_content Unsigned w n f g = refl
+no_content Negative w n f g = refl
+no_content ByteString w n f g = absurd (f refl)
+no_content TextString w n f g = absurd (g refl)
+no_content Array w n f g = refl
+no_content Map w n f g = refl
+no_content Tag w n f g = refl
+no_content Other w n f g = refl
 
 -- two heads at the front of one list
 record SameHead (m j : Major) (a b : Argument) (r s : List ℕ) : Type 0 where

@@ -4,7 +4,9 @@ use Rattle.std.specs.List.{flat_map}
 use Rattle.cborn_model.specs.declared.heads.Width.{Width}
 use Rattle.cborn_model.specs.declared.heads.Size.TheVariants.{Fixed, Endless}
 use Rattle.cborn_model.specs.declared.nodes.Chunk.{Chunk}
-use Rattle.cborn_model.specs.Heads.{Major, Unsigned, Negative, ByteString, TextString, Array, Map, Tag, Other, Given, Unbounded, head, WidthFits}
+use Rattle.cborn_model.specs.declared.heads.Major.{Major}
+use Rattle.cborn_model.specs.declared.heads.Major.TheVariants.{Unsigned, Negative, ByteString, TextString, Array, Map, Tag, Other}
+use Rattle.cborn_model.specs.Heads.{Given, Unbounded, head, WidthFits}
 use Rattle.cborn_model.specs.Spelled.{spelled, spelled_all, spelled_entries, Fits, FitsAll, FitsEntries, chunk_bytes, ending}
 use Rattle.cborn_model.specs.Tree.{Tree, Uint, Nint, Bytes, Text, ByteChunks, TextChunks, Items, Pairs, Tagged, Simple, trees, entries, depth, depth_all, depth_entries, count, count_entries}
 use Rattle.cborn_model.proofs.Trees.{count-trees, count_entries-entries}
@@ -16,21 +18,21 @@ use Rattle.cborn_wire.specs.declared.heads.Argument.{Argument}
 use Rattle.cborn_wire.specs.declared.heads.Argument.TheVariants as arguments
 use Rattle.cborn_wire.specs.declared.heads.Head.{Head}
 use Rattle.cborn_wire.specs.HeadReading.{major_at, IsHeadOf, seen_argument, ArgumentFits}
-use Rattle.cborn_show.specs.Passed.{StringShown, LongStringShown, SimpleShown, NodeShown, NodeLeaves, NextShown, NodesShown, PairShown, PairsShown, shown_pair, signed}
+use Rattle.cborn_show.specs.Passed.{StringShown, LongStringShown, SimpleShown, NodeShown, NodeLeaves, NextShown, NodesShown, PairShown, PairsShown, shown_pair, signed, integer_major}
 use Rattle.cborn_show.proofs.Heading.{head_split}
 
-module _ (room : ℕ) (x tail old new : List ℕ) (left : ℕ) (h : Head) (n major : ℕ) (a : Argument) where
+module _ (room : ℕ) (x tail old new : List ℕ) (left : ℕ) (h : Head) (n : ℕ) (m : Major) (a : Argument) where
   -- what is behind the head is an item's contents
-  pub inside : tail ≡ drop n x → IsHeadOf x h n → h.major ≡ major → h.argument ≡ a
-      → (ArgumentFits (seen_argument a) → NodeLeaves room (head (major_at major) (seen_argument a) ++ tail) left old new)
+  pub inside : tail ≡ drop n x → IsHeadOf x h n → major_at h.major ≡ m → h.argument ≡ a
+      → (ArgumentFits (seen_argument a) → NodeLeaves room (head m (seen_argument a) ++ tail) left old new)
       → NodeLeaves room x left old new
   inside t i e f done =
-      let split : x ≡ head (major_at major) (seen_argument a) ++ tail = head_split x h n i ∙ (λ j. head (major_at (e j)) (seen_argument (f j)) ++ sym t j) in
+      let split : x ≡ head m (seen_argument a) ++ tail = head_split x h n i ∙ (λ j. head (e j) (seen_argument (f j)) ++ sym t j) in
       subst (λ (y : List ℕ). NodeLeaves room y left old new) (sym split) (done (subst (λ (b : Argument). ArgumentFits (seen_argument b)) f i.fits))
 
   -- the head is the whole item
-  pub alone : tail ≡ drop n x → IsHeadOf x h n → h.major ≡ major → h.argument ≡ a → length tail ≡ left
-      → (ArgumentFits (seen_argument a) → NodeShown room (head (major_at major) (seen_argument a) ++ tail) tail old new)
+  pub alone : tail ≡ drop n x → IsHeadOf x h n → major_at h.major ≡ m → h.argument ≡ a → length tail ≡ left
+      → (ArgumentFits (seen_argument a) → NodeShown room (head m (seen_argument a) ++ tail) tail old new)
       → NodeLeaves room x left old new
   alone t i e f l done = inside t i e f (λ fits. (tail, l, done fits))
 
@@ -79,26 +81,25 @@ module _ (room : ℕ) where
   simple_done a rest old new s = record { node = Simple 0 s.0; read = ap (λ (b : Argument). head Other (seen_argument b) ++ rest) s.1; fits = s.2; shallow = omega arith; showable = tt; written = s.3 }
 
 -- an integer, behind what stands before it
-pub next_leaving : (x tail : List ℕ) (h : Head) (len index n left : ℕ) (w : Width) (below : Bool) (old new : List ℕ) → tail ≡ drop len x → IsHeadOf x h len → h.major ≤ 1 → below ≡ (h.major == 1) → h.argument ≡ arguments.Given w n
+pub next_leaving : (x tail : List ℕ) (h : Head) (len index n left : ℕ) (w : Width) (below : Bool) (old new : List ℕ) → tail ≡ drop len x → IsHeadOf x h len → major_at h.major ≡ integer_major below → h.argument ≡ arguments.Given w n
     → new ≡ old ++ (between (codes ", ") index ++ (signed below n ++ indicator (mark_for w n))) → length tail ≡ left
     → (rest : List ℕ) × (length rest ≡ left) × ((room : ℕ) → NextShown room index x rest old new)
-next_leaving x tail h len index n left w below old new t i l b f e s = (tail, s, λ room. go room h.major refl)
+next_leaving x tail h len index n left w below old new t i b f e s = (tail, s, λ room. go room below b e)
   where
     fits : WidthFits w n
     fits = subst (λ (a : Argument). ArgumentFits (seen_argument a)) f i.fits
 
-    split : (m : ℕ) → h.major ≡ m → x ≡ head (major_at m) (Given w n) ++ tail
-    split m q = head_split x h len i ∙ (λ j. head (major_at (q j)) (seen_argument (f j)) ++ sym t j)
+    split : (m : Major) → major_at h.major ≡ m → x ≡ head m (Given w n) ++ tail
+    split m q = head_split x h len i ∙ (λ j. head (q j) (seen_argument (f j)) ++ sym t j)
 
-    text : (m : ℕ) → h.major ≡ m → new ≡ (old ++ between (codes ", ") index) ++ (signed (m == 1) n ++ indicator (mark_for w n))
-    text m q = e ∙ sym (append_assoc old (between (codes ", ") index) (signed below n ++ indicator (mark_for w n))) ∙ ap (λ (s : Bool). (old ++ between (codes ", ") index) ++ (signed s n ++ indicator (mark_for w n))) (b ∙ ap (λ k. k == 1) q)
+    text : (s : Bool) → new ≡ old ++ (between (codes ", ") index ++ (signed s n ++ indicator (mark_for w n))) → new ≡ (old ++ between (codes ", ") index) ++ (signed s n ++ indicator (mark_for w n))
+    text s e = e ∙ sym (append_assoc old (between (codes ", ") index) (signed s n ++ indicator (mark_for w n)))
 
-    go : (room m : ℕ) → h.major ≡ m → NextShown room index x tail old new
-    go room zero q = subst (λ (y : List ℕ). NodeShown room y tail (old ++ between (codes ", ") index) new) (sym (split 0 q)) (uint_done room w n tail (old ++ between (codes ", ") index) new fits (text 0 q))
-    go room (suc zero) q =
-        subst (λ (y : List ℕ). NodeShown room y tail (old ++ between (codes ", ") index) new) (sym (split 1 q))
-        (nint_done room w n tail (old ++ between (codes ", ") index) new fits (text 1 q ∙ ap (λ y. (old ++ between (codes ", ") index) ++ y) (append_assoc (codes "-") (decimal (suc n)) (indicator (mark_for w n)))))
-    go room (suc (suc k)) q = absurd (omega (arith, l, q))
+    go : (room : ℕ) (s : Bool) → major_at h.major ≡ integer_major s → new ≡ old ++ (between (codes ", ") index ++ (signed s n ++ indicator (mark_for w n))) → NextShown room index x tail old new
+    go room false q e = subst (λ (y : List ℕ). NodeShown room y tail (old ++ between (codes ", ") index) new) (sym (split Unsigned q)) (uint_done room w n tail (old ++ between (codes ", ") index) new fits (text false e))
+    go room true q e =
+        subst (λ (y : List ℕ). NodeShown room y tail (old ++ between (codes ", ") index) new) (sym (split Negative q))
+        (nint_done room w n tail (old ++ between (codes ", ") index) new fits (text true e ∙ ap (λ y. (old ++ between (codes ", ") index) ++ y) (append_assoc (codes "-") (decimal (suc n)) (indicator (mark_for w n)))))
 
 -- ---- one after another
 

@@ -7,7 +7,9 @@ use Rattle.cborn_model.specs.declared.heads.Width.{Width}
 use Rattle.cborn_model.specs.declared.heads.Size.{Size}
 use Rattle.cborn_model.specs.declared.heads.Size.TheVariants.{Fixed, Endless}
 use Rattle.cborn_model.specs.declared.nodes.Chunk.{Chunk}
-use Rattle.cborn_model.specs.Heads.{Major, Unsigned, Negative, ByteString, TextString, Array, Map, Tag, Other, Argument, Given, Unbounded, head, argument, SizeFits}
+use Rattle.cborn_model.specs.declared.heads.Major.{Major}
+use Rattle.cborn_model.specs.declared.heads.Major.TheVariants.{Unsigned, Negative, ByteString, TextString, Array, Map, Tag, Other}
+use Rattle.cborn_model.specs.Heads.{Argument, Given, Unbounded, head, argument, SizeFits}
 use Rattle.cborn_model.specs.Placed.{Placed, PlacedAll, PlacedEntries, ChunksPlaced}
 use Rattle.cborn_model.specs.Spelled.{spelled, spelled_all, spelled_entries, Fits, FitsAll, FitsEntries, ChunksFit, chunk_bytes, ending, simple_width, Wellformed}
 use Rattle.cborn_model.specs.Tree.{Tree, Uint, Nint, Bytes, Text, ByteChunks, TextChunks, Items, Pairs, Tagged, Simple, Trees, no_item, more, Entries, no_entry, entry, count, count_entries}

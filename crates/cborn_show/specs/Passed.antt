@@ -7,7 +7,9 @@ use Rattle.std.specs.Str.{is_utf8}
 use Rattle.cborn_model.specs.declared.heads.Width.{Width}
 use Rattle.cborn_model.specs.declared.nodes.Chunk.{Chunk}
 use Rattle.cborn_model.specs.Bytes.{AreBytes}
-use Rattle.cborn_model.specs.Heads.{Major, ByteString, TextString, WidthFits}
+use Rattle.cborn_model.specs.declared.heads.Major.{Major}
+use Rattle.cborn_model.specs.declared.heads.Major.TheVariants.{Unsigned, Negative, ByteString, TextString}
+use Rattle.cborn_model.specs.Heads.{WidthFits}
 use Rattle.cborn_model.specs.Placed.{PlacedAll}
 use Rattle.cborn_model.specs.Spelled.{Wellformed, spelled, spelled_all, spelled_entries, Fits, FitsAll, FitsEntries, ChunksFit, chunk_bytes, simple_width}
 use Rattle.cborn_model.specs.Tree.{Tree, trees, entries, depth, depth_all, depth_entries, Simple}
@@ -23,6 +25,11 @@ use Rattle.cborn_wire.specs.declared.heads.Argument.TheVariants as arguments
 abbrev pub kind_of : Bool → StringKind
 kind_of true = OfText
 kind_of false = OfBytes
+
+-- the major type of an integer: that of those below zero where true
+abbrev pub integer_major : Bool → Major
+integer_major true = Negative
+integer_major false = Unsigned
 
 abbrev pub major_of : Bool → Major
 major_of true = TextString

@@ -1,7 +1,9 @@
 -- Well-formed bytes as pieces that say nothing of what holds what: heads, each with the content of a definite string.
 use Rattle.std.specs.Prelude.{◌≡◌, ℕ, ◌+◌, ◌<◌, ◌≤◌, ◌⊎◌, List, [], ◌∷◌, ◌++◌, length, false}
 use Rattle.std.specs.Str.{is_utf8}
-use Rattle.cborn_model.specs.Heads.{Major, TextString, Argument, head}
+use Rattle.cborn_model.specs.declared.heads.Major.{Major}
+use Rattle.cborn_model.specs.declared.heads.Major.TheVariants.{TextString}
+use Rattle.cborn_model.specs.Heads.{Argument, head}
 use Rattle.cborn_wire.specs.HeadReading.{ArgumentFits}
 use Rattle.cborn_wire.specs.Scanning.{content_of}
 use Rattle.cborn_show.specs.declared.bad_texts.Look.{Look}

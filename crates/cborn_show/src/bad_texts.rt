@@ -2,7 +2,7 @@
 
 ghost use Rattle.std.specs.Prelude.{◌≡◌, ◌<◌, ◌≤◌, ◌++◌, ℕ, List, length, false, IfSome, MatchBool};
 ghost use Rattle.std.specs.Str.{is_utf8};
-ghost use Rattle.cborn_model.specs.Heads.{TextString};
+ghost use Rattle.cborn_model.specs.declared.heads.Major.TheVariants.{TextString};
 ghost use Rattle.cborn_model.specs.Placed.{PlacedAll};
 ghost use Rattle.cborn_model.specs.Spelled.{Wellformed};
 ghost use Rattle.cborn_model.specs.Tree.{Trees};
@@ -12,6 +12,7 @@ ghost use Rattle.cborn_wire.specs.Scanning.{content_of};
 ghost use Rattle.cborn_show.specs.Pieces.{Piece, PieceFits, piece_bytes, Looks, Steps, all_bytes, AllFit, IsFirstBad};
 
 use crate::leaves::is_text;
+use cborn_model::Major;
 use cborn_wire::{Argument, Head, HeadRead, read_head};
 
 /// The place of the first text string, or chunk of one, that isn't UTF-8, of well-formed bytes: its offset in bytes from
@@ -63,7 +64,7 @@ pub(crate) fn look_at(bytes: &[u8]) -> Look
         return Look::Ended;
     }
     let (content, _) = rest.split_at(count as usize);
-    if is_bad(head.major, content) {
+    if is_bad(head.major_type(), content) {
         return Look::NotUtf8;
     }
     Look::Passed(len + count as usize)
@@ -71,21 +72,24 @@ pub(crate) fn look_at(bytes: &[u8]) -> Look
 
 /// The content of a string of this major type is a text that isn't UTF-8.
 #[inline(always)]
-fn is_bad(major: u8, content: &[u8]) -> bool
-    requires { major < 8 }
-    ensures { MatchBool result ((major_at major ≡ TextString) × (is_utf8 content.now ≡ false)) (major_at major ≡ TextString → is_utf8 content.now ≡ false → ⊥) }
+fn is_bad(major: Major, content: &[u8]) -> bool
+    ensures { MatchBool result ((major ≡ TextString) × (is_utf8 content.now ≡ false)) (major ≡ TextString → is_utf8 content.now ≡ false → ⊥) }
 {
-    major == 3 && !is_text(content)
+    major == Major::TextString && !is_text(content)
 }
 
 /// How many bytes of a string follow its head.
 #[inline(always)]
+#[tactic(auto, using(crate::proofs::Looking::endless_content, crate::proofs::Looking::no_content))]
 fn content_len(head: Head) -> u64
-    requires { head.major < 8 }
     ensures { result ≡ content_of (major_at head.major) (seen_argument head.argument) }
 {
-    match (head.major, head.argument) {
-        (2 | 3, Argument::Given(_, count)) => count,
-        _ => 0,
+    match head.argument {
+        Argument::Given(_, count) => match head.major_type() {
+            Major::ByteString => count,
+            Major::TextString => count,
+            _ => 0,
+        },
+        Argument::Endless => 0,
     }
 }

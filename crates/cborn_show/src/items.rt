@@ -1,14 +1,15 @@
 //! Items, one after another and inside one another.
 
 ghost use Rattle.std.specs.Prelude.{◌≡◌, ◌≢◌, ◌≤◌, ◌++◌, ℕ, List, length, false, codes, OnSome, IfSome};
-ghost use Rattle.cborn_model.specs.Heads.{Array, Map, Tag, Given, Unbounded, head, WidthFits};
+ghost use Rattle.cborn_model.specs.declared.heads.Major.TheVariants.{Array, Map, Tag};
+ghost use Rattle.cborn_model.specs.Heads.{Given, Unbounded, head, WidthFits};
 ghost use Rattle.cborn_edn.specs.Shown.{mark_for, opened};
-ghost use Rattle.cborn_show.specs.Passed.{NodeShown, NodeLeaves, NextShown, NodesShown, PairShown, PairsShown};
+ghost use Rattle.cborn_show.specs.Passed.{NodeShown, NodeLeaves, NextShown, NodesShown, PairShown, PairsShown, integer_major};
 
 use crate::leaves::{behind_break, put_long_string_leaving, put_simple, put_string_leaving};
 use crate::numbers::{put_below, put_between, put_indicator, put_next_number, put_number};
 use crate::prospects::Outlook;
-use cborn_model::{Width, shortest};
+use cborn_model::{Major, Width, shortest};
 use cborn_wire::{Argument, HeadRead, read_head};
 use std::alloc::Global;
 
@@ -58,32 +59,32 @@ fn put_node(
         return None;
     };
     let rest = &bytes[len..];
+    let major = head.major_type();
     match head.argument {
-        Argument::Given(width, n) => match head.major {
-            0 => {
+        Argument::Given(width, n) => match major {
+            Major::Unsigned => {
                 put_number(width, n, out)?;
                 Some(rest.len())
             }
-            1 => {
+            Major::Negative => {
                 put_below(width, n, out)?;
                 Some(rest.len())
             }
-            2 => put_string_leaving(alloc, false, width, n, rest, out),
-            3 => put_string_leaving(alloc, true, width, n, rest, out),
-            4 => put_fixed_array(alloc, room, outlook, width, n, rest, out),
-            5 => put_fixed_map(alloc, room, outlook, width, n, rest, out),
-            6 => put_tagged(alloc, room, outlook, width, n, rest, out),
-            7 => {
+            Major::ByteString => put_string_leaving(alloc, false, width, n, rest, out),
+            Major::TextString => put_string_leaving(alloc, true, width, n, rest, out),
+            Major::Array => put_fixed_array(alloc, room, outlook, width, n, rest, out),
+            Major::Map => put_fixed_map(alloc, room, outlook, width, n, rest, out),
+            Major::Tag => put_tagged(alloc, room, outlook, width, n, rest, out),
+            Major::Other => {
                 put_simple(head.argument, out)?;
                 Some(rest.len())
             }
-            _ => None,
         },
-        Argument::Endless => match head.major {
-            2 => put_long_string_leaving(alloc, false, rest, out),
-            3 => put_long_string_leaving(alloc, true, rest, out),
-            4 => put_endless_array(alloc, room, outlook, rest, out),
-            5 => put_endless_map(alloc, room, outlook, rest, out),
+        Argument::Endless => match major {
+            Major::ByteString => put_long_string_leaving(alloc, false, rest, out),
+            Major::TextString => put_long_string_leaving(alloc, true, rest, out),
+            Major::Array => put_endless_array(alloc, room, outlook, rest, out),
+            Major::Map => put_endless_map(alloc, room, outlook, rest, out),
             _ => None,
         },
     }
@@ -223,12 +224,22 @@ fn put_next_leaving(index: u64, bytes: &[u8], out: &mut Vec<u8>) -> Option<usize
     let Argument::Given(width, n) = head.argument else {
         return None;
     };
-    if head.major > 1 {
-        return None;
-    }
+    let below = is_below(head.major_type())?;
     let rest = &bytes[len..];
-    put_next_number(index, head.major == 1, width, n, out)?;
+    put_next_number(index, below, width, n, out)?;
     Some(rest.len())
+}
+
+/// Whether integers of the major type are below zero. None where it is of no integers.
+#[inline(always)]
+fn is_below(major: Major) -> Option<bool>
+    ensures { IfSome result (λ below. major ≡ integer_major below) }
+{
+    match major {
+        Major::Unsigned => Some(false),
+        Major::Negative => Some(true),
+        _ => None,
+    }
 }
 
 /// Whether no more is to be taken: all that there may be is taken, or a break ends it.

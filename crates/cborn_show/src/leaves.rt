@@ -4,12 +4,12 @@ ghost use Rattle.std.specs.Prelude.{◌≡◌, ◌<◌, ◌/◌, ◌%◌, ◌++�
 ghost use Rattle.std.specs.Str.{is_utf8};
 ghost use Rattle.hex.specs.Hex.{encode_lower, lower_digits};
 ghost use Rattle.cborn_edn.specs.Shown.{shown_chunks};
-ghost use Rattle.cborn_wire.specs.HeadReading.{major_at, ArgumentFits, seen_argument};
+ghost use Rattle.cborn_wire.specs.HeadReading.{ArgumentFits, seen_argument};
 ghost use Rattle.cborn_show.specs.Passed.{StringShown, ChunkShown, ChunksShown, LongStringShown, SimpleShown, kind_of, major_of, shown_content};
 
 use crate::numbers::put_indicator;
 use cborn_edn::{push_between, push_escaped, push_simple};
-use cborn_model::Width;
+use cborn_model::{Major, Width};
 use cborn_wire::{Argument, HeadRead, read_head};
 use std::alloc::Global;
 
@@ -248,7 +248,7 @@ fn put_chunk<'a>(alloc: Global, text: bool, bytes: &'a [u8], out: &mut Vec<u8>) 
     let HeadRead::Full(head, len) = read_head(bytes) else {
         return None;
     };
-    if !is_string(text, head.major) {
+    if !is_string(text, head.major_type()) {
         return None;
     }
     match head.argument {
@@ -258,10 +258,14 @@ fn put_chunk<'a>(alloc: Global, text: bool, bytes: &'a [u8], out: &mut Vec<u8>) 
 }
 
 /// The major type is that of these strings.
-fn is_string(text: bool, major: u8) -> bool
-    ensures { IsTrue result → major_at major ≡ major_of text }
+fn is_string(text: bool, major: Major) -> bool
+    ensures { IsTrue result → major ≡ major_of text }
 {
-    if text { major == 3 } else { major == 2 }
+    if text {
+        major == Major::TextString
+    } else {
+        major == Major::ByteString
+    }
 }
 
 /// A simple value.

@@ -1,4 +1,5 @@
-use Rattle.std.proofs.Common.{rules, ◌++◌, List, ◌≢◌, ◌-◌, refl, ℕ, codes, subst, arith}
+use Rattle.cborn_model.specs.declared.heads.Major.TheVariants.{Unsigned, Negative, ByteString, TextString, Array, Map, Tag, Other}
+use Rattle.std.proofs.Common.{rules, ◌++◌, List, ◌≢◌, ◌-◌, refl, ℕ, codes, subst, arith, sym, ◌∙◌}
 use Rattle.std.proofs.lemmas.List.{take_rest}
 use Rattle.cborn_wire.specs.declared.heads.Argument.TheVariants.{Given, Endless}
 use Rattle.cborn_show.specs.Passed.{NodeShown, NodesShown, PairsShown}
@@ -13,69 +14,69 @@ put_item-returns t c =
     (λ rest e. item_last c.args.room c.args.bytes.now rest.now c.args.out.now.items c.put_node.new.out.items c.in_ok-left.left c.in_ok-left.ensures e)
     c.last.ensures
 
-pub put_node-returns-in_ok-put_number-in-0 : goal.put_node-returns-in_ok-put_number-in-0
-put_node-returns-in_ok-put_number-in-0 t c =
-    alone c.args.room c.args.bytes.now _ c.args.out.now.items c.put_number.new.out.items _ c.in-Full.head c.in-Full.len 0 (Given c.in-Given.width c.in-Given.n) (take_rest c.args.bytes.now c.in-Full.len) c.in-Full.ensures c.in-0.is c.in-Given.is (search rules)
-    (λ fits. uint_done c.args.room c.in-Given.width c.in-Given.n _ c.args.out.now.items c.put_number.new.out.items fits c.in_ok-put_number-in-0.ensures)
+pub put_node-returns-in_ok-put_number-in-Unsigned : goal.put_node-returns-in_ok-put_number-in-Unsigned
+put_node-returns-in_ok-put_number-in-Unsigned t c =
+    alone c.args.room c.args.bytes.now _ c.args.out.now.items c.put_number.new.out.items _ c.in-Full.head c.in-Full.len Unsigned (Given c.in-Given.width c.in-Given.n) (take_rest c.args.bytes.now c.in-Full.len) c.in-Full.ensures (sym c.major_type-major.ensures ∙ c.in-Unsigned.is) c.in-Given.is (search rules)
+    (λ fits. uint_done c.args.room c.in-Given.width c.in-Given.n _ c.args.out.now.items c.put_number.new.out.items fits c.in_ok-put_number-in-Unsigned.ensures)
 
-pub put_node-returns-in_ok-put_below-in-1 : goal.put_node-returns-in_ok-put_below-in-1
-put_node-returns-in_ok-put_below-in-1 t c =
-    alone c.args.room c.args.bytes.now _ c.args.out.now.items c.put_below.new.out.items _ c.in-Full.head c.in-Full.len 1 (Given c.in-Given.width c.in-Given.n) (take_rest c.args.bytes.now c.in-Full.len) c.in-Full.ensures c.in-1.is c.in-Given.is (search rules)
-    (λ fits. nint_done c.args.room c.in-Given.width c.in-Given.n _ c.args.out.now.items c.put_below.new.out.items fits c.in_ok-put_below-in-1.ensures)
+pub put_node-returns-in_ok-put_below-in-Negative : goal.put_node-returns-in_ok-put_below-in-Negative
+put_node-returns-in_ok-put_below-in-Negative t c =
+    alone c.args.room c.args.bytes.now _ c.args.out.now.items c.put_below.new.out.items _ c.in-Full.head c.in-Full.len Negative (Given c.in-Given.width c.in-Given.n) (take_rest c.args.bytes.now c.in-Full.len) c.in-Full.ensures (sym c.major_type-major.ensures ∙ c.in-Negative.is) c.in-Given.is (search rules)
+    (λ fits. nint_done c.args.room c.in-Given.width c.in-Given.n _ c.args.out.now.items c.put_below.new.out.items fits c.in_ok-put_below-in-Negative.ensures)
 
-pub put_node-returns-in-2 : goal.put_node-returns-in-2
-put_node-returns-in-2 t c =
+pub put_node-returns-in-ByteString : goal.put_node-returns-in-ByteString
+put_node-returns-in-ByteString t c =
     under c.put_string_leaving.result
-    (λ left s. inside c.args.room c.args.bytes.now _ c.args.out.now.items c.put_string_leaving.new.out.items left c.in-Full.head c.in-Full.len 2 (Given c.in-Given.width c.in-Given.n) (take_rest c.args.bytes.now c.in-Full.len) c.in-Full.ensures c.in-2.is c.in-Given.is
+    (λ left s. inside c.args.room c.args.bytes.now _ c.args.out.now.items c.put_string_leaving.new.out.items left c.in-Full.head c.in-Full.len ByteString (Given c.in-Given.width c.in-Given.n) (take_rest c.args.bytes.now c.in-Full.len) c.in-Full.ensures (sym c.major_type-major.ensures ∙ c.in-ByteString.is) c.in-Given.is
     (λ fits. (s.0, s.1, bytes_done c.args.room c.in-Given.width c.in-Given.n _ s.0 c.args.out.now.items c.put_string_leaving.new.out.items fits s.2)))
     c.put_string_leaving.ensures
 
-pub put_node-returns-in-3 : goal.put_node-returns-in-3
-put_node-returns-in-3 t c =
-    under c.put_string_leaving-in-3.result
-    (λ left s. inside c.args.room c.args.bytes.now _ c.args.out.now.items c.put_string_leaving-in-3.new.out.items left c.in-Full.head c.in-Full.len 3 (Given c.in-Given.width c.in-Given.n) (take_rest c.args.bytes.now c.in-Full.len) c.in-Full.ensures c.in-3.is c.in-Given.is
-    (λ fits. (s.0, s.1, text_done c.args.room c.in-Given.width c.in-Given.n _ s.0 c.args.out.now.items c.put_string_leaving-in-3.new.out.items fits s.2)))
-    c.put_string_leaving-in-3.ensures
+pub put_node-returns-in-TextString : goal.put_node-returns-in-TextString
+put_node-returns-in-TextString t c =
+    under c.put_string_leaving-in-TextString.result
+    (λ left s. inside c.args.room c.args.bytes.now _ c.args.out.now.items c.put_string_leaving-in-TextString.new.out.items left c.in-Full.head c.in-Full.len TextString (Given c.in-Given.width c.in-Given.n) (take_rest c.args.bytes.now c.in-Full.len) c.in-Full.ensures (sym c.major_type-major.ensures ∙ c.in-TextString.is) c.in-Given.is
+    (λ fits. (s.0, s.1, text_done c.args.room c.in-Given.width c.in-Given.n _ s.0 c.args.out.now.items c.put_string_leaving-in-TextString.new.out.items fits s.2)))
+    c.put_string_leaving-in-TextString.ensures
 
-pub put_node-returns-in-4 : goal.put_node-returns-in-4
-put_node-returns-in-4 t c =
+pub put_node-returns-in-Array : goal.put_node-returns-in-Array
+put_node-returns-in-Array t c =
     under c.put_fixed_array.result
-    (λ left s. inside c.args.room c.args.bytes.now _ c.args.out.now.items c.put_fixed_array.new.out.items left c.in-Full.head c.in-Full.len 4 (Given c.in-Given.width c.in-Given.n) (take_rest c.args.bytes.now c.in-Full.len) c.in-Full.ensures c.in-4.is c.in-Given.is
+    (λ left s. inside c.args.room c.args.bytes.now _ c.args.out.now.items c.put_fixed_array.new.out.items left c.in-Full.head c.in-Full.len Array (Given c.in-Given.width c.in-Given.n) (take_rest c.args.bytes.now c.in-Full.len) c.in-Full.ensures (sym c.major_type-major.ensures ∙ c.in-Array.is) c.in-Given.is
     (λ fits. s fits))
     c.put_fixed_array.ensures
 
-pub put_node-returns-in-5 : goal.put_node-returns-in-5
-put_node-returns-in-5 t c =
+pub put_node-returns-in-Map : goal.put_node-returns-in-Map
+put_node-returns-in-Map t c =
     under c.put_fixed_map.result
-    (λ left s. inside c.args.room c.args.bytes.now _ c.args.out.now.items c.put_fixed_map.new.out.items left c.in-Full.head c.in-Full.len 5 (Given c.in-Given.width c.in-Given.n) (take_rest c.args.bytes.now c.in-Full.len) c.in-Full.ensures c.in-5.is c.in-Given.is
+    (λ left s. inside c.args.room c.args.bytes.now _ c.args.out.now.items c.put_fixed_map.new.out.items left c.in-Full.head c.in-Full.len Map (Given c.in-Given.width c.in-Given.n) (take_rest c.args.bytes.now c.in-Full.len) c.in-Full.ensures (sym c.major_type-major.ensures ∙ c.in-Map.is) c.in-Given.is
     (λ fits. s fits))
     c.put_fixed_map.ensures
 
-pub put_node-returns-in-6 : goal.put_node-returns-in-6
-put_node-returns-in-6 t c =
+pub put_node-returns-in-Tag : goal.put_node-returns-in-Tag
+put_node-returns-in-Tag t c =
     under c.put_tagged.result
-    (λ left s. inside c.args.room c.args.bytes.now _ c.args.out.now.items c.put_tagged.new.out.items left c.in-Full.head c.in-Full.len 6 (Given c.in-Given.width c.in-Given.n) (take_rest c.args.bytes.now c.in-Full.len) c.in-Full.ensures c.in-6.is c.in-Given.is
+    (λ left s. inside c.args.room c.args.bytes.now _ c.args.out.now.items c.put_tagged.new.out.items left c.in-Full.head c.in-Full.len Tag (Given c.in-Given.width c.in-Given.n) (take_rest c.args.bytes.now c.in-Full.len) c.in-Full.ensures (sym c.major_type-major.ensures ∙ c.in-Tag.is) c.in-Given.is
     (λ fits. s fits))
     c.put_tagged.ensures
 
-pub put_node-returns-in_ok-put_simple-in-7 : goal.put_node-returns-in_ok-put_simple-in-7
-put_node-returns-in_ok-put_simple-in-7 t c =
-    alone c.args.room c.args.bytes.now _ c.args.out.now.items c.put_simple.new.out.items _ c.in-Full.head c.in-Full.len 7 c.in-Full.head.argument (take_rest c.args.bytes.now c.in-Full.len) c.in-Full.ensures c.in-7.is refl (search rules)
-    (λ fits. simple_done c.args.room c.in-Full.head.argument _ c.args.out.now.items c.put_simple.new.out.items c.in_ok-put_simple-in-7.ensures)
+pub put_node-returns-in_ok-put_simple-in-Other : goal.put_node-returns-in_ok-put_simple-in-Other
+put_node-returns-in_ok-put_simple-in-Other t c =
+    alone c.args.room c.args.bytes.now _ c.args.out.now.items c.put_simple.new.out.items _ c.in-Full.head c.in-Full.len Other c.in-Full.head.argument (take_rest c.args.bytes.now c.in-Full.len) c.in-Full.ensures (sym c.major_type-major.ensures ∙ c.in-Other.is) refl (search rules)
+    (λ fits. simple_done c.args.room c.in-Full.head.argument _ c.args.out.now.items c.put_simple.new.out.items c.in_ok-put_simple-in-Other.ensures)
 
-pub put_node-returns-in-2-major : goal.put_node-returns-in-2-major
-put_node-returns-in-2-major t c =
+pub put_node-returns-in-ByteString-major : goal.put_node-returns-in-ByteString-major
+put_node-returns-in-ByteString-major t c =
     under c.put_long_string_leaving.result
-    (λ left s. inside c.args.room c.args.bytes.now _ c.args.out.now.items c.put_long_string_leaving.new.out.items left c.in-Full.head c.in-Full.len 2 Endless (take_rest c.args.bytes.now c.in-Full.len) c.in-Full.ensures c.in-2-major.is c.in-Endless.is
+    (λ left s. inside c.args.room c.args.bytes.now _ c.args.out.now.items c.put_long_string_leaving.new.out.items left c.in-Full.head c.in-Full.len ByteString Endless (take_rest c.args.bytes.now c.in-Full.len) c.in-Full.ensures (sym c.major_type-major.ensures ∙ c.in-ByteString-major.is) c.in-Endless.is
     (λ fits. (s.0, s.1, byte_chunks_done c.args.room _ s.0 c.args.out.now.items c.put_long_string_leaving.new.out.items s.2)))
     c.put_long_string_leaving.ensures
 
-pub put_node-returns-in-3-major : goal.put_node-returns-in-3-major
-put_node-returns-in-3-major t c =
-    under c.put_long_string_leaving-in-3-major.result
-    (λ left s. inside c.args.room c.args.bytes.now _ c.args.out.now.items c.put_long_string_leaving-in-3-major.new.out.items left c.in-Full.head c.in-Full.len 3 Endless (take_rest c.args.bytes.now c.in-Full.len) c.in-Full.ensures c.in-3-major.is c.in-Endless.is
-    (λ fits. (s.0, s.1, text_chunks_done c.args.room _ s.0 c.args.out.now.items c.put_long_string_leaving-in-3-major.new.out.items s.2)))
-    c.put_long_string_leaving-in-3-major.ensures
+pub put_node-returns-in-TextString-major : goal.put_node-returns-in-TextString-major
+put_node-returns-in-TextString-major t c =
+    under c.put_long_string_leaving-in-TextString-major.result
+    (λ left s. inside c.args.room c.args.bytes.now _ c.args.out.now.items c.put_long_string_leaving-in-TextString-major.new.out.items left c.in-Full.head c.in-Full.len TextString Endless (take_rest c.args.bytes.now c.in-Full.len) c.in-Full.ensures (sym c.major_type-major.ensures ∙ c.in-TextString-major.is) c.in-Endless.is
+    (λ fits. (s.0, s.1, text_chunks_done c.args.room _ s.0 c.args.out.now.items c.put_long_string_leaving-in-TextString-major.new.out.items s.2)))
+    c.put_long_string_leaving-in-TextString-major.ensures
 
 pub put_endless_array-returns : goal.put_endless_array-returns
 put_endless_array-returns t c = (
