@@ -14,7 +14,9 @@ use Rattle.cborn_lex.specs.Numbers.{number}
 use Rattle.cborn_lex.specs.Strings.{is_content, IsText, are_hex, code}
 use Rattle.cborn_lex.specs.Letters.{Letter, is_letter, meant, written as letter}
 use Rattle.cborn_lex.specs.Scan.{is_raw}
-use Rattle.cborn_model.specs.Heads.{Major, ByteString, TextString, head_bytes, least}
+use Rattle.cborn_model.specs.declared.heads.Major.{Major}
+use Rattle.cborn_model.specs.declared.heads.Major.TheVariants.{ByteString, TextString}
+use Rattle.cborn_model.specs.Heads.{head_bytes, least}
 use Rattle.cborn_model.specs.declared.nodes.Chunk.{Chunk}
 use Rattle.cborn_model.specs.Tree.{Tree, Trees, Entries, trees, count, count_entries}
 use Rattle.cborn_model.specs.Spelled.{string, chunk_bytes, simple_width, spelled, spelled_all, spelled_entries}

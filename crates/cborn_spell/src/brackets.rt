@@ -1,6 +1,7 @@
 //! What opens and closes arrays, maps, strings and embedded items.
 
 ghost use Rattle.std.specs.Prelude.{◌≡◌, ◌≤◌, ◌<◌, length, IfSome, OnSome, IsTrue, IsUtf8};
+ghost use Rattle.cborn_model.specs.Heads.{code};
 ghost use Rattle.cborn_lex.specs.declared.classes.Class.{Class};
 ghost use Rattle.cborn_lex.specs.declared.classes.Class.TheVariants as classes;
 ghost use Rattle.cborn_lex.specs.Forms.{start_of, single};
@@ -13,17 +14,17 @@ use crate::scans::{behind, skip};
 use crate::tokens::next_token;
 use cborn_edn::StringKind;
 use cborn_lex::{Class, Mark, Profile};
+use cborn_model::{BREAK, Major};
 use std::alloc::Global;
 
 /// A byte in the place of the head, or the head of an indefinite length.
 #[inline(always)]
-pub(crate) fn open(major: u8, mark: Mark, out: &mut Vec<u8>) -> Option<()>
-    requires { major < 8 }
-    ensures { OnSome result (Opens major mark out.old.items out.new.items) }
+pub(crate) fn open(major: Major, mark: Mark, out: &mut Vec<u8>) -> Option<()>
+    ensures { OnSome result (Opens (code major) mark out.old.items out.new.items) }
 {
     match mark {
         Mark::Absent | Mark::Wide(_) => out.push(0).ok(),
-        Mark::Endless => out.push(32 * major + 31).ok(),
+        Mark::Endless => out.push(major.endless_head()).ok(),
     }
 }
 
@@ -31,18 +32,17 @@ pub(crate) fn open(major: u8, mark: Mark, out: &mut Vec<u8>) -> Option<()>
 #[inline(always)]
 pub(crate) fn close(
     alloc: Global,
-    major: u8,
+    major: Major,
     mark: Mark,
     count: u64,
     start: usize,
     out: &mut Vec<u8>,
 ) -> Option<()>
-    requires { major < 8 }
-    ensures { OnSome result (Closes major mark count start out.old.items out.new.items) }
+    ensures { OnSome result (Closes (code major) mark count start out.old.items out.new.items) }
 {
     match mark {
         Mark::Absent => set_head(alloc, major, count, start, out),
-        Mark::Endless => out.push(255).ok(),
+        Mark::Endless => out.push(BREAK).ok(),
         Mark::Wide(_) => close_fixed(alloc, major, mark, count, start, out),
     }
 }
@@ -51,14 +51,13 @@ pub(crate) fn close(
 #[inline(never)]
 pub(crate) fn close_fixed(
     alloc: Global,
-    major: u8,
+    major: Major,
     mark: Mark,
     n: u64,
     start: usize,
     out: &mut Vec<u8>,
 ) -> Option<()>
-    requires { major < 8 }
-    ensures { OnSome result (ClosesFixed major mark n start out.old.items out.new.items) }
+    ensures { OnSome result (ClosesFixed (code major) mark n start out.old.items out.new.items) }
 {
     match mark {
         Mark::Absent => set_head(alloc, major, n, start, out),
@@ -119,19 +118,18 @@ pub(crate) fn close_chunks(kind: StringKind, start: usize, out: &mut Vec<u8>) ->
     if start >= out.len() {
         return None;
     }
-    out[start] = 32 * major_of(kind) + 31;
-    out.push(255).ok()?;
+    out[start] = major_of(kind).endless_head();
+    out.push(BREAK).ok()?;
     Some(())
 }
 
 /// The major type of a string.
-fn major_of(kind: StringKind) -> u8
-    ensures is { result ≡ major_of kind }
-    ensures small { result < 8 }
+fn major_of(kind: StringKind) -> Major
+    ensures { code result ≡ major_of kind }
 {
     match kind {
-        StringKind::Bytes => 2,
-        StringKind::Text => 3,
+        StringKind::Bytes => Major::ByteString,
+        StringKind::Text => Major::TextString,
     }
 }
 

@@ -2,30 +2,29 @@
 
 ghost use Rattle.std.specs.Prelude.{◌≡◌, ◌<◌, ◌++◌, ◌∷◌, length, OnSome};
 ghost use Rattle.std.specs.Int.{w16, w32, w64, to_be_bytes};
-ghost use Rattle.cborn_model.specs.Heads.{WidthFits, least};
+ghost use Rattle.cborn_model.specs.Heads.{WidthFits, code, least};
 ghost use Rattle.cborn_spell.specs.Descent.{AddsHead, SetsHead};
 
-use cborn_model::Width;
+use cborn_model::{Major, Width};
 use cborn_wire::push_head;
 use std::alloc::Global;
 
 /// Appends the shortest head of the major type with the argument `n`.
 #[inline]
-pub(crate) fn put_head(major: u8, n: u64, out: &mut Vec<u8>) -> Option<()>
-    requires { major < 8 }
-    ensures { OnSome result (AddsHead major n out.old.items out.new.items) }
+pub(crate) fn put_head(major: Major, n: u64, out: &mut Vec<u8>) -> Option<()>
+    ensures { OnSome result (AddsHead (code major) n out.old.items out.new.items) }
 {
-    let first = 32 * major;
     if n < 24 {
-        out.push(first + n as u8).ok()
+        out.push(major.initial_byte(n as u8)).ok()
     } else if n < 256 {
-        out.extend_from_slice(&[first + 24, n as u8]).ok()
+        out.extend_from_slice(&[major.initial_byte(24), n as u8])
+            .ok()
     } else if n < 65536 {
-        put_two(first + 25, n as u16, out)
+        put_two(major.initial_byte(25), n as u16, out)
     } else if n < 4294967296 {
-        put_four(first + 26, n as u32, out)
+        put_four(major.initial_byte(26), n as u32, out)
     } else {
-        put_eight(first + 27, n, out)
+        put_eight(major.initial_byte(27), n, out)
     }
 }
 
@@ -60,19 +59,18 @@ fn put_eight(first: u8, n: u64, out: &mut Vec<u8>) -> Option<()>
 #[inline(always)]
 pub(crate) fn set_head(
     alloc: Global,
-    major: u8,
+    major: Major,
     n: u64,
     start: usize,
     out: &mut Vec<u8>,
 ) -> Option<()>
-    requires major { major < 8 }
-    ensures { OnSome result ((start < length out.old.items) × SetsHead major (least n) n start out.old.items out.new.items) }
+    ensures { OnSome result ((start < length out.old.items) × SetsHead (code major) (least n) n start out.old.items out.new.items) }
 {
     if start >= out.len() {
         return None;
     }
     if n < 24 {
-        out[start] = 32 * major + n as u8;
+        out[start] = major.initial_byte(n as u8);
         return Some(());
     }
     widen_head(alloc, major, n, start, out)
@@ -80,10 +78,9 @@ pub(crate) fn set_head(
 
 /// The same, of a head that takes more than the byte.
 #[inline(never)]
-fn widen_head(alloc: Global, major: u8, n: u64, start: usize, out: &mut Vec<u8>) -> Option<()>
-    requires major { major < 8 }
-    requires inside { start < length out.old.items }
-    ensures { OnSome result ((start < length out.old.items) × SetsHead major (least n) n start out.old.items out.new.items) }
+fn widen_head(alloc: Global, major: Major, n: u64, start: usize, out: &mut Vec<u8>) -> Option<()>
+    requires { start < length out.old.items }
+    ensures { OnSome result ((start < length out.old.items) × SetsHead (code major) (least n) n start out.old.items out.new.items) }
 {
     let content = Vec::from_slice(alloc, &out[start + 1..]).ok()?;
     out.truncate(start);
@@ -94,15 +91,14 @@ fn widen_head(alloc: Global, major: u8, n: u64, start: usize, out: &mut Vec<u8>)
 /// Puts the head of the major type with the argument `n`, which fits the width, in the place of the byte at `start`.
 pub(crate) fn set_wide_head(
     alloc: Global,
-    major: u8,
+    major: Major,
     width: Width,
     n: u64,
     start: usize,
     out: &mut Vec<u8>,
 ) -> Option<()>
-    requires major { major < 8 }
-    requires fits { WidthFits width n }
-    ensures { OnSome result ((start < length out.old.items) × SetsHead major width n start out.old.items out.new.items) }
+    requires { WidthFits width n }
+    ensures { OnSome result ((start < length out.old.items) × SetsHead (code major) width n start out.old.items out.new.items) }
 {
     if start >= out.len() {
         return None;

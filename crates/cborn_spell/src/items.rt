@@ -12,6 +12,7 @@ use crate::scans::{behind, skip};
 use crate::strings::{plain_len, put_plain};
 use crate::tokens::{put_leaf, put_tag_head};
 use cborn_lex::Profile;
+use cborn_model::Major;
 use std::alloc::Global;
 
 /// Appends what the item from `at` on spells, which is no deeper than `room`, and answers where it ends.
@@ -80,7 +81,7 @@ fn put_common(
     match text.as_bytes()[at] {
         b'0'..=b'9' => {
             if let Some((n, end)) = decimal(text, at) {
-                put_head(0, n, out)?;
+                put_head(Major::Unsigned, n, out)?;
                 return Some(end);
             }
         }
@@ -93,7 +94,7 @@ fn put_common(
         }
         b'-' => {
             if let Some((n, end)) = below_zero(text, at) {
-                put_head(1, n - 1, out)?;
+                put_head(Major::Negative, n - 1, out)?;
                 return Some(end);
             }
         }

@@ -2,7 +2,8 @@
 
 ghost use Rattle.std.specs.Prelude.{◌≡◌, ◌⊎◌, ◌<◌, ◌≤◌, ◌++◌, ◌∷◌, ◌+◌, ◌*◌, ◌^◌, ℕ, [], Some, length, true, false, IfSome, OnSome, IsTrue, IsUtf8, if◌then◌else◌};
 ghost use Rattle.cborn_model.specs.declared.heads.Width.{Width};
-ghost use Rattle.cborn_model.specs.Heads.{head_bytes};
+ghost use Rattle.cborn_model.specs.declared.heads.Major.TheVariants.{TextString};
+ghost use Rattle.cborn_model.specs.Heads.{code, head_bytes};
 ghost use Rattle.cborn_lex.specs.declared.classes.Class.TheVariants as classes;
 ghost use Rattle.cborn_edn.specs.Meaning.{width_for, is_simple, is_absent};
 ghost use Rattle.cborn_spell.specs.Descent.{AddsMarked, AddsString, AddsEmpty, AddsSimple, TokenAt, ItemTaken, suits};
@@ -12,13 +13,12 @@ use crate::numerals::decimal;
 use crate::scans::{behind, skip};
 use cborn_edn::StringKind;
 use cborn_lex::{Mark, Profile};
-use cborn_model::Width;
+use cborn_model::{BREAK, Major, Width};
 use cborn_wire::push_head;
 
 /// Appends the head that the indicator asks for.
-pub(crate) fn put_marked(major: u8, mark: Mark, n: u64, out: &mut Vec<u8>) -> Option<()>
-    requires { major < 8 }
-    ensures { OnSome result (AddsMarked major mark n out.old.items out.new.items) }
+pub(crate) fn put_marked(major: Major, mark: Mark, n: u64, out: &mut Vec<u8>) -> Option<()>
+    ensures { OnSome result (AddsMarked (code major) mark n out.old.items out.new.items) }
 {
     match mark {
         Mark::Absent => put_head(major, n, out),
@@ -34,17 +34,16 @@ pub(crate) fn put_marked(major: u8, mark: Mark, n: u64, out: &mut Vec<u8>) -> Op
 
 /// Appends a string of one piece. One without chunks is a lone `''` or `""`, so `quoted`.
 pub(crate) fn put_string(
-    major: u8,
+    major: Major,
     quoted: bool,
     mark: Mark,
     content: &[u8],
     out: &mut Vec<u8>,
 ) -> Option<()>
-    requires { major < 8 }
-    ensures string { OnSome result (AddsString major mark content.now out.old.items out.new.items ⊎ AddsEmpty major quoted mark content.now out.old.items out.new.items) }
-    ensures text { OnSome result (major ≡ 3 → IsUtf8 content.now) }
+    ensures string { OnSome result (AddsString (code major) mark content.now out.old.items out.new.items ⊎ AddsEmpty (code major) quoted mark content.now out.old.items out.new.items) }
+    ensures text { OnSome result (major ≡ TextString → IsUtf8 content.now) }
 {
-    if major == 3 && !is_text(content) {
+    if major == Major::TextString && !is_text(content) {
         return None;
     }
     if let Mark::Endless = mark {
@@ -57,16 +56,15 @@ pub(crate) fn put_string(
 }
 
 /// Appends a string without chunks.
-fn put_empty(major: u8, quoted: bool, content: &[u8], out: &mut Vec<u8>) -> Option<()>
-    requires { major < 8 }
+fn put_empty(major: Major, quoted: bool, content: &[u8], out: &mut Vec<u8>) -> Option<()>
     ensures quoted { OnSome result (quoted ≡ true) }
     ensures empty { OnSome result (content.now ≡ []) }
-    ensures written { OnSome result (out.new.items ≡ out.old.items ++ (32 * major + 31) ∷ 255 ∷ []) }
+    ensures written { OnSome result (out.new.items ≡ out.old.items ++ (32 * code major + 31) ∷ 255 ∷ []) }
 {
     if !quoted || !is_empty(content) {
         return None;
     }
-    out.extend_from_slice(&[32 * major + 31, 255]).ok()?;
+    out.extend_from_slice(&[major.endless_head(), BREAK]).ok()?;
     Some(())
 }
 
@@ -93,9 +91,10 @@ pub(crate) fn put_simple(n: u64, out: &mut Vec<u8>) -> Option<()>
     ensures { OnSome result (AddsSimple n out.old.items out.new.items) }
 {
     if n < 24 {
-        out.push(224 + n as u8).ok()
+        out.push(Major::Other.initial_byte(n as u8)).ok()
     } else if 32 <= n && n < 256 {
-        out.extend_from_slice(&[248, n as u8]).ok()
+        let first = Major::Other.initial_byte(24);
+        out.extend_from_slice(&[first, n as u8]).ok()
     } else {
         None
     }

@@ -3,11 +3,13 @@
 ghost use Rattle.std.specs.Prelude.{◌≡◌, ◌<◌, ◌≤◌, ◌++◌, ◌^◌, ◌⊎◌, OnSome, if◌then◌else◌};
 ghost use Rattle.std.specs.Int.Digits.{digits_of};
 ghost use Rattle.cborn_edn.specs.Syntax as syntax;
+ghost use Rattle.cborn_model.specs.Heads.{code};
 ghost use Rattle.cborn_spell.specs.Descent.{AddsNumber, AddsBignum, IsBignum};
 
 use crate::heads::set_head;
 use crate::leaves::{is_bare, put_marked};
 use cborn_lex::Mark;
+use cborn_model::Major;
 use std::alloc::Global;
 
 /// Appends an integer: `magnitude`, or `-magnitude`.
@@ -35,10 +37,14 @@ pub(crate) fn put_number(
 }
 
 /// The major type of an integer.
-fn major_of(below: bool) -> u8
-    ensures { result ≡ (if below then 1 else 0) }
+fn major_of(below: bool) -> Major
+    ensures { code result ≡ (if below then 1 else 0) }
 {
-    if below { 1 } else { 0 }
+    if below {
+        Major::Negative
+    } else {
+        Major::Unsigned
+    }
 }
 
 /// Whether it is below zero; -0 isn't.
@@ -75,7 +81,7 @@ fn put_bignum(alloc: Global, below: bool, n: u128, out: &mut Vec<u8>) -> Option<
         return None;
     }
     let len = out.len() - some;
-    set_head(alloc, 2, len as u64, start, out)?;
+    set_head(alloc, Major::ByteString, len as u64, start, out)?;
     Some(())
 }
 
@@ -83,7 +89,11 @@ fn put_bignum(alloc: Global, below: bool, n: u128, out: &mut Vec<u8>) -> Option<
 fn tag_head(below: bool) -> u8
     ensures { result ≡ (if below then 195 else 194) }
 {
-    if below { 195 } else { 194 }
+    if below {
+        Major::Tag.initial_byte(3)
+    } else {
+        Major::Tag.initial_byte(2)
+    }
 }
 
 /// Appends the bytes of `n`, the highest first, without leading zeros.

@@ -8,6 +8,7 @@ use crate::items::put_item;
 use crate::marks::opening;
 use crate::scans::behind;
 use cborn_lex::Profile;
+use cborn_model::Major;
 use std::alloc::Global;
 
 /// The array whose bracket stands at the place.
@@ -31,14 +32,14 @@ pub(crate) fn put_array(
     }
     let (inner, mark) = opening(b'[', text, at)?;
     let start = out.len();
-    open(4, mark, out)?;
+    open(Major::Array, mark, out)?;
     if let Some(end) = behind(b']', profile, text, inner) {
-        close(alloc, 4, mark, 0, start, out)?;
+        close(alloc, Major::Array, mark, 0, start, out)?;
         return Some(end);
     }
     let (last, count) = put_row(alloc, room - 1, profile, text, inner, out)?;
     let end = ending(b']', profile, text, last)?;
-    close(alloc, 4, mark, count, start, out)?;
+    close(alloc, Major::Array, mark, count, start, out)?;
     Some(end)
 }
 
@@ -95,14 +96,14 @@ pub(crate) fn put_map(
     }
     let (inner, mark) = opening(b'{', text, at)?;
     let start = out.len();
-    open(5, mark, out)?;
+    open(Major::Map, mark, out)?;
     if let Some(end) = behind(b'}', profile, text, inner) {
-        close(alloc, 5, mark, 0, start, out)?;
+        close(alloc, Major::Map, mark, 0, start, out)?;
         return Some(end);
     }
     let (last, count) = put_pairs(alloc, room - 1, profile, text, inner, out)?;
     let end = ending(b'}', profile, text, last)?;
-    close(alloc, 5, mark, count, start, out)?;
+    close(alloc, Major::Map, mark, count, start, out)?;
     Some(end)
 }
 

@@ -11,6 +11,7 @@ use crate::leaves::is_text;
 use crate::letters::{plain_run, put_letters};
 use crate::marks::indicator;
 use cborn_lex::Mark;
+use cborn_model::Major;
 
 /// The text string at the place, where a double quote stands. None where it is left to others, and then nothing was added.
 #[inline(always)]
@@ -25,7 +26,7 @@ pub(crate) fn put_plain(text: &str, at: usize, len: usize, out: &mut Vec<u8>) ->
     if !is_text(content) {
         return None;
     }
-    put_head(3, len as u64, out)?;
+    put_head(Major::TextString, len as u64, out)?;
     out.extend_from_slice(content).ok()?;
     Some(at + len + 2)
 }

@@ -11,6 +11,7 @@ use crate::numbers::put_number;
 use crate::scans::behind;
 use cborn_edn::StringKind;
 use cborn_lex::{Class, Mark, Profile, token_from};
+use cborn_model::Major;
 use std::alloc::Global;
 
 /// The token at or behind the place, and its end.
@@ -63,7 +64,7 @@ pub(crate) fn put_leaf(
             Some(end)
         }
         Class::Text { bytes, mark } => {
-            put_string(3, true, mark, bytes.as_slice(), out)?;
+            put_string(Major::TextString, true, mark, bytes.as_slice(), out)?;
             Some(end)
         }
         Class::Bytes {
@@ -71,7 +72,7 @@ pub(crate) fn put_leaf(
             bytes,
             mark,
         } => {
-            put_string(2, quoted, mark, bytes.as_slice(), out)?;
+            put_string(Major::ByteString, quoted, mark, bytes.as_slice(), out)?;
             Some(end)
         }
         Class::SimpleOpen => put_simple_item(alloc, profile, text, end, out),
@@ -166,7 +167,7 @@ pub(crate) fn put_tag_head(
             if number > 18446744073709551615 {
                 return None;
             }
-            put_marked(6, mark, number as u64, out)?;
+            put_marked(Major::Tag, mark, number as u64, out)?;
             Some(end)
         }
         _ => None,

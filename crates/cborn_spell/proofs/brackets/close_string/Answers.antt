@@ -14,6 +14,6 @@ returns c =
     let whole : take (length x - from) (drop from x) ≡ drop from old = take_rest x from ∙ ap (drop from) out in
     let count : c.len_of-len.result ≡ length (drop from old) = c.len_of-len.ensures ∙ ap length whole in (
       subst (λ (n : ℕ). ClosesFixed (major_of c.args.kind) c.args.mark n c.args.start old new) count
-          (subst (λ (j : ℕ). ClosesFixed j c.args.mark c.len_of-len.result c.args.start old new) c.major_of.ensures.is c.in_ok-close_fixed.ensures),
+          (subst (λ (j : ℕ). ClosesFixed j c.args.mark c.len_of-len.result c.args.start old new) c.major_of.ensures c.in_ok-close_fixed.ensures),
       λ e. subst IsUtf8 whole (c.is_good.ensures c.if-not-is_good.false e),
     )
