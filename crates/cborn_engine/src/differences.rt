@@ -9,7 +9,7 @@ ghost use Rattle.cborn_engine.specs.Holding.{Holds};
 
 use crate::nodes::held_nodes;
 use cborn_det::equal_bytes;
-use cborn_judge::{Invalid, judge_all_owned};
+use cborn_judge::{Invalid, judge_all};
 use cborn_model::{KeyOrder, Limit, Valid};
 use cborn_transcode::transcode_item;
 use std::alloc::{AllocError, Global};
@@ -104,7 +104,7 @@ fn held_items(alloc: Global, limit: Limit, bytes: &[u8]) -> Result<Vec<Valid>, A
     ensures { IfOk result (λ items. Holds kinds.Wire limit bytes.now items.items) }
 {
     let nodes = held_nodes(alloc, limit, bytes)?;
-    match judge_all_owned(alloc, nodes) {
+    match judge_all(alloc, &nodes) {
         Ok(items) => Ok(items),
         Err(Invalid::OutOfMemory) => Err(AllocError),
         Err(Invalid::Refused { .. }) => unreachable!(),

@@ -12,7 +12,7 @@ use crate::sources::Source;
 use crate::texts::read_bytes;
 use cborn_det::encode_all;
 use cborn_edn::read_notation;
-use cborn_judge::judge_all_owned;
+use cborn_judge::judge_all;
 use cborn_lex::Profile;
 use cborn_model::{KeyOrder, Limit};
 use cborn_spell::spell_text;
@@ -71,7 +71,7 @@ pub fn encode_notation<O: KeyOrder>(
         return Ok(answer);
     }
     let nodes = read_notation(alloc, limit, profile, text)?;
-    let items = judge_all_owned(alloc, nodes)?;
+    let items = judge_all(alloc, &nodes)?;
     Ok(encode_all::<O>(alloc, &items)?)
 }
 
@@ -141,6 +141,6 @@ fn encode_trees<O: KeyOrder>(
     ensures failures { (n : ℕ) → read_failures result n ≡ n }
 {
     let nodes = unjudged_nodes(alloc, limit, input)?;
-    let items = judge_all_owned(alloc, nodes)?;
+    let items = judge_all(alloc, &nodes)?;
     Ok(encode_all::<O>(alloc, &items)?)
 }

@@ -1,7 +1,7 @@
 -- The codes of keys: one more of them, and that codes that rise are of distinct keys.
-use Rattle.std.proofs.Common.{◌≡◌, ℕ, suc, ◌+◌, ◌<◌, ◌≤◌, inl, inr, List, [], ◌∷◌, ◌++◌, length, drop, take, get_or, map, Option, None, Some, refl, sym, ap, ◌∙◌, subst, arith, append_assoc, append-nil, length-append, Less, Equal, Bool, IsTrue}
+use Rattle.std.proofs.Common.{◌≡◌, ℕ, suc, ◌+◌, ◌<◌, ◌≤◌, inl, inr, List, [], ◌∷◌, ◌++◌, length, drop, take, get_or, map, refl, sym, ap, ◌∙◌, subst, arith, append_assoc, append-nil, length-append, Less, Equal, Bool, IsTrue}
 use Rattle.std.specs.List.{flat_map, AllByRecursion}
-use Rattle.std.specs.Prelude.{◌↔◌, All}
+use Rattle.std.specs.Prelude.{All}
 use Rattle.std.proofs.Math.Seq.{drop-append_seam, take-append_seam}
 use Rattle.std.proofs.lemmas.List.Elements.{All-from_recursion}
 use Rattle.std.proofs.lemmas.List.{map-append, drop_more, drop_all}
@@ -14,12 +14,12 @@ use Rattle.cborn_model.specs.declared.nodes.Form.{Form}
 use Rattle.cborn_model.specs.declared.nodes.Form.TheVariants.{Uint, Nint, Bytes, Text, ByteChunks, TextChunks, Items, Pairs, Tagged, Simple}
 use Rattle.cborn_model.proofs.OneHead.{append_same}
 use Rattle.cborn_model.proofs.Trees.{count_entries-entries}
-use Rattle.cborn_judge.specs.Keeping.{Code, code_bytes, code_position, CodesOf, IsMarked, AreCodes}
+use Rattle.cborn_judge.specs.Keeping.{Code, code_bytes, code_position, CodesOf, IsMarked, AreCodes, AreKept}
 use Rattle.cborn_det.specs.Det.{Det}
-use Rattle.cborn_judge.specs.Places.{Key, key_bytes, key_position, key_places, IsLeast, IsRepeatAt}
+use Rattle.cborn_judge.specs.Places.{Key, key_bytes, key_position}
 use Rattle.cborn_judge.specs.Flaws.{HasRepeat}
 use Rattle.cborn_judge.proofs.Repeating.{repeat_again}
-use Rattle.cborn_judge.proofs.Steps.{repeats_alike}
+use Rattle.cborn_judge.specs.declared.keys.Keys.{Keys}
 use Rattle.cborn_judge.specs.Repeats.{IsOneOf, IsAgain, AreKeys}
 
 -- ---- one more
@@ -94,7 +94,7 @@ none_again (x ∷ cs) z r (inr a) = none_again cs z (rest_rises x cs r) a
 
 -- ---- codes as slices
 
-pub keys_of_codes : (places : ℕ → ℕ) (es : Entries) (n : ℕ) (ks : List Key) (cs : List Code) → CodesOf ks ≡ cs → AreKeys code_bytes code_position (λ c. places c.1) es n cs → AreKeys key_bytes key_position (λ k. places k.1) es n ks
+keys_of_codes : (places : ℕ → ℕ) (es : Entries) (n : ℕ) (ks : List Key) (cs : List Code) → CodesOf ks ≡ cs → AreKeys code_bytes code_position (λ c. places c.1) es n cs → AreKeys key_bytes key_position (λ k. places k.1) es n ks
 keys_of_codes places no_entry n [] cs e h = refl
 keys_of_codes places no_entry n (k ∷ ks) cs e h = absurd (let l = ap length (e ∙ h) in omega arith)
 keys_of_codes places (entry k v es) n ks cs e (inr h) = inr (h.0, keys_of_codes places es (suc n) ks cs e h.1)
@@ -107,7 +107,7 @@ keys_of_codes places (entry k v es) n (x ∷ ks) cs e (inl (z, zs, f, i, j, a, q
     let at : z.1 ≡ x.1 = ap (λ (c : Code). c.1) (sym first) in
     inl (x, ks, refl, sym at ∙ i, ap places (sym at) ∙ j, a, q, o, subst (Det bytewise a) bytes d, keys_of_codes places es (suc n) ks zs others t)
 
-pub one_marked : (cs ds : List Code) (marks : List (ℕ × ℕ)) (bytes : List ℕ) → IsMarked cs marks bytes → IsMarked ds marks bytes → cs ≡ ds
+one_marked : (cs ds : List Code) (marks : List (ℕ × ℕ)) (bytes : List ℕ) → IsMarked cs marks bytes → IsMarked ds marks bytes → cs ≡ ds
 one_marked [] [] marks bytes h k = refl
 one_marked [] (d ∷ ds) marks bytes h k = absurd (let l = ap length (sym h.0 ∙ k.0) in omega arith)
 one_marked (c ∷ cs) [] marks bytes h k = absurd (let l = ap length (sym h.0 ∙ k.0) in omega arith)
@@ -154,7 +154,7 @@ pub all_cut : (done rest : List Code) (marks all : List (ℕ × ℕ)) (i : ℕ) 
 all_cut done [] marks all i bytes whole l h k = subst (λ l. IsMarked l all whole) (append-nil done) k
 all_cut done (c ∷ cs) marks all i bytes whole l h k = absurd (let e = ap length (sym (drop_all i marks l) ∙ h.0) in omega arith)
 
--- ---- the least repeat
+-- ---- repeats
 
 positions_below : {X : Type 0} (bytes : X → List ℕ) (position place_of : X → ℕ) (es : Entries) (n m : ℕ) (ks : List X) → n + count_entries es ≤ m → AreKeys bytes position place_of es n ks → AllByRecursion (λ k. position k < m) ks
 positions_below {X} bytes position place_of no_entry n m ks l h = subst (AllByRecursion (λ (k : X). position k < m)) (sym h) tt
@@ -164,14 +164,10 @@ positions_below {X} bytes position place_of (entry k v es) n m ks l (inr h) = po
 pub keys_below : (nodes : List (Tree × Tree)) (places : ℕ → ℕ) (ks : List Key) → AreKeys key_bytes key_position (λ k. places k.1) (entries nodes) 0 ks → All (λ (k : Key). k.1 < length nodes) ks
 keys_below nodes places ks h = All-from_recursion (λ (k : Key). k.1 < length nodes) ks (positions_below key_bytes key_position (λ k. places k.1) (entries nodes) 0 (length nodes) ks (omega (arith, count_entries-entries nodes)) h)
 
-least_alike : (P Q : ℕ → Type 0) (o : Option ℕ) → ((p : ℕ) → P p ↔ Q p) → IsLeast P o → IsLeast Q o
-least_alike P Q None e h = λ p q. h p ((e p).1 q)
-least_alike P Q (Some p) e h = ((e p).0 h.0, λ q r. h.1 q ((e q).1 r))
-
--- what the search among slices answers, as places of repeated keys
-pub least_repeated : (nodes : List (Tree × Tree)) (ks : List Key) (o : Option ℕ) → AreKeys key_bytes key_position (λ k. get_or (key_places nodes) k.1 0) (entries nodes) 0 ks
-    → IsLeast (IsRepeatAt ks (key_places nodes)) o → IsLeast (HasRepeat (entries nodes)) o
-least_repeated nodes ks o h k = least_alike (IsRepeatAt ks (key_places nodes)) (HasRepeat (entries nodes)) o (λ p. let e = repeats_alike (entries nodes) ks (key_places nodes) p h in (e.1, e.0)) k
+-- the keys of the slices are those that are kept
+pub keys_kept : (places : List ℕ) (keys : Keys) (nodes : List (Tree × Tree)) (ks : List Key) → AreKept places nodes keys → IsMarked (CodesOf ks) keys.marks.items keys.bytes.items
+    → AreKeys key_bytes key_position (λ k. get_or places k.1 0) (entries nodes) 0 ks
+keys_kept places keys nodes ks h m = keys_of_codes (λ i. get_or places i 0) (entries nodes) 0 ks h.0 (one_marked (CodesOf ks) h.0 keys.marks.items keys.bytes.items m h.2.marked) h.1
 
 -- keys whose encodings rise are no repeats
 pub none_repeated : (nodes : List (Tree × Tree)) (places : List ℕ) (codes : List Code) (p : ℕ) → AreKeys code_bytes code_position (λ c. get_or places c.1 0) (entries nodes) 0 codes → Rising bytewise (map code_bytes codes) → HasRepeat (entries nodes) p → ⊥

@@ -17,8 +17,6 @@ pub mod Walking
 pub mod Pairing
 pub mod Tagging
 pub mod Sequences
-pub mod Recalling
-pub mod Yielding
 pub mod Departing
 pub mod Descending
 pub mod Contents

@@ -1,6 +1,6 @@
 -- What the pairs of a map mean, or their first flaw, as a loop over them meets them; and their keys.
 use Rattle.std.proofs.Common.{◌≡◌, ℕ, ◌+◌, ◌<◌, ◌≤◌, ◌⊎◌, ◌^◌, inl, inr, List, [], ◌∷◌, ◌++◌, length, map, get_or, take, refl, sym, ap, ◌∙◌, subst, arith, Option, None, Some}
-use Rattle.std.specs.Prelude.{◌↔◌, slice_index, ⊤}
+use Rattle.std.specs.Prelude.{◌↔◌, slice_index}
 use Rattle.std.proofs.lemmas.List.{length-take-le, take_all, map-append, length-map, get_or-map}
 use Rattle.cborn_model.specs.First.{IsFirst}
 use Rattle.cborn_model.specs.ItemView.{item_value, pair_value}
@@ -12,7 +12,7 @@ use Rattle.cborn_model.specs.declared.items.Item.{Item}
 use Rattle.cborn_model.specs.declared.heads.Size.{Size}
 use Rattle.cborn_model.proofs.Values.{pair_count-pairs_of}
 use Rattle.cborn_judge.specs.Flaws.{Within, WithinEntries, FlawAt, Flaw, IsFirstFlaw, flaw_rank}
-use Rattle.cborn_judge.specs.Judged.{FindsFlaw, IsEarlierFlaw, IsEarliestFlaw, FlawAmong, MeansItem, PairFlaw, RepeatFlaw, IsFirstWith, IsJudged}
+use Rattle.cborn_judge.specs.Judged.{FindsFlaw, IsEarliestFlaw, FlawAmong, MeansItem, PairFlaw, RepeatFlaw, IsFirstWith, IsJudged}
 use Rattle.cborn_judge.specs.declared.judgments.Judged.{Judged}
 use Rattle.cborn_judge.specs.declared.judgments.Judged.TheVariants as judged
 use Rattle.cborn_judge.specs.Keeping.{code_bytes, code_position, AreKept, IsNextKey, KeepsKey}
@@ -21,38 +21,30 @@ use Rattle.cborn_judge.specs.declared.faults.Flaw as flaw
 use Rattle.cborn_judge.specs.declared.faults.InvalidReason.{InvalidReason}
 use Rattle.cborn_judge.specs.declared.faults.InvalidReason.TheVariants.{DuplicateKey}
 use Rattle.cborn_judge.specs.declared.keys.Keys.{Keys}
-use Rattle.cborn_judge.proofs.Firsts.{Either, earlier_of, found_both, found_alike, none_of_both, none_both}
+use Rattle.cborn_judge.proofs.Firsts.{Either, earlier_of, first_left, first_right, found_both, found_alike, none_both, Settles, settled_found, settled_fine, settled_flawed}
 use Rattle.cborn_judge.proofs.Judging.{sound_entries, no_flaw, new_keys}
 use Rattle.cborn_judge.proofs.Pushing.{keys_push, keys_skip}
 use Rattle.cborn_judge.proofs.Steps.{flaw_pairs}
 use Rattle.cborn_judge.proofs.Passing.{passed_one}
 
+-- these items are what these pairs mean
+abbrev AreMeant : List (Tree × Tree) → List (Item × Item) → Type 0
+AreMeant ns pairs = EntriesMean (entries ns) (pairs_of (map pair_value pairs)) × HasProperPairs (pairs_of (map pair_value pairs))
+
 -- the first flaw of these pairs, or without one what they mean
 abbrev pub ArePairsJudged : List (Tree × Tree) → Option flaw.Flaw → List (Item × Item) → Type 0
-ArePairsJudged ns None pairs = EntriesMean (entries ns) (pairs_of (map pair_value pairs)) × HasProperPairs (pairs_of (map pair_value pairs))
-ArePairsJudged ns (Some f) pairs = IsFirst flaw_rank (FlawAmong (entries ns)) f.place f.reason
-
-abbrev EarliestOf : Option flaw.Flaw → flaw.Flaw → Option flaw.Flaw → Type 0
-EarliestOf o f g = IsEarliestFlaw o (Some f) g
-
-not_none : (o g : Option flaw.Flaw) (f : flaw.Flaw) → EarliestOf o f g → g ≡ None → ⊥
-not_none o g f e n = none_of_both flaw_rank (λ f. f.place) (λ f. f.reason) o f (subst (EarliestOf o f) n e)
+ArePairsJudged ns o pairs = Settles flaw_rank (λ f. f.place) (λ f. f.reason) (FlawAmong (entries ns)) (AreMeant ns pairs) o
 
 -- ---- one pair
 
 pub value_flawed : (n : Tree × Tree) (k : Item) (f : flaw.Flaw) → MeansItem n.0 k → IsFirstFlaw n.1 f.place f.reason → IsFirst flaw_rank (PairFlaw n) f.place f.reason
-value_flawed n k f m h = record { is = inr h.is; first = λ q s e. elim e [ inl g ↦ absurd (no_flaw n.0 (item_value k) m.0 q s g) | inr g ↦ h.first q s g ] }
-
-key_flawed : (n : Tree × Tree) (v : Item) (f : flaw.Flaw) → IsFirstFlaw n.0 f.place f.reason → MeansItem n.1 v → IsFirst flaw_rank (PairFlaw n) f.place f.reason
-key_flawed n v f h m = record { is = inl h.is; first = λ q s e. elim e [ inl g ↦ h.first q s g | inr g ↦ absurd (no_flaw n.1 (item_value v) m.0 q s g) ] }
-
-both_flawed : (n : Tree × Tree) (f g h : flaw.Flaw) → IsFirstFlaw n.0 f.place f.reason → IsFirstFlaw n.1 g.place g.reason → IsEarlierFlaw f g h → IsFirst flaw_rank (PairFlaw n) h.place h.reason
-both_flawed n f g h i j e = earlier_of flaw_rank (λ f. f.place) (λ f. f.reason) (Flaw n.0) (Flaw n.1) f g h i j e
+value_flawed n k f m h = first_right flaw_rank (λ f. f.place) (λ f. f.reason) (Flaw n.0) (Flaw n.1) f (no_flaw n.0 (item_value k) m.0) h
 
 -- the key has a flaw, and the value is judged
 pub key_flawed_with : (n : Tree × Tree) (f g : flaw.Flaw) (j : Judged) → IsFirstFlaw n.0 f.place f.reason → IsJudged n.1 j → IsFirstWith f j g → IsFirst flaw_rank (PairFlaw n) g.place g.reason
-key_flawed_with n f g (judged.Valid item) h i e = subst (λ (z : flaw.Flaw). IsFirst flaw_rank (PairFlaw n) z.place z.reason) (sym e) (key_flawed n item f h i)
-key_flawed_with n f g (judged.Flawed k) h i e = both_flawed n f k g h i e
+key_flawed_with n f g (judged.Valid v) h m e =
+    subst (λ (z : flaw.Flaw). IsFirst flaw_rank (PairFlaw n) z.place z.reason) (sym e) (first_left flaw_rank (λ f. f.place) (λ f. f.reason) (Flaw n.0) (Flaw n.1) f h (no_flaw n.1 (item_value v) m.0))
+key_flawed_with n f g (judged.Flawed k) h i e = earlier_of flaw_rank (λ f. f.place) (λ f. f.reason) (Flaw n.0) (Flaw n.1) f k g h i e
 
 -- ---- the pairs of a map
 
@@ -99,35 +91,30 @@ proper_more : (vs : List (Value × Value)) (v : Value × Value) → HasProperPai
 proper_more [] v h k m = (k, m, tt)
 proper_more (w ∷ ws) v h k m = (h.0, h.1, proper_more ws v h.2 k m)
 
-found : (ns : List (Tree × Tree)) (o : Option flaw.Flaw) (ys : List (Item × Item)) → ArePairsJudged ns o ys → FindsFlaw (FlawAmong (entries ns)) o
-found ns None ys h = λ p r f. sound_entries (entries ns) (pairs_of (map pair_value ys)) h.0 f.0 f.1 p r f.2
-found ns (Some f) ys h = h
+sound : (ns : List (Tree × Tree)) (ys : List (Item × Item)) → AreMeant ns ys → (p : ℕ) (r : InvalidReason) → FlawAmong (entries ns) p r → ⊥
+sound ns ys h p r f = sound_entries (entries ns) (pairs_of (map pair_value ys)) h.0 f.0 f.1 p r f.2
 
-judged_from : (ns : List (Tree × Tree)) (o : Option flaw.Flaw) (ys : List (Item × Item)) → (o ≡ None → ⊥) → FindsFlaw (FlawAmong (entries ns)) o → ArePairsJudged ns o ys
-judged_from ns None ys n h = absurd (n refl)
-judged_from ns (Some f) ys n h = h
-
-valid_more : (ns : List (Tree × Tree)) (n : Tree × Tree) (o : Option flaw.Flaw) (ys : List (Item × Item)) (y : Item × Item) → ArePairsJudged ns o ys → MeansItem n.0 y.0 → MeansItem n.1 y.1 → ArePairsJudged (ns ++ n ∷ []) o (ys ++ y ∷ [])
-valid_more ns n None ys y h k m =
+meant_more : (ns : List (Tree × Tree)) (n : Tree × Tree) (ys : List (Item × Item)) (y : Item × Item) → MeansItem n.0 y.0 → MeansItem n.1 y.1 → AreMeant ns ys → AreMeant (ns ++ n ∷ []) (ys ++ y ∷ [])
+meant_more ns n ys y k m h =
     let e = sym (map-append pair_value ys (y ∷ [])) in (
       subst (λ l. EntriesMean (entries (ns ++ n ∷ [])) (pairs_of l)) e (mean_more ns (map pair_value ys) n (pair_value y) h.0 k.0 m.0),
       subst (λ l. HasProperPairs (pairs_of l)) e (proper_more (map pair_value ys) (pair_value y) h.1 k.1 m.1),
     )
-valid_more ns n (Some f) ys y h k m =
-    found_alike flaw_rank (λ f. f.place) (λ f. f.reason) (Either (FlawAmong (entries ns)) (PairFlaw n)) (FlawAmong (entries (ns ++ n ∷ []))) (Some f) (one_more ns n)
-    (found_both flaw_rank (λ f. f.place) (λ f. f.reason) (FlawAmong (entries ns)) (PairFlaw n) (Some f) None (Some f) h (λ p r e. elim e [ inl g ↦ no_flaw n.0 (item_value y.0) k.0 p r g | inr g ↦ no_flaw n.1 (item_value y.1) m.0 p r g ]) refl)
 
-flawed_more : (ns : List (Tree × Tree)) (n : Tree × Tree) (o g : Option flaw.Flaw) (ys : List (Item × Item)) (f : flaw.Flaw) → ArePairsJudged ns o ys → IsFirst flaw_rank (PairFlaw n) f.place f.reason → EarliestOf o f g → ArePairsJudged (ns ++ n ∷ []) g ys
+valid_more : (ns : List (Tree × Tree)) (n : Tree × Tree) (o : Option flaw.Flaw) (ys : List (Item × Item)) (y : Item × Item) → ArePairsJudged ns o ys → MeansItem n.0 y.0 → MeansItem n.1 y.1 → ArePairsJudged (ns ++ n ∷ []) o (ys ++ y ∷ [])
+valid_more ns n o ys y h k m =
+    settled_fine flaw_rank (λ f. f.place) (λ f. f.reason) (FlawAmong (entries ns)) (PairFlaw n) (FlawAmong (entries (ns ++ n ∷ []))) (AreMeant ns ys) (AreMeant (ns ++ n ∷ []) (ys ++ y ∷ [])) o (one_more ns n) (meant_more ns n ys y k m)
+    (λ p r e. elim e [ inl g ↦ no_flaw n.0 (item_value y.0) k.0 p r g | inr g ↦ no_flaw n.1 (item_value y.1) m.0 p r g ]) h
+
+flawed_more : (ns : List (Tree × Tree)) (n : Tree × Tree) (o g : Option flaw.Flaw) (ys : List (Item × Item)) (f : flaw.Flaw) → ArePairsJudged ns o ys → IsFirst flaw_rank (PairFlaw n) f.place f.reason → IsEarliestFlaw o (Some f) g → ArePairsJudged (ns ++ n ∷ []) g ys
 flawed_more ns n o g ys f h k e =
-    judged_from (ns ++ n ∷ []) g ys (not_none o g f e)
-    (found_alike flaw_rank (λ f. f.place) (λ f. f.reason) (Either (FlawAmong (entries ns)) (PairFlaw n)) (FlawAmong (entries (ns ++ n ∷ []))) g (one_more ns n)
-    (found_both flaw_rank (λ f. f.place) (λ f. f.reason) (FlawAmong (entries ns)) (PairFlaw n) o (Some f) g (found ns o ys h) k e))
+    settled_flawed flaw_rank (λ f. f.place) (λ f. f.reason) (FlawAmong (entries ns)) (PairFlaw n) (FlawAmong (entries (ns ++ n ∷ []))) (AreMeant ns ys) (AreMeant (ns ++ n ∷ []) ys) o g f (one_more ns n) (sound ns ys) k e h
 
 pub valid-take_more : (ns : List (Tree × Tree)) (i : ℕ) (n : Tree × Tree) (o : Option flaw.Flaw) (ys zs : List (Item × Item)) (k v : Item) → i < length ns → n ≡ get_or ns i n → ArePairsJudged (take i ns) o ys → MeansItem n.0 k → MeansItem n.1 v → zs ≡ ys ++ (k, v) ∷ [] → ArePairsJudged (take (i + 1) ns) o zs
 valid-take_more ns i n o ys zs k v l e h j m z =
     subst (λ t. ArePairsJudged t o zs) (sym (passed_one ns i n l e)) (subst (ArePairsJudged (take i ns ++ n ∷ []) o) (sym z) (valid_more (take i ns) n o ys (k, v) h j m))
 
-pub flawed-take_more : (ns : List (Tree × Tree)) (i : ℕ) (n : Tree × Tree) (o g : Option flaw.Flaw) (ys : List (Item × Item)) (f : flaw.Flaw) → i < length ns → n ≡ get_or ns i n → ArePairsJudged (take i ns) o ys → IsFirst flaw_rank (PairFlaw n) f.place f.reason → EarliestOf o f g → ArePairsJudged (take (i + 1) ns) g ys
+pub flawed-take_more : (ns : List (Tree × Tree)) (i : ℕ) (n : Tree × Tree) (o g : Option flaw.Flaw) (ys : List (Item × Item)) (f : flaw.Flaw) → i < length ns → n ≡ get_or ns i n → ArePairsJudged (take i ns) o ys → IsFirst flaw_rank (PairFlaw n) f.place f.reason → IsEarliestFlaw o (Some f) g → ArePairsJudged (take (i + 1) ns) g ys
 flawed-take_more ns i n o g ys f l e h k m = subst (λ t. ArePairsJudged t g ys) (sym (passed_one ns i n l e)) (flawed_more (take i ns) n o g ys f h k m)
 
 -- ---- keys that are kept
@@ -148,11 +135,6 @@ kept-take_more ns i n old new l e k h =
     subst (λ t. AreKept (key_places ns) t new) (sym (passed_one ns i n l e)) (k (key_places ns) (take i ns) (length-take-le i ns (omega arith)) (get_or-map (λ (m : Tree × Tree). place m.0) ns i n 0 l ∙ ap (λ (m : Tree × Tree). place m.0) (sym e)) h)
 
 -- ---- the whole map
-
-abbrev pub IsRepeatOf : Option ℕ → Option flaw.Flaw → Type 0
-IsRepeatOf None None = ⊤
-IsRepeatOf (Some p) (Some f) = (f.place ≡ p) × (f.reason ≡ DuplicateKey)
-IsRepeatOf _ _ = ⊥
 
 abbrev Whole : List (Tree × Tree) → ℕ → Option flaw.Flaw → List (Item × Item) → Type 0
 Whole ns i o ys = ArePairsJudged (take i ns) o ys
@@ -177,4 +159,4 @@ pub map_flawed : (p : ℕ) (s : Size) (ns : List (Tree × Tree)) (i : ℕ) (o d 
 map_flawed p s ns i o d g ys f l h r e n =
     subst (FindsFlaw (Flaw (Pairs p s (entries ns)))) n
     (found_alike flaw_rank (λ f. f.place) (λ f. f.reason) (Either (FlawAmong (entries ns)) (RepeatFlaw (entries ns))) (Flaw (Pairs p s (entries ns))) g (λ q r. let k = flaw_pairs p s (entries ns) q r in (k.1, k.0))
-    (found_both flaw_rank (λ f. f.place) (λ f. f.reason) (FlawAmong (entries ns)) (RepeatFlaw (entries ns)) o d g (found ns o ys (whole ns i o ys l h)) r e))
+    (found_both flaw_rank (λ f. f.place) (λ f. f.reason) (FlawAmong (entries ns)) (RepeatFlaw (entries ns)) o d g (settled_found flaw_rank (λ f. f.place) (λ f. f.reason) (FlawAmong (entries ns)) (AreMeant ns ys) o (sound ns ys) (whole ns i o ys l h)) r e))

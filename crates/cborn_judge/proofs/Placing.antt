@@ -1,10 +1,10 @@
--- The places in a placed node rise in the written order, within the bytes that it spells; so there is one first flaw and one first defect at most.
+-- The places in a placed node rise in the written order, within the bytes that it spells.
 use Rattle.std.proofs.Common.{◌≡◌, ℕ, suc, ◌+◌, ◌<◌, ◌≤◌, inl, inr, List, [], ◌∷◌, ◌++◌, length, map, refl, sym, subst, arith, length-append, Ordering}
 use Rattle.std.specs.List.{flat_map}
-use Rattle.cborn_judge.specs.Flaws.{Within, WithinAll, WithinEntries, flaw_rank, IsRepeated, HasRepeat, HasBadChunk, FlawAt, Flaw, IsFirstFlaw}
+use Rattle.cborn_judge.specs.Flaws.{Within, WithinAll, WithinEntries, flaw_rank, IsRepeated, HasRepeat, HasBadChunk, FlawAt, Flaw}
 use Rattle.cborn_judge.specs.declared.faults.InvalidReason.{InvalidReason}
 use Rattle.cborn_judge.specs.declared.faults.InvalidReason.TheVariants.{NotUtf8, BadBignum, DuplicateKey}
-use Rattle.cborn_judge.specs.Defects.{defect_rank, HasLongChunk, ChunksDefect, Descends, HasDescent, DefectAt, Defect, IsFirstDefect, IsFirstOfSequence}
+use Rattle.cborn_judge.specs.Defects.{defect_rank, HasLongChunk, ChunksDefect, Descends, HasDescent, DefectAt, Defect}
 use Rattle.cborn_judge.specs.declared.defects.DefectReason.{DefectReason}
 use Rattle.cborn_judge.specs.declared.defects.DefectReason.TheVariants.{LongHead, EndlessLength, LooseBignum, KeyOrder}
 use Rattle.cborn_model.proofs.Rearranging.{IsIn}
@@ -15,43 +15,21 @@ use Rattle.cborn_model.specs.declared.heads.Size.{Size}
 use Rattle.cborn_model.specs.declared.heads.Size.TheVariants.{Fixed, Endless}
 use Rattle.cborn_model.specs.Spelled.{ending, chunks, chunk_bytes, spelled, spelled_all, spelled_entries}
 use Rattle.cborn_model.specs.Placed.{ChunksPlaced, Placed, PlacedAll, PlacedEntries}
-use Rattle.cborn_model.specs.First.{NoLater}
 
--- ---- at most one first
+-- ---- no two reasons have one number
 
-rank_once : (r s : InvalidReason) → flaw_rank r ≡ flaw_rank s → r ≡ s
+pub rank_once : (r s : InvalidReason) → flaw_rank r ≡ flaw_rank s → r ≡ s
 rank_once NotUtf8 NotUtf8 e = refl
 rank_once BadBignum BadBignum e = refl
 rank_once DuplicateKey DuplicateKey e = refl
 rank_once _ _ e = absurd (omega arith)
 
-defect_rank_once : (r s : DefectReason) → defect_rank r ≡ defect_rank s → r ≡ s
+pub defect_rank_once : (r s : DefectReason) → defect_rank r ≡ defect_rank s → r ≡ s
 defect_rank_once LongHead LongHead e = refl
 defect_rank_once EndlessLength EndlessLength e = refl
 defect_rank_once LooseBignum LooseBignum e = refl
 defect_rank_once KeyOrder KeyOrder e = refl
 defect_rank_once _ _ e = absurd (omega arith)
-
-no_later_once : (p q a b : ℕ) → NoLater (p, a) (q, b) → NoLater (q, b) (p, a) → (p ≡ q) × (a ≡ b)
-no_later_once p q a b (inl h) (inl k) = absurd (omega arith)
-no_later_once p q a b (inl h) (inr k) = absurd (omega arith)
-no_later_once p q a b (inr h) (inl k) = absurd (omega arith)
-no_later_once p q a b (inr h) (inr k) = (h.0, (omega arith))
-
-pub one_first_flaw : (t : Tree) (p q : ℕ) (r s : InvalidReason) → IsFirstFlaw t p r → IsFirstFlaw t q s → (p ≡ q) × (r ≡ s)
-one_first_flaw t p q r s h k =
-    let e = no_later_once p q (flaw_rank r) (flaw_rank s) (h.first q s k.is) (k.first p r h.is) in
-    (e.0, rank_once r s e.1)
-
-pub one_first_defect : (order : List ℕ → List ℕ → Ordering) (t : Tree) (p q : ℕ) (r s : DefectReason) → IsFirstDefect order t p r → IsFirstDefect order t q s → (p ≡ q) × (r ≡ s)
-one_first_defect order t p q r s h k =
-    let e = no_later_once p q (defect_rank r) (defect_rank s) (h.first q s k.is) (k.first p r h.is) in
-    (e.0, defect_rank_once r s e.1)
-
-pub one_first_of_sequence : (order : List ℕ → List ℕ → Ordering) (ts : Trees) (p q : ℕ) (r s : DefectReason) → IsFirstOfSequence order ts p r → IsFirstOfSequence order ts q s → (p ≡ q) × (r ≡ s)
-one_first_of_sequence order ts p q r s h k =
-    let e = no_later_once p q (defect_rank r) (defect_rank s) (h.first q s k.is) (k.first p r h.is) in
-    (e.0, defect_rank_once r s e.1)
 
 -- ---- the places of all heads, in the written order
 

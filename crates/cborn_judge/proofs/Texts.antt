@@ -12,14 +12,16 @@ use Rattle.cborn_judge.specs.declared.faults.Flaw as flaw
 use Rattle.cborn_judge.specs.declared.faults.InvalidReason.{InvalidReason}
 use Rattle.cborn_judge.specs.declared.faults.InvalidReason.TheVariants.{NotUtf8}
 use Rattle.cborn_model.specs.First.{IsFirst}
-use Rattle.cborn_judge.proofs.Firsts.{Either, found_both, found_alike, none_of_both}
+use Rattle.cborn_judge.proofs.Firsts.{Either, Settles, settled_fine, settled_flawed}
 use Rattle.cborn_judge.proofs.Judging.{no_bad_chunk}
 use Rattle.cborn_judge.proofs.Passing.{passed_one}
 
+abbrev AreText : List Chunk → List ℕ → Type 0
+AreText cs b = ChunksAreText cs × (b ≡ joined_chunks cs)
+
 -- the first flaw of these chunks, or without one the text that they are
 abbrev pub AreChunksJudged : List Chunk → Option flaw.Flaw → List ℕ → Type 0
-AreChunksJudged cs None b = ChunksAreText cs × (b ≡ joined_chunks cs)
-AreChunksJudged cs (Some f) b = IsFirst flaw_rank (ChunkFlaw cs) f.place f.reason
+AreChunksJudged cs o b = Settles flaw_rank (λ f. f.place) (λ f. f.reason) (ChunkFlaw cs) (AreText cs b) o
 
 abbrev OneBad : Chunk → ℕ → InvalidReason → Type 0
 OneBad c p r = (r ≡ NotUtf8) × (p ≡ c.place) × (IsUtf8 c.bytes → ⊥)
@@ -53,36 +55,25 @@ are_text : (cs : List Chunk) (c : Chunk) → ChunksAreText cs → IsUtf8 c.bytes
 are_text [] c h u = (u, tt)
 are_text (d ∷ cs) c h u = (h.0, are_text cs c h.1 u)
 
-found : (cs : List Chunk) (o : Option flaw.Flaw) (b : List ℕ) → AreChunksJudged cs o b → FindsFlaw (ChunkFlaw cs) o
-found cs None b h = λ p r f. no_bad_chunk cs p h.0 f.1
-found cs (Some f) b h = h
-
-abbrev EarliestOf : Option flaw.Flaw → flaw.Flaw → Option flaw.Flaw → Type 0
-EarliestOf o f g = IsEarliestFlaw o (Some f) g
-
-judged_from : (cs : List Chunk) (o : Option flaw.Flaw) (b : List ℕ) → (o ≡ None → ⊥) → FindsFlaw (ChunkFlaw cs) o → AreChunksJudged cs o b
-judged_from cs None b n h = absurd (n refl)
-judged_from cs (Some f) b n h = h
+text_more : (cs : List Chunk) (c : Chunk) (b : List ℕ) → IsUtf8 c.bytes → AreText cs b → AreText (cs ++ c ∷ []) (b ++ c.bytes)
+text_more cs c b u h = (are_text cs c h.0 u, ap (λ z. z ++ c.bytes) h.1 ∙ sym (flat_map-append (λ (d : Chunk). d.bytes) cs (c ∷ []) ∙ ap (λ z. joined_chunks cs ++ z) (append-nil c.bytes)))
 
 fine : (cs : List Chunk) (c : Chunk) (o : Option flaw.Flaw) (b : List ℕ) → AreChunksJudged cs o b → IsUtf8 c.bytes → AreChunksJudged (cs ++ c ∷ []) o (b ++ c.bytes)
-fine cs c None b h u = (are_text cs c h.0 u, ap (λ z. z ++ c.bytes) h.1 ∙ sym (flat_map-append (λ (d : Chunk). d.bytes) cs (c ∷ []) ∙ ap (λ z. joined_chunks cs ++ z) (append-nil c.bytes)))
-fine cs c (Some f) b h u = record { is = (h.is.0, bad_before cs c f.place h.is.1); first = λ q s k. elim (bad_after cs c q k.1) [ inl i ↦ h.first q s (k.0, i) | inr i ↦ absurd (i.1 u) ] }
+fine cs c o b h u = settled_fine flaw_rank (λ f. f.place) (λ f. f.reason) (ChunkFlaw cs) (OneBad c) (ChunkFlaw (cs ++ c ∷ [])) (AreText cs b) (AreText (cs ++ c ∷ []) (b ++ c.bytes)) o (one_more cs c) (text_more cs c b u) (λ p r k. k.2 u) h
 
 one_bad : (c : Chunk) (f : flaw.Flaw) → (IsUtf8 c.bytes → ⊥) → f.place ≡ c.place → f.reason ≡ NotUtf8 → FindsFlaw (OneBad c) (Some f)
 one_bad c f u e i = record { is = (i, e, u); first = λ q s k. inr (e ∙ sym k.1, (let j : flaw_rank f.reason ≡ flaw_rank s = ap flaw_rank (i ∙ sym k.0) in omega arith)) }
 
-bad : (cs : List Chunk) (c : Chunk) (o g : Option flaw.Flaw) (f : flaw.Flaw) (b : List ℕ) → AreChunksJudged cs o b → (IsUtf8 c.bytes → ⊥) → f.place ≡ c.place → f.reason ≡ NotUtf8 → EarliestOf o f g → AreChunksJudged (cs ++ c ∷ []) g b
+bad : (cs : List Chunk) (c : Chunk) (o g : Option flaw.Flaw) (f : flaw.Flaw) (b : List ℕ) → AreChunksJudged cs o b → (IsUtf8 c.bytes → ⊥) → f.place ≡ c.place → f.reason ≡ NotUtf8 → IsEarliestFlaw o (Some f) g → AreChunksJudged (cs ++ c ∷ []) g b
 bad cs c o g f b h u e i k =
-    judged_from (cs ++ c ∷ []) g b (λ n. none_of_both flaw_rank (λ f. f.place) (λ f. f.reason) o f (subst (EarliestOf o f) n k))
-    (found_alike flaw_rank (λ f. f.place) (λ f. f.reason) (Either (ChunkFlaw cs) (OneBad c)) (ChunkFlaw (cs ++ c ∷ [])) g (one_more cs c)
-    (found_both flaw_rank (λ f. f.place) (λ f. f.reason) (ChunkFlaw cs) (OneBad c) o (Some f) g (found cs o b h) (one_bad c f u e i) k))
+    settled_flawed flaw_rank (λ f. f.place) (λ f. f.reason) (ChunkFlaw cs) (OneBad c) (ChunkFlaw (cs ++ c ∷ [])) (AreText cs b) (AreText (cs ++ c ∷ []) b) o g f (one_more cs c) (λ t p r d. no_bad_chunk cs p t.0 d.1) (one_bad c f u e i) k h
 
 -- as a loop over the chunks meets them
 pub fine-take_more : (cs : List Chunk) (i : ℕ) (c : Chunk) (o : Option flaw.Flaw) (b d : List ℕ) → i < length cs → c ≡ get_or cs i c → AreChunksJudged (take i cs) o b → IsUtf8 c.bytes → d ≡ b ++ c.bytes → AreChunksJudged (take (i + 1) cs) o d
 fine-take_more cs i c o b d l e h u j =
     subst (λ z. AreChunksJudged z o d) (sym (passed_one cs i c l e)) (subst (AreChunksJudged (take i cs ++ c ∷ []) o) (sym j) (fine (take i cs) c o b h u))
 
-pub bad-take_more : (cs : List Chunk) (i : ℕ) (c : Chunk) (o g : Option flaw.Flaw) (f : flaw.Flaw) (b : List ℕ) → i < length cs → c ≡ get_or cs i c → AreChunksJudged (take i cs) o b → (IsUtf8 c.bytes → ⊥) → f.place ≡ c.place → f.reason ≡ NotUtf8 → EarliestOf o f g → AreChunksJudged (take (i + 1) cs) g b
+pub bad-take_more : (cs : List Chunk) (i : ℕ) (c : Chunk) (o g : Option flaw.Flaw) (f : flaw.Flaw) (b : List ℕ) → i < length cs → c ≡ get_or cs i c → AreChunksJudged (take i cs) o b → (IsUtf8 c.bytes → ⊥) → f.place ≡ c.place → f.reason ≡ NotUtf8 → IsEarliestFlaw o (Some f) g → AreChunksJudged (take (i + 1) cs) g b
 bad-take_more cs i c o g f b l e h u j k m =
     subst (λ z. AreChunksJudged z g b) (sym (passed_one cs i c l e)) (bad (take i cs) c o g f b h u j k m)
 

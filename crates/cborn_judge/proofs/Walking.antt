@@ -12,24 +12,21 @@ use Rattle.cborn_model.specs.declared.items.Item.{Item}
 use Rattle.cborn_model.specs.declared.heads.Size.{Size}
 use Rattle.cborn_model.proofs.Values.{value_count-values_of}
 use Rattle.cborn_judge.specs.Flaws.{Within, WithinAll, Flaw, IsFirstFlaw, flaw_rank}
-use Rattle.cborn_judge.specs.Judged.{FindsFlaw, IsEarliestFlaw, FlawIn, MeansItem}
+use Rattle.cborn_judge.specs.Judged.{IsEarliestFlaw, FlawIn, MeansItem}
 use Rattle.cborn_judge.specs.declared.faults.Flaw as flaw
 use Rattle.cborn_judge.specs.declared.faults.InvalidReason.{InvalidReason}
-use Rattle.cborn_judge.proofs.Firsts.{Either, found_both, found_alike, none_of_both}
+use Rattle.cborn_judge.proofs.Firsts.{Either, found_alike, Settles, settled_fine, settled_flawed}
 use Rattle.cborn_judge.proofs.Judging.{sound_all, no_flaw}
 use Rattle.cborn_judge.proofs.Steps.{flaw_items}
 use Rattle.cborn_judge.proofs.Passing.{passed_one}
 
+-- these items are what these nodes mean
+abbrev AreMeant : List Tree → List Item → Type 0
+AreMeant ts items = AllMean (trees ts) (values_of (map item_value items)) × AreProper (values_of (map item_value items))
+
 -- the first flaw of these nodes, or without one what they mean
 abbrev pub AreJudged : List Tree → Option flaw.Flaw → List Item → Type 0
-AreJudged ts None items = AllMean (trees ts) (values_of (map item_value items)) × AreProper (values_of (map item_value items))
-AreJudged ts (Some f) items = IsFirst flaw_rank (FlawIn (trees ts)) f.place f.reason
-
-abbrev EarliestOf : Option flaw.Flaw → flaw.Flaw → Option flaw.Flaw → Type 0
-EarliestOf o f g = IsEarliestFlaw o (Some f) g
-
-not_none : (o g : Option flaw.Flaw) (f : flaw.Flaw) → EarliestOf o f g → g ≡ None → ⊥
-not_none o g f e n = none_of_both flaw_rank (λ f. f.place) (λ f. f.reason) o f (subst (EarliestOf o f) n e)
+AreJudged ts o items = Settles flaw_rank (λ f. f.place) (λ f. f.reason) (FlawIn (trees ts)) (AreMeant ts items) o
 
 -- ---- the nodes of an array
 
@@ -65,33 +62,27 @@ proper_more : (vs : List Value) (v : Value) → AreProper (values_of vs) → IsP
 proper_more [] v h p = (p, tt)
 proper_more (w ∷ ws) v h p = (h.0, proper_more ws v h.1 p)
 
-found : (xs : List Tree) (o : Option flaw.Flaw) (ys : List Item) → AreJudged xs o ys → FindsFlaw (FlawIn (trees xs)) o
-found xs None ys h = λ p r f. sound_all (trees xs) (values_of (map item_value ys)) h.0 f.0 f.1 p r f.2
-found xs (Some f) ys h = h
+sound : (xs : List Tree) (ys : List Item) → AreMeant xs ys → (p : ℕ) (r : InvalidReason) → FlawIn (trees xs) p r → ⊥
+sound xs ys h p r f = sound_all (trees xs) (values_of (map item_value ys)) h.0 f.0 f.1 p r f.2
 
-judged_from : (xs : List Tree) (o : Option flaw.Flaw) (ys : List Item) → (o ≡ None → ⊥) → FindsFlaw (FlawIn (trees xs)) o → AreJudged xs o ys
-judged_from xs None ys n h = absurd (n refl)
-judged_from xs (Some f) ys n h = h
-
-valid_more : (xs : List Tree) (x : Tree) (o : Option flaw.Flaw) (ys : List Item) (y : Item) → AreJudged xs o ys → MeansItem x y → AreJudged (xs ++ x ∷ []) o (ys ++ y ∷ [])
-valid_more xs x None ys y h m =
+meant_more : (xs : List Tree) (x : Tree) (ys : List Item) (y : Item) → MeansItem x y → AreMeant xs ys → AreMeant (xs ++ x ∷ []) (ys ++ y ∷ [])
+meant_more xs x ys y m h =
     let e = sym (map-append item_value ys (y ∷ [])) in
     (subst (λ l. AllMean (trees (xs ++ x ∷ [])) (values_of l)) e (mean_more xs (map item_value ys) x (item_value y) h.0 m.0), subst (λ l. AreProper (values_of l)) e (proper_more (map item_value ys) (item_value y) h.1 m.1))
-valid_more xs x (Some f) ys y h m =
-    found_alike flaw_rank (λ f. f.place) (λ f. f.reason) (Either (FlawIn (trees xs)) (Flaw x)) (FlawIn (trees (xs ++ x ∷ []))) (Some f) (one_more xs x)
-    (found_both flaw_rank (λ f. f.place) (λ f. f.reason) (FlawIn (trees xs)) (Flaw x) (Some f) None (Some f) h (no_flaw x (item_value y) m.0) refl)
 
-flawed_more : (xs : List Tree) (x : Tree) (o g : Option flaw.Flaw) (ys : List Item) (f : flaw.Flaw) → AreJudged xs o ys → IsFirstFlaw x f.place f.reason → EarliestOf o f g → AreJudged (xs ++ x ∷ []) g ys
+valid_more : (xs : List Tree) (x : Tree) (o : Option flaw.Flaw) (ys : List Item) (y : Item) → AreJudged xs o ys → MeansItem x y → AreJudged (xs ++ x ∷ []) o (ys ++ y ∷ [])
+valid_more xs x o ys y h m =
+    settled_fine flaw_rank (λ f. f.place) (λ f. f.reason) (FlawIn (trees xs)) (Flaw x) (FlawIn (trees (xs ++ x ∷ []))) (AreMeant xs ys) (AreMeant (xs ++ x ∷ []) (ys ++ y ∷ [])) o (one_more xs x) (meant_more xs x ys y m) (no_flaw x (item_value y) m.0) h
+
+flawed_more : (xs : List Tree) (x : Tree) (o g : Option flaw.Flaw) (ys : List Item) (f : flaw.Flaw) → AreJudged xs o ys → IsFirstFlaw x f.place f.reason → IsEarliestFlaw o (Some f) g → AreJudged (xs ++ x ∷ []) g ys
 flawed_more xs x o g ys f h k e =
-    judged_from (xs ++ x ∷ []) g ys (not_none o g f e)
-    (found_alike flaw_rank (λ f. f.place) (λ f. f.reason) (Either (FlawIn (trees xs)) (Flaw x)) (FlawIn (trees (xs ++ x ∷ []))) g (one_more xs x)
-    (found_both flaw_rank (λ f. f.place) (λ f. f.reason) (FlawIn (trees xs)) (Flaw x) o (Some f) g (found xs o ys h) k e))
+    settled_flawed flaw_rank (λ f. f.place) (λ f. f.reason) (FlawIn (trees xs)) (Flaw x) (FlawIn (trees (xs ++ x ∷ []))) (AreMeant xs ys) (AreMeant (xs ++ x ∷ []) ys) o g f (one_more xs x) (sound xs ys) k e h
 
 pub valid-take_more : (xs : List Tree) (i : ℕ) (x : Tree) (o : Option flaw.Flaw) (ys zs : List Item) (y : Item) → i < length xs → x ≡ get_or xs i x → AreJudged (take i xs) o ys → MeansItem x y → zs ≡ ys ++ y ∷ [] → AreJudged (take (i + 1) xs) o zs
 valid-take_more xs i x o ys zs y l e h m z =
     subst (λ t. AreJudged t o zs) (sym (passed_one xs i x l e)) (subst (AreJudged (take i xs ++ x ∷ []) o) (sym z) (valid_more (take i xs) x o ys y h m))
 
-pub flawed-take_more : (xs : List Tree) (i : ℕ) (x : Tree) (o g : Option flaw.Flaw) (ys : List Item) (f : flaw.Flaw) → i < length xs → x ≡ get_or xs i x → AreJudged (take i xs) o ys → IsFirstFlaw x f.place f.reason → EarliestOf o f g → AreJudged (take (i + 1) xs) g ys
+pub flawed-take_more : (xs : List Tree) (i : ℕ) (x : Tree) (o g : Option flaw.Flaw) (ys : List Item) (f : flaw.Flaw) → i < length xs → x ≡ get_or xs i x → AreJudged (take i xs) o ys → IsFirstFlaw x f.place f.reason → IsEarliestFlaw o (Some f) g → AreJudged (take (i + 1) xs) g ys
 flawed-take_more xs i x o g ys f l e h k m = subst (λ t. AreJudged t g ys) (sym (passed_one xs i x l e)) (flawed_more (take i xs) x o g ys f h k m)
 
 pub all_valid : (p : ℕ) (s : Size) (xs : List Tree) (i : ℕ) (o : Option flaw.Flaw) (ys : List Item) → length xs ≤ i → length ys < 2 ^ 64 → AreJudged (take i xs) o ys → o ≡ None

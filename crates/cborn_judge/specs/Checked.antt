@@ -8,16 +8,14 @@ use Rattle.cborn_model.specs.declared.heads.Size.{Size}
 use Rattle.cborn_model.specs.declared.heads.Width.{Width}
 use Rattle.cborn_judge.specs.Defects.{defect_rank, IsLong, IsLoose, SizeDefect, HasDescent, DefectAt}
 use Rattle.cborn_judge.specs.Flaws.{Within, WithinAll, WithinEntries}
-use Rattle.cborn_judge.specs.Judged.{IsEarlier, IsEarliest, Finds}
+use Rattle.cborn_judge.specs.Earliest.{IsEarliest}
+use Rattle.cborn_judge.specs.Judged.{Finds}
 use Rattle.cborn_judge.specs.declared.defects.Defect as defect
 use Rattle.cborn_judge.specs.declared.defects.DefectReason.{DefectReason}
 use Rattle.cborn_judge.specs.declared.defects.DefectReason.TheVariants.{LongHead, LooseBignum, KeyOrder}
 
-abbrev pub IsEarlierDefect : defect.Defect → defect.Defect → defect.Defect → Type 0
-IsEarlierDefect = IsEarlier defect_rank (λ d. d.place) (λ d. d.reason)
-
 abbrev pub IsEarliestDefect : Option defect.Defect → Option defect.Defect → Option defect.Defect → Type 0
-IsEarliestDefect = IsEarliest defect_rank (λ d. d.place) (λ d. d.reason)
+IsEarliestDefect = IsEarliest (λ d. (d.place, defect_rank d.reason))
 
 abbrev pub FindsDefect : (ℕ → DefectReason → Type 0) → Option defect.Defect → Type 0
 FindsDefect = Finds defect_rank (λ d. d.place) (λ d. d.reason)

@@ -1,13 +1,14 @@
 -- What the parts of the judge answer. No public contract cites it.
 use Rattle.std.specs.Prelude.{◌≡◌, ℕ, ◌^◌, ◌<◌, ◌⊎◌, Bool, List, length, Option, None, Some}
 use Rattle.cborn_model.specs.Bytes.{AreBytes, IsShortest, big_endian}
-use Rattle.cborn_model.specs.First.{NoLater, IsFirst}
+use Rattle.cborn_model.specs.First.{IsFirst}
 use Rattle.cborn_model.specs.ItemView.{item_value}
 use Rattle.cborn_model.specs.Meaning.{IsByteString, IsBignum, Means}
 use Rattle.cborn_model.specs.Tree.{Tree, Trees, Entries}
 use Rattle.cborn_model.specs.Spelled.{Fits}
 use Rattle.cborn_model.specs.Valid.{IsProper}
 use Rattle.cborn_model.specs.declared.items.Item.{Item}
+use Rattle.cborn_judge.specs.Earliest.{IsEarlier, IsEarliest}
 use Rattle.cborn_judge.specs.Flaws.{WithinAll, WithinEntries, flaw_rank, HasRepeat, HasBadChunk, FlawAt, Flaw, IsFirstFlaw}
 use Rattle.cborn_judge.specs.declared.faults.Flaw as flaw
 use Rattle.cborn_judge.specs.declared.faults.InvalidReason.{InvalidReason}
@@ -18,34 +19,19 @@ use Rattle.cborn_judge.specs.declared.judgments.Judged.TheVariants as judged
 use Rattle.cborn_judge.specs.declared.judgments.JudgedPair.{JudgedPair}
 use Rattle.cborn_judge.specs.declared.judgments.JudgedPair.TheVariants as judged_pair
 
--- ---- the first of what was found
+-- ---- what was found
 
 module _ {X R : Type 0} (rank : R → ℕ) (place_of : X → ℕ) (reason_of : X → R) where
-  -- x comes no later than y
-  abbrev pub Precedes : X → X → Type 0
-  Precedes x y = NoLater (place_of x, rank (reason_of x)) (place_of y, rank (reason_of y))
-
-  -- z is one of the two, and neither comes before it
-  abbrev pub IsEarlier : X → X → X → Type 0
-  IsEarlier x y z = ((z ≡ x) ⊎ (z ≡ y)) × Precedes z x × Precedes z y
-
-  -- o is the first of what two searches found
-  abbrev pub IsEarliest : Option X → Option X → Option X → Type 0
-  IsEarliest None b o = o ≡ b
-  IsEarliest (Some x) None o = o ≡ Some x
-  IsEarliest (Some x) (Some y) None = ⊥
-  IsEarliest (Some x) (Some y) (Some z) = IsEarlier x y z
-
   -- o is the first of these faults, if there is one
   abbrev pub Finds : (ℕ → R → Type 0) → Option X → Type 0
   Finds fault None = (p : ℕ) (r : R) → fault p r → ⊥
   Finds fault (Some x) = IsFirst rank fault (place_of x) (reason_of x)
 
 abbrev pub IsEarlierFlaw : flaw.Flaw → flaw.Flaw → flaw.Flaw → Type 0
-IsEarlierFlaw = IsEarlier flaw_rank (λ f. f.place) (λ f. f.reason)
+IsEarlierFlaw = IsEarlier (λ f. (f.place, flaw_rank f.reason))
 
 abbrev pub IsEarliestFlaw : Option flaw.Flaw → Option flaw.Flaw → Option flaw.Flaw → Type 0
-IsEarliestFlaw = IsEarliest flaw_rank (λ f. f.place) (λ f. f.reason)
+IsEarliestFlaw = IsEarliest (λ f. (f.place, flaw_rank f.reason))
 
 abbrev pub FindsFlaw : (ℕ → InvalidReason → Type 0) → Option flaw.Flaw → Type 0
 FindsFlaw = Finds flaw_rank (λ f. f.place) (λ f. f.reason)

@@ -2,7 +2,7 @@ pub mod Flaws
 pub mod Defects
 pub mod Repeats
 pub mod Places
+pub mod Earliest
 pub mod Judged
 pub mod Keeping
-pub mod Recalled
 pub mod Checked

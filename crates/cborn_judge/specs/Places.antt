@@ -1,8 +1,10 @@
 -- What the search for a repeated key says. No public contract cites it.
-use Rattle.std.specs.Prelude.{◌≡◌, ℕ, ◌≤◌, List, slice_index, Option, None, Some, min, map}
+use Rattle.std.specs.Prelude.{◌≡◌, ℕ, List, slice_index, map}
 use Rattle.cborn_model.specs.Tree.{Tree, place}
 use Rattle.std.proofs.Common.{Bor}
 use Rattle.cborn_judge.specs.Repeats.{IsAgain}
+use Rattle.cborn_judge.specs.declared.faults.InvalidReason.{InvalidReason}
+use Rattle.cborn_judge.specs.declared.faults.InvalidReason.TheVariants.{DuplicateKey}
 
 -- a key: its encoding and its position in the map
 abbrev pub Key : Type 0
@@ -15,17 +17,8 @@ abbrev pub key_position : Key → ℕ
 key_position k = k.1
 
 -- a key at this place is one again
-abbrev pub IsRepeatAt : List Key → List ℕ → ℕ → Type 0
-IsRepeatAt ks places p = (z : Key) × IsAgain key_bytes ks z × (slice_index places z.1 ≡ p)
-
--- the least of the numbers of which P holds, if there is one
-abbrev pub IsLeast : (ℕ → Type 0) → Option ℕ → Type 0
-IsLeast P None = (p : ℕ) → P p → ⊥
-IsLeast P (Some p) = P p × ((q : ℕ) → P q → p ≤ q)
-
-abbrev pub lower_of : Option ℕ → ℕ → ℕ
-lower_of None p = p
-lower_of (Some a) p = min a p
+abbrev pub RepeatAt : List Key → List ℕ → ℕ → InvalidReason → Type 0
+RepeatAt ks places p r = (r ≡ DuplicateKey) × (z : Key) × IsAgain key_bytes ks z × (slice_index places z.1 ≡ p)
 
 -- where the keys of these pairs stand
 abbrev pub key_places : List (Tree × Tree) → List ℕ

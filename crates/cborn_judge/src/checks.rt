@@ -12,15 +12,19 @@ ghost use Rattle.cborn_judge.specs.Checked.{FindsDefect, DefectIn, DefectInAll, 
 ghost use Rattle.cborn_judge.specs.Defects.{IsCheck, IsDeterministic};
 ghost use Rattle.cborn_judge.specs.Flaws.{IsRefusal};
 
-use crate::defects::{Defect, DefectReason, earliest};
+use crate::defects::{Defect, DefectReason};
 use crate::faults::Invalid;
 use crate::judgments::judge;
+use crate::precedence::earliest;
 use crate::spellings::{bignum_defect, chunks_defect, head_defect, size_defect};
 use cborn_det::push_encoding;
 use cborn_model::{Form, Item, KeyOrder, Node, Spelled};
 use std::alloc::{AllocError, Global};
 
-/// The first departure of the node's spelling from the deterministic encoding of the item that it means (RFC 8949 section 4.2), if there is one. The keys of maps are compared in the order `O`. An error is the first flaw of a node that means nothing, or says that memory was refused.
+/// The first departure of the node's spelling from the deterministic encoding of the item that it means (RFC 8949 section 4.2), if there is one. The keys of maps are compared in the order `O`.
+///
+/// # Errors
+/// Those of [`judge`]: `Refused` with the first flaw of a node that means nothing, and `OutOfMemory` where memory was refused.
 pub fn first_defect<O: KeyOrder>(
     alloc: Global,
     spelled: &Spelled,
@@ -30,10 +34,8 @@ pub fn first_defect<O: KeyOrder>(
     ensures refused { IfErr result (IsRefusal spelled.now) }
 {
     let valid = judge(alloc, spelled)?;
-    match defect_of::<O>(alloc, spelled.node(), valid.item()) {
-        Ok(defect) => Ok(defect),
-        Err(_) => Err(Invalid::OutOfMemory),
-    }
+    let defect = defect_of::<O>(alloc, spelled.node(), valid.item())?;
+    Ok(defect)
 }
 
 /// The first defect of a node that means `item`.

@@ -1,10 +1,9 @@
 //! Where a spelling is not the deterministic encoding.
 
 ghost use Rattle.std.specs.Prelude.{◌≡◌};
-ghost use Rattle.cborn_judge.specs.Checked.{IsEarlierDefect, IsEarliestDefect};
 ghost use Rattle.cborn_judge.specs.Defects.{defect_rank};
 
-use crate::faults::comes_first;
+use crate::precedence::Fault;
 use thiserror::Error;
 
 /// How the spelling of an item departs from its deterministic encoding. The number of a reason is its place in this list, from 1.
@@ -33,6 +32,7 @@ pub struct Defect {
 }
 
 impl DefectReason {
+    /// Its place in the list of reasons, from 1.
     fn number(self) -> u8
         ensures { result ≡ defect_rank self }
     {
@@ -45,29 +45,10 @@ impl DefectReason {
     }
 }
 
-/// The one of the two that comes first: at the lower place, or there with the lower number.
-fn earlier(defect: Defect, next: Defect) -> Defect
-    ensures { IsEarlierDefect defect next result }
-{
-    if comes_first(
-        next.place,
-        next.reason.number(),
-        defect.place,
-        defect.reason.number(),
-    ) {
-        next
-    } else {
-        defect
-    }
-}
+impl Fault for Defect {
+    ghost key = { λ d. (d.place, defect_rank d.reason) };
 
-/// The first of what was found so far and what was found next.
-pub(crate) fn earliest(so_far: Option<Defect>, next: Option<Defect>) -> Option<Defect>
-    ensures { IsEarliestDefect so_far next result }
-{
-    match (so_far, next) {
-        (None, next) => next,
-        (so_far, None) => so_far,
-        (Some(defect), Some(next)) => Some(earlier(defect, next)),
+    fn place_and_number(self) -> (u64, u8) {
+        (self.place, self.reason.number())
     }
 }

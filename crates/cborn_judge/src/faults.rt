@@ -1,10 +1,11 @@
 //! Why an item is not valid.
 
-ghost use Rattle.std.specs.Prelude.{◌≡◌, MatchBool};
-ghost use Rattle.cborn_model.specs.First.{NoLater};
+ghost use Rattle.std.specs.Prelude.{◌≡◌};
 ghost use Rattle.cborn_judge.specs.Flaws.{flaw_rank};
-ghost use Rattle.cborn_judge.specs.Judged.{IsEarlierFlaw, IsEarliestFlaw};
+ghost use Rattle.cborn_judge.specs.declared.faults.Invalid.TheVariants.{OutOfMemory};
 
+use crate::precedence::Fault;
+use std::alloc::{AllocError, AllocFailed};
 use thiserror::Error;
 
 /// Why an item means nothing. The number of a reason is its place in this list, from 1.
@@ -32,6 +33,22 @@ pub enum Invalid {
     OutOfMemory,
 }
 
+impl From<AllocError> for Invalid {
+    ghost from_gives = { λ _ e. e ≡ OutOfMemory };
+
+    fn from(_why: AllocError) -> Invalid {
+        Invalid::OutOfMemory
+    }
+}
+
+impl<T: Drop> From<AllocFailed<T>> for Invalid {
+    ghost from_gives = { λ _ e. e ≡ OutOfMemory };
+
+    fn from(_why: AllocFailed<T>) -> Invalid {
+        Invalid::OutOfMemory
+    }
+}
+
 /// Where something is wrong, and what.
 #[derive(Clone, Copy, PartialEq, Eq, Debug)]
 pub(crate) struct Flaw {
@@ -40,6 +57,7 @@ pub(crate) struct Flaw {
 }
 
 impl InvalidReason {
+    /// Its place in the list of reasons, from 1.
     fn number(self) -> u8
         ensures { result ≡ flaw_rank self }
     {
@@ -51,36 +69,18 @@ impl InvalidReason {
     }
 }
 
-/// The one of the two that comes first: at the lower place, or there with the lower number.
-pub(crate) fn earlier(flaw: Flaw, next: Flaw) -> Flaw
-    ensures { IsEarlierFlaw flaw next result }
-{
-    if comes_first(
-        next.place,
-        next.reason.number(),
-        flaw.place,
-        flaw.reason.number(),
-    ) {
-        next
-    } else {
-        flaw
+impl Fault for Flaw {
+    ghost key = { λ f. (f.place, flaw_rank f.reason) };
+
+    fn place_and_number(self) -> (u64, u8) {
+        (self.place, self.reason.number())
     }
 }
 
-/// The first of what was found so far and what was found next.
-pub(crate) fn earliest(so_far: Option<Flaw>, next: Option<Flaw>) -> Option<Flaw>
-    ensures { IsEarliestFlaw so_far next result }
-{
-    match (so_far, next) {
-        (None, next) => next,
-        (so_far, None) => so_far,
-        (Some(flaw), Some(next)) => Some(earlier(flaw, next)),
-    }
-}
+impl Fault for (u64, InvalidReason) {
+    ghost key = { λ f. (f.0, flaw_rank f.1) };
 
-/// Whether a fault comes before another: at a lower place, or there with a lower number.
-pub(crate) fn comes_first(place: u64, number: u8, other_place: u64, other_number: u8) -> bool
-    ensures { MatchBool result (NoLater (place, number) (other_place, other_number)) (NoLater (other_place, other_number) (place, number)) }
-{
-    place < other_place || (place == other_place && number < other_number)
+    fn place_and_number(self) -> (u64, u8) {
+        (self.0, self.1.number())
+    }
 }

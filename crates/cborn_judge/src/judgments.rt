@@ -13,8 +13,9 @@ ghost use Rattle.cborn_judge.specs.Judged.{IsJudged, IsJudgedPair, IsFirstWith, 
 ghost use Rattle.cborn_judge.specs.Keeping.{KeepsKey};
 
 use crate::bignums::{judge_bignum, small_integer};
-use crate::faults::{Flaw, Invalid, InvalidReason, earlier, earliest};
+use crate::faults::{Flaw, Invalid, InvalidReason};
 use crate::keys::{Keys, cleared};
+use crate::precedence::{earlier, earliest};
 use crate::strings::{judge_byte_chunks, judge_bytes, judge_text, judge_text_chunks};
 use cborn_model::{Form, Item, ItemBox, ItemList, Node, PairList, Spelled, Valid};
 use std::alloc::{AllocError, Global};
@@ -35,6 +36,7 @@ pub(crate) enum JudgedPair {
 
 /// The item that the node means (RFC 8949 section 5.3; bignums: section 3.4.3), or the first of all its flaws: the one at the least place, and there the one with the least number.
 ///
+/// # Errors
 /// `Refused` tells the reason and the place of that flaw, which is the offset of the head of the node or chunk where it stands, in bytes from the start of the input that the node was read from. `OutOfMemory` where memory was refused.
 pub fn judge(alloc: Global, spelled: &Spelled) -> Result<Valid, Invalid>
     ensures meant { IfOk result (λ valid. Means spelled.now valid) }
@@ -49,30 +51,25 @@ fn judge_with(alloc: Global, spelled: &Spelled, spare: &mut Vec<Keys>) -> Result
     ensures meant { IfOk result (λ valid. Means spelled.now valid) }
     ensures refused { IfErr result (IsRefusal spelled.now) }
 {
-    match judge_node(alloc, spelled.node(), spare) {
-        Ok(Judged::Valid(item)) => Ok(Valid::new(item)),
-        Ok(Judged::Flawed(flaw)) => Err(Invalid::Refused {
-            place: flaw.place,
-            reason: flaw.reason,
-        }),
-        Err(_) => Err(Invalid::OutOfMemory),
+    match judge_node(alloc, spelled.node(), spare)? {
+        Judged::Valid(item) => Ok(Valid::new(item)),
+        Judged::Flawed(Flaw { place, reason }) => Err(Invalid::Refused { place, reason }),
     }
 }
 
 /// The items that the nodes mean, in order (RFC 8949 sections 5.3 and 3.4.3), or the first flaw of the first node that means nothing.
 ///
-/// The errors are those of [`judge`]: `Refused` with the reason and the place of that flaw, and `OutOfMemory` where memory was refused.
+/// # Errors
+/// Those of [`judge`]: `Refused` with the reason and the place of that flaw, and `OutOfMemory` where memory was refused.
 pub fn judge_all(alloc: Global, spelled: &[Spelled]) -> Result<Vec<Valid>, Invalid>
     ensures meant { IfOk result (λ items. AllZip Means spelled.now items.items) }
     ensures refused { IfErr result (IsRefusalOfAll spelled.now) }
 {
-    let Ok(mut items) = Vec::with_capacity(alloc, spelled.len()) else {
-        return Err(Invalid::OutOfMemory);
-    };
+    let mut items = Vec::with_capacity(alloc, spelled.len())?;
     let mut spare = Vec::new(alloc);
     for node in spelled {
         let item = judge_with(alloc, node, &mut spare)?;
-        items.push(item).map_err(|_| Invalid::OutOfMemory)?;
+        items.push(item)?;
     }
     Ok(items)
 }
@@ -194,7 +191,7 @@ fn judge_key(
 
 /// What a key and its value mean together.
 #[inline(always)]
-pub(crate) fn paired(key: Judged, value: Judged) -> JudgedPair
+fn paired(key: Judged, value: Judged) -> JudgedPair
     ensures { (n : Tree × Tree) → IsJudged n.0 key → IsJudged n.1 value → IsJudgedPair n result }
 {
     match key {
@@ -238,7 +235,7 @@ fn judge_tagged(
 }
 
 /// The first of a flaw and of that of what was judged next, if it has one.
-pub(crate) fn first_flaw(flaw: Flaw, next: &Judged) -> Flaw
+fn first_flaw(flaw: Flaw, next: &Judged) -> Flaw
     ensures { IsFirstWith flaw next.now result }
 {
     match next {

@@ -1,9 +1,9 @@
 //! What items mean: validity, and the check for the deterministic encoding (RFC 8949 sections 4.2 and 5.3).
 //!
 //! Two questions are answered about a node. *Does it mean an item?* [`judge`] gives the item, or the first flaw:
-//! `judgments` walks the node, and `strings`, `bignums` and `keys` with `repeats` judge what has rules of its own.
-//! [`judge_owned`] answers the same of a node that is given up, and its walk stands in `owned`. *Is it the deterministic
-//! encoding of that item?* [`first_defect`] walks the node beside its item (`checks`), and `spellings` looks at its heads.
+//! `judgments` walks the node, and `strings`, `bignums` and `keys` with `repeats` judge what has rules of its own. *Is it
+//! the deterministic encoding of that item?* [`first_defect`] walks the node beside its item (`checks`), and `spellings`
+//! looks at its heads. Which of two faults comes first is said in `precedence`.
 //!
 //! A reader of the definitions starts at `specs/Flaws.antt` (what is wrong with a node, and what is wrong first) and
 //! `specs/Defects.antt` (where a spelling departs from the deterministic encoding); what a node means is told by
@@ -18,7 +18,7 @@ mod faults;
 mod judgments;
 mod keys;
 pub mod laws;
-mod owned;
+mod precedence;
 mod repeats;
 mod spellings;
 mod strings;
@@ -27,7 +27,7 @@ pub use checks::first_defect;
 pub use defects::{Defect, DefectReason};
 pub use faults::{Invalid, InvalidReason};
 pub use judgments::{judge, judge_all};
-pub use owned::{judge_all_owned, judge_owned};
+pub use precedence::{Fault, earlier, earliest};
 
 #[cfg(test)]
 mod tests;

@@ -6,7 +6,8 @@ ghost use Rattle.cborn_model.specs.Meaning.{IsByteString};
 ghost use Rattle.cborn_judge.specs.Checked.{FindsDefect, LongAt, SizeAt, LooseBytesAt, TagDefect};
 ghost use Rattle.cborn_judge.specs.Defects.{ChunksDefect, IsLoose};
 
-use crate::defects::{Defect, DefectReason, earliest};
+use crate::defects::{Defect, DefectReason};
+use crate::precedence::earliest;
 use crate::strings::join;
 use cborn_model::{Chunk, Form, Node, Size, Width, shortest};
 use std::alloc::{AllocError, Global};

@@ -8,8 +8,9 @@ ghost use Rattle.cborn_model.specs.Spelled.{ChunksFit};
 ghost use Rattle.cborn_model.specs.Tree as tree;
 ghost use Rattle.cborn_judge.specs.Judged.{IsJudged};
 
-use crate::faults::{Flaw, InvalidReason, earliest};
+use crate::faults::{Flaw, InvalidReason};
 use crate::judgments::Judged;
+use crate::precedence::earliest;
 use cborn_model::{ByteString, Chunk, Item};
 use std::alloc::{AllocError, Global};
 

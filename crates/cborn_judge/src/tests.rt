@@ -1,17 +1,26 @@
 //! Examples of what bytes mean, of their flaws and of their defects.
 
-mod owned;
-
 use crate::{Defect, DefectReason, Invalid, InvalidReason, first_defect, judge, judge_all};
 use cborn_det::encode_all;
 use cborn_model::{Bytewise, LengthFirst, Limit};
 use cborn_wire::read_all;
 
-/// What is valid, and the deterministic encoding of what it means.
+/// What is valid, and the deterministic encoding of what it means; the second case has each form of a node.
 #[test]
 fn means(rt: HostRuntime) {
-    let cases: [(&[u8], &[u8]); 11] = [
+    let cases: [(&[u8], &[u8]); 12] = [
         (&[], &[]),
+        (
+            &[
+                0x18, 1, 0x38, 5, 0x58, 1, 0x61, 0x78, 1, 0x62, 0x5f, 0x41, 1, 0x41, 2, 0xff, 0x7f,
+                0x61, 0x63, 0x61, 0x64, 0xff, 0x9f, 1, 0x61, 0x65, 0xff, 0xbf, 2, 0xa0, 1, 0x80,
+                0xff, 0xd8, 1, 0x60, 0xc2, 0x42, 0, 5, 0xc3, 0x40, 0xf5,
+            ],
+            &[
+                1, 0x25, 0x41, 0x61, 0x61, 0x62, 0x42, 1, 2, 0x62, 0x63, 0x64, 0x82, 1, 0x61, 0x65,
+                0xa2, 1, 0x80, 2, 0xa0, 0xc1, 0x60, 5, 0x20, 0xf5,
+            ],
+        ),
         (&[0x18, 0x01], &[0x01]),
         (&[0xc2, 0x40], &[0x00]),
         (&[0xc3, 0x40], &[0x20]),
@@ -46,8 +55,9 @@ fn means(rt: HostRuntime) {
 /// What is not valid, where, and why.
 #[test]
 fn refuses(rt: HostRuntime) {
-    let cases: [(&[u8], u64, InvalidReason); 10] = [
+    let cases: [(&[u8], u64, InvalidReason); 11] = [
         (&[0x62, 0xc3, 0x28], 0, InvalidReason::NotUtf8),
+        (&[0x81, 0xc2, 0x01], 1, InvalidReason::BadBignum),
         (
             &[0x7f, 0x61, 0xc3, 0x61, 0xbc, 0xff],
             1,

@@ -14,6 +14,12 @@ no_later_turned a b (inl h) (inl k) = absurd (omega arith)
 no_later_turned a b (inl h) (inr k) = absurd (omega arith)
 no_later_turned a b (inr h) (inl k) = absurd (omega arith)
 
+-- where no two reasons have one number
+pub first_once : {R : Type 0} (rank : R → ℕ) (fault : ℕ → R → Type 0) (p q : ℕ) (r s : R) → ((a b : R) → rank a ≡ rank b → a ≡ b) → IsFirst rank fault p r → IsFirst rank fault q s → (p ≡ q) × (r ≡ s)
+first_once {R} rank fault p q r s one h k =
+    let e = no_later_turned (p, rank r) (q, rank s) (h.first q s k.is) (k.first p r h.is) in
+    (e.0, one r s e.1)
+
 module _ {R : Type 0} (rank : R → ℕ) where
   -- of one fault
   pub first_alone : (p : ℕ) (r : R) → IsFirst rank (λ q s. (q ≡ p) × (s ≡ r)) p r

@@ -6,7 +6,8 @@ use Rattle.cborn_model.specs.Meaning.{IsByteString}
 use Rattle.cborn_model.specs.Tree.{Tree, trees, entries}
 use Rattle.cborn_model.specs.declared.nodes.Chunk.{Chunk}
 use Rattle.cborn_judge.specs.Flaws.{flaw_rank, Flaw}
-use Rattle.cborn_judge.specs.Judged.{FlawIn, FlawAmong, ChunkFlaw, IsEarlier, IsEarliest, Finds}
+use Rattle.cborn_judge.specs.Earliest.{IsEarliest}
+use Rattle.cborn_judge.specs.Judged.{FlawIn, FlawAmong, ChunkFlaw, Finds}
 use Rattle.cborn_judge.specs.Repeats.{AreKeys}
 use Rattle.cborn_judge.specs.declared.faults.InvalidReason.{InvalidReason}
 use Rattle.cborn_judge.specs.declared.faults.InvalidReason.TheVariants.{NotUtf8}
@@ -22,11 +23,8 @@ told_place f = f.0
 abbrev pub told_reason : Told → InvalidReason
 told_reason f = f.1
 
-abbrev pub IsEarlierTold : Told → Told → Told → Type 0
-IsEarlierTold = IsEarlier flaw_rank told_place told_reason
-
 abbrev pub IsEarliestTold : Option Told → Option Told → Option Told → Type 0
-IsEarliestTold = IsEarliest flaw_rank told_place told_reason
+IsEarliestTold = IsEarliest (λ f. (told_place f, flaw_rank (told_reason f)))
 
 abbrev pub FindsTold : (ℕ → InvalidReason → Type 0) → Option Told → Type 0
 FindsTold = Finds flaw_rank told_place told_reason

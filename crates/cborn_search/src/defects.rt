@@ -8,12 +8,10 @@ ghost use Rattle.cborn_transcode.specs.Walking.{Leaves};
 ghost use Rattle.cborn_search.specs.Departed.{PairsWalked, Walked, WalkedAll};
 ghost use Rattle.cborn_search.specs.Reading.{NodeRead};
 
-use crate::departures::{
-    add_head, earliest_defect, head_defect, walk_bignum_content, walk_long_string,
-};
+use crate::departures::{add_head, head_defect, walk_bignum_content, walk_long_string};
 use crate::leaves::{behind_break, is_bignum, is_done, is_simple, last, string_at};
 use crate::walked_maps::WalkedMap;
-use cborn_judge::{Defect, DefectReason};
+use cborn_judge::{Defect, DefectReason, earliest};
 use cborn_model::{KeyOrder, Major};
 use cborn_wire::{Argument, HeadRead, read_head};
 use std::alloc::Global;
@@ -157,7 +155,7 @@ fn walk_endless_array<O: KeyOrder>(
     let (rest, _, inner) = walk_items::<O>(alloc, room - 1, total, u64::MAX, true, bytes, found)?;
     let after = behind_break(rest)?;
     let reason = DefectReason::EndlessLength;
-    *found = earliest_defect(Some(Defect { place, reason }), inner);
+    *found = earliest(Some(Defect { place, reason }), inner);
     Some(after.len())
 }
 
@@ -185,7 +183,7 @@ fn walk_items<'a, O: KeyOrder>(
             break;
         }
         rest = walk_item::<O>(alloc, room, total, rest, found)?;
-        first = earliest_defect(first, *found);
+        first = earliest(first, *found);
         count += 1;
     }
     Some((rest, count, first))
@@ -237,7 +235,7 @@ fn walk_endless_map<O: KeyOrder>(
     let (rest, _) = walk_pairs::<O>(alloc, room - 1, total, u64::MAX, true, bytes, found)?;
     let after = behind_break(rest)?;
     let reason = DefectReason::EndlessLength;
-    *found = earliest_defect(Some(Defect { place, reason }), *found);
+    *found = earliest(Some(Defect { place, reason }), *found);
     Some(after.len())
 }
 

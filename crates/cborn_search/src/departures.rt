@@ -1,56 +1,16 @@
 //! The defects of heads, strings, bignums and keys.
 
 ghost use Rattle.std.specs.Prelude.{◌≡◌, ◌≢◌, ◌<◌, ◌≤◌, ◌++◌, ◌∷◌, ◌⊎◌, ◌↔◌, ℕ, List, Option, length, IsTrue, IfSome, MatchBool};
-ghost use Rattle.cborn_judge.specs.Checked.{FindsDefect, LongAt, LooseBytesAt, IsEarlierDefect, IsEarliestDefect};
-ghost use Rattle.cborn_judge.specs.Defects.{defect_rank, ChunksDefect, IsLoose};
+ghost use Rattle.cborn_judge.specs.Checked.{FindsDefect, LongAt, LooseBytesAt, IsEarliestDefect};
+ghost use Rattle.cborn_judge.specs.Defects.{ChunksDefect, IsLoose};
 ghost use Rattle.cborn_judge.specs.declared.defects.Defect.{Defect};
 ghost use Rattle.cborn_search.specs.Departed.{AfterKey, BignumWalked, ChunkWalked, ChunksWalked};
 ghost use Rattle.cborn_search.specs.Digits.{AreDigits, BeginsWith, DigitsWalked};
 
 use crate::leaves::{behind_break, string_at};
-use crate::told::comes_first;
-use cborn_judge::{Defect, DefectReason};
+use cborn_judge::{Defect, DefectReason, earliest};
 use cborn_model::{KeyOrder, Major, Width, shortest};
 use cborn_wire::{Argument, HeadRead, read_head};
-
-/// The number of a reason.
-fn number(reason: DefectReason) -> u8
-    ensures { result ≡ defect_rank reason }
-{
-    match reason {
-        DefectReason::LongHead => 1,
-        DefectReason::EndlessLength => 2,
-        DefectReason::LooseBignum => 3,
-        DefectReason::KeyOrder => 4,
-    }
-}
-
-/// The one of the two that comes first.
-fn earlier(defect: Defect, next: Defect) -> Defect
-    ensures { IsEarlierDefect defect next result }
-{
-    if comes_first(
-        next.place,
-        number(next.reason),
-        defect.place,
-        number(defect.reason),
-    ) {
-        next
-    } else {
-        defect
-    }
-}
-
-/// The first of what was found so far and what was found next.
-pub(crate) fn earliest_defect(so_far: Option<Defect>, next: Option<Defect>) -> Option<Defect>
-    ensures { IsEarliestDefect so_far next result }
-{
-    match (so_far, next) {
-        (None, next) => next,
-        (so_far, None) => so_far,
-        (Some(defect), Some(next)) => Some(earlier(defect, next)),
-    }
-}
 
 /// The defect of a head at `place` with the argument `n`.
 pub(crate) fn head_defect(place: u64, width: Width, n: u64) -> Option<Defect>
@@ -69,7 +29,7 @@ pub(crate) fn add_head(place: u64, width: Width, n: u64, found: &mut Option<Defe
     ensures { (own : Option Defect) × FindsDefect (LongAt place width n) own × IsEarliestDefect own found.old found.new }
 {
     let own = head_defect(place, width, n);
-    *found = earliest_defect(own, *found);
+    *found = earliest(own, *found);
 }
 
 /// The defect of a key at `place` whose encoding follows that of the key before it, if it is not the first.
@@ -110,7 +70,7 @@ fn walk_chunks(
         }
         let (_, after, defect) = walk_chunk(major, total, rest)?;
         rest = after;
-        first = earliest_defect(first, defect);
+        first = earliest(first, defect);
     }
     Some((rest, first))
 }
@@ -172,14 +132,14 @@ fn walk_bignum(total: u64, place: u64, bytes: &[u8]) -> Option<(&[u8], Option<De
             let (content, after) = string_at(n, &bytes[len..])?;
             let loose = loose_defect(place, content);
             let long = head_defect(inner, width, content.len() as u64);
-            let first = earliest_defect(loose, long);
+            let first = earliest(loose, long);
             Some((after, first))
         }
         Argument::Endless => {
             let (after, long, digits) = walk_digits(total, inner, &bytes[len..])?;
             let end = behind_break(after)?;
             let loose = loose_digits(place, digits);
-            let first = earliest_defect(loose, long);
+            let first = earliest(loose, long);
             Some((end, first))
         }
     }
@@ -224,7 +184,7 @@ fn walk_digits(total: u64, place: u64, bytes: &[u8]) -> Option<(&[u8], Option<De
         let (content, after, defect) = walk_chunk(Major::ByteString, total, rest)?;
         digits = more_digits(digits, content)?;
         rest = after;
-        first = earliest_defect(first, defect);
+        first = earliest(first, defect);
     }
     Some((rest, first, digits))
 }

@@ -15,8 +15,8 @@ use crate::leaves::{
     string_at,
 };
 use crate::scanned_maps::ScannedMap;
-use crate::told::{Finding, earliest};
-use cborn_judge::InvalidReason;
+use crate::told::Finding;
+use cborn_judge::{InvalidReason, earliest};
 use cborn_model::Major;
 use cborn_wire::{Argument, HeadRead, read_head};
 use std::alloc::Global;

@@ -8,8 +8,7 @@ ghost use Rattle.cborn_search.specs.Flawed.{FindsTold, SeenKey, AreSeen};
 ghost use Rattle.cborn_search.specs.Marks.{mark_bytes, AreMarked, TakesKey, InPlace, ComesAfter, TieAfter, TieFlaw};
 ghost use Rattle.cborn_search.specs.Reading.{Pair};
 
-use crate::told::earliest;
-use cborn_judge::InvalidReason;
+use cborn_judge::{InvalidReason, earliest};
 use cborn_model::{Bytewise, KeyOrder, Limit};
 use cborn_transcode::transcode;
 use std::alloc::Global;

@@ -9,8 +9,8 @@ ghost use Rattle.cborn_wire.specs.HeadReading.{ArgumentFits, seen_argument};
 ghost use Rattle.cborn_search.specs.Flawed.{FindsTold, TextFlaw, ChunkSeen, ChunksSeen, Scanned};
 ghost use Rattle.cborn_search.specs.Reading.{StringRead, IsSimpleArgument};
 
-use crate::told::{Finding, earliest};
-use cborn_judge::InvalidReason;
+use crate::told::Finding;
+use cborn_judge::{InvalidReason, earliest};
 use cborn_model::{Major, Width};
 use cborn_wire::{Argument, HeadRead, read_head};
 

@@ -5,8 +5,8 @@ ghost use Rattle.cborn_search.specs.Flawed.{IsEarliestTold};
 ghost use Rattle.cborn_search.specs.Marks.{AreMarked, Concludes, TakesKey};
 
 use crate::keys::Keys;
-use crate::told::{Finding, earliest};
-use cborn_judge::InvalidReason;
+use crate::told::Finding;
+use cborn_judge::{InvalidReason, earliest};
 use std::alloc::Global;
 
 /// The keys that mean something, and the first flaw of keys and values.

@@ -4,10 +4,9 @@ ghost use Rattle.std.specs.Prelude.{IfSome};
 ghost use Rattle.cborn_search.specs.Searching.{IsFirstFlawOf, IsFirstDefectOf};
 
 use crate::defects::walk_item;
-use crate::departures::earliest_defect;
 use crate::flaws::scan_item;
 use crate::told::Finding;
-use cborn_judge::{Defect, InvalidReason};
+use cborn_judge::{Defect, InvalidReason, earliest};
 use cborn_model::{KeyOrder, Limit};
 use std::alloc::Global;
 
@@ -58,7 +57,7 @@ pub fn first_defect<O: KeyOrder>(
             break;
         }
         rest = walk_item::<O>(alloc, room, total, rest, &mut found)?;
-        first = earliest_defect(first, found);
+        first = earliest(first, found);
     }
     if !rest.is_empty() {
         return None;

@@ -4,9 +4,9 @@ ghost use Rattle.std.specs.Prelude.{◌≡◌, ◌≤◌, None, length, OnSome};
 ghost use Rattle.cborn_judge.specs.Checked.{IsEarliestDefect};
 ghost use Rattle.cborn_search.specs.Departed.{TakesNext};
 
-use crate::departures::{earliest_defect, order_defect};
+use crate::departures::order_defect;
 use crate::keys::encoded;
-use cborn_judge::Defect;
+use cborn_judge::{Defect, earliest};
 use cborn_model::KeyOrder;
 use std::alloc::Global;
 
@@ -47,7 +47,7 @@ impl WalkedMap {
         let encoding = encoded::<O>(alloc, bytes, rest)?;
         let place = total - bytes.len() as u64;
         let next = order_defect::<O>(count, place, &self.last, &encoding);
-        self.descent = earliest_defect(self.descent, next);
+        self.descent = earliest(self.descent, next);
         self.last = encoding;
         Some(())
     }
@@ -59,7 +59,7 @@ impl WalkedMap {
         ensures descent { self.new.descent ≡ self.old.descent }
         ensures first { IsEarliestDefect self.old.first found.now self.new.first }
     {
-        self.first = earliest_defect(self.first, *found);
+        self.first = earliest(self.first, *found);
     }
 
     /// Tells the first defect of the map.
@@ -67,6 +67,6 @@ impl WalkedMap {
     pub(crate) fn conclude(&self, found: &mut Option<Defect>)
         ensures { IsEarliestDefect self.now.descent self.now.first found.new }
     {
-        *found = earliest_defect(self.descent, self.first);
+        *found = earliest(self.descent, self.first);
     }
 }

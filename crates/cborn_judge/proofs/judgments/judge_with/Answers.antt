@@ -8,5 +8,5 @@ use Rattle.cborn_judge.proofs.judgments.judge_with.Goals as goal
 pub new-requires : goal.new-requires
 new-requires c =
     let node = c.args.spelled.now in
-    let means : MeansItem node c.in-Ok-Valid.item = subst (λ t. MeansItem t c.in-Ok-Valid.item) c.node.ensures.same (subst (IsJudged c.node.result.now) c.in-Ok-Valid.field-0-is c.in-Ok-Valid.ensures) in
-    (means.1, (let k = meaning_shallow node (item_value c.in-Ok-Valid.item) c.node.ensures.spelled.0 means.0 in let l : depth node ≤ 1024 = c.node.ensures.spelled.1 in omega arith))
+    let means : MeansItem node c.in-Valid.item = subst (λ t. MeansItem t c.in-Valid.item) c.node.ensures.same (subst (IsJudged c.node.result.now) c.in-Valid.is c.in_ok-item.ensures) in
+    (means.1, (let k = meaning_shallow node (item_value c.in-Valid.item) c.node.ensures.spelled.0 means.0 in let l : depth node ≤ 1024 = c.node.ensures.spelled.1 in omega arith))

@@ -44,7 +44,7 @@ pub walk_items-items-preserved : goal.walk_items-items-preserved
 walk_items-items-preserved t g c =
     let more : c.items.count ≢ c.args.most = c.is_done.ensures c.if-is_done.false in
     let x : Walked t.O.KeyOrder.order c.args.room c.args.total c.items.rest.now c.in_ok-rest.rest.now c.walk_item.new.found = c.in_ok-rest.ensures in (
-      all_more t.O.KeyOrder.order c.args.room c.args.total c.items.count c.args.bytes.now c.items.rest.now c.in_ok-rest.rest.now c.items.first c.walk_item.new.found c.earliest_defect-first.result c.requires.within c.items.invariant.0 x c.earliest_defect-first.ensures,
+      all_more t.O.KeyOrder.order c.args.room c.args.total c.items.count c.args.bytes.now c.items.rest.now c.in_ok-rest.rest.now c.items.first c.walk_item.new.found c.earliest-first.result c.requires.within c.items.invariant.0 x c.earliest-first.ensures,
       omega (arith, c.items.invariant.1),
       node_left (HasDefect t.O.KeyOrder.order c.walk_item.new.found) c.args.room c.args.total c.items.rest.now c.in_ok-rest.rest.now c.items.invariant.2 x,
     )
@@ -53,7 +53,7 @@ pub walk_endless_array-returns : goal.walk_endless_array-returns
 walk_endless_array-returns t g c l p = (
   c.in_ok-after.after.now,
   refl,
-  endless_array_walked t.O.KeyOrder.order c.args.room c.args.total c.args.place _ c.args.bytes.now c.in_ok-rest.rest.now c.in_ok-after.after.now c.in_ok-rest.inner c.earliest_defect.result (omega arith) c.in_ok-after.ensures l p c.in_ok-rest.ensures c.earliest_defect.ensures,
+  endless_array_walked t.O.KeyOrder.order c.args.room c.args.total c.args.place _ c.args.bytes.now c.in_ok-rest.rest.now c.in_ok-after.after.now c.in_ok-rest.inner c.earliest.result (omega arith) c.in_ok-after.ensures l p c.in_ok-rest.ensures c.earliest.ensures,
 )
 
 pub walk_node-returns-in-Unsigned : goal.walk_node-returns-in-Unsigned
@@ -120,7 +120,7 @@ pub walk_endless_map-returns : goal.walk_endless_map-returns
 walk_endless_map-returns t g c l p = (
   c.in_ok-after.after.now,
   refl,
-  endless_map_walked t.O.KeyOrder.order c.args.room c.args.total c.args.place _ c.args.bytes.now c.in_ok-rest.rest.now c.in_ok-after.after.now c.walk_pairs.new.found c.earliest_defect.result (omega arith) c.in_ok-after.ensures l p c.in_ok-rest.ensures c.earliest_defect.ensures,
+  endless_map_walked t.O.KeyOrder.order c.args.room c.args.total c.args.place _ c.args.bytes.now c.in_ok-rest.rest.now c.in_ok-after.after.now c.walk_pairs.new.found c.earliest.result (omega arith) c.in_ok-after.ensures l p c.in_ok-rest.ensures c.earliest.ensures,
 )
 
 pub walk_tag-returns-then-is_bignum : goal.walk_tag-returns-then-is_bignum

@@ -15,7 +15,7 @@ items-preserved g c =
     let total : ℕ = length c.args.bytes.now in
     let x : Walked g.O.KeyOrder.order c.get-room.result total c.items.rest.now c.in_ok-rest.rest.now c.walk_item.new.found = c.in_ok-rest.ensures in (
       i.0 + 1,
-      all_more g.O.KeyOrder.order c.get-room.result total i.0 c.args.bytes.now c.items.rest.now c.in_ok-rest.rest.now c.items.first c.walk_item.new.found c.earliest_defect-first.result (omega arith) i.1 x c.earliest_defect-first.ensures,
+      all_more g.O.KeyOrder.order c.get-room.result total i.0 c.args.bytes.now c.items.rest.now c.in_ok-rest.rest.now c.items.first c.walk_item.new.found c.earliest-first.result (omega arith) i.1 x c.earliest-first.ensures,
       node_left (HasDefect g.O.KeyOrder.order c.walk_item.new.found) c.get-room.result total c.items.rest.now c.in_ok-rest.rest.now i.2 x,
     )
 

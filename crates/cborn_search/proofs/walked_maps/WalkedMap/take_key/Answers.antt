@@ -11,6 +11,6 @@ returns t c =
       encoded = c.in_ok-encoding.ensures;
       found = subst (λ (z : List ℕ). FindsDefect (AfterKey order c.args.count (c.args.total - length c.args.bytes.now) z c.in_ok-encoding.encoding.items) c.order_defect-next.result) c.deref.ensures.value
           (subst (λ (z : List ℕ). FindsDefect (AfterKey order c.args.count (c.args.total - length c.args.bytes.now) c.deref.result.now z) c.order_defect-next.result) c.deref-2.ensures.value c.order_defect-next.ensures);
-      descent = c.earliest_defect-self.ensures;
+      descent = c.earliest-self.ensures;
       first = refl;
     }

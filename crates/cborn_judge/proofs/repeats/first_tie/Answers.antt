@@ -1,11 +1,12 @@
-use Rattle.std.proofs.Common.{rules, arith, ℕ, ◌≡◌, ◌<◌, length, ◌+◌, get_or, subst, sym, ◌∙◌, ap, take, true≢false, Some}
+use Rattle.std.proofs.Common.{rules, arith, ℕ, ◌≡◌, ◌<◌, length, get_or, subst, sym, ◌∙◌, true≢false, Some}
 use Rattle.std.proofs.lemmas.Slice.Eq.{bytes_eq-Decides}
 use Rattle.std.proofs.lemmas.List.Sorted.{All-permutation}
 use Rattle.std.proofs.lemmas.List.{get_or_default}
-use Rattle.cborn_judge.specs.Places.{Key, key_bytes, IsLeast, lower_of}
-use Rattle.cborn_judge.proofs.Neighbours.{IsTieAt, none-take_more, one-take_more, least_again}
-use Rattle.cborn_judge.proofs.repeats.least_tie.Goals as goal
-use Rattle.cborn_judge.proofs.repeats.least_tie.Goals.{then-eq, else-eq}
+use Rattle.cborn_judge.specs.Places.{Key, key_bytes}
+use Rattle.cborn_judge.specs.Judged.{IsEarliestFlaw}
+use Rattle.cborn_judge.proofs.Neighbours.{repeat_of, none-take_more, one-take_more, ties_again}
+use Rattle.cborn_judge.proofs.repeats.first_tie.Goals as goal
+use Rattle.cborn_judge.proofs.repeats.first_tie.Goals.{then-eq, else-eq}
 
 abbrev Below : ℕ → Key → Type 0
 Below n k = k.1 < n
@@ -29,14 +30,12 @@ loop-i-preserved c =
       | then-eq w ↦
           let bytes : key_bytes c.index.result.now ≡ key_bytes c.index-in-loop-i.result.now = (bytes_eq-Decides c.index.result.now.0.now c.index-in-loop-i.result.now.0.now).0 (sym c.eq.ensures ∙ w.if-eq.true) in
           let one : w.index-then-eq.result.now ≡ c.index.result.now = w.index-then-eq.ensures ∙ get_or_default ys c.loop-i.i w.index-then-eq.result.now c.index.result.now (omega arith) ∙ sym c.index.ensures in
-          let here : lower_of c.loop-i.least (get_or places c.index.result.now.1 0) ≡ w.lower.result =
-          ap (λ (k : Key). lower_of c.loop-i.least (get_or places k.1 0)) (sym one) ∙ sym w.lower.ensures in
-          rw w.least-is (subst (λ p. IsLeast (IsTieAt (take (c.loop-i.i + 1) ys) places) (Some p)) here
-          (one-take_more ys places c.loop-i.i c.index.result.now c.index-in-loop-i.result.now c.loop-i.least (omega arith) (omega arith) c.index.ensures c.index-in-loop-i.ensures bytes c.loop-i.invariant))
+          rw w.first-is (one-take_more ys places c.loop-i.i c.index.result.now c.index-in-loop-i.result.now c.loop-i.first w.earliest-first.result (omega arith) (omega arith) c.index.ensures c.index-in-loop-i.ensures bytes
+          (subst (λ (k : Key). IsEarliestFlaw c.loop-i.first (Some (repeat_of (get_or places k.1 0))) w.earliest-first.result) one w.earliest-first.ensures) c.loop-i.invariant)
       | else-eq w ↦
-          rw w.least-is (none-take_more ys places c.loop-i.i c.index.result.now c.index-in-loop-i.result.now c.loop-i.least (omega arith) (omega arith) c.index.ensures c.index-in-loop-i.ensures
+          rw w.first-is (none-take_more ys places c.loop-i.i c.index.result.now c.index-in-loop-i.result.now c.loop-i.first (omega arith) (omega arith) c.index.ensures c.index-in-loop-i.ensures
           (λ e. true≢false (sym ((bytes_eq-Decides c.index.result.now.0.now c.index-in-loop-i.result.now.0.now).1 e) ∙ sym c.eq.ensures ∙ w.if-eq.false)) c.loop-i.invariant)
     ]
 
 pub returns : goal.returns
-returns c = least_again c.args.keys.now.items c.sort_unstable.new.self.items c.args.places.now c.loop-i.i c.loop-i.least c.requires.rising c.sort_unstable.ensures.permutation c.sort_unstable.ensures.sorted (omega arith) c.loop-i.invariant
+returns c = ties_again c.args.keys.now.items c.sort_unstable.new.self.items c.args.places.now c.loop-i.i c.loop-i.first c.requires.rising c.sort_unstable.ensures.permutation c.sort_unstable.ensures.sorted (omega arith) c.loop-i.invariant
