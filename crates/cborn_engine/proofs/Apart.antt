@@ -14,10 +14,9 @@ use Rattle.cborn_engine.specs.declared.kinds.Kind.TheVariants as kind
 use Rattle.cborn_engine.specs.Comparing.{AreAlikeAt, IsFirstDifference, Difference, AreCompared}
 use Rattle.cborn_engine.specs.Encoding.{IsEncoded}
 use Rattle.cborn_engine.specs.Holding.{Holds}
+use Rattle.cborn_engine.proofs.Differing.{unwrapped}
+use Rattle.cborn_engine.proofs.Meant.{all_turned}
 use Rattle.cborn_engine.proofs.Proper.{sequence_proper}
-
-unwrapped : {x y : Value} → Some x ≡ Some y → x ≡ y
-unwrapped e = cc
 
 nothing : (x : List ℕ) → length x ≡ 0 → x ≡ []
 nothing [] e = refl
@@ -199,12 +198,6 @@ alike_too (v ∷ a) (w ∷ b) (x ∷ c) (y ∷ d) (suc k) p q h =
     let r = alike_too a b c d k p.1 q.1 (record { ours = h.ours; theirs = h.theirs; here = h.here; there = h.there; same = h.same }) in
     record { ours = r.ours; theirs = r.theirs; here = r.here; there = r.there; same = r.same }
 
-turned : (a b : List Value) → AllZip Same a b → AllZip Same b a
-turned [] [] h = tt
-turned [] (w ∷ b) h = absurd h
-turned (v ∷ a) [] h = absurd h
-turned (v ∷ a) (w ∷ b) h = (same_turned v w h.0, turned a b h.1)
-
 chained : (a b c : List Value) → AllZip Same a b → AllZip Same b c → AllZip Same a c
 chained [] [] [] h k = tt
 chained [] [] (x ∷ c) h k = absurd k
@@ -220,9 +213,9 @@ same_length (v ∷ a) [] h = absurd h
 same_length (v ∷ a) (w ∷ b) h = ap suc (same_length a b h.1)
 
 pub difference_too : (a b c d : List Value) (answer : Option ℕ) → AllZip Same a c → AllZip Same b d → Difference a b answer → Difference c d answer
-difference_too a b c d None p q h = chained c a d (turned a c p) (chained a b d h q)
+difference_too a b c d None p q h = chained c a d (all_turned a c p) (chained a b d h q)
 difference_too a b c d (Some i) p q h = record {
   alike = λ k l. alike_too a b c d k p q (h.alike k l);
-  differs = λ k. h.differs (alike_too c d a b i (turned a c p) (turned b d q) k);
+  differs = λ k. h.differs (alike_too c d a b i (all_turned a c p) (all_turned b d q) k);
   within = omega (arith, h.within, same_length a c p, same_length b d q);
 }

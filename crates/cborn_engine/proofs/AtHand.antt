@@ -29,26 +29,14 @@ short most input b e f = elim (cases_lt most (length input)) [ inl l ↦ absurd 
 
 -- no reader failed
 refused_whole : (k : Kind) (limit most : ℕ) (input : List ℕ) (why : EngineFault) → length input ≤ most → ((n : ℕ) → read_failures_at why n ≡ n) → IsRefused k limit most input why → IsRefusedWhole k limit most input why
-refused_whole k limit most input (fault.Wire w) l f r = r
-refused_whole k limit most input (fault.Edn w) l f r = r
-refused_whole k limit most input (fault.Invalid w) l f r = r
-refused_whole k limit most input (fault.Show w) l f r = r
-refused_whole k limit most input (fault.TextInput p) l f r = r
 refused_whole k limit most input fault.ReadFault l f r = absurd (let e = f 0 in omega (arith, e))
 refused_whole k limit most input fault.TooLong l f r = absurd (omega (arith, l, r))
-refused_whole k limit most input fault.WriteFault l f r = r
-refused_whole k limit most input fault.OutOfMemory l f r = r
+refused_whole k limit most input _ l f r = r
 
 unshown_whole : (k out : Kind) (limit most : ℕ) (input : List ℕ) (why : EngineFault) → length input ≤ most → ((n : ℕ) → read_failures_at why n ≡ n) → TellAnswers k out limit most input (Err why) → IsUnshownWhole k out limit most input why
-unshown_whole k out limit most input (fault.Wire w) l f r = r
-unshown_whole k out limit most input (fault.Edn w) l f r = r
-unshown_whole k out limit most input (fault.Invalid w) l f r = r
-unshown_whole k out limit most input (fault.Show w) l f r = r
-unshown_whole k out limit most input (fault.TextInput p) l f r = r
 unshown_whole k out limit most input fault.ReadFault l f r = absurd (let e = f 0 in omega (arith, e))
 unshown_whole k out limit most input fault.TooLong l f r = absurd (omega (arith, l, r.0))
-unshown_whole k out limit most input fault.WriteFault l f r = r
-unshown_whole k out limit most input fault.OutOfMemory l f r = r
+unshown_whole k out limit most input _ l f r = r
 
 module _ (limit most : ℕ) (input : List ℕ) (l : length input ≤ most) where
   pub not_encoded : (order : List ℕ → List ℕ → Ordering) (k : Kind) (why : EngineFault) → (length input ≤ most → EncodeAnswers order k limit most input (Err why)) → ((n : ℕ) → read_failures_at why n ≡ n) → IsRefusedWhole k limit most input why
@@ -78,7 +66,5 @@ encoding_room order limit input bytes e =
 
 pub room : (order : List ℕ → List ℕ → Ordering) (k out : Kind) (limit : ℕ) (input bytes output : List ℕ) → IsEncoded order k limit input bytes → IsWrittenAs out bytes output → k ≡ kind.Wire → out ≡ kind.Wire → 3 * length output ≤ 4 * length input
 room order kind.Wire kind.Wire limit input bytes output e w p q = subst (λ (x : List ℕ). 3 * length x ≤ 4 * length input) (sym w) (encoding_room order limit input bytes e)
-room order kind.Wire kind.Notation limit input bytes output e w p q = cc
-room order kind.Wire kind.Notation2 limit input bytes output e w p q = cc
-room order kind.Notation out limit input bytes output e w p q = cc
-room order kind.Notation2 out limit input bytes output e w p q = cc
+room order kind.Wire _ limit input bytes output e w p q = absurd cc
+room order _ out limit input bytes output e w p q = absurd cc

@@ -13,8 +13,9 @@ use Rattle.cborn_engine.specs.declared.faults.EngineFault.{EngineFault}
 use Rattle.cborn_engine.specs.declared.faults.EngineFault.TheVariants as fault
 use Rattle.cborn_engine.specs.declared.kinds.Kind.{Kind}
 use Rattle.cborn_engine.specs.declared.kinds.Kind.TheVariants as kind
+use Rattle.cborn_engine.specs.Pieces.{Reads}
 use Rattle.cborn_engine.specs.Holding.{Spells, Holds, Canon}
-use Rattle.cborn_engine.specs.Encoding.{IsWrittenAs, IsEncoded, Encodes}
+use Rattle.cborn_engine.specs.Encoding.{IsWrittenAs, IsEncoded, EncodeAnswers}
 use Rattle.cborn_engine.specs.Refusing.{IsRead}
 use Rattle.cborn_engine.specs.Sending.{Sends, WriteAnswers}
 use Rattle.cborn_engine.specs.Canonical.{IsCanonical, NormaliseAnswers, Normalises}
@@ -149,17 +150,17 @@ own_bytes order laws k limit input bytes short e =
     }
 
 -- likewise of what was read
-pub own_encoding : (order : List ℕ → List ℕ → Ordering) (laws : IsKeyOrder order) (k : Kind) (limit most : ℕ) (before after : Option (List ℕ)) (bytes : Vec ℕ Global) → most ≤ 2 ^ 30 → (h : Encodes order k limit most before after (Ok bytes)) → OwnEncoding order limit bytes.items h.answer.1.items
+pub own_encoding : (order : List ℕ → List ℕ → Ordering) (laws : IsKeyOrder order) (k : Kind) (limit most : ℕ) (before after : Option (List ℕ)) (bytes : Vec ℕ Global) → most ≤ 2 ^ 30 → (h : Reads (EncodeAnswers order k limit most) before after (Ok bytes)) → OwnEncoding order limit bytes.items h.answer.1.items
 own_encoding order laws k limit most before after bytes bounded h = own_bytes order laws k limit h.input bytes.items (omega (arith, h.answer.0, bounded)) h.answer.1
 
 -- what was encoded of what was read holds items
-pub encoded_held : (order : List ℕ → List ℕ → Ordering) (laws : IsKeyOrder order) (k : Kind) (limit most : ℕ) (before after : Option (List ℕ)) (bytes : Vec ℕ Global) → most ≤ 2 ^ 30 → Encodes order k limit most before after (Ok bytes) → (vs : List Value) × Holds kind.Wire limit bytes.items vs
+pub encoded_held : (order : List ℕ → List ℕ → Ordering) (laws : IsKeyOrder order) (k : Kind) (limit most : ℕ) (before after : Option (List ℕ)) (bytes : Vec ℕ Global) → most ≤ 2 ^ 30 → Reads (EncodeAnswers order k limit most) before after (Ok bytes) → (vs : List Value) × Holds kind.Wire limit bytes.items vs
 encoded_held order laws k limit most before after bytes bounded h =
     let o = own_encoding order laws k limit most before after bytes bounded h in
     (o.own.items, o.own.held)
 
 -- what was encoded of what was read, written out
-pub normalised : (order : List ℕ → List ℕ → Ordering) (k out : Kind) (limit most : ℕ) (before after sent sent_after : Option (List ℕ)) (bytes : Vec ℕ Global) (zs ys : List ℕ) (r : Result Unit EngineFault) → Encodes order k limit most before after (Ok bytes) → IsWrittenAs out bytes.items zs → ys ≡ zs → Sends sent sent_after ys r → Normalises order k out limit most before after sent sent_after r
+pub normalised : (order : List ℕ → List ℕ → Ordering) (k out : Kind) (limit most : ℕ) (before after sent sent_after : Option (List ℕ)) (bytes : Vec ℕ Global) (zs ys : List ℕ) (r : Result Unit EngineFault) → Reads (EncodeAnswers order k limit most) before after (Ok bytes) → IsWrittenAs out bytes.items zs → ys ≡ zs → Sends sent sent_after ys r → Normalises order k out limit most before after sent sent_after r
 normalised order k out limit most before after sent sent_after bytes zs ys r h t f w =
     let e = h.answer.1 in
     let told : IsWrittenAs out bytes.items ys = subst (IsWrittenAs out bytes.items) (sym f) t in
@@ -177,5 +178,5 @@ normalised order k out limit most before after sent sent_after bytes zs ys r h t
     ended (Err _) a = absurd a
 
 -- there was no memory to answer
-pub no_answer : (order : List ℕ → List ℕ → Ordering) (k out : Kind) (limit most : ℕ) (before after sent : Option (List ℕ)) (bytes : Vec ℕ Global) → Encodes order k limit most before after (Ok bytes) → Normalises order k out limit most before after sent sent (Err fault.OutOfMemory)
+pub no_answer : (order : List ℕ → List ℕ → Ordering) (k out : Kind) (limit most : ℕ) (before after sent : Option (List ℕ)) (bytes : Vec ℕ Global) → Reads (EncodeAnswers order k limit most) before after (Ok bytes) → Normalises order k out limit most before after sent sent (Err fault.OutOfMemory)
 no_answer order k out limit most before after sent bytes h = record { input = h.input; output = []; taken = h.taken; given = nothing_written sent; answer = (h.answer.0, refl); to_end = tt }

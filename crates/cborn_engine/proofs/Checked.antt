@@ -19,11 +19,12 @@ use Rattle.cborn_judge.specs.Flaws.{IsRefusal, IsRefusalOfAll}
 use Rattle.cborn_judge.proofs.Checking.{check_sequence_sound, check_sequence_whole}
 use Rattle.cborn_judge.proofs.Placing.{defect_within}
 use Rattle.cborn_judge.proofs.Sequences.{refused_at}
+use Rattle.cborn_transcode.proofs.Lists.{all_mean}
 use Rattle.cborn_engine.specs.declared.kinds.Kind.TheVariants as kind
 use Rattle.cborn_engine.specs.Holding.{Holds}
 use Rattle.cborn_engine.specs.Defects.{AreChecked, Finds}
 use Rattle.cborn_engine.specs.Checking.{Verdict}
-use Rattle.cborn_engine.proofs.Meant.{all_mean, held_is_sound, AreSound}
+use Rattle.cborn_engine.proofs.Meant.{held_is_sound, AreSound}
 
 are_proper : (vs : List Value) → AllByRecursion IsProper vs → AreProper (values_of vs)
 are_proper [] h = tt

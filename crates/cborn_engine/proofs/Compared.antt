@@ -12,7 +12,8 @@ use Rattle.cborn_judge.specs.Flaws.{IsRefusalOfAll}
 use Rattle.cborn_engine.specs.declared.kinds.Kind.{Kind}
 use Rattle.cborn_engine.specs.declared.kinds.Kind.TheVariants as kind
 use Rattle.cborn_engine.specs.Comparing.{AreCompared, IsHeldWhole, Compares}
-use Rattle.cborn_engine.specs.Encoding.{IsEncoded, Encodes}
+use Rattle.cborn_engine.specs.Encoding.{IsEncoded, EncodeAnswers}
+use Rattle.cborn_engine.specs.Pieces.{Reads}
 use Rattle.cborn_engine.specs.Holding.{Holds}
 use Rattle.cborn_engine.proofs.Apart.{difference_too}
 use Rattle.cborn_engine.proofs.Canonicity.{own_bytes}
@@ -25,14 +26,14 @@ no_flaw_held limit bytes nodes p r h w f =
     flawless h.1.nodes h.0 p r h.1.meant (subst (λ (ns : List Tree). IsRefusalOfAll ns (invalid.Refused p r)) (spells_once kind.Wire limit bytes nodes h.1.nodes w h.1.spelled) f)
 
 -- what was encoded was held
-pub held_whole : (order : List ℕ → List ℕ → Ordering) (k : Kind) (limit most : ℕ) (before after : Option (List ℕ)) (bytes : Vec ℕ Global) → Encodes order k limit most before after (Ok bytes) → IsHeldWhole k limit before after
+pub held_whole : (order : List ℕ → List ℕ → Ordering) (k : Kind) (limit most : ℕ) (before after : Option (List ℕ)) (bytes : Vec ℕ Global) → Reads (EncodeAnswers order k limit most) before after (Ok bytes) → IsHeldWhole k limit before after
 held_whole order k limit most before after bytes h = record { input = h.input; items = h.answer.1.items; taken = h.taken; held = h.answer.1.held; at_end = h.to_end }
 
 module _ (order : List ℕ → List ℕ → Ordering) (laws : IsKeyOrder order) where
   pub its_own : (k : Kind) (limit : ℕ) (input bytes x : List ℕ) → length input ≤ 2 ^ 30 → IsEncoded order k limit input bytes → x ≡ bytes → IsEncoded order kind.Wire limit x x
   its_own k limit input bytes x short e f = subst (λ (y : List ℕ). IsEncoded order kind.Wire limit y y) (sym f) (own_bytes order laws k limit input bytes short e).own
 
-  pub encodes_itself : (k : Kind) (limit most : ℕ) (before after : Option (List ℕ)) (bytes : Vec ℕ Global) (x : List ℕ) → most ≤ 2 ^ 30 → Encodes order k limit most before after (Ok bytes) → x ≡ bytes.items → IsEncoded order kind.Wire limit x x
+  pub encodes_itself : (k : Kind) (limit most : ℕ) (before after : Option (List ℕ)) (bytes : Vec ℕ Global) (x : List ℕ) → most ≤ 2 ^ 30 → Reads (EncodeAnswers order k limit most) before after (Ok bytes) → x ≡ bytes.items → IsEncoded order kind.Wire limit x x
   encodes_itself k limit most before after bytes x bounded h e = its_own k limit h.input bytes.items x (omega (arith, h.answer.0, bounded)) h.answer.1 e
 
   -- inputs differ where their encodings do
@@ -48,7 +49,7 @@ module _ (order : List ℕ → List ℕ → Ordering) (laws : IsKeyOrder order) 
       record { ours = a.items; theirs = b.items; held = a.held; held2 = b.held; difference = difference_too c.ours c.theirs a.items b.items answer same same2 c.difference }
 
   pub compared : (k l : Kind) (limit most : ℕ) (before after before2 after2 : Option (List ℕ)) (ours theirs : Vec ℕ Global) (x y : List ℕ) (answer : Option ℕ) → most ≤ 2 ^ 30
-      → Encodes order k limit most before after (Ok ours) → Encodes order l limit most before2 after2 (Ok theirs) → x ≡ ours.items → y ≡ theirs.items
+      → Reads (EncodeAnswers order k limit most) before after (Ok ours) → Reads (EncodeAnswers order l limit most) before2 after2 (Ok theirs) → x ≡ ours.items → y ≡ theirs.items
       → AreCompared kind.Wire kind.Wire limit x y answer → Compares k l limit most before after before2 after2 (Ok answer)
   compared k l limit most before after before2 after2 ours theirs x y answer bounded h g e f c = record {
     first = h.input;

@@ -15,7 +15,7 @@ alike_on a b i n m x y h p q l r s t same k below =
           subst (AreAlikeAt a b) e (record { ours = x; theirs = y; here = slice_get_read a n i x p l s; there = slice_get_read b m i y q r t; same = same })
     ]
 
-unwrapped : {x y : Value} → Some x ≡ Some y → x ≡ y
+pub unwrapped : {x y : Value} → Some x ≡ Some y → x ≡ y
 unwrapped e = cc
 
 -- as many in both, and alike at each index

@@ -13,8 +13,9 @@ use Rattle.cborn_edn.specs.devices.TreesCode.{listed_trees, trees-listed}
 use Rattle.cborn_edn.proofs.ReadBack.{shown_back, shown_only}
 use Rattle.cborn_edn.proofs.SameText.{same_text}
 use Rattle.cborn_edn.proofs.Unplaced.{same_depth, same_meaning}
+use Rattle.cborn_transcode.proofs.Lists.{all_mean}
 use Rattle.cborn_engine.specs.Holding.{IsNotation, IsFixedText}
-use Rattle.cborn_engine.proofs.Meant.{all_mean, zip_mean}
+use Rattle.cborn_engine.proofs.Meant.{zip_mean}
 use Rattle.cborn_engine.proofs.SameNodes.{same_nodes}
 
 -- bytes have one text

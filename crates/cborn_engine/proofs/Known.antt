@@ -78,28 +78,16 @@ unloaded k limit most x ns (fault.Wire why) l h f n = wellformed k limit x ns wh
 unloaded k limit most x ns (fault.Invalid why) l h f n = absurd n
 unloaded k limit most x ns (fault.Edn why) l h f n = notated k limit x ns why h f.1
 unloaded k limit most x ns (fault.TextInput p) l h f n = text k limit x ns p h f.1
-unloaded k limit most x ns (fault.Show why) l h f n = absurd f
 unloaded k limit most x ns fault.TooLong l h f n = absurd (omega (arith, f))
-unloaded k limit most x ns fault.WriteFault l h f n = absurd f
 unloaded k limit most x ns fault.ReadFault l h f n = tt
 unloaded k limit most x ns fault.OutOfMemory l h f n = tt
-
-module _ (k : Kind) (limit most : ℕ) (x : List ℕ) (vs : List Value) (h : Holds k limit x vs) where
-  no_refusal : (why : EngineFault) → length x ≤ most → IsRefused k limit most x why → IsNoRefusal why
-  no_refusal (fault.Invalid (invalid.Refused p r)) l f =
-      flawless h.nodes vs p r h.meant (subst (λ (ns : List Tree). IsRefusalOfAll ns (invalid.Refused p r)) (spells_once k limit x f.1.nodes h.nodes f.1.spelled h.spelled) f.1.flaw)
-  no_refusal (fault.Invalid invalid.OutOfMemory) l f = absurd f.1
-  no_refusal (fault.Wire why) l f = unloaded k limit most x h.nodes (fault.Wire why) l h.spelled f tt
-  no_refusal (fault.Edn why) l f = unloaded k limit most x h.nodes (fault.Edn why) l h.spelled f tt
-  no_refusal (fault.TextInput p) l f = unloaded k limit most x h.nodes (fault.TextInput p) l h.spelled f tt
-  no_refusal (fault.Show why) l f = absurd f
-  no_refusal fault.TooLong l f = unloaded k limit most x h.nodes fault.TooLong l h.spelled f tt
-  no_refusal fault.WriteFault l f = absurd f
-  no_refusal fault.ReadFault l f = tt
-  no_refusal fault.OutOfMemory l f = tt
+unloaded k limit most x ns _ l h f n = absurd f
 
 pub nodes_loaded : (k : Kind) (limit most : ℕ) (x : List ℕ) (ns : List Tree) (why : EngineFault) → length x ≤ most → Spells k limit x ns → LoadAnswers k limit most x (Err why) → IsNoRefusal why
 nodes_loaded k limit most x ns why l h f = unloaded k limit most x ns why l h f.0 f.1
 
 pub input_read : (k : Kind) (limit most : ℕ) (x : List ℕ) (vs : List Value) (why : EngineFault) → length x ≤ most → Holds k limit x vs → IsRefused k limit most x why → IsNoRefusal why
-input_read k limit most x vs why l h f = no_refusal k limit most x vs h why l f
+input_read k limit most x vs (fault.Invalid (invalid.Refused p r)) l h f =
+    flawless h.nodes vs p r h.meant (subst (λ (ns : List Tree). IsRefusalOfAll ns (invalid.Refused p r)) (spells_once k limit x f.1.nodes h.nodes f.1.spelled h.spelled) f.1.flaw)
+input_read k limit most x vs (fault.Invalid invalid.OutOfMemory) l h f = absurd f.1
+input_read k limit most x vs why l h f = unloaded k limit most x h.nodes why l h.spelled f tt

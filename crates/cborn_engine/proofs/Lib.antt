@@ -4,7 +4,6 @@ pub mod Told
 pub mod ReadsBack
 pub mod Meant
 pub mod Canonicity
-pub mod Fed
 pub mod Differing
 pub mod Unanswered
 pub mod Known
@@ -18,7 +17,6 @@ pub mod Unfailing
 pub mod Headline
 pub mod Whole
 pub mod Telling
-pub mod TellingTexts
 pub mod Noted
 pub mod Apart
 pub mod Compared

@@ -42,12 +42,6 @@ holds_once k limit input vs ws h g =
     all_mean_once h.nodes vs ws h.meant (subst (λ (ns : List Tree). AllZip Means ns ws) (sym (spells_once k limit input h.nodes g.nodes h.spelled g.spelled)) g.meant)
 
 -- what nodes of a sequence mean is what they mean one by one
-pub all_mean : (ns : List Tree) (vs : List Value) → AllZip Means ns vs → AllMean (trees ns) (values_of vs)
-all_mean [] [] h = tt
-all_mean [] (v ∷ vs) h = absurd h
-all_mean (n ∷ ns) [] h = absurd h
-all_mean (n ∷ ns) (v ∷ vs) h = (h.0, all_mean ns vs h.1)
-
 pub zip_mean : (ns : List Tree) (vs : List Value) → AllMean (trees ns) (values_of vs) → AllZip Means ns vs
 zip_mean [] [] h = tt
 zip_mean [] (v ∷ vs) h = absurd h

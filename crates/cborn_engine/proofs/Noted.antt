@@ -1,50 +1,59 @@
--- A text that is taken in one pass holds what the bytes mean that it notates.
-use Rattle.std.proofs.Common.{◌≤◌, ◌^◌, ℕ, List, [], ◌∷◌, length, sym, ◌∙◌, Option, Err, Ordering, arith}
+-- A text that a pass takes holds what the bytes mean that it notates, and is shown as they are.
+use Rattle.std.proofs.Common.{◌≡◌, ◌≤◌, ◌^◌, ◌⊎◌, inl, inr, ℕ, List, length, sym, ◌∙◌, Ordering, arith}
 use Rattle.std.specs.Prelude.{IsUtf8}
-use Rattle.std.specs.List.{AllZip}
 use Rattle.cborn_model.specs.Tree.{Tree, trees}
 use Rattle.cborn_model.specs.Spelled.{FitsAll}
-use Rattle.cborn_model.specs.Value.{Value, values_of}
-use Rattle.cborn_model.specs.Meaning.{Means, AllMean}
+use Rattle.cborn_model.specs.Value.{values_of}
 use Rattle.cborn_lex.specs.declared.classes.Profile.{Profile}
-use Rattle.cborn_lex.specs.declared.classes.Profile.TheVariants as profiles
+use Rattle.cborn_lex.specs.declared.classes.Profile.TheVariants as profile
 use Rattle.cborn_lex.proofs.Weights.{utf8_bytes}
+use Rattle.cborn_edn.proofs.SameText.{same_notation}
 use Rattle.cborn_edn.proofs.ShortTexts.{notated_fits}
 use Rattle.cborn_edn.proofs.Unplaced.{same_meaning}
+use Rattle.cborn_show.specs.Passed.{IsShownText}
+use Rattle.cborn_spell.specs.Descent.{IsSpelling}
 use Rattle.cborn_transcode.specs.Transcoding.{IsTranscoded}
 use Rattle.cborn_transcode.proofs.Lists.{all_mean}
-use Rattle.cborn_spell.specs.Descent.{IsSpelling}
-use Rattle.cborn_engine.specs.declared.faults.EngineFault.{EngineFault}
 use Rattle.cborn_engine.specs.declared.kinds.Kind.{Kind}
-use Rattle.cborn_engine.specs.Loading.{Loads}
-use Rattle.cborn_engine.specs.Encoding.{kind_of, IsEncoded, Encodes}
-use Rattle.cborn_engine.specs.Holding.{Spells, IsNotation}
+use Rattle.cborn_engine.specs.declared.kinds.Kind.TheVariants as kind
+use Rattle.cborn_engine.specs.Encoding.{kind_of, IsEncoded}
+use Rattle.cborn_engine.specs.Holding.{IsNotation, Spells}
+use Rattle.cborn_engine.specs.Showing.{IsShown, IsSpelledAs}
+use Rattle.cborn_engine.proofs.Meant.{zip_mean}
 use Rattle.cborn_engine.proofs.SameNodes.{same_nodes}
+use Rattle.cborn_engine.proofs.Told.{notation}
 
-zip_mean : (ts : List Tree) (vs : List Value) → AllMean (trees ts) (values_of vs) → AllZip Means ts vs
-zip_mean [] [] h = tt
-zip_mean [] (v ∷ vs) h = absurd h
-zip_mean (t ∷ ts) [] h = absurd h
-zip_mean (t ∷ ts) (v ∷ vs) h = (h.0, zip_mean ts vs h.1)
+pub spells : (p : Profile) (limit : ℕ) (text : List ℕ) (nodes : List Tree) → IsNotation p limit text nodes → Spells (kind_of p) limit text nodes
+spells profile.One limit text nodes h = h
+spells profile.Two limit text nodes h = h
 
-spells : (p : Profile) (limit : ℕ) (text : List ℕ) (nodes : List Tree) → IsNotation p limit text nodes → Spells (kind_of p) limit text nodes
-spells profiles.One limit text nodes h = h
-spells profiles.Two limit text nodes h = h
+module _ (p : Profile) (limit : ℕ) (text bytes : List ℕ) (u : IsUtf8 text) (s : IsSpelling p limit text bytes) where
+  notated : Spells (kind_of p) limit text s.nodes
+  notated = spells p limit text s.nodes (u, s.notated)
 
-pub encoded_text : (order : List ℕ → List ℕ → Ordering) (p : Profile) (limit : ℕ) (text spelled answer : List ℕ) → IsUtf8 text → length text ≤ 2 ^ 30 → IsSpelling p limit text spelled → IsTranscoded order limit spelled answer → IsEncoded order (kind_of p) limit text answer
-encoded_text order p limit text spelled answer u l s n =
-    let fits : FitsAll (trees s.nodes) = (notated_fits p limit text (trees s.nodes) (utf8_bytes text u) (omega (arith, l)) s.notated).0 in
-    let same = same_nodes (trees n.nodes) (trees s.nodes) n.read.fit fits (n.read.spells ∙ sym s.spells) in
-    record {
-      items = n.items;
-      held = record {
-        nodes = s.nodes;
-        spelled = spells p limit text s.nodes (u, s.notated);
-        meant = zip_mean s.nodes n.items (same_meaning (trees n.nodes) (trees s.nodes) same (values_of n.items) (all_mean n.nodes n.items n.meant));
-      };
-      encoded = n.encoded;
-    }
+  fits : length text ≤ 2 ^ 30 → FitsAll (trees s.nodes)
+  fits l = (notated_fits p limit text (trees s.nodes) (utf8_bytes text u) (omega (arith, l)) s.notated).0
 
--- what a load refuses isn't encoded
-pub not_loaded : (order : List ℕ → List ℕ → Ordering) (k : Kind) (limit most : ℕ) (before after : Option (List ℕ)) (why : EngineFault) → Loads k limit most before after (Err why) → Encodes order k limit most before after (Err why)
-not_loaded order k limit most before after why h = record { input = h.input; taken = h.taken; answer = h.answer.0; to_end = h.to_end }
+  pub encoded : (order : List ℕ → List ℕ → Ordering) (answer : List ℕ) → IsTranscoded order limit bytes answer → length text ≤ 2 ^ 30 → IsEncoded order (kind_of p) limit text answer
+  encoded order answer n l =
+      let same = same_nodes (trees n.nodes) (trees s.nodes) n.read.fit (fits l) (n.read.spells ∙ sym s.spells) in
+      record {
+        items = n.items;
+        held = record { nodes = s.nodes; spelled = notated; meant = zip_mean s.nodes n.items (same_meaning (trees n.nodes) (trees s.nodes) same (values_of n.items) (all_mean n.nodes n.items n.meant)) };
+        encoded = n.encoded;
+      }
+
+  -- the bytes are told
+  pub as_bytes : IsShown (kind_of p) kind.Wire limit text bytes
+  as_bytes = record { nodes = s.nodes; spelled = notated; shown = sym s.spells }
+
+  -- their text is told
+  pub as_text : (out : Kind) → (out ≡ kind.Wire → ⊥) → (answer : List ℕ) → IsShownText limit bytes answer → length text ≤ 2 ^ 30 → IsShown (kind_of p) out limit text answer
+  as_text out never answer t l =
+      let same = same_nodes (trees t.nodes) (trees s.nodes) t.read.fit (fits l) (t.read.spells ∙ sym s.spells) in
+      let shown = same_notation (trees t.nodes) (trees s.nodes) answer same t.shown in
+      record { nodes = s.nodes; spelled = notated; shown = notation out never (λ k. IsSpelledAs k s.nodes answer) shown shown }
+
+pub never_wire : (out : Kind) → (out ≡ kind.Notation) ⊎ (out ≡ kind.Notation2) → out ≡ kind.Wire → ⊥
+never_wire out (inl e) w = cc
+never_wire out (inr e) w = cc

@@ -5,8 +5,9 @@ use Rattle.cborn_engine.specs.declared.faults.EngineFault.{EngineFault}
 use Rattle.cborn_engine.specs.declared.faults.EngineFault.TheVariants as fault
 use Rattle.cborn_engine.specs.declared.kinds.Kind.{Kind}
 use Rattle.cborn_engine.specs.Stopping.{of_first}
+use Rattle.cborn_engine.specs.Pieces.{Reads}
 use Rattle.cborn_engine.specs.Refusing.{IsRefused, IsReadBefore}
-use Rattle.cborn_engine.specs.Encoding.{Encodes}
+use Rattle.cborn_engine.specs.Encoding.{EncodeAnswers}
 use Rattle.cborn_engine.specs.Canonical.{NormaliseAnswers, Normalises}
 use Rattle.cborn_engine.specs.Comparing.{CompareAnswers, AreRead, Compares}
 
@@ -18,41 +19,22 @@ nothing_read : (s : Option (List ℕ)) → Consumes s s []
 nothing_read None = tt
 nothing_read (Some xs) = refl
 
-pub not_normalised : (order : List ℕ → List ℕ → Ordering) (k out : Kind) (limit most : ℕ) (before after sent : Option (List ℕ)) (why : EngineFault) → Encodes order k limit most before after (Err why) → Normalises order k out limit most before after sent sent (Err why)
+pub not_normalised : (order : List ℕ → List ℕ → Ordering) (k out : Kind) (limit most : ℕ) (before after sent : Option (List ℕ)) (why : EngineFault) → Reads (EncodeAnswers order k limit most) before after (Err why) → Normalises order k out limit most before after sent sent (Err why)
 not_normalised order k out limit most before after sent why h = record { input = h.input; output = []; taken = h.taken; given = nothing_written sent; answer = answer why h.answer; to_end = h.to_end }
   where
     answer : (why : EngineFault) → IsRefused k limit most h.input why → NormaliseAnswers order k out limit most h.input [] (Err why)
     answer fault.WriteFault r = absurd r
-    answer (fault.Wire w) r = (r, refl)
-    answer (fault.Edn w) r = (r, refl)
-    answer (fault.TextInput p) r = (r, refl)
     answer (fault.Show w) r = absurd r
-    answer (fault.Invalid w) r = (r, refl)
-    answer fault.ReadFault r = (r, refl)
-    answer fault.TooLong r = (r, refl)
-    answer fault.OutOfMemory r = (r, refl)
+    answer _ r = (r, refl)
 
-pub not_compared : (order : List ℕ → List ℕ → Ordering) (k l : Kind) (limit most : ℕ) (before after before2 : Option (List ℕ)) (why : EngineFault) → Encodes order k limit most before after (Err why) → Compares k l limit most before after before2 before2 (Err (of_first why))
+pub not_compared : (order : List ℕ → List ℕ → Ordering) (k l : Kind) (limit most : ℕ) (before after before2 : Option (List ℕ)) (why : EngineFault) → Reads (EncodeAnswers order k limit most) before after (Err why) → Compares k l limit most before after before2 before2 (Err (of_first why))
 not_compared order k l limit most before after before2 why h = record { first = h.input; second = []; taken = h.taken; taken2 = nothing_read before2; answer = answer why h.answer; to_end = ended why h.to_end }
   where
     answer : (why : EngineFault) → IsRefused k limit most h.input why → CompareAnswers k l limit most h.input [] (Err (of_first why))
-    answer (fault.Wire w) r = (r, tt, refl)
-    answer (fault.Edn w) r = (r, tt, refl)
-    answer (fault.TextInput p) r = (r, tt, refl)
     answer (fault.Show w) r = absurd r
-    answer (fault.Invalid w) r = (r, tt, refl)
-    answer fault.ReadFault r = (r, tt, refl)
-    answer fault.TooLong r = (r, tt, refl)
-    answer fault.WriteFault r = (r, tt, refl)
     answer fault.OutOfMemory r = let n : 0 ≤ most = omega arith in (r, n)
+    answer _ r = (r, tt, refl)
 
     ended : (why : EngineFault) → IsReadBefore why after → AreRead (Err (of_first why)) after before2
-    ended (fault.Wire w) e = e
-    ended (fault.Edn w) e = e
-    ended (fault.TextInput p) e = e
-    ended (fault.Show w) e = e
-    ended (fault.Invalid w) e = e
-    ended fault.ReadFault e = e
-    ended fault.TooLong e = e
-    ended fault.WriteFault e = e
     ended fault.OutOfMemory e = tt
+    ended _ e = e

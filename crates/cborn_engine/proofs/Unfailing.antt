@@ -14,9 +14,10 @@ use Rattle.cborn_wire.specs.declared.faults.WireReason.{WireReason}
 use Rattle.cborn_wire.specs.Faults.{Fault}
 use Rattle.cborn_wire.proofs.FaultLaws.{not_both}
 use Rattle.cborn_edn.specs.Shown.{IsBadChunk, IsBadText, IsBadAmong, IsBadInPairs, LowestBadText}
+use Rattle.cborn_transcode.proofs.Lists.{all_mean}
 use Rattle.cborn_engine.specs.declared.kinds.Kind.TheVariants as kind
 use Rattle.cborn_engine.specs.Holding.{Holds}
-use Rattle.cborn_engine.proofs.Meant.{spells_once, all_mean}
+use Rattle.cborn_engine.proofs.Meant.{spells_once}
 
 is_text : (b : List ℕ) → IsUtf8 b → is_utf8 b ≡ false → ⊥
 is_text b h e = let clash : true ≡ false = sym (is_utf8-from_IsUtf8 b h) ∙ e in cc

@@ -1,96 +1,88 @@
--- What is answered for bytes that were read to their end.
+-- What is answered for an input that was read to its end, and of bytes that are held whole.
 use Rattle.std.proofs.Common.{◌≡◌, ◌<◌, ◌≤◌, ◌^◌, ℕ, List, length, refl, sym, ◌∙◌, subst, Option, None, Some, Result, Ok, Err, Vec, Global, Ordering, arith}
 use Rattle.std.specs.Io.KnownBytes.{IsAtEnd}
-use Rattle.std.specs.List.{AllZip}
+use Rattle.std.specs.Prelude.{IfOk, IfErr}
 use Rattle.cborn_model.specs.Tree.{Tree, trees}
 use Rattle.cborn_model.specs.Spelled.{Wellformed}
 use Rattle.cborn_model.specs.Placed.{PlacedAll}
 use Rattle.cborn_model.specs.Orders.{IsKeyOrder}
 use Rattle.cborn_model.specs.Value.{Value, values_of}
-use Rattle.cborn_model.specs.Meaning.{Means}
-use Rattle.cborn_det.specs.Det.{DetSeq}
 use Rattle.cborn_judge.specs.declared.defects.Defect.{Defect}
-use Rattle.cborn_judge.specs.declared.faults.Invalid.{Invalid}
-use Rattle.cborn_judge.specs.declared.faults.Invalid.TheVariants as invalid
-use Rattle.cborn_judge.specs.Flaws.{IsRefusalOfAll}
 use Rattle.cborn_wire.specs.declared.faults.WireFault.{WireFault}
 use Rattle.cborn_wire.specs.declared.faults.WireFault.TheVariants as wire
 use Rattle.cborn_wire.specs.declared.faults.WireReason.{WireReason}
 use Rattle.cborn_wire.specs.Faults.{Fault}
 use Rattle.cborn_transcode.specs.Transcoding.{IsTranscoded}
+use Rattle.cborn_transcode.proofs.Lists.{all_mean}
 use Rattle.cborn_transcode.proofs.Placing.{placements}
 use Rattle.cborn_engine.specs.declared.faults.EngineFault.{EngineFault}
 use Rattle.cborn_engine.specs.declared.faults.EngineFault.TheVariants as fault
 use Rattle.cborn_engine.specs.declared.kinds.Kind.{Kind}
 use Rattle.cborn_engine.specs.declared.kinds.Kind.TheVariants as kind
-use Rattle.cborn_engine.specs.Holding.{Holds}
+use Rattle.cborn_engine.specs.Holding.{Holds, Spells}
+use Rattle.cborn_engine.specs.Loading.{IsNoFlaw, LoadAnswers, Loads}
 use Rattle.cborn_engine.specs.Refusing.{IsRefused, IsReadBefore, IsRead}
-use Rattle.cborn_engine.specs.Faults.{of_wire, of_invalid}
-use Rattle.cborn_engine.specs.Pieces.{Collects, CollectAnswers}
-use Rattle.cborn_engine.specs.Encoding.{IsEncoded, EncodeAnswers, Encodes}
+use Rattle.cborn_engine.specs.Faults.{of_wire}
+use Rattle.cborn_engine.specs.Pieces.{Collects, CollectAnswers, Reads}
+use Rattle.cborn_engine.specs.Encoding.{IsEncoded}
 use Rattle.cborn_engine.specs.Checking.{CheckAnswers, Checks, Verdict}
 use Rattle.cborn_engine.specs.Defects.{Finds}
 use Rattle.cborn_search.specs.Searching.{IsFirstFlawOf, IsFirstDefectOf, DefectVerdict}
-use Rattle.cborn_engine.proofs.Meant.{all_mean, spells_once}
+use Rattle.cborn_engine.proofs.Meant.{spells_once}
 use Rattle.cborn_engine.proofs.Checked.{mean_found, verdict, without_defect, with_defect}
 
 ended : (why : EngineFault) (rest : Option (List ℕ)) → IsAtEnd rest → IsReadBefore why rest
-ended (fault.Wire w) rest h = h
-ended (fault.Invalid w) rest h = h
-ended (fault.Edn w) rest h = h
-ended (fault.Show w) rest h = h
-ended (fault.TextInput p) rest h = h
-ended fault.WriteFault rest h = h
 ended fault.TooLong rest h = tt
 ended fault.ReadFault rest h = tt
 ended fault.OutOfMemory rest h = tt
+ended _ rest h = h
 
-pub read_ended : {A : Type 0} (r : Result A EngineFault) (rest : Option (List ℕ)) → IsAtEnd rest → IsRead r rest
-read_ended (Ok a) rest h = h
-read_ended (Err why) rest h = ended why rest h
+-- ---- what was read
 
--- ---- the reader stopped
+-- the reader stopped
+stopped : (k : Kind) (limit most : ℕ) (input : List ℕ) (after : Option (List ℕ)) (why : EngineFault) → CollectAnswers most input after (Err why) → (IsRefused k limit most input why × IsNoFlaw why) × IsReadBefore why after
+stopped k limit most input after fault.TooLong h = ((h, tt), tt)
+stopped k limit most input after fault.ReadFault h = ((h, tt), tt)
+stopped k limit most input after fault.OutOfMemory h = ((h, tt), tt)
+stopped k limit most input after _ h = absurd h
 
-pub uncollected : (k : Kind) (limit most : ℕ) (input : List ℕ) (after : Option (List ℕ)) (why : EngineFault) → CollectAnswers most input after (Err why) → IsRefused k limit most input why × IsReadBefore why after
-uncollected k limit most input after fault.TooLong h = (h, tt)
-uncollected k limit most input after fault.ReadFault h = (h, tt)
-uncollected k limit most input after fault.OutOfMemory h = (h, tt)
-uncollected k limit most input after (fault.Wire w) h = absurd h
-uncollected k limit most input after (fault.Invalid w) h = absurd h
-uncollected k limit most input after (fault.Edn w) h = absurd h
-uncollected k limit most input after (fault.Show w) h = absurd h
-uncollected k limit most input after (fault.TextInput p) h = absurd h
-uncollected k limit most input after fault.WriteFault h = absurd h
+module _ {A : Type 0} (Answers : List ℕ → Result A EngineFault → Type 0) (most : ℕ) (before after : Option (List ℕ)) where
+  pub unread : (k : Kind) (limit : ℕ) (why : EngineFault) → ((input : List ℕ) → IsRefused k limit most input why × IsNoFlaw why → Answers input (Err why)) → Collects most before after (Err why) → Reads Answers before after (Err why)
+  unread k limit why f h = let r = stopped k limit most h.input after why h.answer in record { input = h.input; taken = h.taken; answer = f h.input r.0; to_end = r.1 }
+
+  -- it was read to its end
+  pub read_whole : (bytes : Vec ℕ Global) (now : List ℕ) → Collects most before after (Ok bytes) → now ≡ bytes.items → (r : Result A EngineFault) → (length now ≤ most → Answers now r) → Reads Answers before after r
+  read_whole bytes now h e r f =
+      let same : now ≡ h.input = e ∙ h.answer.0 in
+      let within : length now ≤ most = subst (λ (x : List ℕ). length x ≤ most) (sym same) h.answer.1 in
+      record { input = h.input; taken = h.taken; answer = subst (λ (x : List ℕ). Answers x r) same (f within); to_end = at_end r }
+    where
+      at_end : (r : Result A EngineFault) → IsRead r after
+      at_end (Ok a) = h.answer.2
+      at_end (Err why) = ended why after h.answer.2
+
+pub not_loaded : (k : Kind) (limit most : ℕ) (before after : Option (List ℕ)) (why : EngineFault) → Collects most before after (Err why) → Loads k limit most before after (Err why)
+not_loaded k limit most before after why h =
+    let r = stopped k limit most h.input after why h.answer in record { input = h.input; taken = h.taken; answer = r.0; to_end = r.1 }
+
+pub loaded : (k : Kind) (limit most : ℕ) (before after : Option (List ℕ)) (bytes : Vec ℕ Global) (now : List ℕ) → Collects most before after (Ok bytes) → now ≡ bytes.items → (r : Result (Vec Tree Global) EngineFault)
+    → IfOk r (λ nodes. Spells k limit now nodes.items) → IfErr r (λ why. (most : ℕ) → length now ≤ most → IsRefused k limit most now why × IsNoFlaw why) → Loads k limit most before after r
+loaded k limit most before after bytes now h e r good bad =
+    let w = read_whole (LoadAnswers k limit most) most before after bytes now h e r (λ l. answer r good bad l) in
+    record { input = w.input; taken = w.taken; answer = w.answer; to_end = w.to_end }
+  where
+    answer : (r : Result (Vec Tree Global) EngineFault) → IfOk r (λ nodes. Spells k limit now nodes.items) → IfErr r (λ why. (most : ℕ) → length now ≤ most → IsRefused k limit most now why × IsNoFlaw why) → length now ≤ most → LoadAnswers k limit most now r
+    answer (Ok nodes) good bad l = (l, good)
+    answer (Err why) good bad l = bad most l
 
 module _ (order : List ℕ → List ℕ → Ordering) (limit most : ℕ) (before after : Option (List ℕ)) where
-  pub not_encoded : (k : Kind) (why : EngineFault) → Collects most before after (Err why) → Encodes order k limit most before after (Err why)
-  not_encoded k why h = let r = uncollected k limit most h.input after why h.answer in record { input = h.input; taken = h.taken; answer = r.0; to_end = r.1 }
-
   pub not_checked : (why : EngineFault) → Collects most before after (Err why) → Checks order limit most before after (Err why)
-  not_checked why h = let r = uncollected kind.Wire limit most h.input after why h.answer in record { input = h.input; taken = h.taken; answer = r.0; to_end = r.1 }
+  not_checked why h = let r = stopped kind.Wire limit most h.input after why h.answer in record { input = h.input; taken = h.taken; answer = r.0.0; to_end = r.1 }
 
-  module _ (bytes : Vec ℕ Global) (now : List ℕ) (h : Collects most before after (Ok bytes)) (e : now ≡ bytes.items) where
-    same : now ≡ h.input
-    same = e ∙ h.answer.0
-
-    within : length now ≤ most
-    within = subst (λ (x : List ℕ). length x ≤ most) (sym same) h.answer.1
-
-    pub encoded_whole : (k : Kind) (r : Result (Vec ℕ Global) EngineFault) → (length now ≤ most → EncodeAnswers order k limit most now r) → Encodes order k limit most before after r
-    encoded_whole k r f = record {
-      input = h.input;
-      taken = h.taken;
-      answer = subst (λ (x : List ℕ). EncodeAnswers order k limit most x r) same (f within);
-      to_end = read_ended r after h.answer.2;
-    }
-
-    pub checked_whole : (r : Result (Option Defect) EngineFault) → (length now ≤ most → CheckAnswers order limit most now r) → Checks order limit most before after r
-    checked_whole r f = record {
-      input = h.input;
-      taken = h.taken;
-      answer = subst (λ (x : List ℕ). CheckAnswers order limit most x r) same (f within);
-      to_end = read_ended r after h.answer.2;
-    }
+  pub checked_whole : (bytes : Vec ℕ Global) (now : List ℕ) → Collects most before after (Ok bytes) → now ≡ bytes.items → (r : Result (Option Defect) EngineFault) → (length now ≤ most → CheckAnswers order limit most now r) → Checks order limit most before after r
+  checked_whole bytes now h e r f =
+      let w = read_whole (CheckAnswers order limit most) most before after bytes now h e r f in
+      record { input = w.input; taken = w.taken; answer = w.answer; to_end = w.to_end }
 
 -- ---- the bytes
 
@@ -105,17 +97,6 @@ module _ (limit most : ℕ) (input : List ℕ) (within : length input ≤ most) 
   pub unspelled : (why : WireFault) → ((p : ℕ) (r : WireReason) → why ≡ wire.Refused p r → Fault limit input p r) → IsRefused kind.Wire limit most input (of_wire why)
   unspelled (wire.Refused p r) f = (within, f p r refl)
   unspelled wire.OutOfMemory f = within
-
-  -- they spell nodes that don't mean items
-  pub meaningless : (nodes : List Tree) (why : Invalid) → Wellformed limit (trees nodes) input × PlacedAll 0 (trees nodes) → IsRefusalOfAll nodes why → IsRefused kind.Wire limit most input (of_invalid why)
-  meaningless nodes (invalid.Refused p r) s f = (within, record { nodes = nodes; spelled = s; flaw = f })
-  meaningless nodes invalid.OutOfMemory s f = within
-
-  pub encoded_trees : (order : List ℕ → List ℕ → Ordering) (nodes : List Tree) (items : List Value) (bytes : Vec ℕ Global) → Wellformed limit (trees nodes) input × PlacedAll 0 (trees nodes) → AllZip Means nodes items → DetSeq order items bytes.items → EncodeAnswers order kind.Wire limit most input (Ok bytes)
-  encoded_trees order nodes items bytes s m d = (within, record { items = items; held = record { nodes = nodes; spelled = s; meant = m }; encoded = d })
-
-  pub encoded_at_once : (order : List ℕ → List ℕ → Ordering) (bytes : Vec ℕ Global) → IsTranscoded order limit input bytes.items → EncodeAnswers order kind.Wire limit most input (Ok bytes)
-  encoded_at_once order bytes n = (within, transcoded order limit input bytes.items n)
 
   pub deterministic : (order : List ℕ → List ℕ → Ordering) → IsTranscoded order limit input input → CheckAnswers order limit most input (Ok None)
   deterministic order n = (within, record { items = n.items; held = transcoded_held order limit input input n; verdict = n.encoded })

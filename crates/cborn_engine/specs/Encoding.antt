@@ -1,8 +1,7 @@
 -- Devices: what reading an input, encoding what it holds and writing that out answers. No public contract cites them.
-use Rattle.std.specs.Prelude.{◌≡◌, ℕ, ◌≤◌, List, length, Option, Result, Ok, Err, Vec}
+use Rattle.std.specs.Prelude.{◌≡◌, ℕ, ◌≤◌, List, length, Result, Ok, Err, Vec}
 use Rattle.std.specs.Global.{Global}
 use Rattle.std.specs.declared.cmp.Ordering.{Ordering}
-use Rattle.std.specs.Io.KnownBytes.{Consumes}
 use Rattle.cborn_model.specs.Value.{Value}
 use Rattle.cborn_det.specs.Det.{DetSeq}
 use Rattle.cborn_engine.specs.declared.faults.EngineFault.{EngineFault}
@@ -11,7 +10,7 @@ use Rattle.cborn_lex.specs.declared.classes.Profile.TheVariants as profile
 use Rattle.cborn_engine.specs.declared.kinds.Kind.{Kind}
 use Rattle.cborn_engine.specs.declared.kinds.Kind.TheVariants as kind
 use Rattle.cborn_engine.specs.Holding.{Holds, IsFixedText}
-use Rattle.cborn_engine.specs.Refusing.{IsRefused, IsRead}
+use Rattle.cborn_engine.specs.Refusing.{IsRefused}
 
 -- the kind of input that is notation of this profile
 abbrev pub kind_of : Profile → Kind
@@ -33,10 +32,3 @@ pub record IsEncoded (order : List ℕ → List ℕ → Ordering) (k : Kind) (li
 abbrev pub EncodeAnswers : (List ℕ → List ℕ → Ordering) → Kind → ℕ → ℕ → List ℕ → Result (Vec ℕ Global) EngineFault → Type 0
 EncodeAnswers order k limit most input (Ok bytes) = (length input ≤ most) × IsEncoded order k limit input bytes.items
 EncodeAnswers order k limit most input (Err why) = IsRefused k limit most input why
-
--- some input was taken from the reader, and this is answered for it
-pub record Encodes (order : List ℕ → List ℕ → Ordering) (k : Kind) (limit most : ℕ) (before after : Option (List ℕ)) (result : Result (Vec ℕ Global) EngineFault) : Type 0 where
-  pub input : List ℕ
-  pub taken : Consumes before after input
-  pub answer : EncodeAnswers order k limit most input result
-  pub to_end : IsRead result after

@@ -56,13 +56,6 @@ TellAnswers k out limit most input (Ok bytes) = (length input ≤ most) × IsSho
 TellAnswers k out limit most input (Err (fault.Show why)) = (length input ≤ most) × IsUnshowable k out limit input why
 TellAnswers k out limit most input (Err why) = IsRefused k limit most input why × IsNoFlaw why
 
--- some input was taken from the reader, and this is answered for it
-pub record Tells (k out : Kind) (limit most : ℕ) (before after : Option (List ℕ)) (result : Result (Vec ℕ Global) EngineFault) : Type 0 where
-  pub input : List ℕ
-  pub taken : Consumes before after input
-  pub answer : TellAnswers k out limit most input result
-  pub to_end : IsRead result after
-
 -- the whole answer went out; or the writer failed, and a front of it went out; or the input is refused, or its nodes have no notation, and nothing went out
 abbrev pub ShowAnswers : Kind → Kind → ℕ → ℕ → List ℕ → List ℕ → Result Unit EngineFault → Type 0
 ShowAnswers k out limit most input output (Ok u) = (length input ≤ most) × IsShown k out limit input output

@@ -12,6 +12,7 @@ use cborn_model::{KeyOrder, Limit};
 use std::alloc::Global;
 
 impl CompareFault {
+    /// Why two inputs aren't compared of which the first gave no items for this.
     pub fn of_first(why: EngineFault) -> Self
         ensures { result ≡ of_first why }
     {
@@ -21,6 +22,7 @@ impl CompareFault {
         }
     }
 
+    /// Likewise of the second.
     pub fn of_second(why: EngineFault) -> Self
         ensures { result ≡ of_second why }
     {

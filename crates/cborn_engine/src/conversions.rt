@@ -44,7 +44,7 @@ pub fn normalise<O: KeyOrder, R: Source, W: Sink>(
     ensures calls { R.asked reader.new ≤ R.asked reader.old + 2 ^ 30 + 1 }
 {
     let bytes = read_encoded::<O, R>(alloc, limit, in_kind, reader)?;
-    let answer = written(alloc, limit, out_kind, bytes)?;
+    let answer = written_as(alloc, limit, out_kind, bytes)?;
     write_answer(writer, &answer)
 }
 
@@ -71,15 +71,19 @@ pub fn show_all<R: Source, W: Sink>(
     write_answer(writer, &answer)
 }
 
-/// Bytes that hold items, none deeper than `limit`; or their fixed notation.
-fn written(alloc: Global, limit: Limit, kind: Kind, bytes: Vec<u8>) -> Result<Vec<u8>, AllocError>
+/// Bytes that hold items, as an output of this kind: themselves, or their fixed notation.
+fn written_as(
+    alloc: Global,
+    limit: Limit,
+    kind: Kind,
+    bytes: Vec<u8>,
+) -> Result<Vec<u8>, AllocError>
     requires { (items : List Value) × Holds kinds.Wire limit bytes.items items }
     ensures { IfOk result (λ answer. IsWrittenAs kind bytes.items answer.items) }
 {
     match kind {
         Kind::Wire => Ok(bytes),
-        Kind::Notation => fixed_text(alloc, limit, &bytes),
-        Kind::Notation2 => fixed_text(alloc, limit, &bytes),
+        Kind::Notation | Kind::Notation2 => fixed_text(alloc, limit, &bytes),
     }
 }
 
@@ -90,12 +94,12 @@ pub fn fixed_text(alloc: Global, limit: Limit, bytes: &[u8]) -> Result<Vec<u8>, 
 {
     match show_bytes(alloc, limit, bytes) {
         Some(text) => Ok(text),
-        None => fixed_trees(alloc, limit, bytes),
+        None => fixed_text_by_trees(alloc, limit, bytes),
     }
 }
 
-/// Bytes that hold items are well-formed, and their text strings are UTF-8.
-fn fixed_trees(alloc: Global, limit: Limit, bytes: &[u8]) -> Result<Vec<u8>, AllocError>
+/// What `fixed_text` answers, by trees. Bytes that hold items are well-formed, and their text strings are UTF-8.
+fn fixed_text_by_trees(alloc: Global, limit: Limit, bytes: &[u8]) -> Result<Vec<u8>, AllocError>
     requires { (items : List Value) × Holds kinds.Wire limit bytes.now items }
     ensures { IfOk result (λ text. IsFixedText bytes.now text.items) }
 {

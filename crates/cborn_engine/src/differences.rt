@@ -28,14 +28,19 @@ pub fn difference<O: KeyOrder>(
     if ours == theirs {
         return Ok(None);
     }
-    match first_apart::<O>(alloc, limit, ours, theirs) {
+    match difference_of_encodings::<O>(alloc, limit, ours, theirs) {
         Some(index) => Ok(Some(index)),
         None => difference_of_nodes::<O>(alloc, limit, ours, theirs),
     }
 }
 
 /// The index of the first item at which two encodings differ, which aren't equal. None promises nothing.
-fn first_apart<O: KeyOrder>(alloc: Global, limit: Limit, ours: &[u8], theirs: &[u8]) -> Option<u64>
+fn difference_of_encodings<O: KeyOrder>(
+    alloc: Global,
+    limit: Limit,
+    ours: &[u8],
+    theirs: &[u8],
+) -> Option<u64>
     requires ours { IsEncoded O.order kinds.Wire limit ours.now ours.now }
     requires theirs { IsEncoded O.order kinds.Wire limit theirs.now theirs.now }
     requires apart { ours.now ≢ theirs.now }
@@ -95,7 +100,7 @@ fn difference_of_nodes<O: KeyOrder>(
 {
     let ours = held_items(alloc, limit, ours)?;
     let theirs = held_items(alloc, limit, theirs)?;
-    Ok(first_difference::<O>(alloc, &ours, &theirs)?)
+    Ok(difference_of_items::<O>(alloc, &ours, &theirs)?)
 }
 
 /// The items of bytes that hold items.
@@ -112,7 +117,7 @@ fn held_items(alloc: Global, limit: Limit, bytes: &[u8]) -> Result<Vec<Valid>, A
 }
 
 /// The least index at which two sequences differ, or at which only one has an item.
-fn first_difference<O: KeyOrder>(
+fn difference_of_items<O: KeyOrder>(
     alloc: Global,
     ours: &[Valid],
     theirs: &[Valid],

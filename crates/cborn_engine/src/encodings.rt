@@ -1,146 +1,97 @@
-//! Reading a whole input, and encoding what it holds. Bytes are first taken in one pass that keeps no tree. Where that answers nothing, a scan tells whether they are well-formed, and only those that are become nodes, which are judged.
-ghost use Rattle.std.specs.Prelude.{◌≡◌, ◌≤◌, ◌+◌, ◌^◌, ℕ, length, IfSome};
-ghost use Rattle.cborn_engine.specs.declared.kinds.Kind.TheVariants as kinds;
-ghost use Rattle.cborn_engine.specs.Encoding.{Encodes, EncodeAnswers, IsEncoded, kind_of};
+//! Reading a whole input, and encoding what it holds. A pass that keeps no tree is tried first. Where that answers nothing, what is wrong with bytes is looked for without a tree too, and only an input in which none is found becomes nodes, which are judged.
+ghost use Rattle.std.specs.Prelude.{◌≡◌, ◌≤◌, ◌+◌, ◌^◌, ℕ, length, IfSome, IsTrue};
+ghost use Rattle.cborn_engine.specs.Encoding.{EncodeAnswers, IsEncoded};
+ghost use Rattle.cborn_engine.specs.Pieces.{Reads};
 ghost use Rattle.cborn_engine.specs.Reading.{read_failures};
 
 use crate::faults::EngineFault;
 use crate::inputs::MOST;
-use crate::kinds::Kind;
+use crate::kinds::{Kind, profile_of};
 use crate::nodes::unjudged_nodes;
 use crate::sources::Source;
-use crate::texts::read_bytes;
+use crate::texts::{bytes_of_text, read_bytes};
 use cborn_det::encode_all;
-use cborn_edn::read_notation;
 use cborn_judge::judge_all;
-use cborn_lex::Profile;
 use cborn_model::{KeyOrder, Limit};
-use cborn_spell::spell_text;
 use cborn_transcode::{is_deterministic, transcode};
-use simdutf8::compat::from_utf8;
 use std::alloc::Global;
 
-/// The deterministic encodings of what the whole input holds, one after another. The faults are those of `load_within`, and `Invalid`.
+/// The deterministic encodings of what the whole input holds, one after another. Bytes that are these already are moved.
+///
+/// # Errors
+/// Those of `load_within`, and `Invalid`.
 pub fn read_encoded<O: KeyOrder, R: Source>(
     alloc: Global,
     limit: Limit,
     kind: Kind,
     reader: &mut R,
 ) -> Result<Vec<u8>, EngineFault>
-    ensures encodes { Encodes O.order kind limit (2 ^ 30) (R.remaining reader.old) (R.remaining reader.new) result }
-    ensures failures { R.failed reader.new ≡ read_failures result (R.failed reader.old) }
-    ensures calls { R.asked reader.new ≤ R.asked reader.old + 2 ^ 30 + 1 }
-{
-    match kind {
-        Kind::Wire => encode_bytes::<O, R>(alloc, limit, reader),
-        Kind::Notation => encode_text::<O, R>(alloc, limit, Profile::One, reader),
-        Kind::Notation2 => encode_text::<O, R>(alloc, limit, Profile::Two, reader),
-    }
-}
-
-/// The same of notation.
-fn encode_text<O: KeyOrder, R: Source>(
-    alloc: Global,
-    limit: Limit,
-    profile: Profile,
-    reader: &mut R,
-) -> Result<Vec<u8>, EngineFault>
-    ensures encodes { Encodes O.order (kind_of profile) limit (2 ^ 30) (R.remaining reader.old) (R.remaining reader.new) result }
+    ensures encodes { Reads (EncodeAnswers O.order kind limit (2 ^ 30)) (R.remaining reader.old) (R.remaining reader.new) result }
     ensures failures { R.failed reader.new ≡ read_failures result (R.failed reader.old) }
     ensures calls { R.asked reader.new ≤ R.asked reader.old + 2 ^ 30 + 1 }
 {
     let input = read_bytes(alloc, MOST, reader)?;
-    encode_notation::<O>(alloc, limit, profile, &input)
-}
-
-/// The deterministic encodings of what this text holds, or the fault of its content. No fault is the reader's.
-pub fn encode_notation<O: KeyOrder>(
-    alloc: Global,
-    limit: Limit,
-    profile: Profile,
-    input: &[u8],
-) -> Result<Vec<u8>, EngineFault>
-    ensures answers { length input.now ≤ 2 ^ 30 → EncodeAnswers O.order (kind_of profile) limit (2 ^ 30) input.now result }
-    ensures failures { (n : ℕ) → read_failures result n ≡ n }
-{
-    let text = match from_utf8(input) {
-        Ok(text) => text,
-        Err(why) => return Err(EngineFault::TextInput(why.valid_up_to() as u64)),
-    };
-    if let Some(answer) = text_at_once::<O>(alloc, limit, profile, text) {
-        return Ok(answer);
-    }
-    let nodes = read_notation(alloc, limit, profile, text)?;
-    let items = judge_all(alloc, &nodes)?;
-    Ok(encode_all::<O>(alloc, &items)?)
-}
-
-/// What one pass over a text gives, and one over the bytes that it notates. None promises nothing.
-fn text_at_once<O: KeyOrder>(
-    alloc: Global,
-    limit: Limit,
-    profile: Profile,
-    text: &str,
-) -> Option<Vec<u8>>
-    ensures { IfSome result (λ answer. length text.now ≤ 2 ^ 30 → IsEncoded O.order (kind_of profile) limit text.now answer.items) }
-{
-    let bytes = spell_text(alloc, limit, profile, text)?;
-    transcode::<O>(alloc, limit, &bytes)
-}
-
-fn encode_bytes<O: KeyOrder, R: Source>(
-    alloc: Global,
-    limit: Limit,
-    reader: &mut R,
-) -> Result<Vec<u8>, EngineFault>
-    ensures encodes { Encodes O.order kinds.Wire limit (2 ^ 30) (R.remaining reader.old) (R.remaining reader.new) result }
-    ensures failures { R.failed reader.new ≡ read_failures result (R.failed reader.old) }
-    ensures calls { R.asked reader.new ≤ R.asked reader.old + 2 ^ 30 + 1 }
-{
-    let input = read_bytes(alloc, MOST, reader)?;
-    encode_held::<O>(alloc, limit, input)
-}
-
-/// The same of bytes that are given up: where they are deterministic, they are the answer. No fault is the reader's.
-fn encode_held<O: KeyOrder>(
-    alloc: Global,
-    limit: Limit,
-    input: Vec<u8>,
-) -> Result<Vec<u8>, EngineFault>
-    ensures answers { length input.items ≤ 2 ^ 30 → EncodeAnswers O.order kinds.Wire limit (2 ^ 30) input.items result }
-    ensures failures { (n : ℕ) → read_failures result n ≡ n }
-{
-    if is_deterministic::<O>(limit, &input) {
+    if is_own_encoding::<O>(limit, kind, &input) {
         return Ok(input);
     }
-    encode_input::<O>(alloc, limit, &input)
+    encode_input::<O>(alloc, limit, kind, &input)
 }
 
-/// The deterministic encodings of what these bytes hold, or the fault of their content. No fault is the reader's.
+/// Whether an input is bytes that are the deterministic encodings of what they hold. No promises nothing.
+pub fn is_own_encoding<O: KeyOrder>(limit: Limit, kind: Kind, input: &[u8]) -> bool
+    ensures { IsTrue result → IsEncoded O.order kind limit input.now input.now }
+{
+    kind == Kind::Wire && is_deterministic::<O>(limit, input)
+}
+
+/// The deterministic encodings of what an input holds, one after another.
+///
+/// # Errors
+/// The fault of its content, or `OutOfMemory`.
 pub fn encode_input<O: KeyOrder>(
     alloc: Global,
     limit: Limit,
+    kind: Kind,
     input: &[u8],
 ) -> Result<Vec<u8>, EngineFault>
-    ensures answers { length input.now ≤ 2 ^ 30 → EncodeAnswers O.order kinds.Wire limit (2 ^ 30) input.now result }
+    ensures answers { length input.now ≤ 2 ^ 30 → EncodeAnswers O.order kind limit (2 ^ 30) input.now result }
     ensures failures { (n : ℕ) → read_failures result n ≡ n }
 {
-    match transcode::<O>(alloc, limit, input) {
+    match encode_by_pass::<O>(alloc, limit, kind, input) {
         Some(bytes) => Ok(bytes),
-        None => encode_trees::<O>(alloc, limit, input),
+        None => encode_by_trees::<O>(alloc, limit, kind, input),
+    }
+}
+
+/// What `encode_input` answers, by a pass over the bytes, or over those that a text spells. None promises nothing.
+fn encode_by_pass<O: KeyOrder>(
+    alloc: Global,
+    limit: Limit,
+    kind: Kind,
+    input: &[u8],
+) -> Option<Vec<u8>>
+    ensures { IfSome result (λ bytes. length input.now ≤ 2 ^ 30 → IsEncoded O.order kind limit input.now bytes.items) }
+{
+    match profile_of(kind) {
+        None => transcode::<O>(alloc, limit, input),
+        Some(profile) => {
+            let bytes = bytes_of_text(alloc, limit, profile, input)?;
+            transcode::<O>(alloc, limit, &bytes)
+        }
     }
 }
 
 /// What `encode_input` answers, by trees.
-fn encode_trees<O: KeyOrder>(
+fn encode_by_trees<O: KeyOrder>(
     alloc: Global,
     limit: Limit,
+    kind: Kind,
     input: &[u8],
 ) -> Result<Vec<u8>, EngineFault>
-    ensures answers { length input.now ≤ 2 ^ 30 → EncodeAnswers O.order kinds.Wire limit (2 ^ 30) input.now result }
+    ensures answers { length input.now ≤ 2 ^ 30 → EncodeAnswers O.order kind limit (2 ^ 30) input.now result }
     ensures failures { (n : ℕ) → read_failures result n ≡ n }
 {
-    let nodes = unjudged_nodes(alloc, limit, input)?;
+    let nodes = unjudged_nodes(alloc, limit, kind, input)?;
     let items = judge_all(alloc, &nodes)?;
     Ok(encode_all::<O>(alloc, &items)?)
 }

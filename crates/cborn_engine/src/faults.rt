@@ -3,7 +3,6 @@ ghost use Rattle.std.specs.Prelude.{◌≡◌};
 ghost use Rattle.cborn_engine.specs.declared.faults.CompareFault.{CompareFault};
 ghost use Rattle.cborn_engine.specs.declared.faults.EngineFault.{EngineFault};
 
-use crate::pieces::ReadStop;
 use cborn_edn::{EdnFault, ShowFault};
 use cborn_judge::Invalid;
 use cborn_lex::LexFault;
@@ -109,19 +108,6 @@ impl From<ShowFault> for EngineFault {
         match why {
             ShowFault::OutOfMemory => EngineFault::OutOfMemory,
             why => EngineFault::Show(why),
-        }
-    }
-}
-
-impl From<ReadStop> for EngineFault {
-    ghost use Rattle.cborn_engine.specs.Stopping.{of_stop};
-
-    ghost from_gives = { λ why e. e ≡ of_stop why };
-
-    fn from(why: ReadStop) -> Self {
-        match why {
-            ReadStop::Failed => EngineFault::ReadFault,
-            ReadStop::TooLong => EngineFault::TooLong,
         }
     }
 }

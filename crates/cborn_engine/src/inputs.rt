@@ -1,23 +1,23 @@
-//! Reading a whole input.
+//! Reading a whole input as nodes.
 ghost use Rattle.std.specs.Prelude.{◌≡◌, ◌≤◌, ◌+◌, ◌^◌};
-ghost use Rattle.cborn_engine.specs.declared.kinds.Kind.TheVariants as kinds;
 ghost use Rattle.cborn_engine.specs.Loading.{Loads};
 ghost use Rattle.cborn_engine.specs.Reading.{read_failures};
 
 use crate::faults::EngineFault;
 use crate::kinds::Kind;
-use crate::pieces::read_piece;
+use crate::nodes::nodes_of;
 use crate::sources::Source;
-use crate::texts::load_text;
-use cborn_lex::Profile;
+use crate::texts::read_bytes;
 use cborn_model::{Limit, Spelled};
-use cborn_wire::Feeder;
 use std::alloc::Global;
 
 /// The most bytes of an input.
 pub const MOST: u64 = 1 << 30;
 
-/// The items of the whole input as they are spelled, valid or not. The input has at most 2^30 bytes. The errors are those of `load_within`.
+/// The items of the whole input as they are spelled, valid or not. The input has at most 2^30 bytes.
+///
+/// # Errors
+/// Those of `load_within`.
 pub fn load<R: Source>(
     alloc: Global,
     limit: Limit,
@@ -47,38 +47,6 @@ pub fn load_within<R: Source>(
     ensures failures { R.failed reader.new ≡ read_failures result (R.failed reader.old) }
     ensures calls { R.asked reader.new ≤ R.asked reader.old + most + 1 }
 {
-    match kind {
-        Kind::Wire => load_bytes(alloc, limit, most, reader),
-        Kind::Notation => load_text(alloc, limit, most, Profile::One, reader),
-        Kind::Notation2 => load_text(alloc, limit, most, Profile::Two, reader),
-    }
-}
-
-/// The items of bytes. After a fault of the content it reads on, so that a failed read and a byte too many are told in its place.
-fn load_bytes<R: Source>(
-    alloc: Global,
-    limit: Limit,
-    most: u64,
-    reader: &mut R,
-) -> Result<Vec<Spelled>, EngineFault>
-    requires { most ≤ 2 ^ 30 }
-    ensures loads { Loads kinds.Wire limit most (R.remaining reader.old) (R.remaining reader.new) result }
-    ensures failures { R.failed reader.new ≡ read_failures result (R.failed reader.old) }
-    ensures calls { R.asked reader.new ≤ R.asked reader.old + most + 1 }
-{
-    let mut feeder = Feeder::new(alloc, limit);
-    let mut buf = [0; 4096];
-    let mut left = most;
-    let mut is_refused = false;
-    'pieces: loop {
-        let count = read_piece(reader, &mut buf, left)?;
-        if count == 0 {
-            break;
-        }
-        left -= count as u64;
-        if !is_refused {
-            is_refused = feeder.feed(&buf[..count]).is_err();
-        }
-    }
-    Ok(feeder.finish()?)
+    let input = read_bytes(alloc, most, reader)?;
+    nodes_of(alloc, limit, kind, &input)
 }

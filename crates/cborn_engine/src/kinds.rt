@@ -1,4 +1,9 @@
 //! What an input or an output is.
+ghost use Rattle.std.specs.Prelude.{◌≡◌, MatchOption};
+ghost use Rattle.cborn_engine.specs.declared.kinds.Kind.TheVariants as kinds;
+ghost use Rattle.cborn_engine.specs.Encoding.{kind_of};
+
+use cborn_lex::Profile;
 
 /// What an input or an output is.
 #[derive(Clone, Copy, PartialEq, Eq, Debug)]
@@ -9,4 +14,15 @@ pub enum Kind {
     Notation,
     /// As an input, diagnostic notation of profile 2, which allows comments to the end of a line and commas behind the last item. As an output, the same as `Notation`.
     Notation2,
+}
+
+/// The profile of an input that is notation. None: it is bytes.
+pub fn profile_of(kind: Kind) -> Option<Profile>
+    ensures { MatchOption result (kind ≡ kinds.Wire) (λ profile. kind ≡ kind_of profile) }
+{
+    match kind {
+        Kind::Wire => None,
+        Kind::Notation => Some(Profile::One),
+        Kind::Notation2 => Some(Profile::Two),
+    }
 }

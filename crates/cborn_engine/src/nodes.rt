@@ -1,39 +1,83 @@
-//! Bytes that are held whole, read as nodes where nothing quicker tells about them.
-ghost use Rattle.std.specs.Prelude.{◌≡◌, ◌≤◌, ◌^◌, ℕ, List, length, IfOk, IfErr};
+//! Inputs that are held whole, read as nodes where nothing quicker tells about them.
+ghost use Rattle.std.specs.Prelude.{◌≡◌, ◌≤◌, ℕ, List, length, IfOk, IfErr};
 ghost use Rattle.cborn_model.specs.Placed.{PlacedAll};
 ghost use Rattle.cborn_model.specs.Spelled.{Wellformed};
 ghost use Rattle.cborn_model.specs.Tree.{trees};
 ghost use Rattle.cborn_model.specs.Value.{Value};
 ghost use Rattle.cborn_engine.specs.declared.kinds.Kind.TheVariants as kinds;
-ghost use Rattle.cborn_engine.specs.Holding.{Holds};
+ghost use Rattle.cborn_engine.specs.Encoding.{kind_of};
+ghost use Rattle.cborn_engine.specs.Holding.{Holds, Spells};
+ghost use Rattle.cborn_engine.specs.Loading.{IsNoFlaw};
 ghost use Rattle.cborn_engine.specs.Reading.{read_failures};
 ghost use Rattle.cborn_engine.specs.Refusing.{IsRefused};
 
 use crate::faults::EngineFault;
+use crate::kinds::{Kind, profile_of};
+use crate::texts::text_of;
+use cborn_edn::read_notation;
 use cborn_judge::Invalid;
+use cborn_lex::Profile;
 use cborn_model::{Limit, Spelled};
 use cborn_search::first_flaw;
 use cborn_wire::{WireFault, read_all, scan};
 use std::alloc::{AllocError, Global};
 
-/// The nodes of bytes that are to be judged. Bytes that aren't well-formed are refused before a node is kept, and so are
+/// The nodes that an input spells, valid or not.
+///
+/// # Errors
+/// The fault of its content, or `OutOfMemory`.
+pub fn nodes_of(
+    alloc: Global,
+    limit: Limit,
+    kind: Kind,
+    input: &[u8],
+) -> Result<Vec<Spelled>, EngineFault>
+    ensures spelled { IfOk result (λ nodes. Spells kind limit input.now nodes.items) }
+    ensures refused { IfErr result (λ why. (most : ℕ) → length input.now ≤ most → IsRefused kind limit most input.now why × IsNoFlaw why) }
+    ensures failures { (n : ℕ) → read_failures result n ≡ n }
+{
+    match profile_of(kind) {
+        None => Ok(read_all(alloc, limit, input)?),
+        Some(profile) => notated_nodes(alloc, limit, profile, input),
+    }
+}
+
+/// The nodes that a text notates.
+fn notated_nodes(
+    alloc: Global,
+    limit: Limit,
+    profile: Profile,
+    input: &[u8],
+) -> Result<Vec<Spelled>, EngineFault>
+    ensures spelled { IfOk result (λ nodes. Spells (kind_of profile) limit input.now nodes.items) }
+    ensures refused { IfErr result (λ why. (most : ℕ) → length input.now ≤ most → IsRefused (kind_of profile) limit most input.now why × IsNoFlaw why) }
+    ensures failures { (n : ℕ) → read_failures result n ≡ n }
+{
+    let text = text_of(input)?;
+    Ok(read_notation(alloc, limit, profile, text)?)
+}
+
+/// The nodes of an input that are to be judged. Bytes that aren't well-formed are refused before a node is kept, and so are
 /// those with a flaw, where a search that keeps none finds it. What it finds none of may have one yet.
 pub fn unjudged_nodes(
     alloc: Global,
     limit: Limit,
-    bytes: &[u8],
+    kind: Kind,
+    input: &[u8],
 ) -> Result<Vec<Spelled>, EngineFault>
-    ensures items { IfOk result (λ nodes. Wellformed limit (trees nodes.items) bytes.now × PlacedAll 0 (trees nodes.items)) }
-    ensures refused { IfErr result (λ why. length bytes.now ≤ 2 ^ 30 → IsRefused kinds.Wire limit (2 ^ 30) bytes.now why) }
+    ensures spelled { IfOk result (λ nodes. Spells kind limit input.now nodes.items) }
+    ensures refused { IfErr result (λ why. (most : ℕ) → length input.now ≤ most → IsRefused kind limit most input.now why) }
     ensures failures { (n : ℕ) → read_failures result n ≡ n }
 {
-    if let Some((place, reason)) = scan(limit, bytes) {
-        return Err(EngineFault::Wire(WireFault::Refused { place, reason }));
+    if kind == Kind::Wire {
+        if let Some((place, reason)) = scan(limit, input) {
+            return Err(EngineFault::Wire(WireFault::Refused { place, reason }));
+        }
+        if let Some(Some((place, reason))) = first_flaw(alloc, limit, input) {
+            return Err(EngineFault::Invalid(Invalid::Refused { place, reason }));
+        }
     }
-    if let Some(Some((place, reason))) = first_flaw(alloc, limit, bytes) {
-        return Err(EngineFault::Invalid(Invalid::Refused { place, reason }));
-    }
-    Ok(read_all(alloc, limit, bytes)?)
+    nodes_of(alloc, limit, kind, input)
 }
 
 /// The nodes of bytes that hold items. These are well-formed.

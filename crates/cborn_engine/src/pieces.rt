@@ -1,34 +1,30 @@
 //! Reading a piece of an input, and room for the next.
 ghost use Rattle.std.specs.Prelude.{◌≡◌, ◌≤◌, ◌<◌, ◌+◌, ◌^◌, length, take, drop, OnOk};
-ghost use Rattle.cborn_engine.specs.Pieces.{PieceAnswers, piece_failures};
+ghost use Rattle.cborn_engine.specs.Pieces.{PieceAnswers};
+ghost use Rattle.cborn_engine.specs.Reading.{read_failures};
 
+use crate::faults::EngineFault;
 use crate::sources::Source;
 use std::alloc::AllocError;
 
-/// Why an input was not read to its end.
-#[derive(Clone, Copy, Debug)]
-pub enum ReadStop {
-    /// The reader failed.
-    Failed,
-    /// It gave more bytes than the input may have.
-    TooLong,
-}
-
 /// Reads a piece of an input of which at most `left` more bytes are allowed, to the front of `buf`, and answers its length: 0 only at the end. Of an input that is longer one byte more than allowed is read.
-pub fn read_piece<R: Source>(reader: &mut R, buf: &mut [u8], left: u64) -> Result<usize, ReadStop>
+///
+/// # Errors
+/// `ReadFault` where the reader failed, `TooLong` where it gave more than is allowed.
+fn read_piece<R: Source>(reader: &mut R, buf: &mut [u8], left: u64) -> Result<usize, EngineFault>
     requires room { 0 < length buf.old }
     requires bounded { left ≤ 2 ^ 30 }
     ensures piece { PieceAnswers (R.remaining reader.old) (R.remaining reader.new) left buf.new result }
-    ensures failures { R.failed reader.new ≡ piece_failures result (R.failed reader.old) }
+    ensures failures { R.failed reader.new ≡ read_failures result (R.failed reader.old) }
     ensures calls { R.asked reader.new ≤ R.asked reader.old + 1 }
 {
     let room = (left + 1).min(buf.len() as u64) as usize;
     let count = match reader.read_some(&mut buf[..room]) {
         Ok(count) => count,
-        Err(_) => return Err(ReadStop::Failed),
+        Err(_) => return Err(EngineFault::ReadFault),
     };
     if count as u64 > left {
-        return Err(ReadStop::TooLong);
+        return Err(EngineFault::TooLong);
     }
     Ok(count)
 }
@@ -57,28 +53,29 @@ pub fn read_behind<R: Source>(
     bytes: &mut Vec<u8>,
     filled: usize,
     left: u64,
-) -> Result<usize, ReadStop>
+) -> Result<usize, EngineFault>
     requires room { filled < length bytes.old.items }
     requires bounded { left ≤ 2 ^ 30 }
     ensures front { take filled bytes.new.items ≡ take filled bytes.old.items }
     ensures piece { PieceAnswers (R.remaining reader.old) (R.remaining reader.new) left (drop filled bytes.new.items) result }
-    ensures failures { R.failed reader.new ≡ piece_failures result (R.failed reader.old) }
+    ensures failures { R.failed reader.new ≡ read_failures result (R.failed reader.old) }
     ensures calls { R.asked reader.new ≤ R.asked reader.old + 1 }
 {
     read_at(reader, bytes.as_mut_slice(), filled, left)
 }
 
+/// The same in a slice.
 fn read_at<R: Source>(
     reader: &mut R,
     buf: &mut [u8],
     filled: usize,
     left: u64,
-) -> Result<usize, ReadStop>
+) -> Result<usize, EngineFault>
     requires room { filled < length buf.old }
     requires bounded { left ≤ 2 ^ 30 }
     ensures front { take filled buf.new ≡ take filled buf.old }
     ensures piece { PieceAnswers (R.remaining reader.old) (R.remaining reader.new) left (drop filled buf.new) result }
-    ensures failures { R.failed reader.new ≡ piece_failures result (R.failed reader.old) }
+    ensures failures { R.failed reader.new ≡ read_failures result (R.failed reader.old) }
     ensures calls { R.asked reader.new ≤ R.asked reader.old + 1 }
 {
     read_piece(reader, &mut buf[filled..], left)

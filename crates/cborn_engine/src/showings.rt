@@ -1,30 +1,32 @@
-//! Reading a whole input, and telling what it holds in another form. Bytes that are to stay bytes are what their nodes spell, once it is known that they are well-formed. Bytes that are to become notation are first taken in one pass that keeps no tree; where that answers nothing, the faults are looked for without nodes, and only bytes with none are read as nodes. A text is first spelled as bytes in one pass; where that answers nothing, it is read as nodes.
-ghost use Rattle.std.specs.Prelude.{◌≡◌, ◌≤◌, ◌+◌, ◌^◌, ℕ, List, length, IfOk, IfErr, IfSome};
+//! Reading a whole input, and telling what it holds in another form. Bytes that are to stay bytes are what their nodes spell, once it is known that they are well-formed. Else a pass that keeps no tree is tried first: a text becomes bytes, and bytes become notation. Where it answers nothing, what is wrong with bytes is looked for without a tree too, and only an input in which nothing is found becomes nodes.
+ghost use Rattle.std.specs.Prelude.{◌≡◌, ◌≤◌, ◌+◌, ◌^◌, ℕ, List, length, IfOk, IfErr, IfSome, IsTrue};
 ghost use Rattle.cborn_model.specs.Placed.{PlacedAll};
 ghost use Rattle.cborn_model.specs.Spelled.{Wellformed};
 ghost use Rattle.cborn_model.specs.Tree.{Tree, trees};
-ghost use Rattle.cborn_edn.specs.Shown.{Shown};
 ghost use Rattle.cborn_edn.specs.declared.faults.ShowFault.TheVariants.{NotUtf8};
 ghost use Rattle.cborn_engine.specs.declared.kinds.Kind.TheVariants as kinds;
 ghost use Rattle.cborn_engine.specs.Encoding.{kind_of};
+ghost use Rattle.cborn_engine.specs.Pieces.{Reads};
 ghost use Rattle.cborn_engine.specs.Reading.{read_failures};
-ghost use Rattle.cborn_engine.specs.Showing.{Tells, TellAnswers, IsShown, IsSpelledAs, IsUnshownAs, IsUnspelledAs};
+ghost use Rattle.cborn_engine.specs.Showing.{TellAnswers, IsShown, IsSpelledAs, IsUnshownAs, IsUnspelledAs};
 
 use crate::faults::EngineFault;
 use crate::inputs::MOST;
-use crate::kinds::Kind;
+use crate::kinds::{Kind, profile_of};
+use crate::nodes::nodes_of;
 use crate::sources::Source;
-use crate::texts::read_bytes;
-use cborn_edn::{ShowFault, read_notation, show};
+use crate::texts::{bytes_of_text, read_bytes};
+use cborn_edn::{ShowFault, show};
 use cborn_lex::Profile;
 use cborn_model::{Limit, Spelled};
 use cborn_show::{first_bad_text, show_bytes};
-use cborn_spell::spell_text;
-use cborn_wire::{WireFault, read_all, scan, spell_all};
-use simdutf8::compat::from_utf8;
+use cborn_wire::{WireFault, scan, spell_all};
 use std::alloc::Global;
 
-/// The items of the whole input as they are spelled, in a form of this kind. The faults are those of `load`, and `Show`.
+/// The items of the whole input as they are spelled, in a form of this kind. Bytes that are to stay bytes are moved.
+///
+/// # Errors
+/// Those of `load`, and `Show`.
 pub fn read_shown<R: Source>(
     alloc: Global,
     limit: Limit,
@@ -32,91 +34,107 @@ pub fn read_shown<R: Source>(
     out_kind: Kind,
     reader: &mut R,
 ) -> Result<Vec<u8>, EngineFault>
-    ensures tells { Tells in_kind out_kind limit (2 ^ 30) (R.remaining reader.old) (R.remaining reader.new) result }
-    ensures failures { R.failed reader.new ≡ read_failures result (R.failed reader.old) }
-    ensures calls { R.asked reader.new ≤ R.asked reader.old + 2 ^ 30 + 1 }
-{
-    match in_kind {
-        Kind::Wire => show_whole(alloc, limit, out_kind, reader),
-        Kind::Notation => show_text(alloc, limit, Profile::One, out_kind, reader),
-        Kind::Notation2 => show_text(alloc, limit, Profile::Two, out_kind, reader),
-    }
-}
-
-/// Bytes, which are read whole.
-fn show_whole<R: Source>(
-    alloc: Global,
-    limit: Limit,
-    out_kind: Kind,
-    reader: &mut R,
-) -> Result<Vec<u8>, EngineFault>
-    ensures tells { Tells kinds.Wire out_kind limit (2 ^ 30) (R.remaining reader.old) (R.remaining reader.new) result }
+    ensures tells { Reads (TellAnswers in_kind out_kind limit (2 ^ 30)) (R.remaining reader.old) (R.remaining reader.new) result }
     ensures failures { R.failed reader.new ≡ read_failures result (R.failed reader.old) }
     ensures calls { R.asked reader.new ≤ R.asked reader.old + 2 ^ 30 + 1 }
 {
     let input = read_bytes(alloc, MOST, reader)?;
-    match out_kind {
-        Kind::Wire => show_itself(limit, input),
-        Kind::Notation => show_input(alloc, limit, Kind::Notation, &input),
-        Kind::Notation2 => show_input(alloc, limit, Kind::Notation2, &input),
+    if is_own_spelling(limit, in_kind, out_kind, &input) {
+        return Ok(input);
     }
+    show_input(alloc, limit, in_kind, out_kind, &input)
 }
 
-/// Well-formed bytes, which are what their nodes spell. No fault is the reader's.
-fn show_itself(limit: Limit, input: Vec<u8>) -> Result<Vec<u8>, EngineFault>
-    ensures answers { length input.items ≤ 2 ^ 30 → TellAnswers kinds.Wire kinds.Wire limit (2 ^ 30) input.items result }
-    ensures failures { (n : ℕ) → read_failures result n ≡ n }
+/// Whether an input is well-formed bytes that are to stay bytes. No promises nothing.
+pub fn is_own_spelling(limit: Limit, in_kind: Kind, out_kind: Kind, input: &[u8]) -> bool
+    ensures { IsTrue result → IsShown in_kind out_kind limit input.now input.now }
 {
-    match scan(limit, &input) {
-        Some((place, reason)) => Err(EngineFault::Wire(WireFault::Refused { place, reason })),
-        None => Ok(input),
-    }
+    in_kind == Kind::Wire && out_kind == Kind::Wire && scan(limit, input).is_none()
 }
 
-/// What these bytes hold, or the fault of their content. No fault is the reader's.
+/// The items of an input as they are spelled, in a form of this kind.
+///
+/// # Errors
+/// The fault of its content, `Show`, or `OutOfMemory`.
 pub fn show_input(
     alloc: Global,
     limit: Limit,
+    in_kind: Kind,
     out_kind: Kind,
     input: &[u8],
 ) -> Result<Vec<u8>, EngineFault>
-    ensures answers { length input.now ≤ 2 ^ 30 → TellAnswers kinds.Wire out_kind limit (2 ^ 30) input.now result }
+    ensures answers { length input.now ≤ 2 ^ 30 → TellAnswers in_kind out_kind limit (2 ^ 30) input.now result }
     ensures failures { (n : ℕ) → read_failures result n ≡ n }
 {
-    match show_at_once(alloc, limit, out_kind, input) {
-        Some(text) => Ok(text),
-        None => show_trees(alloc, limit, out_kind, input),
+    match show_by_pass(alloc, limit, in_kind, out_kind, input) {
+        Some(answer) => Ok(answer),
+        None => show_by_trees(alloc, limit, in_kind, out_kind, input),
     }
 }
 
-/// What these bytes hold, where one pass tells it.
-fn show_at_once(alloc: Global, limit: Limit, out_kind: Kind, input: &[u8]) -> Option<Vec<u8>>
-    ensures { IfSome result (λ text. IsShown kinds.Wire out_kind limit input.now text.items) }
+/// What `show_input` answers, by passes. None promises nothing.
+fn show_by_pass(
+    alloc: Global,
+    limit: Limit,
+    in_kind: Kind,
+    out_kind: Kind,
+    input: &[u8],
+) -> Option<Vec<u8>>
+    ensures { IfSome result (λ answer. length input.now ≤ 2 ^ 30 → IsShown in_kind out_kind limit input.now answer.items) }
+{
+    match profile_of(in_kind) {
+        None => show_bytes_by_pass(alloc, limit, out_kind, input),
+        Some(profile) => show_text_by_pass(alloc, limit, profile, out_kind, input),
+    }
+}
+
+/// The same of bytes.
+fn show_bytes_by_pass(alloc: Global, limit: Limit, out_kind: Kind, input: &[u8]) -> Option<Vec<u8>>
+    ensures { IfSome result (λ answer. IsShown kinds.Wire out_kind limit input.now answer.items) }
 {
     match out_kind {
         Kind::Wire => None,
-        Kind::Notation => show_bytes(alloc, limit, input),
-        Kind::Notation2 => show_bytes(alloc, limit, input),
+        Kind::Notation | Kind::Notation2 => show_bytes(alloc, limit, input),
     }
 }
 
-/// What `show_input` answers, where that pass tells nothing. Nodes are kept only where no fault is found without them.
-fn show_trees(
+/// The same of a text.
+fn show_text_by_pass(
     alloc: Global,
     limit: Limit,
+    profile: Profile,
+    out_kind: Kind,
+    input: &[u8],
+) -> Option<Vec<u8>>
+    ensures { IfSome result (λ answer. length input.now ≤ 2 ^ 30 → IsShown (kind_of profile) out_kind limit input.now answer.items) }
+{
+    let bytes = bytes_of_text(alloc, limit, profile, input)?;
+    match out_kind {
+        Kind::Wire => Some(bytes),
+        Kind::Notation | Kind::Notation2 => show_bytes(alloc, limit, &bytes),
+    }
+}
+
+/// What `show_input` answers, by trees.
+fn show_by_trees(
+    alloc: Global,
+    limit: Limit,
+    in_kind: Kind,
     out_kind: Kind,
     input: &[u8],
 ) -> Result<Vec<u8>, EngineFault>
-    ensures answers { length input.now ≤ 2 ^ 30 → TellAnswers kinds.Wire out_kind limit (2 ^ 30) input.now result }
+    ensures answers { length input.now ≤ 2 ^ 30 → TellAnswers in_kind out_kind limit (2 ^ 30) input.now result }
     ensures failures { (n : ℕ) → read_failures result n ≡ n }
 {
-    if let Some((place, reason)) = scan(limit, input) {
-        return Err(EngineFault::Wire(WireFault::Refused { place, reason }));
+    if in_kind == Kind::Wire {
+        if let Some((place, reason)) = scan(limit, input) {
+            return Err(EngineFault::Wire(WireFault::Refused { place, reason }));
+        }
+        if let Some(place) = bad_text(out_kind, input) {
+            return Err(EngineFault::Show(ShowFault::NotUtf8 { place }));
+        }
     }
-    if let Some(place) = bad_text(out_kind, input) {
-        return Err(EngineFault::Show(ShowFault::NotUtf8 { place }));
-    }
-    let nodes = read_all(alloc, limit, input)?;
+    let nodes = nodes_of(alloc, limit, in_kind, input)?;
     spelled(alloc, out_kind, &nodes)
 }
 
@@ -126,68 +144,14 @@ fn bad_text(out_kind: Kind, input: &[u8]) -> Option<u64>
 {
     match out_kind {
         Kind::Wire => None,
-        Kind::Notation => first_bad_text(input),
-        Kind::Notation2 => first_bad_text(input),
+        Kind::Notation | Kind::Notation2 => first_bad_text(input),
     }
 }
 
-/// A text, which is read whole.
-fn show_text<R: Source>(
-    alloc: Global,
-    limit: Limit,
-    profile: Profile,
-    out_kind: Kind,
-    reader: &mut R,
-) -> Result<Vec<u8>, EngineFault>
-    ensures tells { Tells (kind_of profile) out_kind limit (2 ^ 30) (R.remaining reader.old) (R.remaining reader.new) result }
-    ensures failures { R.failed reader.new ≡ read_failures result (R.failed reader.old) }
-    ensures calls { R.asked reader.new ≤ R.asked reader.old + 2 ^ 30 + 1 }
-{
-    let input = read_bytes(alloc, MOST, reader)?;
-    show_notation(alloc, limit, profile, out_kind, &input)
-}
-
-/// What this text holds, or the fault of its content. No fault is the reader's.
-pub fn show_notation(
-    alloc: Global,
-    limit: Limit,
-    profile: Profile,
-    out_kind: Kind,
-    input: &[u8],
-) -> Result<Vec<u8>, EngineFault>
-    ensures answers { length input.now ≤ 2 ^ 30 → TellAnswers (kind_of profile) out_kind limit (2 ^ 30) input.now result }
-    ensures failures { (n : ℕ) → read_failures result n ≡ n }
-{
-    let text = match from_utf8(input) {
-        Ok(text) => text,
-        Err(why) => return Err(EngineFault::TextInput(why.valid_up_to() as u64)),
-    };
-    if let Some(answer) = text_at_once(alloc, limit, profile, out_kind, text) {
-        return Ok(answer);
-    }
-    let nodes = read_notation(alloc, limit, profile, text)?;
-    spelled(alloc, out_kind, &nodes)
-}
-
-/// What a text holds, where one pass over it, and one over the bytes that it notates, tell it.
-fn text_at_once(
-    alloc: Global,
-    limit: Limit,
-    profile: Profile,
-    out_kind: Kind,
-    text: &str,
-) -> Option<Vec<u8>>
-    ensures { IfSome result (λ answer. length text.now ≤ 2 ^ 30 → IsShown (kind_of profile) out_kind limit text.now answer.items) }
-{
-    let bytes = spell_text(alloc, limit, profile, text)?;
-    match out_kind {
-        Kind::Wire => Some(bytes),
-        Kind::Notation => show_bytes(alloc, limit, &bytes),
-        Kind::Notation2 => show_bytes(alloc, limit, &bytes),
-    }
-}
-
-/// Nodes as they are spelled, or their fixed notation. `Show` where a text string of theirs isn't UTF-8.
+/// Nodes as they are spelled, or their fixed notation.
+///
+/// # Errors
+/// `Show` where a text string of theirs isn't UTF-8 and they are to become notation, or `OutOfMemory`.
 fn spelled(alloc: Global, kind: Kind, nodes: &[Spelled]) -> Result<Vec<u8>, EngineFault>
     ensures spelled { IfOk result (λ answer. IsSpelledAs kind nodes.now answer.items) }
     ensures unspelled { IfErr result (IsUnspelledAs kind nodes.now) }
@@ -195,15 +159,6 @@ fn spelled(alloc: Global, kind: Kind, nodes: &[Spelled]) -> Result<Vec<u8>, Engi
 {
     match kind {
         Kind::Wire => Ok(spell_all(alloc, nodes)?),
-        Kind::Notation => notation(alloc, nodes),
-        Kind::Notation2 => notation(alloc, nodes),
+        Kind::Notation | Kind::Notation2 => Ok(show(alloc, nodes)?.into_bytes()),
     }
-}
-
-fn notation(alloc: Global, nodes: &[Spelled]) -> Result<Vec<u8>, EngineFault>
-    ensures shown { IfOk result (λ answer. Shown (trees nodes.now) answer.items) }
-    ensures unshown { IfErr result (IsUnspelledAs kinds.Notation nodes.now) }
-    ensures failures { (n : ℕ) → read_failures result n ≡ n }
-{
-    Ok(show(alloc, nodes)?.into_bytes())
 }

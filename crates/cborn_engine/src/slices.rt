@@ -1,30 +1,26 @@
 //! The calls over inputs that are held whole. Such an input is read where it lies, and where it is its own answer, that is lent and not copied.
-ghost use Rattle.std.specs.Prelude.{◌≡◌, ◌<◌, ◌≤◌, ◌*◌, ◌^◌, ◌↔◌, ℕ, List, length, IfOk, IfErr, IsTrue};
+ghost use Rattle.std.specs.Prelude.{◌≡◌, ◌<◌, ◌≤◌, ◌*◌, ◌^◌, ◌↔◌, List, length, IfOk, IfErr, IsTrue};
 ghost use Rattle.std.specs.Cow.{cow_slice_items};
 ghost use Rattle.cborn_model.specs.Value.{Value};
 ghost use Rattle.cborn_engine.specs.declared.kinds.Kind.TheVariants as kinds;
 ghost use Rattle.cborn_engine.specs.Canonical.{IsCanonical};
 ghost use Rattle.cborn_engine.specs.Checking.{IsChecked};
 ghost use Rattle.cborn_engine.specs.Comparing.{AreCompared};
-ghost use Rattle.cborn_engine.specs.Encoding.{EncodeAnswers, IsEncoded, IsWrittenAs};
+ghost use Rattle.cborn_engine.specs.Encoding.{IsEncoded, IsWrittenAs};
 ghost use Rattle.cborn_engine.specs.Holding.{Holds};
-ghost use Rattle.cborn_engine.specs.Reading.{read_failures};
-ghost use Rattle.cborn_engine.specs.Showing.{IsShown, TellAnswers};
+ghost use Rattle.cborn_engine.specs.Showing.{IsShown};
 ghost use Rattle.cborn_engine.specs.Whole.{IsRefusedWhole, IsUnshownWhole, AreRefusedWhole};
 
 use crate::checks::check_input;
 use crate::conversions::fixed_text;
 use crate::differences::difference;
-use crate::encodings::{encode_input, encode_notation};
+use crate::encodings::{encode_input, is_own_encoding};
 use crate::faults::{CompareFault, EngineFault};
 use crate::inputs::MOST;
 use crate::kinds::Kind;
-use crate::showings::{show_input, show_notation};
+use crate::showings::{is_own_spelling, show_input};
 use cborn_judge::Defect;
-use cborn_lex::Profile;
 use cborn_model::{KeyOrder, Limit};
-use cborn_transcode::is_deterministic;
-use cborn_wire::scan;
 use std::alloc::{AllocError, Global};
 use std::borrow::CowSlice;
 
@@ -44,7 +40,7 @@ pub fn normalise_slice<'a, O: KeyOrder>(
     ensures refused { IfErr result (IsRefusedWhole in_kind limit (2 ^ 30) input.now) }
 {
     let bytes = encode_slice::<O>(alloc, limit, in_kind, input)?;
-    Ok(written(alloc, limit, out_kind, bytes)?)
+    Ok(written_as(alloc, limit, out_kind, bytes)?)
 }
 
 /// The items of an input as they are spelled: as bytes (RFC 8949 section 3), which are lent from an input of bytes, or in the fixed notation (section 8).
@@ -67,7 +63,7 @@ pub fn show_slice<'a>(
     if is_own_spelling(limit, in_kind, out_kind, input) {
         return Ok(CowSlice::Borrowed(input));
     }
-    Ok(CowSlice::Owned(show_whole(alloc, limit, in_kind, out_kind, input)?))
+    Ok(CowSlice::Owned(show_input(alloc, limit, in_kind, out_kind, input)?))
 }
 
 /// The first defect of bytes, if they aren't the deterministic encodings of the items that they hold, the keys of maps in the order `O` (RFC 8949 section 4.2). None: they are.
@@ -137,79 +133,11 @@ fn encode_slice<'a, O: KeyOrder>(
     if is_own_encoding::<O>(limit, kind, input) {
         return Ok(CowSlice::Borrowed(input));
     }
-    Ok(CowSlice::Owned(encode_whole::<O>(alloc, limit, kind, input)?))
+    Ok(CowSlice::Owned(encode_input::<O>(alloc, limit, kind, input)?))
 }
 
-/// Whether an input is bytes that are the deterministic encodings of what they hold. No promises nothing.
-fn is_own_encoding<O: KeyOrder>(limit: Limit, kind: Kind, input: &[u8]) -> bool
-    ensures { IsTrue result → IsEncoded O.order kind limit input.now input.now }
-{
-    match kind {
-        Kind::Wire => is_deterministic::<O>(limit, input),
-        Kind::Notation => false,
-        Kind::Notation2 => false,
-    }
-}
-
-/// What `encode_slice` answers for other inputs, or the fault of their content. No fault is a reader's.
-fn encode_whole<O: KeyOrder>(
-    alloc: Global,
-    limit: Limit,
-    kind: Kind,
-    input: &[u8],
-) -> Result<Vec<u8>, EngineFault>
-    ensures answers { length input.now ≤ 2 ^ 30 → EncodeAnswers O.order kind limit (2 ^ 30) input.now result }
-    ensures failures { (n : ℕ) → read_failures result n ≡ n }
-{
-    match kind {
-        Kind::Wire => encode_input::<O>(alloc, limit, input),
-        Kind::Notation => encode_notation::<O>(alloc, limit, Profile::One, input),
-        Kind::Notation2 => encode_notation::<O>(alloc, limit, Profile::Two, input),
-    }
-}
-
-/// Whether an input is well-formed bytes that are to stay bytes. No promises nothing.
-fn is_own_spelling(limit: Limit, in_kind: Kind, out_kind: Kind, input: &[u8]) -> bool
-    ensures { IsTrue result → IsShown in_kind out_kind limit input.now input.now }
-{
-    match in_kind {
-        Kind::Wire => is_kept(limit, out_kind, input),
-        Kind::Notation => false,
-        Kind::Notation2 => false,
-    }
-}
-
-/// The same of an input of bytes.
-fn is_kept(limit: Limit, out_kind: Kind, input: &[u8]) -> bool
-    ensures { IsTrue result → IsShown kinds.Wire out_kind limit input.now input.now }
-{
-    match out_kind {
-        Kind::Wire => scan(limit, input).is_none(),
-        Kind::Notation => false,
-        Kind::Notation2 => false,
-    }
-}
-
-/// What `show_slice` answers for other inputs, or the fault of their content. No fault is a reader's.
-fn show_whole(
-    alloc: Global,
-    limit: Limit,
-    in_kind: Kind,
-    out_kind: Kind,
-    input: &[u8],
-) -> Result<Vec<u8>, EngineFault>
-    ensures answers { length input.now ≤ 2 ^ 30 → TellAnswers in_kind out_kind limit (2 ^ 30) input.now result }
-    ensures failures { (n : ℕ) → read_failures result n ≡ n }
-{
-    match in_kind {
-        Kind::Wire => show_input(alloc, limit, out_kind, input),
-        Kind::Notation => show_notation(alloc, limit, Profile::One, out_kind, input),
-        Kind::Notation2 => show_notation(alloc, limit, Profile::Two, out_kind, input),
-    }
-}
-
-/// Bytes that hold items, none deeper than `limit`; or their fixed notation.
-fn written<'a>(
+/// Bytes that hold items, as an output of this kind: themselves, or their fixed notation.
+fn written_as<'a>(
     alloc: Global,
     limit: Limit,
     kind: Kind,
@@ -220,7 +148,8 @@ fn written<'a>(
 {
     match kind {
         Kind::Wire => Ok(bytes),
-        Kind::Notation => Ok(CowSlice::Owned(fixed_text(alloc, limit, &bytes)?)),
-        Kind::Notation2 => Ok(CowSlice::Owned(fixed_text(alloc, limit, &bytes)?)),
+        Kind::Notation | Kind::Notation2 => {
+            Ok(CowSlice::Owned(fixed_text(alloc, limit, &bytes)?))
+        }
     }
 }

@@ -1,20 +1,26 @@
-//! Reading a whole text.
-ghost use Rattle.std.specs.Prelude.{◌≡◌, ◌≤◌, ◌+◌, ◌^◌};
-ghost use Rattle.cborn_engine.specs.Loading.{Loads};
+//! All the bytes of an input, and the text that they are.
+ghost use Rattle.std.specs.Prelude.{◌≡◌, ◌≤◌, ◌+◌, ◌^◌, ℕ, length, IfOk, IfErr, IfSome, IsUtf8};
+ghost use Rattle.cborn_lex.specs.declared.classes.Profile.{Profile as ProfileSpec};
+ghost use Rattle.cborn_spell.specs.Descent.{IsSpelling};
 ghost use Rattle.cborn_engine.specs.Encoding.{kind_of};
-ghost use Rattle.cborn_engine.specs.Reading.{read_failures};
+ghost use Rattle.cborn_engine.specs.Loading.{IsNoFlaw};
 ghost use Rattle.cborn_engine.specs.Pieces.{Collects};
+ghost use Rattle.cborn_engine.specs.Reading.{read_failures};
+ghost use Rattle.cborn_engine.specs.Refusing.{IsRefused};
 
 use crate::faults::EngineFault;
 use crate::pieces::{make_room, read_behind};
 use crate::sources::Source;
-use cborn_edn::read_notation;
 use cborn_lex::Profile;
-use cborn_model::{Limit, Spelled};
+use cborn_model::Limit;
+use cborn_spell::spell_text;
 use simdutf8::compat::from_utf8;
 use std::alloc::Global;
 
-/// All the bytes of an input, of which at most `most` are allowed. They are read to where they stay, in a buffer that grows with them. It answers `ReadFault`, `TooLong` or `OutOfMemory`, and no other fault.
+/// All the bytes of an input, of which at most `most` are allowed. They are read to where they stay, in a buffer that grows with them.
+///
+/// # Errors
+/// `ReadFault`, `TooLong` or `OutOfMemory`, and no other fault.
 pub fn read_bytes<R: Source>(
     alloc: Global,
     most: u64,
@@ -27,36 +33,38 @@ pub fn read_bytes<R: Source>(
 {
     let mut bytes = Vec::new(alloc);
     let mut filled = 0;
-    let mut left = most;
     'pieces: loop {
         make_room(&mut bytes, filled)?;
-        let count = read_behind(reader, &mut bytes, filled, left)?;
+        let count = read_behind(reader, &mut bytes, filled, most - filled as u64)?;
         if count == 0 {
             bytes.truncate(filled);
             return Ok(bytes);
         }
-        left -= count as u64;
         filled += count;
     }
 }
 
-/// The items of notation, which is read whole.
-pub fn load_text<R: Source>(
-    alloc: Global,
-    limit: Limit,
-    most: u64,
-    profile: Profile,
-    reader: &mut R,
-) -> Result<Vec<Spelled>, EngineFault>
-    requires { most ≤ 2 ^ 30 }
-    ensures loads { Loads (kind_of profile) limit most (R.remaining reader.old) (R.remaining reader.new) result }
-    ensures failures { R.failed reader.new ≡ read_failures result (R.failed reader.old) }
-    ensures calls { R.asked reader.new ≤ R.asked reader.old + most + 1 }
+/// The text that bytes are.
+///
+/// # Errors
+/// `TextInput` where they aren't UTF-8, with the length of their longest front that is.
+pub fn text_of(bytes: &[u8]) -> Result<&str, EngineFault>
+    ensures text { IfOk result (λ text. (text.now ≡ bytes.now) × IsUtf8 bytes.now) }
+    ensures refused { IfErr result (λ why. (profile : ProfileSpec) (limit most : ℕ) → length bytes.now ≤ most → IsRefused (kind_of profile) limit most bytes.now why × IsNoFlaw why) }
+    ensures failures { (n : ℕ) → read_failures result n ≡ n }
 {
-    let bytes = read_bytes(alloc, most, reader)?;
-    let text = match from_utf8(&bytes) {
-        Ok(text) => text,
-        Err(why) => return Err(EngineFault::TextInput(why.valid_up_to() as u64)),
-    };
-    Ok(read_notation(alloc, limit, profile, text)?)
+    match from_utf8(bytes) {
+        Ok(text) => Ok(text),
+        Err(why) => Err(EngineFault::TextInput(why.valid_up_to() as u64)),
+    }
+}
+
+/// The bytes that a text spells which notates nodes, by a pass that keeps none. None promises nothing.
+pub fn bytes_of_text(alloc: Global, limit: Limit, profile: Profile, input: &[u8]) -> Option<Vec<u8>>
+    ensures { IfSome result (λ bytes. IsUtf8 input.now × IsSpelling profile limit input.now bytes.items) }
+{
+    match text_of(input) {
+        Ok(text) => spell_text(alloc, limit, profile, text),
+        Err(_) => None,
+    }
 }

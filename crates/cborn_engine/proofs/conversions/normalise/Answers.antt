@@ -3,8 +3,8 @@ use Rattle.cborn_engine.specs.Sending.{Sends}
 use Rattle.cborn_engine.proofs.Canonicity.{encoded_held, normalised}
 use Rattle.cborn_engine.proofs.conversions.normalise.Goals as goal
 
-pub written-requires : goal.written-requires
-written-requires g c =
+pub written_as-requires : goal.written_as-requires
+written_as-requires g c =
     encoded_held g.O.KeyOrder.order g.met.O.KeyOrder.laws c.args.in_kind c.args.limit _ _ _ c.in_ok-bytes.bytes (omega arith) c.in_ok-bytes.ensures.encodes
 
 pub returns-clause-normalises : goal.returns-clause-normalises

@@ -1,0 +1,22 @@
+use Rattle.std.proofs.Common.{rules}
+use Rattle.cborn_engine.proofs.Apart.{at_first, ours_ended, theirs_ended, apart_here, passed}
+use Rattle.cborn_engine.proofs.differences.difference_of_encodings.Goals as goal
+
+pub items-init : goal.items-init
+items-init g c = at_first g.O.KeyOrder.order g.met.O.KeyOrder.laws c.args.limit c.args.ours.now c.args.theirs.now c.requires.ours c.requires.theirs c.requires.apart
+
+pub returns-then-is_empty : goal.returns-then-is_empty
+returns-then-is_empty g c = ours_ended g.O.KeyOrder.order g.met.O.KeyOrder.laws c.args.limit c.args.ours.now c.args.theirs.now c.items.left.now c.items.right.now c.items.index c.items.invariant (search rules)
+
+pub returns-then-is_empty-2 : goal.returns-then-is_empty-2
+returns-then-is_empty-2 g c = theirs_ended g.O.KeyOrder.order g.met.O.KeyOrder.laws c.args.limit c.args.ours.now c.args.theirs.now c.items.left.now c.items.right.now c.items.index c.items.invariant (search rules)
+
+pub returns-in-None : goal.returns-in-None
+returns-in-None g c =
+    apart_here g.O.KeyOrder.order g.met.O.KeyOrder.laws c.args.limit c.args.ours.now c.args.theirs.now c.items.left.now c.items.right.now c.take_item.new.item.items c.in_ok-left.left.now c.items.index c.items.invariant
+    c.in_ok-left.ensures.encoding c.in_ok-left.ensures.front (rw c.deref.ensures.value at c.in-None.ensures)
+
+pub items-preserved : goal.items-preserved
+items-preserved g c =
+    passed g.O.KeyOrder.order g.met.O.KeyOrder.laws c.args.limit c.args.ours.now c.args.theirs.now c.items.left.now c.items.right.now c.take_item.new.item.items c.in_ok-left.left.now c.in-Some.rest.now c.items.index c.items.invariant
+    c.in_ok-left.ensures.encoding c.in_ok-left.ensures.front (rw c.deref.ensures.value at c.in-Some.ensures) (search rules) (search rules)

@@ -1,5 +1,0 @@
-use Rattle.cborn_engine.proofs.Apart.{SoFar}
-use Rattle.cborn_engine.proofs.differences.first_apart.Given as goal
-
-abbrev pub invariant-items : goal.invariant-items
-invariant-items g l = SoFar g.O.KeyOrder.order l.fn.limit l.ours l.theirs l.left l.right l.index

@@ -1,0 +1,8 @@
+use Rattle.std.proofs.Common.{◌≤◌, ◌^◌, length}
+use Rattle.cborn_engine.specs.Encoding.{EncodeAnswers}
+use Rattle.cborn_engine.proofs.Told.{told}
+use Rattle.cborn_engine.proofs.encodings.encode_by_trees.Goals as goal
+
+pub returns-in_err-nodes-clause-answers : goal.returns-in_err-nodes-clause-answers
+returns-in_err-nodes-clause-answers g c =
+    told (λ r. length c.args.input.now ≤ 2 ^ 30 → EncodeAnswers g.O.KeyOrder.order c.args.kind c.args.limit (2 ^ 30) c.args.input.now r) _ _ c.from_residual.ensures.1 (c.in_err-nodes.ensures.refused (2 ^ 30))
