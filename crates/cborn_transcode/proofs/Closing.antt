@@ -1,5 +1,5 @@
 -- Items without children, and tags.
-use Rattle.std.proofs.Common.{◌≡◌, ◌≢◌, ℕ, zero, suc, ◌-◌, ◌⊎◌, ◌<◌, ◌≤◌, ◌^◌, inl, inr, List, ◌∷◌, ◌++◌, length, Bool, true, false, refl, sym, ap, ◌∙◌, subst, arith, append_assoc, take, drop, take_at, Ordering}
+use Rattle.std.proofs.Common.{◌≡◌, ◌≢◌, ℕ, ◌-◌, ◌⊎◌, ◌<◌, ◌≤◌, ◌^◌, inl, inr, List, ◌∷◌, ◌++◌, length, Bool, true, false, refl, sym, ap, ◌∙◌, subst, arith, append_assoc, take, drop, take_at, Ordering}
 use Rattle.cborn_model.specs.declared.heads.Width.{Width}
 use Rattle.cborn_model.specs.Bytes.{big_endian}
 use Rattle.cborn_model.specs.Heads.{Major, Unsigned, Negative, ByteString, TextString, Tag, Other, Given, Unbounded, head, WidthFits, IsLeastHead, head_bytes}
