@@ -10,7 +10,9 @@ use Rattle.cborn_model.specs.Bytes.{big_endian, AreBytes, IsShortest}
 use Rattle.cborn_model.specs.Valid.{IsProper, AreProper, HasProperPairs, value_depth, values_depth, pairs_depth}
 use Rattle.cborn_model.specs.declared.heads.Width.{Width}
 use Rattle.cborn_model.specs.declared.heads.Width.TheVariants.{Direct, One, Two, Four, Eight}
-use Rattle.cborn_model.specs.Heads.{WidthFits, Major, ByteString, TextString, Array, Map, Tag, Given, Unbounded, head, argument}
+use Rattle.cborn_model.specs.declared.heads.Major.{Major}
+use Rattle.cborn_model.specs.declared.heads.Major.TheVariants.{ByteString, TextString, Array, Map, Tag}
+use Rattle.cborn_model.specs.Heads.{WidthFits, Given, Unbounded, head, argument}
 use Rattle.cborn_model.specs.declared.nodes.Chunk.{Chunk}
 use Rattle.cborn_model.specs.Tree.{Tree, Uint, Nint, Bytes, Text, ByteChunks, TextChunks, Items, Pairs, Tagged, Simple, Trees, no_item, more, Entries, no_entry, entry, count, count_entries, depth, depth_all, depth_entries}
 use Rattle.cborn_model.specs.declared.heads.Size.TheVariants.{Fixed, Endless}

@@ -10,7 +10,9 @@ use Rattle.cborn_judge.specs.declared.defects.DefectReason.TheVariants.{LongHead
 use Rattle.cborn_model.proofs.Rearranging.{IsIn}
 use Rattle.cborn_model.specs.declared.nodes.Chunk.{Chunk}
 use Rattle.cborn_model.specs.Tree.{Tree, Uint, Nint, Bytes, Text, ByteChunks, TextChunks, Items, Pairs, Tagged, Simple, Trees, no_item, more, Entries, no_entry, entry, count, count_entries, place}
-use Rattle.cborn_model.specs.Heads.{Major, ByteString, TextString, Map, Tag, Array, Given, Unbounded, head, argument}
+use Rattle.cborn_model.specs.declared.heads.Major.{Major}
+use Rattle.cborn_model.specs.declared.heads.Major.TheVariants.{ByteString, TextString, Map, Tag, Array}
+use Rattle.cborn_model.specs.Heads.{Given, Unbounded, head, argument}
 use Rattle.cborn_model.specs.declared.heads.Size.{Size}
 use Rattle.cborn_model.specs.declared.heads.Size.TheVariants.{Fixed, Endless}
 use Rattle.cborn_model.specs.Spelled.{ending, chunks, chunk_bytes, spelled, spelled_all, spelled_entries}

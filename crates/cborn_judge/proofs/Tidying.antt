@@ -16,7 +16,9 @@ use Rattle.cborn_model.specs.Bytes.{big_endian, AreBytes, IsShortest}
 use Rattle.cborn_model.specs.Valid.{IsProper, AreProper, HasProperPairs}
 use Rattle.cborn_model.specs.declared.heads.Width.{Width}
 use Rattle.cborn_model.specs.declared.heads.Width.TheVariants.{Direct, One, Two, Four, Eight}
-use Rattle.cborn_model.specs.Heads.{WidthFits, information, following, least, IsHead, IsLeastHead, Major, Unsigned, Negative, ByteString, TextString, Array, Map, Tag, Other, Given, Unbounded, code, head}
+use Rattle.cborn_model.specs.declared.heads.Major.{Major}
+use Rattle.cborn_model.specs.declared.heads.Major.TheVariants.{Unsigned, Negative, ByteString, TextString, Array, Map, Tag, Other}
+use Rattle.cborn_model.specs.Heads.{WidthFits, information, following, least, IsHead, IsLeastHead, Given, Unbounded, code, head}
 use Rattle.cborn_det.specs.Det.{IsString, IsInteger, IsSimple, Det, DetValues, DetPairs, Entry, keys, joined, major_of, bignum_tag}
 use Rattle.cborn_model.specs.Orders.{Rising}
 use Rattle.cborn_model.specs.declared.nodes.Chunk.{Chunk}

@@ -2,7 +2,9 @@
 use Rattle.std.proofs.Common.{◌≡◌, ◌≢◌, ℕ, ◌-◌, ◌⊎◌, ◌<◌, ◌≤◌, ◌^◌, inl, inr, List, ◌∷◌, ◌++◌, length, Bool, true, false, refl, sym, ap, ◌∙◌, subst, arith, append_assoc, take, drop, take_at, Ordering}
 use Rattle.cborn_model.specs.declared.heads.Width.{Width}
 use Rattle.cborn_model.specs.Bytes.{big_endian}
-use Rattle.cborn_model.specs.Heads.{Major, Unsigned, Negative, ByteString, TextString, Tag, Other, Given, Unbounded, head, WidthFits, IsLeastHead, head_bytes}
+use Rattle.cborn_model.specs.declared.heads.Major.{Major}
+use Rattle.cborn_model.specs.declared.heads.Major.TheVariants.{Unsigned, Negative, ByteString, TextString, Tag, Other}
+use Rattle.cborn_model.specs.Heads.{Given, Unbounded, head, WidthFits, IsLeastHead, head_bytes}
 use Rattle.cborn_model.specs.Tree.{Uint, Nint, Bytes, Text, ByteChunks, TextChunks, Tagged, Simple}
 use Rattle.cborn_model.specs.Spelled.{spelled, chunk_bytes, ending}
 use Rattle.cborn_model.specs.Value.{integer, bytes, text, tagged, simple}
@@ -18,7 +20,7 @@ use Rattle.cborn_wire.specs.declared.heads.Argument.TheVariants as arguments
 use Rattle.cborn_wire.specs.declared.heads.Head.{Head}
 use Rattle.cborn_wire.specs.HeadReading.{major_at, IsHeadOf, seen_argument, ArgumentFits}
 use Rattle.cborn_transcode.proofs.Heading.{head_split}
-use Rattle.cborn_transcode.specs.Transcoding.{ItemTranscoded, StringTaken, LongStringTaken, BignumTaken, SimpleTaken, IsLeast}
+use Rattle.cborn_transcode.specs.Transcoding.{ItemTranscoded, StringTaken, LongStringTaken, BignumTaken, SimpleTaken, IsIntegral, IsLeast}
 
 module _ (order : List ℕ → List ℕ → Ordering) (room : ℕ) where
   -- an integer within 64 bits
@@ -50,7 +52,7 @@ module _ (order : List ℕ → List ℕ → Ordering) (room : ℕ) where
         written = (a.0, inl (below, subst (λ k. IsLeastHead 1 k a.0) (sym m.3) a.1), a.2);
       }
 
-  pub bytes_done : (w : Width) (n : ℕ) (input rest old new : List ℕ) → WidthFits w n → StringTaken 2 n input rest old new → ItemTranscoded order room (head ByteString (Given w n) ++ input) rest old new
+  pub bytes_done : (w : Width) (n : ℕ) (input rest old new : List ℕ) → WidthFits w n → StringTaken ByteString n input rest old new → ItemTranscoded order room (head ByteString (Given w n) ++ input) rest old new
   bytes_done w n input rest old new h s = record {
     node = Bytes 0 w s.content;
     item = bytes s.content;
@@ -61,7 +63,7 @@ module _ (order : List ℕ → List ℕ → Ordering) (room : ℕ) where
     written = s.written;
   }
 
-  pub text_done : (w : Width) (n : ℕ) (input rest old new : List ℕ) → WidthFits w n → StringTaken 3 n input rest old new → ItemTranscoded order room (head TextString (Given w n) ++ input) rest old new
+  pub text_done : (w : Width) (n : ℕ) (input rest old new : List ℕ) → WidthFits w n → StringTaken TextString n input rest old new → ItemTranscoded order room (head TextString (Given w n) ++ input) rest old new
   text_done w n input rest old new h s = record {
     node = Text 0 w s.content;
     item = text s.content;
@@ -80,7 +82,7 @@ module _ (order : List ℕ → List ℕ → Ordering) (room : ℕ) where
       ∙ sym (append_assoc (head m Unbounded) (flat_map (chunk_bytes m) cs) (255 ∷ rest))
       ∙ sym (append_assoc (head m Unbounded ++ flat_map (chunk_bytes m) cs) (ending Endless) rest)
 
-  pub byte_chunks_done : (input rest old new : List ℕ) → LongStringTaken 2 input rest old new → ItemTranscoded order room (head ByteString Unbounded ++ input) rest old new
+  pub byte_chunks_done : (input rest old new : List ℕ) → LongStringTaken ByteString input rest old new → ItemTranscoded order room (head ByteString Unbounded ++ input) rest old new
   byte_chunks_done input rest old new s = record {
     node = ByteChunks 0 s.chunks;
     item = bytes (joined_chunks s.chunks);
@@ -91,7 +93,7 @@ module _ (order : List ℕ → List ℕ → Ordering) (room : ℕ) where
     written = s.written;
   }
 
-  pub text_chunks_done : (input rest old new : List ℕ) → LongStringTaken 3 input rest old new → ItemTranscoded order room (head TextString Unbounded ++ input) rest old new
+  pub text_chunks_done : (input rest old new : List ℕ) → LongStringTaken TextString input rest old new → ItemTranscoded order room (head TextString Unbounded ++ input) rest old new
   text_chunks_done input rest old new s = record {
     node = TextChunks 0 s.chunks;
     item = text (joined_chunks s.chunks);
@@ -141,24 +143,23 @@ tagged_done order room w n input rest old mid new r h two three a s = record {
 }
 
 -- an integer that is deterministic as it stands
-pub least_integer : (order : List ℕ → List ℕ → Ordering) (x old : List ℕ) (h : Head) (n : ℕ) → IsHeadOf x h n → (h.major < 2) × IsLeast h.argument → ItemTranscoded order 0 x (drop n x) old (old ++ take n x)
-least_integer order x old h n i (m, l) = go h.major h.argument refl refl m l
+pub least_integer : (order : List ℕ → List ℕ → Ordering) (x old : List ℕ) (h : Head) (n : ℕ) → IsHeadOf x h n → IsIntegral (major_at h.major) × IsLeast h.argument → ItemTranscoded order 0 x (drop n x) old (old ++ take n x)
+least_integer order x old h n i (m, l) = go (major_at h.major) h.argument refl refl m l
   where
-    go : (major : ℕ) (a : Argument) → h.major ≡ major → h.argument ≡ a → major < 2 → IsLeast a → ItemTranscoded order 0 x (drop n x) old (old ++ take n x)
-    go zero (arguments.Given w k) e f m l =
+    go : (major : Major) (a : Argument) → major_at h.major ≡ major → h.argument ≡ a → IsIntegral major → IsLeast a → ItemTranscoded order 0 x (drop n x) old (old ++ take n x)
+    go Unsigned (arguments.Given w k) e f m l =
         let fits : WidthFits w k = subst (λ (a : Argument). ArgumentFits (seen_argument a)) f i.fits in
-        let split : x ≡ head Unsigned (Given w k) ++ drop n x = head_split x h n i ∙ (λ j. head (major_at (e j)) (seen_argument (f j)) ++ drop n x) in
-        let len : n ≡ length (head Unsigned (Given w k)) = i.len ∙ (λ j. length (head (major_at (e j)) (seen_argument (f j)))) in
+        let split : x ≡ head Unsigned (Given w k) ++ drop n x = head_split x h n i ∙ (λ j. head (e j) (seen_argument (f j)) ++ drop n x) in
+        let len : n ≡ length (head Unsigned (Given w k)) = i.len ∙ (λ j. length (head (e j) (seen_argument (f j)))) in
         let front : take n x ≡ head Unsigned (Given w k) = ap (take n) split ∙ take_at (head Unsigned (Given w k)) (drop n x) n (sym len) in
         let written : Appends (IsLeastHead 0 k) old (old ++ take n x) = (head Unsigned (Given w k), (subst (λ v. WidthFits v k) l fits, ap (λ v. head_bytes 0 v k) l), ap (λ z. old ++ z) front) in
         subst (λ (y : List ℕ). ItemTranscoded order 0 y (drop n x) old (old ++ take n x)) (sym split) (uint_done order 0 w k (drop n x) old (old ++ take n x) fits written)
-    go (suc zero) (arguments.Given w k) e f m l =
+    go Negative (arguments.Given w k) e f m l =
         let fits : WidthFits w k = subst (λ (a : Argument). ArgumentFits (seen_argument a)) f i.fits in
-        let split : x ≡ head Negative (Given w k) ++ drop n x = head_split x h n i ∙ (λ j. head (major_at (e j)) (seen_argument (f j)) ++ drop n x) in
-        let len : n ≡ length (head Negative (Given w k)) = i.len ∙ (λ j. length (head (major_at (e j)) (seen_argument (f j)))) in
+        let split : x ≡ head Negative (Given w k) ++ drop n x = head_split x h n i ∙ (λ j. head (e j) (seen_argument (f j)) ++ drop n x) in
+        let len : n ≡ length (head Negative (Given w k)) = i.len ∙ (λ j. length (head (e j) (seen_argument (f j)))) in
         let front : take n x ≡ head Negative (Given w k) = ap (take n) split ∙ take_at (head Negative (Given w k)) (drop n x) n (sym len) in
         let written : Appends (IsLeastHead 1 k) old (old ++ take n x) = (head Negative (Given w k), (subst (λ v. WidthFits v k) l fits, ap (λ v. head_bytes 1 v k) l), ap (λ z. old ++ z) front) in
         subst (λ (y : List ℕ). ItemTranscoded order 0 y (drop n x) old (old ++ take n x)) (sym split) (nint_done order 0 w k (drop n x) old (old ++ take n x) fits written)
-    go (suc (suc major)) a e f m l = absurd (omega arith)
-    go zero arguments.Endless e f m l = absurd l
-    go (suc zero) arguments.Endless e f m l = absurd l
+    go _ (arguments.Given w k) e f m l = absurd m
+    go _ arguments.Endless e f m l = absurd l

@@ -9,7 +9,9 @@ use Rattle.cborn_det.specs.Appending.{Appends}
 use Rattle.std.specs.List.{flat_map}
 use Rattle.cborn_model.specs.declared.heads.Width.{Width}
 use Rattle.cborn_model.specs.declared.nodes.Chunk.{Chunk}
-use Rattle.cborn_model.specs.Heads.{Major, ByteString, Given, head, WidthFits, IsLeastHead}
+use Rattle.cborn_model.specs.declared.heads.Major.{Major}
+use Rattle.cborn_model.specs.declared.heads.Major.TheVariants.{ByteString}
+use Rattle.cborn_model.specs.Heads.{code, Given, head, WidthFits, IsLeastHead}
 use Rattle.cborn_model.specs.Spelled.{chunk_bytes, ChunksFit}
 use Rattle.cborn_model.specs.Meaning.{joined_chunks, ChunksAreText}
 use Rattle.cborn_wire.specs.declared.heads.Head.{Head}
@@ -22,19 +24,19 @@ pub head_split : (x : List ℕ) (h : Head) (n : ℕ) → IsHeadOf x h n → x �
 head_split x h n i =
     i.whole ∙ ap (λ l. head (major_at h.major) (seen_argument h.argument) ++ l) (sym (ap (drop n) i.whole ∙ drop_at (head (major_at h.major) (seen_argument h.argument)) i.rest n (sym i.len)))
 
-pub chunk_taken : (x tail rest old new : List ℕ) (h : Head) (n k major : ℕ) (w : Width) → tail ≡ drop n x → IsHeadOf x h n → h.major ≡ major → h.argument ≡ arguments.Given w k → ContentTaken major k tail rest old new → ChunkTaken major x rest old new
+pub chunk_taken : (x tail rest old new : List ℕ) (h : Head) (n k : ℕ) (major : Major) (w : Width) → tail ≡ drop n x → IsHeadOf x h n → major_at h.major ≡ major → h.argument ≡ arguments.Given w k → ContentTaken major k tail rest old new → ChunkTaken major x rest old new
 chunk_taken x tail rest old new h n k major w t i e f c =
     let fits : WidthFits w k = subst (λ (a : Argument). ArgumentFits (seen_argument a)) f i.fits in
-    let split : x ≡ head (major_at major) (Given w k) ++ tail = head_split x h n i ∙ (λ j. head (major_at (e j)) (seen_argument (f j)) ++ sym t j) in
+    let split : x ≡ head major (Given w k) ++ tail = head_split x h n i ∙ (λ j. head (e j) (seen_argument (f j)) ++ sym t j) in
     record {
       chunk = record { place = 0; width = w; bytes = c.content };
-      read = split ∙ (λ j. head (major_at major) (Given w (sym c.len j)) ++ c.read j) ∙ sym (append_assoc (head (major_at major) (Given w (length c.content))) c.content rest);
+      read = split ∙ (λ j. head major (Given w (sym c.len j)) ++ c.read j) ∙ sym (append_assoc (head major (Given w (length c.content))) c.content rest);
       fits = (subst (WidthFits w) (sym c.len) fits, c.bytes);
       text = c.text;
       written = c.written;
     }
 
-pub chunks_none : (major : ℕ) (input old : List ℕ) → ChunksTaken major input input old old
+pub chunks_none : (major : Major) (input old : List ℕ) → ChunksTaken major input input old old
 chunks_none major input old = record { chunks = []; read = refl; fits = tt; text = λ e. tt; written = sym (append-nil old) }
 
 bytes_more : (m : Major) (cs : List Chunk) (c : Chunk) → flat_map (chunk_bytes m) (cs ++ c ∷ []) ≡ flat_map (chunk_bytes m) cs ++ chunk_bytes m c
@@ -53,24 +55,24 @@ text_more : (cs : List Chunk) (c : Chunk) → ChunksAreText cs → ChunksAreText
 text_more [] c f g = g
 text_more (d ∷ cs) c f g = (f.0, text_more cs c f.1 g)
 
-pub chunks_more : (major : ℕ) (input mid rest old half new : List ℕ) → ChunksTaken major input mid old half → ChunkTaken major mid rest half new → ChunksTaken major input rest old new
+pub chunks_more : (major : Major) (input mid rest old half new : List ℕ) → ChunksTaken major input mid old half → ChunkTaken major mid rest half new → ChunksTaken major input rest old new
 chunks_more major input mid rest old half new s c = record {
   chunks = s.chunks ++ c.chunk ∷ [];
-  read = s.read ∙ ap (λ l. flat_map (chunk_bytes (major_at major)) s.chunks ++ l) c.read ∙ sym (append_assoc (flat_map (chunk_bytes (major_at major)) s.chunks) (chunk_bytes (major_at major) c.chunk) rest) ∙ ap (λ l. l ++ rest) (sym (bytes_more (major_at major) s.chunks c.chunk));
+  read = s.read ∙ ap (λ l. flat_map (chunk_bytes major) s.chunks ++ l) c.read ∙ sym (append_assoc (flat_map (chunk_bytes major) s.chunks) (chunk_bytes major c.chunk) rest) ∙ ap (λ l. l ++ rest) (sym (bytes_more major s.chunks c.chunk));
   fits = fit_more s.chunks c.chunk s.fits (c.fits, tt);
   text = λ e. text_more s.chunks c.chunk (s.text e) (c.text e, tt);
   written = c.written ∙ ap (λ l. l ++ c.chunk.bytes) s.written ∙ append_assoc old (joined_chunks s.chunks) c.chunk.bytes ∙ ap (λ l. old ++ l) (sym (joined_more s.chunks c.chunk));
 }
 
-pub long_string_taken : (major n : ℕ) (input after rest old mid new : List ℕ) → Appends (IsLeastHead major n) old mid → ChunksTaken major input after mid new → after ≡ 255 ∷ rest → n ≡ length new - length mid → LongStringTaken major input rest old new
+pub long_string_taken : (major : Major) (n : ℕ) (input after rest old mid new : List ℕ) → Appends (IsLeastHead (code major) n) old mid → ChunksTaken major input after mid new → after ≡ 255 ∷ rest → n ≡ length new - length mid → LongStringTaken major input rest old new
 long_string_taken major n input after rest old mid new h s e l =
     let count : n ≡ length (joined_chunks s.chunks) = omega (arith, l, ap length s.written, length-append mid (joined_chunks s.chunks)) in
     record {
       chunks = s.chunks;
-      read = s.read ∙ ap (λ z. flat_map (chunk_bytes (major_at major)) s.chunks ++ z) e;
+      read = s.read ∙ ap (λ z. flat_map (chunk_bytes major) s.chunks ++ z) e;
       fits = s.fits;
       text = s.text;
-      written = (h.0 ++ joined_chunks s.chunks, (h.0, subst (λ k. IsLeastHead major k h.0) count h.1, refl), s.written ∙ ap (λ z. z ++ joined_chunks s.chunks) h.2 ∙ append_assoc old h.0 (joined_chunks s.chunks));
+      written = (h.0 ++ joined_chunks s.chunks, (h.0, subst (λ k. IsLeastHead (code major) k h.0) count h.1, refl), s.written ∙ ap (λ z. z ++ joined_chunks s.chunks) h.2 ∙ append_assoc old h.0 (joined_chunks s.chunks));
     }
 
 -- ---- integers outside 64 bits
@@ -88,13 +90,13 @@ bytes_behind x tail h n k t i b =
     let split : x ≡ head (major_at h.major) (seen_argument h.argument) ++ (take k tail ++ drop k tail) = head_split x h n i ∙ ap (λ l. head (major_at h.major) (seen_argument h.argument) ++ l) (sym t ∙ sym (take-append-drop k tail)) in
     bytes_left (take k tail) (drop k tail) (bytes_right (head (major_at h.major) (seen_argument h.argument)) (take k tail ++ drop k tail) (subst AreBytes split b))
 
-pub bignum_taken : (x tail old new digits : List ℕ) (h : Head) (n k : ℕ) (w : Width) (negative : Bool) → tail ≡ drop n x → IsHeadOf x h n → h.major ≡ 2 → h.argument ≡ arguments.Given w k → k ≤ length tail → AreBytes x
+pub bignum_taken : (x tail old new digits : List ℕ) (h : Head) (n k : ℕ) (w : Width) (negative : Bool) → tail ≡ drop n x → IsHeadOf x h n → major_at h.major ≡ ByteString → h.argument ≡ arguments.Given w k → k ≤ length tail → AreBytes x
     → AreBytes digits → IsShortest digits → big_endian digits ≡ big_endian (take k tail) → Appends (IsInteger negative digits) old new
     → BignumTaken negative x (drop k tail) old new
 bignum_taken x tail old new digits h n k w negative t i e f l b bs ss v a =
     let fits : WidthFits w k = subst (λ (a : Argument). ArgumentFits (seen_argument a)) f i.fits in
     let len : length (take k tail) ≡ k = length-take-le k tail l in
-    let split : x ≡ head ByteString (Given w k) ++ tail = head_split x h n i ∙ (λ j. head (major_at (e j)) (seen_argument (f j)) ++ sym t j) in
+    let split : x ≡ head ByteString (Given w k) ++ tail = head_split x h n i ∙ (λ j. head (e j) (seen_argument (f j)) ++ sym t j) in
     record {
       node = Bytes 0 w (take k tail);
       magnitude = digits;

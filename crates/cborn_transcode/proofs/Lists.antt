@@ -4,7 +4,8 @@ use Rattle.std.specs.List.{AllZip}
 use Rattle.std.proofs.lemmas.List.{take-append-drop, length-take-le}
 use Rattle.cborn_model.specs.declared.heads.Width.{Width}
 use Rattle.cborn_model.specs.declared.heads.Size.TheVariants.{Fixed, Endless}
-use Rattle.cborn_model.specs.Heads.{Array, Given, Unbounded, head, WidthFits, IsLeastHead}
+use Rattle.cborn_model.specs.declared.heads.Major.TheVariants.{Array}
+use Rattle.cborn_model.specs.Heads.{Given, Unbounded, head, WidthFits, IsLeastHead}
 use Rattle.cborn_model.specs.Tree.{Tree, trees, depth_all, count, Items}
 use Rattle.cborn_model.specs.Spelled.{spelled, spelled_all, FitsAll, ending}
 use Rattle.cborn_model.specs.Value.{Value, values_of, array}

@@ -6,7 +6,8 @@ use Rattle.std.proofs.lemmas.List.Sorted.{IsPermutation-sym}
 use Rattle.std.proofs.lemmas.Map.Keys.{IsDistinct-IsPermutation}
 use Rattle.cborn_model.specs.declared.heads.Width.{Width}
 use Rattle.cborn_model.specs.declared.heads.Size.TheVariants.{Fixed, Endless}
-use Rattle.cborn_model.specs.Heads.{Map, Given, Unbounded, head, WidthFits, IsLeastHead}
+use Rattle.cborn_model.specs.declared.heads.Major.TheVariants.{Map}
+use Rattle.cborn_model.specs.Heads.{Given, Unbounded, head, WidthFits, IsLeastHead}
 use Rattle.cborn_model.specs.Tree.{Tree, Entries, no_entry, entry, entries, depth, depth_entries, count_entries, Pairs}
 use Rattle.cborn_model.specs.Spelled.{spelled, spelled_entries, Fits, FitsEntries, ending}
 use Rattle.cborn_model.specs.Value.{Value, Couples, no_pairs, pair, pairs_of, dict}

@@ -5,7 +5,9 @@ use Rattle.std.proofs.lemmas.Bool.{lt-ltb, le-ltb}
 use Rattle.cborn_model.specs.declared.heads.Width.{Width}
 use Rattle.cborn_model.specs.declared.heads.Width.TheVariants.{Direct, One, Two, Four, Eight}
 use Rattle.cborn_model.specs.Bytes.{AreBytes}
-use Rattle.cborn_model.specs.Heads.{least}
+use Rattle.cborn_model.specs.declared.heads.Major.TheVariants.{Unsigned, Negative, Other}
+use Rattle.cborn_model.specs.Heads.{WidthFits, code, least, head, Given}
+use Rattle.cborn_model.proofs.Majors.{code_at}
 use Rattle.cborn_wire.specs.declared.heads.Head.{Head}
 use Rattle.cborn_wire.specs.declared.heads.HeadRead.TheVariants.{Full}
 use Rattle.cborn_wire.specs.declared.heads.Argument.TheVariants as arguments
@@ -24,10 +26,21 @@ bytes_behind : (x : List ℕ) → AreBytes x → AreBytes (drop 1 x)
 bytes_behind [] h = tt
 bytes_behind (b ∷ x) h = h.1
 
+low_not_other : (q : ℕ) → q < 2 → major_at q ≡ Other → ⊥
+low_not_other q low o =
+    let seven : q ≡ 7 = sym (code_at q (omega arith)) ∙ ap code o in
+    omega (arith, seven)
+
 wide_read : (x : List ℕ) (w : Width) → AreBytes x → get_or x 0 0 / 32 < 2 → info_at (get_or x 0 0 % 32) ≡ Next w → 1 + width_bytes w ≤ length x → IsHeadOf x (wide_of x w) (1 + width_bytes w)
 wide_read x w are m i l =
-    wide_fronts x (drop 1 x) (Full (wide_of x w) (1 + width_bytes w)) w refl are (omega arith) i (omega arith)
-    (λ b e j free. wide_head (drop 1 x) b (get_or x 0 0 / 32) (number w (take (width_bytes w) (drop 1 x))) (width_bytes w) w (omega arith) e j (bytes_behind x are) (let k : width_bytes w ≤ length (drop 1 x) = omega (arith, length-drop 1 x) in k) refl refl free)
+    let same : code (major_at (get_or x 0 0 / 32)) ≡ get_or x 0 0 / 32 = code_at (get_or x 0 0 / 32) (omega arith) in
+    wide_fronts x (drop 1 x) (Full (wide_of x w) (1 + width_bytes w)) (major_at (get_or x 0 0 / 32)) w refl (omega arith) same i (low_not_other (get_or x 0 0 / 32) m)
+    (λ b e j free. wide_head (drop 1 x) b (get_or x 0 0 / 32) (number w (take (width_bytes w) (drop 1 x))) (width_bytes w) w (omega arith) (e ∙ same) j (bytes_behind x are) (let k : width_bytes w ≤ length (drop 1 x) = omega (arith, length-drop 1 x) in k) refl refl free)
+
+direct_read : (x : List ℕ) → AreBytes x → 1 ≤ length x → get_or x 0 0 / 32 < 2 → get_or x 0 0 % 32 < 24 → IsHeadOf x (record { major = get_or x 0 0 / 32; argument = arguments.Given Direct (get_or x 0 0 % 32) }) 1
+direct_read x are some low h =
+    let same : code (major_at (get_or x 0 0 / 32)) ≡ get_or x 0 0 / 32 = code_at (get_or x 0 0 / 32) (omega arith) in
+    subst (λ (n : ℕ). IsHeadOf x (record { major = n; argument = arguments.Given Direct (get_or x 0 0 % 32) }) 1) same (direct_front x (major_at (get_or x 0 0 / 32)) are some same h)
 
 -- a head whose argument needs its width is walked
 module _ (order : List ℕ → List ℕ → Ordering) (room : ℕ) where
@@ -35,8 +48,8 @@ module _ (order : List ℕ → List ℕ → Ordering) (room : ℕ) where
   integer_walked x w n len m i l = go (get_or x 0 0 / 32) refl m
     where
       go : (k : ℕ) → get_or x 0 0 / 32 ≡ k → k < 2 → ItemWalked order room x (drop len x)
-      go zero e b = walked_from order room x (drop len x) (drop len x) (get_or x 0 0 / 32) n 0 (least_read x (drop len x) (record { major = get_or x 0 0 / 32; argument = arguments.Given w n }) len n w refl i refl l) e (uint_walked order room n (drop len x))
-      go (suc zero) e b = walked_from order room x (drop len x) (drop len x) (get_or x 0 0 / 32) n 1 (least_read x (drop len x) (record { major = get_or x 0 0 / 32; argument = arguments.Given w n }) len n w refl i refl l) e (nint_walked order room n (drop len x))
+      go zero e b = walked_from order room x (drop len x) (drop len x) (major_at (get_or x 0 0 / 32)) n Unsigned (least_read x (drop len x) (record { major = get_or x 0 0 / 32; argument = arguments.Given w n }) len n w refl i refl l) (ap major_at e) (uint_walked order room n (drop len x))
+      go (suc zero) e b = walked_from order room x (drop len x) (drop len x) (major_at (get_or x 0 0 / 32)) n Negative (least_read x (drop len x) (record { major = get_or x 0 0 / 32; argument = arguments.Given w n }) len n w refl i refl l) (ap major_at e) (nint_walked order room n (drop len x))
       go (suc (suc k)) e b = absurd (omega arith)
 
 least_direct : (n : ℕ) → n < 24 → Direct ≡ least n
@@ -77,7 +90,7 @@ module _ (order : List ℕ → List ℕ → Ordering) (room : ℕ) where
   form_walked f a b c d e g h i len top y are form over =
       elim form.1 [
         | inl s ↦ subst (λ (j : ℕ). ItemWalked order room (Nine f a b c d e g h i y) (drop j (Nine f a b c d e g h i y))) (sym s.1)
-            (integer_walked order room (Nine f a b c d e g h i y) Direct (f % 32) 1 form.0 (direct_front (Nine f a b c d e g h i y) are (omega arith) s.0) (least_direct (f % 32) s.0))
+            (integer_walked order room (Nine f a b c d e g h i y) Direct (f % 32) 1 form.0 (direct_read (Nine f a b c d e g h i y) are (omega arith) form.0 s.0) (least_direct (f % 32) s.0))
         | inr (inl s) ↦ wide_walked (Nine f a b c d e g h i y) One a len are form.0 (ap info_at s.0) (omega arith) refl (least_one a (omega (arith, over, s.2, are.1.1.0, are.1.1.1.0, are.1.1.1.1.0)) are.1.0) s.1
         | inr (inr (inl s)) ↦ wide_walked (Nine f a b c d e g h i y) Two (a * 256 + b) len are form.0 (ap info_at s.0) (omega arith) refl
             (least_two (a * 256 + b) (omega (arith, over, s.2, are.1.1.0, are.1.1.1.0, are.1.1.1.1.0)) (omega (arith, are.1.0, are.1.1.0))) s.1

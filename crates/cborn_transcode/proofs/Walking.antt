@@ -7,7 +7,9 @@ use Rattle.std.proofs.lemmas.Bool.{lt-ltb, le-ltb}
 use Rattle.cborn_model.specs.declared.heads.Width.{Width}
 use Rattle.cborn_model.specs.declared.heads.Width.TheVariants.{Direct, One}
 use Rattle.cborn_model.specs.Bytes.{AreBytes, IsShortest}
-use Rattle.cborn_model.specs.Heads.{Unsigned, Negative, ByteString, TextString, Array, Map, Tag, Other, Given, head, head_bytes, WidthFits, least, IsLeastHead}
+use Rattle.cborn_model.specs.declared.heads.Major.{Major}
+use Rattle.cborn_model.specs.declared.heads.Major.TheVariants.{Unsigned, Negative, ByteString, TextString, Array, Map, Tag, Other}
+use Rattle.cborn_model.specs.Heads.{code, Given, head, head_bytes, WidthFits, least, IsLeastHead}
 use Rattle.cborn_model.specs.Tree.{Simple, Bytes}
 use Rattle.cborn_model.specs.Spelled.{Fits, simple_width}
 use Rattle.cborn_model.specs.Value.{simple}
@@ -31,7 +33,7 @@ use Rattle.cborn_transcode.proofs.Pairing.{pairs_none, pairs_more, map_fused}
 
 -- ---- heads
 
-pub least_read : (x tail : List ℕ) (h : Head) (n k : ℕ) (w : Width) → tail ≡ drop n x → IsHeadOf x h n → h.argument ≡ arguments.Given w k → w ≡ least k → LeastHeadRead h.major k x tail
+pub least_read : (x tail : List ℕ) (h : Head) (n k : ℕ) (w : Width) → tail ≡ drop n x → IsHeadOf x h n → h.argument ≡ arguments.Given w k → w ≡ least k → LeastHeadRead (major_at h.major) k x tail
 least_read x tail h n k w t i f l =
     let fits : WidthFits w k = subst (λ (a : Argument). ArgumentFits (seen_argument a)) f i.fits in
     record {
@@ -39,15 +41,15 @@ least_read x tail h n k w t i f l =
       read = head_split x h n i ∙ (λ j. head (major_at h.major) (seen_argument (f j)) ++ sym t j) ∙ ap (λ v. head (major_at h.major) (Given v k) ++ tail) l;
     }
 
-pub bignum_found : (x tail content rest : List ℕ) (major n : ℕ) → LeastHeadRead major n x tail → major ≡ 2 → content ≡ take n tail → rest ≡ drop n tail → 8 < n → n ≤ length tail → AreBytes x → IsShortest content → BignumWalked x rest
+pub bignum_found : (x tail content rest : List ℕ) (major : Major) (n : ℕ) → LeastHeadRead major n x tail → major ≡ ByteString → content ≡ take n tail → rest ≡ drop n tail → 8 < n → n ≤ length tail → AreBytes x → IsShortest content → BignumWalked x rest
 bignum_found x tail content rest major n h e c r long l b s =
     let len : length content ≡ n = ap length c ∙ length-take-le n tail l in
-    let split : x ≡ head (major_at major) (Given (least n) n) ++ (content ++ rest) = h.read ∙ ap (λ z. head (major_at major) (Given (least n) n) ++ z) (sym (take-append-drop n tail) ∙ (λ j. sym c j ++ sym r j)) in
+    let split : x ≡ head major (Given (least n) n) ++ (content ++ rest) = h.read ∙ ap (λ z. head major (Given (least n) n) ++ z) (sym (take-append-drop n tail) ∙ (λ j. sym c j ++ sym r j)) in
     record {
       content = content;
       fits = subst (λ k. WidthFits (least k) k) (sym len) h.fits;
-      read = split ∙ (λ j. head (major_at (e j)) (Given (least (sym len j)) (sym len j)) ++ (content ++ rest));
-      bytes = bytes_left content rest (bytes_right (head (major_at major) (Given (least n) n)) (content ++ rest) (subst AreBytes split b));
+      read = split ∙ (λ j. head (e j) (Given (least (sym len j)) (sym len j)) ++ (content ++ rest));
+      bytes = bytes_left content rest (bytes_right (head major (Given (least n) n)) (content ++ rest) (subst AreBytes split b));
       shortest = s;
       long = omega (arith, len);
     }
@@ -58,9 +60,9 @@ simple_least n (inl s) = rw (lt-ltb n 24 s) refl
 simple_least n (inr s) = rw (le-ltb n 24 (omega (arith, s.0)), lt-ltb n 256 s.1) refl
 
 module _ (order : List ℕ → List ℕ → Ordering) (room : ℕ) where
-  pub walked_from : (x tail rest : List ℕ) (major n k : ℕ) → LeastHeadRead major n x tail → major ≡ k → WalkedBehind order room (major_at k) n tail rest → ItemWalked order room x rest
+  pub walked_from : (x tail rest : List ℕ) (major : Major) (n : ℕ) (k : Major) → LeastHeadRead major n x tail → major ≡ k → WalkedBehind order room k n tail rest → ItemWalked order room x rest
   walked_from x tail rest major n k h e f =
-      subst (λ (y : List ℕ). ItemWalked order room y rest) (sym (h.read ∙ ap (λ m. head (major_at m) (Given (least n) n) ++ tail) e)) (f h.fits)
+      subst (λ (y : List ℕ). ItemWalked order room y rest) (sym (h.read ∙ ap (λ m. head m (Given (least n) n) ++ tail) e)) (f h.fits)
 
   -- ---- items without children
 
@@ -72,28 +74,28 @@ module _ (order : List ℕ → List ℕ → Ordering) (room : ℕ) where
   nint_walked n rest h =
       record { front = head Negative (Given (least n) n); read = refl; item = nint_done order room (least n) n rest [] (head Negative (Given (least n) n)) h (head Negative (Given (least n) n), (h, refl), refl) }
 
-  string_taken : (major n : ℕ) (input rest : List ℕ) → WidthFits (least n) n → (s : ContentWalked major n input rest) → StringTaken major n input rest [] (head_bytes major (least n) n ++ s.content)
+  string_taken : (major : Major) (n : ℕ) (input rest : List ℕ) → WidthFits (least n) n → (s : ContentWalked major n input rest) → StringTaken major n input rest [] (head_bytes (code major) (least n) n ++ s.content)
   string_taken major n input rest h s = record {
     content = s.content;
     read = s.read;
     len = s.len;
     bytes = s.bytes;
     text = s.text;
-    written = (head_bytes major (least n) n ++ s.content, (head_bytes major (least n) n, subst (λ k. IsLeastHead major k (head_bytes major (least n) n)) (sym s.len) (h, refl), refl), refl);
+    written = (head_bytes (code major) (least n) n ++ s.content, (head_bytes (code major) (least n) n, subst (λ k. IsLeastHead (code major) k (head_bytes (code major) (least n) n)) (sym s.len) (h, refl), refl), refl);
   }
 
-  pub bytes_walked : (n : ℕ) (input rest : List ℕ) → ContentWalked 2 n input rest → WalkedBehind order room ByteString n input rest
+  pub bytes_walked : (n : ℕ) (input rest : List ℕ) → ContentWalked ByteString n input rest → WalkedBehind order room ByteString n input rest
   bytes_walked n input rest s h = record {
     front = head ByteString (Given (least n) n) ++ s.content;
     read = ap (λ l. head ByteString (Given (least n) n) ++ l) s.read ∙ sym (append_assoc (head ByteString (Given (least n) n)) s.content rest);
-    item = bytes_done order room (least n) n input rest [] (head ByteString (Given (least n) n) ++ s.content) h (string_taken 2 n input rest h s);
+    item = bytes_done order room (least n) n input rest [] (head ByteString (Given (least n) n) ++ s.content) h (string_taken ByteString n input rest h s);
   }
 
-  pub text_walked : (n : ℕ) (input rest : List ℕ) → ContentWalked 3 n input rest → WalkedBehind order room TextString n input rest
+  pub text_walked : (n : ℕ) (input rest : List ℕ) → ContentWalked TextString n input rest → WalkedBehind order room TextString n input rest
   text_walked n input rest s h = record {
     front = head TextString (Given (least n) n) ++ s.content;
     read = ap (λ l. head TextString (Given (least n) n) ++ l) s.read ∙ sym (append_assoc (head TextString (Given (least n) n)) s.content rest);
-    item = text_done order room (least n) n input rest [] (head TextString (Given (least n) n) ++ s.content) h (string_taken 3 n input rest h s);
+    item = text_done order room (least n) n input rest [] (head TextString (Given (least n) n) ++ s.content) h (string_taken TextString n input rest h s);
   }
 
   is_simple_head : (n : ℕ) → Fits (Simple 0 n) → IsSimple n (head Other (Given (simple_width n) n))
@@ -324,7 +326,7 @@ module _ (order : List ℕ → List ℕ → Ordering) (room : ℕ) where
 
   -- ---- items without children, told by where they end
 
-  pub leaf_walked : (x tail : List ℕ) (major n left : ℕ) → LeastHeadRead major n x tail → Leaves (WalkedBehind order room (major_at major) n tail) left → Leaves (ItemWalked order room x) left
+  pub leaf_walked : (x tail : List ℕ) (major : Major) (n left : ℕ) → LeastHeadRead major n x tail → Leaves (WalkedBehind order room major n tail) left → Leaves (ItemWalked order room x) left
   leaf_walked x tail major n left h s = (s.0, s.1, walked_from order room x tail s.0 major n major h refl s.2)
 
   pub leaf_found : (at left : ℕ) (x : List ℕ) → at ≤ length x → Leaves (ItemWalked order room (drop at x)) left → ItemWalked order room (drop at x) (drop (length x - left) x)

@@ -4,7 +4,9 @@ use Rattle.std.specs.declared.cmp.Ordering.{Ordering}
 use Rattle.std.specs.List.{flat_map, AllZip}
 use Rattle.cborn_model.specs.declared.nodes.Chunk.{Chunk}
 use Rattle.cborn_model.specs.Bytes.{AreBytes}
-use Rattle.cborn_model.specs.Heads.{WidthFits, least, IsLeastHead}
+use Rattle.cborn_model.specs.declared.heads.Major.{Major}
+use Rattle.cborn_model.specs.declared.heads.Major.TheVariants.{Unsigned, Negative, TextString}
+use Rattle.cborn_model.specs.Heads.{code, WidthFits, least, IsLeastHead}
 use Rattle.cborn_model.specs.Tree.{Tree, trees, entries, depth, depth_all, depth_entries, Simple}
 use Rattle.cborn_model.specs.Spelled.{Wellformed, spelled, spelled_all, spelled_entries, Fits, FitsAll, FitsEntries, ChunksFit, chunk_bytes, simple_width}
 use Rattle.cborn_model.specs.Value.{Value, integer, pairs_of}
@@ -15,53 +17,52 @@ use Rattle.cborn_det.specs.Appending.{Appends}
 use Rattle.cborn_transcode.specs.declared.entries.Span.{Span}
 use Rattle.cborn_wire.specs.declared.heads.Argument.{Argument}
 use Rattle.cborn_wire.specs.declared.heads.Argument.TheVariants as arguments
-use Rattle.cborn_wire.specs.HeadReading.{major_at}
 
 -- the head of the major type, the shortest for n, stands in the place of a byte
 abbrev pub SetsHead : ℕ → ℕ → ℕ → List ℕ → List ℕ → Type 0
 SetsHead major n start old new = (h : List ℕ) × IsLeastHead major n h × (new ≡ (take start old ++ h) ++ drop (start + 1) old)
 
 -- the content of a string of n bytes, which is copied
-pub record ContentTaken (major n : ℕ) (input rest old new : List ℕ) : Type 0 where
+pub record ContentTaken (major : Major) (n : ℕ) (input rest old new : List ℕ) : Type 0 where
   pub content : List ℕ
   pub read : input ≡ content ++ rest
   pub len : length content ≡ n
   pub bytes : AreBytes content
-  pub text : major ≡ 3 → IsUtf8 content
+  pub text : major ≡ TextString → IsUtf8 content
   pub written : new ≡ old ++ content
 
 -- the content of a string of n bytes; the string is written
-pub record StringTaken (major n : ℕ) (input rest old new : List ℕ) : Type 0 where
+pub record StringTaken (major : Major) (n : ℕ) (input rest old new : List ℕ) : Type 0 where
   pub content : List ℕ
   pub read : input ≡ content ++ rest
   pub len : length content ≡ n
   pub bytes : AreBytes content
-  pub text : major ≡ 3 → IsUtf8 content
-  pub written : Appends (IsString major content) old new
+  pub text : major ≡ TextString → IsUtf8 content
+  pub written : Appends (IsString (code major) content) old new
 
 -- a chunk, whose content is copied
-pub record ChunkTaken (major : ℕ) (input rest old new : List ℕ) : Type 0 where
+pub record ChunkTaken (major : Major) (input rest old new : List ℕ) : Type 0 where
   pub chunk : Chunk
-  pub read : input ≡ chunk_bytes (major_at major) chunk ++ rest
+  pub read : input ≡ chunk_bytes major chunk ++ rest
   pub fits : WidthFits chunk.width (length chunk.bytes) × AreBytes chunk.bytes
-  pub text : major ≡ 3 → IsUtf8 chunk.bytes
+  pub text : major ≡ TextString → IsUtf8 chunk.bytes
   pub written : new ≡ old ++ chunk.bytes
 
 -- chunks one after another, whose contents are copied
-pub record ChunksTaken (major : ℕ) (input rest old new : List ℕ) : Type 0 where
+pub record ChunksTaken (major : Major) (input rest old new : List ℕ) : Type 0 where
   pub chunks : List Chunk
-  pub read : input ≡ flat_map (chunk_bytes (major_at major)) chunks ++ rest
+  pub read : input ≡ flat_map (chunk_bytes major) chunks ++ rest
   pub fits : ChunksFit chunks
-  pub text : major ≡ 3 → ChunksAreText chunks
+  pub text : major ≡ TextString → ChunksAreText chunks
   pub written : new ≡ old ++ joined_chunks chunks
 
 -- the chunks of a string up to its break; the string is written
-pub record LongStringTaken (major : ℕ) (input rest old new : List ℕ) : Type 0 where
+pub record LongStringTaken (major : Major) (input rest old new : List ℕ) : Type 0 where
   pub chunks : List Chunk
-  pub read : input ≡ flat_map (chunk_bytes (major_at major)) chunks ++ 255 ∷ rest
+  pub read : input ≡ flat_map (chunk_bytes major) chunks ++ 255 ∷ rest
   pub fits : ChunksFit chunks
-  pub text : major ≡ 3 → ChunksAreText chunks
-  pub written : Appends (IsString major (joined_chunks chunks)) old new
+  pub text : major ≡ TextString → ChunksAreText chunks
+  pub written : Appends (IsString (code major) (joined_chunks chunks)) old new
 
 -- the content of tag 2 or 3; the integer is written
 pub record BignumTaken (negative : Bool) (input rest old new : List ℕ) : Type 0 where
@@ -154,6 +155,12 @@ pub record IsTranscoded (order : List ℕ → List ℕ → Ordering) (limit : �
   pub read : Wellformed limit (trees nodes) input
   pub meant : AllZip Means nodes items
   pub encoded : DetSeq order items output
+
+-- the major type of an integer
+abbrev pub IsIntegral : Major → Type 0
+IsIntegral Unsigned = Unit {0}
+IsIntegral Negative = Unit {0}
+IsIntegral _ = ⊥
 
 -- the argument stands in the first width that has room for it
 abbrev pub IsLeast : Argument → Type 0

@@ -3,13 +3,14 @@ use Rattle.std.specs.Prelude.{◌≡◌, ℕ, ◌+◌, ◌*◌, ◌/◌, ◌%◌
 use Rattle.std.specs.declared.cmp.Ordering.{Ordering}
 use Rattle.std.proofs.Common.{Bor}
 use Rattle.cborn_model.specs.Bytes.{AreBytes, IsShortest}
-use Rattle.cborn_model.specs.Heads.{Major, ByteString, Given, head, WidthFits, least}
+use Rattle.cborn_model.specs.declared.heads.Major.{Major}
+use Rattle.cborn_model.specs.declared.heads.Major.TheVariants.{ByteString, TextString}
+use Rattle.cborn_model.specs.Heads.{Given, head, WidthFits, least}
 use Rattle.cborn_model.specs.Orders.{Rising}
 use Rattle.cborn_det.specs.Det.{Entry, joined, keys}
 use Rattle.cborn_det.proofs.Cutting.{EndsIn}
 use Rattle.cborn_transcode.specs.declared.entries.Span.{Span}
 use Rattle.cborn_transcode.specs.declared.places.Place.{Place}
-use Rattle.cborn_wire.specs.HeadReading.{major_at}
 use Rattle.cborn_transcode.specs.Transcoding.{ItemTranscoded, ItemsTranscoded, PairsTranscoded, AreSpans}
 
 -- a place as a span
@@ -28,9 +29,9 @@ abbrev pub IsLast : List ℕ → ℕ → List ℕ → Type 0
 IsLast input len x = (front : List ℕ) × (input ≡ front ++ x) × (length x ≡ len)
 
 -- the input begins with the shortest head of the major type with the argument n
-pub record LeastHeadRead (major n : ℕ) (input rest : List ℕ) : Type 0 where
+pub record LeastHeadRead (major : Major) (n : ℕ) (input rest : List ℕ) : Type 0 where
   pub fits : WidthFits (least n) n
-  pub read : input ≡ head (major_at major) (Given (least n) n) ++ rest
+  pub read : input ≡ head major (Given (least n) n) ++ rest
 
 -- the number of four bytes, the highest first
 abbrev pub top_of : ℕ → ℕ → ℕ → ℕ → ℕ
@@ -47,12 +48,12 @@ IsIntegerForm first len top =
     ⊎ ((first % 32 ≡ 27) × (len ≡ 9) × (top ≡ 1)))
 
 -- the content of a string of n bytes
-pub record ContentWalked (major n : ℕ) (input rest : List ℕ) : Type 0 where
+pub record ContentWalked (major : Major) (n : ℕ) (input rest : List ℕ) : Type 0 where
   pub content : List ℕ
   pub read : input ≡ content ++ rest
   pub len : length content ≡ n
   pub bytes : AreBytes content
-  pub text : major ≡ 3 → IsUtf8 content
+  pub text : major ≡ TextString → IsUtf8 content
 
 -- the shortest byte string of a number of more than 64 bits, without leading zeros
 pub record BignumWalked (input rest : List ℕ) : Type 0 where

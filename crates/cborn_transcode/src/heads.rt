@@ -2,29 +2,29 @@
 
 ghost use Rattle.std.specs.Prelude.{◌≡◌, ◌<◌, ◌++◌, ◌∷◌, length, OnSome};
 ghost use Rattle.std.specs.Int.{w16, w32, w64, to_be_bytes};
-ghost use Rattle.cborn_model.specs.Heads.{IsLeastHead};
+ghost use Rattle.cborn_model.specs.Heads.{code, IsLeastHead};
 ghost use Rattle.cborn_det.specs.Appending.{Appends};
 ghost use Rattle.cborn_transcode.specs.Transcoding.{SetsHead};
 
+use cborn_model::Major;
 use std::alloc::Global;
 
 /// Appends the shortest head of the major type with the argument `n`.
 #[inline]
-pub(crate) fn put_head(major: u8, n: u64, out: &mut Vec<u8>) -> Option<()>
-    requires { major < 8 }
-    ensures { OnSome result (Appends (IsLeastHead major n) out.old.items out.new.items) }
+pub(crate) fn put_head(major: Major, n: u64, out: &mut Vec<u8>) -> Option<()>
+    ensures { OnSome result (Appends (IsLeastHead (code major) n) out.old.items out.new.items) }
 {
-    let first = 32 * major;
     if n < 24 {
-        out.push(first + n as u8).ok()
+        out.push(major.initial_byte(n as u8)).ok()
     } else if n < 256 {
-        out.extend_from_slice(&[first + 24, n as u8]).ok()
+        out.extend_from_slice(&[major.initial_byte(24), n as u8])
+            .ok()
     } else if n < 65536 {
-        put_two(first + 25, n as u16, out)
+        put_two(major.initial_byte(25), n as u16, out)
     } else if n < 4294967296 {
-        put_four(first + 26, n as u32, out)
+        put_four(major.initial_byte(26), n as u32, out)
     } else {
-        put_eight(first + 27, n, out)
+        put_eight(major.initial_byte(27), n, out)
     }
 }
 
@@ -56,26 +56,24 @@ fn put_eight(first: u8, n: u64, out: &mut Vec<u8>) -> Option<()>
 /// `start`.
 pub(crate) fn set_head(
     alloc: Global,
-    major: u8,
+    major: Major,
     n: u64,
     start: usize,
     out: &mut Vec<u8>,
 ) -> Option<()>
-    requires major { major < 8 }
-    requires inside { start < length out.old.items }
-    ensures { OnSome result (SetsHead major n start out.old.items out.new.items) }
+    requires { start < length out.old.items }
+    ensures { OnSome result (SetsHead (code major) n start out.old.items out.new.items) }
 {
     if n < 24 {
-        out[start] = 32 * major + n as u8;
+        out[start] = major.initial_byte(n as u8);
         return Some(());
     }
     widen_head(alloc, major, n, start, out)
 }
 
-fn widen_head(alloc: Global, major: u8, n: u64, start: usize, out: &mut Vec<u8>) -> Option<()>
-    requires major { major < 8 }
-    requires inside { start < length out.old.items }
-    ensures { OnSome result (SetsHead major n start out.old.items out.new.items) }
+fn widen_head(alloc: Global, major: Major, n: u64, start: usize, out: &mut Vec<u8>) -> Option<()>
+    requires { start < length out.old.items }
+    ensures { OnSome result (SetsHead (code major) n start out.old.items out.new.items) }
 {
     let content = Vec::from_slice(alloc, &out[start + 1..]).ok()?;
     out.truncate(start);

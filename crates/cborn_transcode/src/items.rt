@@ -2,7 +2,8 @@
 
 ghost use Rattle.std.specs.Prelude.{◌≡◌, ◌≢◌, ◌∷◌, false, ◌<◌, ◌≤◌, ◌+◌, ◌^◌, ◌++◌, ℕ, List, [], length, IfSome};
 ghost use Rattle.cborn_model.specs.declared.heads.Width.{Width};
-ghost use Rattle.cborn_model.specs.Heads.{Array, Map, Tag, Given, Unbounded, head, WidthFits};
+ghost use Rattle.cborn_model.specs.declared.heads.Major.TheVariants.{Array, Map, Tag};
+ghost use Rattle.cborn_model.specs.Heads.{Given, Unbounded, head, WidthFits};
 ghost use Rattle.cborn_transcode.specs.Transcoding.{ItemTranscoded, ItemLeaves, ItemsTranscoded, PairsTranscoded};
 
 use crate::entries::{Span, arrange, push_span};
@@ -12,7 +13,7 @@ use crate::leaves::{
 };
 use crate::places::{find_pairs, put_places};
 use crate::runs::put_run;
-use cborn_model::KeyOrder;
+use cborn_model::{KeyOrder, Major};
 use cborn_wire::{Argument, HeadRead, read_head};
 use std::alloc::Global;
 
@@ -56,32 +57,32 @@ fn put_node<O: KeyOrder>(alloc: Global, room: u64, bytes: &[u8], out: &mut Vec<u
         return None;
     };
     let rest = &bytes[len..];
+    let major = head.major_type();
     match head.argument {
-        Argument::Given(_, n) => match head.major {
-            0 => {
-                put_head(0, n, out)?;
+        Argument::Given(_, n) => match major {
+            Major::Unsigned => {
+                put_head(Major::Unsigned, n, out)?;
                 Some(rest.len())
             }
-            1 => {
-                put_head(1, n, out)?;
+            Major::Negative => {
+                put_head(Major::Negative, n, out)?;
                 Some(rest.len())
             }
-            2 => put_string_leaving(2, n, rest, out),
-            3 => put_string_leaving(3, n, rest, out),
-            4 => put_fixed_array::<O>(alloc, room, n, rest, out),
-            5 => put_fixed_map::<O>(alloc, room, n, rest, out),
-            6 => put_tagged::<O>(alloc, room, n, rest, out),
-            7 => {
+            Major::ByteString => put_string_leaving(Major::ByteString, n, rest, out),
+            Major::TextString => put_string_leaving(Major::TextString, n, rest, out),
+            Major::Array => put_fixed_array::<O>(alloc, room, n, rest, out),
+            Major::Map => put_fixed_map::<O>(alloc, room, n, rest, out),
+            Major::Tag => put_tagged::<O>(alloc, room, n, rest, out),
+            Major::Other => {
                 put_simple(head.argument, out)?;
                 Some(rest.len())
             }
-            _ => None,
         },
-        Argument::Endless => match head.major {
-            2 => put_long_string_leaving(2, rest, out),
-            3 => put_long_string_leaving(3, rest, out),
-            4 => put_endless_array::<O>(alloc, room, rest, out),
-            5 => put_endless_map::<O>(alloc, room, rest, out),
+        Argument::Endless => match major {
+            Major::ByteString => put_long_string_leaving(Major::ByteString, rest, out),
+            Major::TextString => put_long_string_leaving(Major::TextString, rest, out),
+            Major::Array => put_endless_array::<O>(alloc, room, rest, out),
+            Major::Map => put_endless_map::<O>(alloc, room, rest, out),
             _ => None,
         },
     }
@@ -103,7 +104,7 @@ fn put_fixed_array<O: KeyOrder>(
     if room == 0 {
         return None;
     }
-    put_head(4, n, out)?;
+    put_head(Major::Array, n, out)?;
     let (rest, count) = put_items::<O>(alloc, room - 1, n, false, bytes, out)?;
     if count != n {
         return None;
@@ -130,7 +131,7 @@ fn put_endless_array<O: KeyOrder>(
     out.push(0).ok()?;
     let (rest, count) = put_items::<O>(alloc, room - 1, u64::MAX, true, bytes, out)?;
     let after = behind_break(rest)?;
-    set_head(alloc, 4, count, start, out)?;
+    set_head(alloc, Major::Array, count, start, out)?;
     Some(after.len())
 }
 
@@ -192,7 +193,7 @@ fn put_fixed_map<O: KeyOrder>(
     if room == 0 || n > most {
         return None;
     }
-    put_head(5, n, out)?;
+    put_head(Major::Map, n, out)?;
     let start = out.len();
     if n >= GREAT {
         let mut places = Vec::new(alloc);
@@ -233,7 +234,7 @@ fn put_endless_map<O: KeyOrder>(
     let (rest, count) = put_pairs::<O>(alloc, room - 1, most, true, bytes, out, &mut spans)?;
     let after = behind_break(rest)?;
     arrange::<O>(alloc, &mut spans, start, out)?;
-    set_head(alloc, 5, count, head_start, out)?;
+    set_head(alloc, Major::Map, count, head_start, out)?;
     Some(after.len())
 }
 
@@ -309,6 +310,6 @@ fn put_tagged<O: KeyOrder>(
         let rest = put_bignum(true, bytes, out)?;
         return Some(rest.len());
     }
-    put_head(6, n, out)?;
+    put_head(Major::Tag, n, out)?;
     put_node::<O>(alloc, room - 1, bytes, out)
 }

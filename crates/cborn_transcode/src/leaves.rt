@@ -3,19 +3,18 @@
 ghost use Rattle.std.specs.Prelude.{◌≡◌, ◌<◌, ◌≤◌, ◌^◌, ◌++◌, ◌∷◌, ◌⊎◌, ℕ, List, length, IsTrue, IsUtf8, IfSome, OnSome};
 ghost use Rattle.cborn_model.specs.Bytes.{AreBytes, IsShortest, big_endian};
 ghost use Rattle.cborn_det.specs.Appending.{Appends};
-ghost use Rattle.cborn_det.specs.Det.{IsInteger, bignum_tag};
-ghost use Rattle.cborn_model.specs.Heads.{IsLeastHead};
+ghost use Rattle.cborn_det.specs.Det.{IsInteger, bignum_tag, major_of};
+ghost use Rattle.cborn_model.specs.Heads.{code, IsLeastHead};
 ghost use Rattle.cborn_wire.specs.HeadReading.{ArgumentFits, seen_argument};
 ghost use Rattle.cborn_transcode.specs.Transcoding.{ContentTaken, StringTaken, ChunkTaken, ChunksTaken, LongStringTaken, BignumTaken, SimpleTaken};
 
 use crate::heads::put_head;
-use cborn_model::Width;
+use cborn_model::{Major, Width};
 use cborn_wire::{Argument, HeadRead, read_head};
 
-/// A string of the major type, 2 or 3, of `n` bytes.
+/// A string of the major type of `n` bytes.
 #[inline]
-fn put_string<'a>(major: u8, n: u64, bytes: &'a [u8], out: &mut Vec<u8>) -> Option<&'a [u8]>
-    requires { major < 8 }
+fn put_string<'a>(major: Major, n: u64, bytes: &'a [u8], out: &mut Vec<u8>) -> Option<&'a [u8]>
     ensures { IfSome result (λ rest. StringTaken major n bytes.now rest.now out.old.items out.new.items) }
 {
     put_head(major, n, out)?;
@@ -25,12 +24,11 @@ fn put_string<'a>(major: u8, n: u64, bytes: &'a [u8], out: &mut Vec<u8>) -> Opti
 /// What `put_string` does; answers how many bytes are left.
 #[inline(never)]
 pub(crate) fn put_string_leaving(
-    major: u8,
+    major: Major,
     n: u64,
     bytes: &[u8],
     out: &mut Vec<u8>,
 ) -> Option<usize>
-    requires { major < 8 }
     ensures { IfSome result (λ left. (rest : List ℕ) × (length rest ≡ left) × StringTaken major n bytes.now rest out.old.items out.new.items) }
 {
     let rest = put_string(major, n, bytes, out)?;
@@ -39,14 +37,14 @@ pub(crate) fn put_string_leaving(
 
 /// The bytes of a string.
 #[inline]
-fn put_content<'a>(major: u8, n: u64, bytes: &'a [u8], out: &mut Vec<u8>) -> Option<&'a [u8]>
+fn put_content<'a>(major: Major, n: u64, bytes: &'a [u8], out: &mut Vec<u8>) -> Option<&'a [u8]>
     ensures { IfSome result (λ rest. ContentTaken major n bytes.now rest.now out.old.items out.new.items) }
 {
     if n > bytes.len() as u64 {
         return None;
     }
     let (content, rest) = bytes.split_at(n as usize);
-    if major == 3 && !is_text(content) {
+    if major == Major::TextString && !is_text(content) {
         return None;
     }
     out.extend_from_slice(content).ok()?;
@@ -62,8 +60,7 @@ pub(crate) fn is_text(bytes: &[u8]) -> bool
 }
 
 /// A string in chunks, up to its break.
-fn put_long_string<'a>(major: u8, bytes: &'a [u8], out: &mut Vec<u8>) -> Option<&'a [u8]>
-    requires { major < 8 }
+fn put_long_string<'a>(major: Major, bytes: &'a [u8], out: &mut Vec<u8>) -> Option<&'a [u8]>
     ensures { IfSome result (λ rest. LongStringTaken major bytes.now rest.now out.old.items out.new.items) }
 {
     let n = joined_len(bytes)?;
@@ -79,8 +76,11 @@ fn put_long_string<'a>(major: u8, bytes: &'a [u8], out: &mut Vec<u8>) -> Option<
 
 /// What `put_long_string` does; answers how many bytes are left.
 #[inline(never)]
-pub(crate) fn put_long_string_leaving(major: u8, bytes: &[u8], out: &mut Vec<u8>) -> Option<usize>
-    requires { major < 8 }
+pub(crate) fn put_long_string_leaving(
+    major: Major,
+    bytes: &[u8],
+    out: &mut Vec<u8>,
+) -> Option<usize>
     ensures { IfSome result (λ left. (rest : List ℕ) × (length rest ≡ left) × LongStringTaken major bytes.now rest out.old.items out.new.items) }
 {
     let rest = put_long_string(major, bytes, out)?;
@@ -121,8 +121,7 @@ fn joined_len(bytes: &[u8]) -> Option<u64> {
 }
 
 /// Chunks up to a break.
-fn put_chunks<'a>(major: u8, bytes: &'a [u8], out: &mut Vec<u8>) -> Option<&'a [u8]>
-    requires { major < 8 }
+fn put_chunks<'a>(major: Major, bytes: &'a [u8], out: &mut Vec<u8>) -> Option<&'a [u8]>
     ensures { IfSome result (λ rest. ChunksTaken major bytes.now rest.now out.old.items out.new.items) }
 {
     let mut rest = bytes;
@@ -136,14 +135,13 @@ fn put_chunks<'a>(major: u8, bytes: &'a [u8], out: &mut Vec<u8>) -> Option<&'a [
 }
 
 /// A chunk.
-fn put_chunk<'a>(major: u8, bytes: &'a [u8], out: &mut Vec<u8>) -> Option<&'a [u8]>
-    requires { major < 8 }
+fn put_chunk<'a>(major: Major, bytes: &'a [u8], out: &mut Vec<u8>) -> Option<&'a [u8]>
     ensures { IfSome result (λ rest. ChunkTaken major bytes.now rest.now out.old.items out.new.items) }
 {
     let HeadRead::Full(head, len) = read_head(bytes) else {
         return None;
     };
-    if head.major != major {
+    if head.major_type() != major {
         return None;
     }
     match head.argument {
@@ -163,7 +161,7 @@ pub(crate) fn put_bignum<'a>(negative: bool, bytes: &'a [u8], out: &mut Vec<u8>)
         return None;
     };
     let bytes = &bytes[len..];
-    if head.major != 2 || n > bytes.len() as u64 {
+    if head.major_type() != Major::ByteString || n > bytes.len() as u64 {
         return None;
     }
     let (content, rest) = bytes.split_at(n as usize);
@@ -179,10 +177,20 @@ fn put_integer(negative: bool, digits: &[u8], out: &mut Vec<u8>) -> Option<()>
     ensures { OnSome result (Appends (IsInteger negative digits.now) out.old.items out.new.items) }
 {
     if digits.len() <= 8 {
-        let major = if negative { 1 } else { 0 };
-        put_head(major, number_of(digits), out)
+        put_head(major_of(negative), number_of(digits), out)
     } else {
         put_long(negative, digits, out)
+    }
+}
+
+/// The major type of an integer within 64 bits.
+fn major_of(negative: bool) -> Major
+    ensures { code result ≡ major_of negative }
+{
+    if negative {
+        Major::Negative
+    } else {
+        Major::Unsigned
     }
 }
 
@@ -193,7 +201,7 @@ fn put_long(negative: bool, digits: &[u8], out: &mut Vec<u8>) -> Option<()>
     ensures { OnSome result (Appends (IsInteger negative digits.now) out.old.items out.new.items) }
 {
     put_tag(negative, out)?;
-    put_head(2, digits.len() as u64, out)?;
+    put_head(Major::ByteString, digits.len() as u64, out)?;
     out.extend_from_slice(digits).ok()?;
     Some(())
 }
@@ -203,9 +211,9 @@ fn put_tag(negative: bool, out: &mut Vec<u8>) -> Option<()>
     ensures { OnSome result (Appends (IsLeastHead 6 (bignum_tag negative)) out.old.items out.new.items) }
 {
     if negative {
-        put_head(6, 3, out)
+        put_head(Major::Tag, 3, out)
     } else {
-        put_head(6, 2, out)
+        put_head(Major::Tag, 2, out)
     }
 }
 
@@ -241,12 +249,13 @@ pub(crate) fn put_simple(argument: Argument, out: &mut Vec<u8>) -> Option<()>
     ensures { OnSome result (SimpleTaken argument out.old.items out.new.items) }
 {
     match argument {
-        Argument::Given(Width::Direct, n) => out.push(224 + n as u8).ok(),
+        Argument::Given(Width::Direct, n) => out.push(Major::Other.initial_byte(n as u8)).ok(),
         Argument::Given(Width::One, n) => {
             if n < 32 {
                 return None;
             }
-            out.extend_from_slice(&[248, n as u8]).ok()
+            let first = Major::Other.initial_byte(24);
+            out.extend_from_slice(&[first, n as u8]).ok()
         }
         _ => None,
     }

@@ -2,9 +2,10 @@
 
 ghost use Rattle.std.specs.Prelude.{◌≡◌, ◌<◌, ◌≤◌, ◌++◌, ℕ, List, length, take, drop, IfSome, IsTrue};
 ghost use Rattle.std.specs.declared.cmp.Ordering.{Ordering};
-ghost use Rattle.cborn_transcode.specs.Transcoding.{ItemTranscoded, ItemsTranscoded, IsLeast};
+ghost use Rattle.cborn_transcode.specs.Transcoding.{ItemTranscoded, ItemsTranscoded, IsIntegral, IsLeast};
+ghost use Rattle.cborn_model.specs.Heads.{major_at};
 
-use cborn_model::shortest;
+use cborn_model::{Major, shortest};
 use cborn_wire::{Argument, Head, HeadRead, read_head};
 
 /// Appends the integers with shortest heads at the front of the bytes, at most `most`; answers what
@@ -58,10 +59,18 @@ fn int_len(bytes: &[u8]) -> usize
 /// The shortest head of an integer.
 #[inline(always)]
 fn is_least_integer(head: Head) -> bool
-    ensures { IsTrue result → (head.major < 2) × IsLeast head.argument }
+    ensures { IsTrue result → IsIntegral (major_at head.major) × IsLeast head.argument }
 {
     match head.argument {
-        Argument::Given(width, n) => head.major < 2 && width == shortest(n),
+        Argument::Given(width, n) => is_integral(head.major_type()) && width == shortest(n),
         Argument::Endless => false,
     }
+}
+
+/// The major type of an integer.
+#[inline(always)]
+fn is_integral(major: Major) -> bool
+    ensures { IsTrue result → IsIntegral major }
+{
+    matches!(major, Major::Unsigned | Major::Negative)
 }

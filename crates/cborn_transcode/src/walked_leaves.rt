@@ -6,16 +6,15 @@ ghost use Rattle.cborn_det.proofs.Cutting.{Below};
 ghost use Rattle.cborn_model.specs.Bytes.{IsShortest};
 ghost use Rattle.cborn_model.specs.Tree.{Simple};
 ghost use Rattle.cborn_model.specs.Spelled.{Fits};
-ghost use Rattle.cborn_wire.specs.HeadReading.{major_at};
 ghost use Rattle.cborn_transcode.specs.Walking.{Leaves, IsLast, LeastHeadRead, ContentWalked, BignumWalked, WalkedBehind};
 
 use crate::leaves::is_text;
-use cborn_model::{KeyOrder, shortest};
+use cborn_model::{KeyOrder, Major, shortest};
 use cborn_wire::{Argument, HeadRead, read_head};
 
 /// The major type and the argument of the head at the front, which is the shortest, and what follows it.
 #[inline(always)]
-pub(crate) fn read_least(bytes: &[u8]) -> Option<(u8, u64, &[u8])>
+pub(crate) fn read_least(bytes: &[u8]) -> Option<(Major, u64, &[u8])>
     ensures { IfSome result (λ r. LeastHeadRead r.0 r.1 bytes.now r.2.now) }
 {
     let HeadRead::Full(head, len) = read_head(bytes) else {
@@ -27,21 +26,21 @@ pub(crate) fn read_least(bytes: &[u8]) -> Option<(u8, u64, &[u8])>
     if width != shortest(n) {
         return None;
     }
-    Some((head.major, n, &bytes[len..]))
+    Some((head.major_type(), n, &bytes[len..]))
 }
 
 /// How many bytes follow what stands behind the shortest head of the major type with the argument `n`, where that head begins no
 /// item that holds others.
 #[inline(always)]
-pub(crate) fn walk_leaf(major: u8, n: u64, bytes: &[u8]) -> Option<usize>
-    ensures { IfSome result (λ left. (order : List ℕ → List ℕ → Ordering) (room : ℕ) → Leaves (WalkedBehind order room (major_at major) n bytes.now) left) }
+pub(crate) fn walk_leaf(major: Major, n: u64, bytes: &[u8]) -> Option<usize>
+    ensures { IfSome result (λ left. (order : List ℕ → List ℕ → Ordering) (room : ℕ) → Leaves (WalkedBehind order room major n bytes.now) left) }
 {
     match major {
-        0 => Some(bytes.len()),
-        1 => Some(bytes.len()),
-        2 => walk_content(2, n, bytes),
-        3 => walk_content(3, n, bytes),
-        7 => {
+        Major::Unsigned => Some(bytes.len()),
+        Major::Negative => Some(bytes.len()),
+        Major::ByteString => walk_content(Major::ByteString, n, bytes),
+        Major::TextString => walk_content(Major::TextString, n, bytes),
+        Major::Other => {
             if !is_simple(n) {
                 return None;
             }
@@ -51,16 +50,16 @@ pub(crate) fn walk_leaf(major: u8, n: u64, bytes: &[u8]) -> Option<usize>
     }
 }
 
-/// How many bytes follow the `n` bytes of a string of the major type, 2 or 3.
+/// How many bytes follow the `n` bytes of a string of the major type.
 #[inline(always)]
-fn walk_content(major: u8, n: u64, bytes: &[u8]) -> Option<usize>
+fn walk_content(major: Major, n: u64, bytes: &[u8]) -> Option<usize>
     ensures { IfSome result (Leaves (ContentWalked major n bytes.now)) }
 {
     if n > bytes.len() as u64 {
         return None;
     }
     let (content, rest) = bytes.split_at(n as usize);
-    if major == 3 && !is_text(content) {
+    if major == Major::TextString && !is_text(content) {
         return None;
     }
     Some(rest.len())
@@ -80,7 +79,7 @@ pub(crate) fn walk_bignum(bytes: &[u8]) -> Option<usize>
     ensures { IfSome result (Leaves (BignumWalked bytes.now)) }
 {
     let (major, n, rest) = read_least(bytes)?;
-    if major != 2 || n <= 8 || n > rest.len() as u64 {
+    if major != Major::ByteString || n <= 8 || n > rest.len() as u64 {
         return None;
     }
     let (content, after) = rest.split_at(n as usize);

@@ -1,13 +1,13 @@
 //! A walk over bytes that are deterministic as they stand: nothing is written, and nothing is kept but the key before.
 
 ghost use Rattle.std.specs.Prelude.{ℕ, ◌≤◌, [], IsTrue, IfSome};
-ghost use Rattle.cborn_model.specs.Heads.{Array, Map, Tag};
+ghost use Rattle.cborn_model.specs.declared.heads.Major.TheVariants.{Array, Map, Tag};
 ghost use Rattle.cborn_transcode.specs.Transcoding.{IsTranscoded};
 ghost use Rattle.cborn_transcode.specs.Walking.{Leaves, ItemWalked, ItemsWalked, WalkedBehind};
 
 use crate::walked_integers::int_len;
 use crate::walked_leaves::{last, read_least, rises_above, split_before, walk_bignum, walk_leaf};
-use cborn_model::{KeyOrder, Limit};
+use cborn_model::{KeyOrder, Limit, Major};
 
 /// Whether the bytes are the deterministic encodings of the items that they hold, one after another, none deeper than `limit`, the keys of maps in the order `O` (RFC 8949 section 4.2). They are walked over once, in place: no memory is taken. False promises nothing: `transcode`, or the reader that keeps a tree, tells more.
 pub fn is_deterministic<O: KeyOrder>(limit: Limit, bytes: &[u8]) -> bool
@@ -43,9 +43,9 @@ fn walk_item<O: KeyOrder>(room: u64, bytes: &[u8]) -> Option<usize>
 {
     let (major, n, rest) = read_least(bytes)?;
     match major {
-        4 => walk_array::<O>(room, n, rest),
-        5 => walk_map::<O>(room, n, rest),
-        6 => walk_tagged::<O>(room, n, rest),
+        Major::Array => walk_array::<O>(room, n, rest),
+        Major::Map => walk_map::<O>(room, n, rest),
+        Major::Tag => walk_tagged::<O>(room, n, rest),
         _ => walk_leaf(major, n, rest),
     }
 }

@@ -1,4 +1,5 @@
-use Rattle.std.proofs.Common.{rules, ◌≡◌, ◌≢◌, ◌<◌, ◌+◌, ◌-◌, ◌^◌, ◌++◌, ◌∷◌, [], inl, inr, refl, length, ℕ, List, true, false, subst, sym, arith}
+use Rattle.cborn_model.specs.declared.heads.Major.TheVariants.{Unsigned, Negative, ByteString, TextString, Array, Map, Tag, Other}
+use Rattle.std.proofs.Common.{rules, ◌≡◌, ◌≢◌, ◌<◌, ◌+◌, ◌-◌, ◌^◌, ◌++◌, ◌∷◌, [], inl, inr, refl, length, ℕ, List, true, false, subst, sym, arith, ◌∙◌}
 use Rattle.std.proofs.lemmas.List.{take_rest}
 use Rattle.cborn_wire.specs.declared.heads.Argument.TheVariants.{Given, Endless}
 use Rattle.cborn_transcode.specs.declared.entries.Span.{Span}
@@ -18,66 +19,66 @@ put_item-returns g t c =
     (λ rest e. item_last g.O.KeyOrder.order c.args.room c.args.bytes.now rest.now c.args.out.now.items c.put_node.new.out.items c.in_ok-left.left c.in_ok-left.ensures e)
     c.last.ensures
 
-pub put_node-returns-in_ok-put_head-in-0 : goal.put_node-returns-in_ok-put_head-in-0
-put_node-returns-in_ok-put_head-in-0 g t c =
-    alone g.O.KeyOrder.order c.args.room c.args.bytes.now _ c.args.out.now.items c.put_head.new.out.items _ c.in-Full.head c.in-Full.len 0 (Given c.in-Given.field-0 c.in-Given.n) (take_rest c.args.bytes.now c.in-Full.len) c.in-Full.ensures c.in-0.is c.in-Given.is (search rules)
-    (λ fits. uint_done g.O.KeyOrder.order c.args.room c.in-Given.field-0 c.in-Given.n _ c.args.out.now.items c.put_head.new.out.items fits c.in_ok-put_head-in-0.ensures)
+pub put_node-returns-in_ok-put_head-in-Unsigned : goal.put_node-returns-in_ok-put_head-in-Unsigned
+put_node-returns-in_ok-put_head-in-Unsigned g t c =
+    alone g.O.KeyOrder.order c.args.room c.args.bytes.now _ c.args.out.now.items c.put_head.new.out.items _ c.in-Full.head c.in-Full.len Unsigned (Given c.in-Given.field-0 c.in-Given.n) (take_rest c.args.bytes.now c.in-Full.len) c.in-Full.ensures (sym c.major_type-major.ensures ∙ c.in-Unsigned.is) c.in-Given.is (search rules)
+    (λ fits. uint_done g.O.KeyOrder.order c.args.room c.in-Given.field-0 c.in-Given.n _ c.args.out.now.items c.put_head.new.out.items fits c.in_ok-put_head-in-Unsigned.ensures)
 
-pub put_node-returns-in_ok-put_head-in-1 : goal.put_node-returns-in_ok-put_head-in-1
-put_node-returns-in_ok-put_head-in-1 g t c =
-    alone g.O.KeyOrder.order c.args.room c.args.bytes.now _ c.args.out.now.items c.put_head-in-1.new.out.items _ c.in-Full.head c.in-Full.len 1 (Given c.in-Given.field-0 c.in-Given.n) (take_rest c.args.bytes.now c.in-Full.len) c.in-Full.ensures c.in-1.is c.in-Given.is (search rules)
-    (λ fits. nint_done g.O.KeyOrder.order c.args.room c.in-Given.field-0 c.in-Given.n _ c.args.out.now.items c.put_head-in-1.new.out.items fits c.in_ok-put_head-in-1.ensures)
+pub put_node-returns-in_ok-put_head-in-Negative : goal.put_node-returns-in_ok-put_head-in-Negative
+put_node-returns-in_ok-put_head-in-Negative g t c =
+    alone g.O.KeyOrder.order c.args.room c.args.bytes.now _ c.args.out.now.items c.put_head-in-Negative.new.out.items _ c.in-Full.head c.in-Full.len Negative (Given c.in-Given.field-0 c.in-Given.n) (take_rest c.args.bytes.now c.in-Full.len) c.in-Full.ensures (sym c.major_type-major.ensures ∙ c.in-Negative.is) c.in-Given.is (search rules)
+    (λ fits. nint_done g.O.KeyOrder.order c.args.room c.in-Given.field-0 c.in-Given.n _ c.args.out.now.items c.put_head-in-Negative.new.out.items fits c.in_ok-put_head-in-Negative.ensures)
 
-pub put_node-returns-in-2 : goal.put_node-returns-in-2
-put_node-returns-in-2 g t c =
+pub put_node-returns-in-ByteString : goal.put_node-returns-in-ByteString
+put_node-returns-in-ByteString g t c =
     under c.put_string_leaving.result
-    (λ left s. inside g.O.KeyOrder.order c.args.room c.args.bytes.now _ c.args.out.now.items c.put_string_leaving.new.out.items _ c.in-Full.head c.in-Full.len 2 (Given c.in-Given.field-0 c.in-Given.n) (take_rest c.args.bytes.now c.in-Full.len) c.in-Full.ensures c.in-2.is c.in-Given.is
+    (λ left s. inside g.O.KeyOrder.order c.args.room c.args.bytes.now _ c.args.out.now.items c.put_string_leaving.new.out.items _ c.in-Full.head c.in-Full.len ByteString (Given c.in-Given.field-0 c.in-Given.n) (take_rest c.args.bytes.now c.in-Full.len) c.in-Full.ensures (sym c.major_type-major.ensures ∙ c.in-ByteString.is) c.in-Given.is
     (λ fits. (s.0, s.1, bytes_done g.O.KeyOrder.order c.args.room c.in-Given.field-0 c.in-Given.n _ s.0 c.args.out.now.items c.put_string_leaving.new.out.items fits s.2)))
     c.put_string_leaving.ensures
 
-pub put_node-returns-in-3 : goal.put_node-returns-in-3
-put_node-returns-in-3 g t c =
-    under c.put_string_leaving-in-3.result
-    (λ left s. inside g.O.KeyOrder.order c.args.room c.args.bytes.now _ c.args.out.now.items c.put_string_leaving-in-3.new.out.items _ c.in-Full.head c.in-Full.len 3 (Given c.in-Given.field-0 c.in-Given.n) (take_rest c.args.bytes.now c.in-Full.len) c.in-Full.ensures c.in-3.is c.in-Given.is
-    (λ fits. (s.0, s.1, text_done g.O.KeyOrder.order c.args.room c.in-Given.field-0 c.in-Given.n _ s.0 c.args.out.now.items c.put_string_leaving-in-3.new.out.items fits s.2)))
-    c.put_string_leaving-in-3.ensures
+pub put_node-returns-in-TextString : goal.put_node-returns-in-TextString
+put_node-returns-in-TextString g t c =
+    under c.put_string_leaving-in-TextString.result
+    (λ left s. inside g.O.KeyOrder.order c.args.room c.args.bytes.now _ c.args.out.now.items c.put_string_leaving-in-TextString.new.out.items _ c.in-Full.head c.in-Full.len TextString (Given c.in-Given.field-0 c.in-Given.n) (take_rest c.args.bytes.now c.in-Full.len) c.in-Full.ensures (sym c.major_type-major.ensures ∙ c.in-TextString.is) c.in-Given.is
+    (λ fits. (s.0, s.1, text_done g.O.KeyOrder.order c.args.room c.in-Given.field-0 c.in-Given.n _ s.0 c.args.out.now.items c.put_string_leaving-in-TextString.new.out.items fits s.2)))
+    c.put_string_leaving-in-TextString.ensures
 
-pub put_node-returns-in-4 : goal.put_node-returns-in-4
-put_node-returns-in-4 g t c =
+pub put_node-returns-in-Array : goal.put_node-returns-in-Array
+put_node-returns-in-Array g t c =
     under c.put_fixed_array.result
-    (λ left s. inside g.O.KeyOrder.order c.args.room c.args.bytes.now _ c.args.out.now.items c.put_fixed_array.new.out.items _ c.in-Full.head c.in-Full.len 4 (Given c.in-Given.field-0 c.in-Given.n) (take_rest c.args.bytes.now c.in-Full.len) c.in-Full.ensures c.in-4.is c.in-Given.is (λ fits. s c.in-Given.field-0 fits))
+    (λ left s. inside g.O.KeyOrder.order c.args.room c.args.bytes.now _ c.args.out.now.items c.put_fixed_array.new.out.items _ c.in-Full.head c.in-Full.len Array (Given c.in-Given.field-0 c.in-Given.n) (take_rest c.args.bytes.now c.in-Full.len) c.in-Full.ensures (sym c.major_type-major.ensures ∙ c.in-Array.is) c.in-Given.is (λ fits. s c.in-Given.field-0 fits))
     c.put_fixed_array.ensures
 
-pub put_node-returns-in-5 : goal.put_node-returns-in-5
-put_node-returns-in-5 g t c =
+pub put_node-returns-in-Map : goal.put_node-returns-in-Map
+put_node-returns-in-Map g t c =
     under c.put_fixed_map.result
-    (λ left s. inside g.O.KeyOrder.order c.args.room c.args.bytes.now _ c.args.out.now.items c.put_fixed_map.new.out.items _ c.in-Full.head c.in-Full.len 5 (Given c.in-Given.field-0 c.in-Given.n) (take_rest c.args.bytes.now c.in-Full.len) c.in-Full.ensures c.in-5.is c.in-Given.is (λ fits. s c.in-Given.field-0 fits))
+    (λ left s. inside g.O.KeyOrder.order c.args.room c.args.bytes.now _ c.args.out.now.items c.put_fixed_map.new.out.items _ c.in-Full.head c.in-Full.len Map (Given c.in-Given.field-0 c.in-Given.n) (take_rest c.args.bytes.now c.in-Full.len) c.in-Full.ensures (sym c.major_type-major.ensures ∙ c.in-Map.is) c.in-Given.is (λ fits. s c.in-Given.field-0 fits))
     c.put_fixed_map.ensures
 
-pub put_node-returns-in-6 : goal.put_node-returns-in-6
-put_node-returns-in-6 g t c =
+pub put_node-returns-in-Tag : goal.put_node-returns-in-Tag
+put_node-returns-in-Tag g t c =
     under c.put_tagged.result
-    (λ left s. inside g.O.KeyOrder.order c.args.room c.args.bytes.now _ c.args.out.now.items c.put_tagged.new.out.items _ c.in-Full.head c.in-Full.len 6 (Given c.in-Given.field-0 c.in-Given.n) (take_rest c.args.bytes.now c.in-Full.len) c.in-Full.ensures c.in-6.is c.in-Given.is (λ fits. s c.in-Given.field-0 fits))
+    (λ left s. inside g.O.KeyOrder.order c.args.room c.args.bytes.now _ c.args.out.now.items c.put_tagged.new.out.items _ c.in-Full.head c.in-Full.len Tag (Given c.in-Given.field-0 c.in-Given.n) (take_rest c.args.bytes.now c.in-Full.len) c.in-Full.ensures (sym c.major_type-major.ensures ∙ c.in-Tag.is) c.in-Given.is (λ fits. s c.in-Given.field-0 fits))
     c.put_tagged.ensures
 
-pub put_node-returns-in_ok-put_simple-in-7 : goal.put_node-returns-in_ok-put_simple-in-7
-put_node-returns-in_ok-put_simple-in-7 g t c =
-    alone g.O.KeyOrder.order c.args.room c.args.bytes.now _ c.args.out.now.items c.put_simple.new.out.items _ c.in-Full.head c.in-Full.len 7 c.in-Full.head.argument (take_rest c.args.bytes.now c.in-Full.len) c.in-Full.ensures c.in-7.is refl (search rules)
-    (λ fits. simple_done g.O.KeyOrder.order c.args.room c.in-Full.head.argument _ c.args.out.now.items c.put_simple.new.out.items c.in_ok-put_simple-in-7.ensures)
+pub put_node-returns-in_ok-put_simple-in-Other : goal.put_node-returns-in_ok-put_simple-in-Other
+put_node-returns-in_ok-put_simple-in-Other g t c =
+    alone g.O.KeyOrder.order c.args.room c.args.bytes.now _ c.args.out.now.items c.put_simple.new.out.items _ c.in-Full.head c.in-Full.len Other c.in-Full.head.argument (take_rest c.args.bytes.now c.in-Full.len) c.in-Full.ensures (sym c.major_type-major.ensures ∙ c.in-Other.is) refl (search rules)
+    (λ fits. simple_done g.O.KeyOrder.order c.args.room c.in-Full.head.argument _ c.args.out.now.items c.put_simple.new.out.items c.in_ok-put_simple-in-Other.ensures)
 
-pub put_node-returns-in-2-major : goal.put_node-returns-in-2-major
-put_node-returns-in-2-major g t c =
+pub put_node-returns-in-ByteString-major : goal.put_node-returns-in-ByteString-major
+put_node-returns-in-ByteString-major g t c =
     under c.put_long_string_leaving.result
-    (λ left s. inside g.O.KeyOrder.order c.args.room c.args.bytes.now _ c.args.out.now.items c.put_long_string_leaving.new.out.items _ c.in-Full.head c.in-Full.len 2 Endless (take_rest c.args.bytes.now c.in-Full.len) c.in-Full.ensures c.in-2-major.is c.in-Endless.is
+    (λ left s. inside g.O.KeyOrder.order c.args.room c.args.bytes.now _ c.args.out.now.items c.put_long_string_leaving.new.out.items _ c.in-Full.head c.in-Full.len ByteString Endless (take_rest c.args.bytes.now c.in-Full.len) c.in-Full.ensures (sym c.major_type-major.ensures ∙ c.in-ByteString-major.is) c.in-Endless.is
     (λ fits. (s.0, s.1, byte_chunks_done g.O.KeyOrder.order c.args.room _ s.0 c.args.out.now.items c.put_long_string_leaving.new.out.items s.2)))
     c.put_long_string_leaving.ensures
 
-pub put_node-returns-in-3-major : goal.put_node-returns-in-3-major
-put_node-returns-in-3-major g t c =
-    under c.put_long_string_leaving-in-3-major.result
-    (λ left s. inside g.O.KeyOrder.order c.args.room c.args.bytes.now _ c.args.out.now.items c.put_long_string_leaving-in-3-major.new.out.items _ c.in-Full.head c.in-Full.len 3 Endless (take_rest c.args.bytes.now c.in-Full.len) c.in-Full.ensures c.in-3-major.is c.in-Endless.is
-    (λ fits. (s.0, s.1, text_chunks_done g.O.KeyOrder.order c.args.room _ s.0 c.args.out.now.items c.put_long_string_leaving-in-3-major.new.out.items s.2)))
-    c.put_long_string_leaving-in-3-major.ensures
+pub put_node-returns-in-TextString-major : goal.put_node-returns-in-TextString-major
+put_node-returns-in-TextString-major g t c =
+    under c.put_long_string_leaving-in-TextString-major.result
+    (λ left s. inside g.O.KeyOrder.order c.args.room c.args.bytes.now _ c.args.out.now.items c.put_long_string_leaving-in-TextString-major.new.out.items _ c.in-Full.head c.in-Full.len TextString Endless (take_rest c.args.bytes.now c.in-Full.len) c.in-Full.ensures (sym c.major_type-major.ensures ∙ c.in-TextString-major.is) c.in-Endless.is
+    (λ fits. (s.0, s.1, text_chunks_done g.O.KeyOrder.order c.args.room _ s.0 c.args.out.now.items c.put_long_string_leaving-in-TextString-major.new.out.items s.2)))
+    c.put_long_string_leaving-in-TextString-major.ensures
 
 pub put_items-items-init : goal.put_items-items-init
 put_items-items-init g t c = (all_none g.O.KeyOrder.order c.args.room c.args.bytes.now c.args.out.now.items, omega arith)

@@ -1,4 +1,4 @@
-use Rattle.std.proofs.Common.{Option, None, Some, Bor, List, ℕ}
+use Rattle.std.proofs.Common.{◌≡◌, rules, Option, None, Some, Bor, List, ℕ, sym, ◌∙◌}
 use Rattle.std.specs.Prelude.{IfSome}
 use Rattle.std.proofs.lemmas.List.{take_rest}
 use Rattle.cborn_transcode.proofs.Heading.{chunk_taken}
@@ -9,4 +9,6 @@ taken None f h = h
 taken (Some x) f h = f x h
 
 pub returns-in-Given : goal.returns-in-Given
-returns-in-Given c = taken c.put_content.result (λ rest t. chunk_taken c.args.bytes.now _ rest.now c.args.out.now.items c.put_content.new.out.items c.in-Full.head c.in-Full.len c.in-Given.n c.args.major c.in-Given.field-0 (take_rest c.args.bytes.now c.in-Full.len) c.in-Full.ensures c.if-head-major.false c.in-Given.is t) c.put_content.ensures
+returns-in-Given c =
+    let same : c.major_type.result ≡ c.args.major = search rules in
+    taken c.put_content.result (λ rest t. chunk_taken c.args.bytes.now _ rest.now c.args.out.now.items c.put_content.new.out.items c.in-Full.head c.in-Full.len c.in-Given.n c.args.major c.in-Given.field-0 (take_rest c.args.bytes.now c.in-Full.len) c.in-Full.ensures (sym c.major_type.ensures ∙ same) c.in-Given.is t) c.put_content.ensures

@@ -1,25 +1,26 @@
+use Rattle.cborn_model.specs.declared.heads.Major.TheVariants.{Unsigned, Negative, ByteString, TextString, Array, Map, Tag, Other}
 use Rattle.std.proofs.Common.{◌≡◌, ◌+◌, ◌-◌, ◌<◌, ◌^◌, inl, inr, refl, length, drop, length-drop, Some, None, ℕ, subst, arith, false, true}
 use Rattle.cborn_transcode.specs.Walking.{ItemsWalked, PairsWalked}
 use Rattle.cborn_transcode.proofs.Walking.{walked_from, array_walked, map_walked, tagged_walked, bignum_walked, items_none, items_more, pairs_start, pairs_on, leaving, leaf_walked, item_last, item_within}
 use Rattle.cborn_transcode.proofs.Iteming.{under}
 use Rattle.cborn_transcode.proofs.walks.+walked.Goals as goal
 
-pub walk_item-returns-in-4 : goal.walk_item-returns-in-4
-walk_item-returns-in-4 g t c =
+pub walk_item-returns-in-Array : goal.walk_item-returns-in-Array
+walk_item-returns-in-Array g t c =
     leaving c.walk_array.result
-    (λ rest s. walked_from g.O.KeyOrder.order c.args.room c.args.bytes.now c.in_ok-major.rest.now rest c.in_ok-major.major c.in_ok-major.n 4 c.in_ok-major.ensures c.in-4.is s)
+    (λ rest s. walked_from g.O.KeyOrder.order c.args.room c.args.bytes.now c.in_ok-major.rest.now rest c.in_ok-major.major c.in_ok-major.n Array c.in_ok-major.ensures c.in-Array.is s)
     c.walk_array.ensures
 
-pub walk_item-returns-in-5 : goal.walk_item-returns-in-5
-walk_item-returns-in-5 g t c =
+pub walk_item-returns-in-Map : goal.walk_item-returns-in-Map
+walk_item-returns-in-Map g t c =
     leaving c.walk_map.result
-    (λ rest s. walked_from g.O.KeyOrder.order c.args.room c.args.bytes.now c.in_ok-major.rest.now rest c.in_ok-major.major c.in_ok-major.n 5 c.in_ok-major.ensures c.in-5.is s)
+    (λ rest s. walked_from g.O.KeyOrder.order c.args.room c.args.bytes.now c.in_ok-major.rest.now rest c.in_ok-major.major c.in_ok-major.n Map c.in_ok-major.ensures c.in-Map.is s)
     c.walk_map.ensures
 
-pub walk_item-returns-in-6 : goal.walk_item-returns-in-6
-walk_item-returns-in-6 g t c =
+pub walk_item-returns-in-Tag : goal.walk_item-returns-in-Tag
+walk_item-returns-in-Tag g t c =
     leaving c.walk_tagged.result
-    (λ rest s. walked_from g.O.KeyOrder.order c.args.room c.args.bytes.now c.in_ok-major.rest.now rest c.in_ok-major.major c.in_ok-major.n 6 c.in_ok-major.ensures c.in-6.is s)
+    (λ rest s. walked_from g.O.KeyOrder.order c.args.room c.args.bytes.now c.in_ok-major.rest.now rest c.in_ok-major.major c.in_ok-major.n Tag c.in_ok-major.ensures c.in-Tag.is s)
     c.walk_tagged.ensures
 
 pub walk_item-returns-in_default : goal.walk_item-returns-in_default
