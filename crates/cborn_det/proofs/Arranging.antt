@@ -5,7 +5,7 @@ use Rattle.std.specs.Cmp.{IsTotalOrder}
 use Rattle.std.specs.List.{IsDistinct}
 use Rattle.std.specs.List.Sorted.{IsSortedBy}
 use Rattle.std.proofs.lemmas.Map.Keys.{IsDistinct-IsPermutation}
-use Rattle.cborn_model.proofs.Rearranging.{weaker}
+use Rattle.cborn_model.proofs.SameItems.Rearranging.{weaker}
 use Rattle.cborn_model.specs.Orders.{IsKeyOrder, Rising}
 use Rattle.cborn_det.specs.Det.{Entry, keys}
 use Rattle.cborn_det.specs.Writing.{HasDistinctKeys}

@@ -4,13 +4,13 @@ use Rattle.std.specs.Prelude.{⊤}
 use Rattle.std.specs.List.{AllByRecursion, AllZip}
 use Rattle.std.proofs.lemmas.List.Sorted.{length_permutation, IsPermutation-sym, IsPermutation-trans}
 use Rattle.std.proofs.lemmas.Bool.{cases_lt}
-use Rattle.cborn_model.proofs.OneHead.{one_head, least_holds}
-use Rattle.cborn_model.proofs.Rearranging.{All_moved, carried, carried_left}
+use Rattle.cborn_model.proofs.Numbers.OneHead.{one_head, least_holds}
+use Rattle.cborn_model.proofs.SameItems.Rearranging.{All_moved, carried, carried_left}
 use Rattle.cborn_det.proofs.Rising.{one_arrangement, arranged}
 use Rattle.cborn_det.proofs.Reading.{small, reads, EntryReads, pairs_read, arranged_reads}
-use Rattle.cborn_model.proofs.OneMagnitude.{one_magnitude, one_number}
+use Rattle.cborn_model.proofs.Numbers.OneMagnitude.{one_magnitude, one_number}
 use Rattle.cborn_model.specs.Value.{Value, Values, Couples, integer, bytes, text, array, dict, tagged, simple, no_values, value, no_pairs, pair, listed, value_count, pair_count, pairs_of, number, Same, SameValues, SamePairs}
-use Rattle.cborn_model.proofs.Values.{listed-pairs_of}
+use Rattle.cborn_model.proofs.Listed.Values.{listed-pairs_of}
 use Rattle.cborn_model.specs.Bytes.{big_endian}
 use Rattle.cborn_model.specs.Valid.{IsProper, AreProper, HasProperPairs, IsNew, HasNewKeys}
 use Rattle.cborn_model.specs.declared.heads.Width.{Width}

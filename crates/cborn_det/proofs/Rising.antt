@@ -6,7 +6,7 @@ use Rattle.std.specs.Ordering.{ordering_reverse}
 use Rattle.cborn_model.specs.Orders.{IsKeyOrder, Rising}
 use Rattle.cborn_det.specs.Det.{Entry, keys}
 use Rattle.cborn_det.specs.Writing.{HasDistinctKeys}
-use Rattle.cborn_model.proofs.Rearranging.{All_moved, weaker, both, at_member, IsIn, AreIn, are_in_moved}
+use Rattle.cborn_model.proofs.SameItems.Rearranging.{All_moved, weaker, both, at_member, IsIn, AreIn, are_in_moved}
 
 abbrev bare : List ℕ → Entry
 bare k = (k, [])

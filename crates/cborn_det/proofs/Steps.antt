@@ -10,7 +10,7 @@ use Rattle.cborn_model.specs.Value.{Value, array, dict, values_of, pairs_of}
 use Rattle.cborn_model.specs.Valid.{IsProper, AreProper, HasProperPairs}
 use Rattle.cborn_model.specs.Heads.{IsLeastHead}
 use Rattle.cborn_model.specs.Orders.{Rising}
-use Rattle.cborn_model.proofs.Values.{value_count-values_of, pair_count-pairs_of}
+use Rattle.cborn_model.proofs.Listed.Values.{value_count-values_of, pair_count-pairs_of}
 use Rattle.cborn_det.specs.Det.{Det, DetValues, DetPairs, DetSeq, Entry, joined, keys}
 use Rattle.cborn_det.specs.Appending.{Appends}
 use Rattle.cborn_det.specs.Writing.{AppendsPair, BeginsWith, IsWritten, lengths_of}

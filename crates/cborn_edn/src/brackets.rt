@@ -211,7 +211,7 @@ impl Brackets {
     }
 
     /// How many arrays, maps, tags and embedded sequences are open.
-    #[tactic(auto, using(crate::proofs::Innermost::innermost))]
+    #[tactic(auto, using(crate::proofs::Reader::Innermost::innermost))]
     pub(crate) fn levels(&self) -> u64
         ensures count { result ≡ levels_in self.now }
         ensures small { result < 2 ^ 63 }
@@ -220,7 +220,7 @@ impl Brackets {
     }
 
     /// One more, inside the others.
-    #[tactic(auto, using(crate::proofs::Innermost::innermost))]
+    #[tactic(auto, using(crate::proofs::Reader::Innermost::innermost))]
     pub(crate) fn push(&mut self, bracket: Bracket) -> Result<(), AllocError>
         ensures { OnOk result (self.new ≡ bracket ∷ self.old) }
     {
@@ -233,7 +233,7 @@ impl Brackets {
     }
 
     /// The innermost, taken off.
-    #[tactic(auto, using(crate::proofs::Innermost::innermost))]
+    #[tactic(auto, using(crate::proofs::Reader::Innermost::innermost))]
     pub(crate) fn pop(&mut self) -> Option<Bracket>
         ensures { MatchOption result (self.old ≡ []) (λ bracket. self.old ≡ bracket ∷ self.new) }
     {
@@ -245,7 +245,7 @@ impl Brackets {
     }
 
     /// A comma behind an item: the innermost takes the item in, where a comma may follow. Whether that is so.
-    #[tactic(auto, using(crate::proofs::Innermost::innermost))]
+    #[tactic(auto, using(crate::proofs::Reader::Innermost::innermost))]
     pub(crate) fn settle(&mut self, item: Option<Node>) -> Result<bool, AllocError>
         requires spelled { MaySpell item }
         requires room { HaveRoom self.old }
@@ -258,7 +258,7 @@ impl Brackets {
     }
 
     /// A colon behind an item: the item becomes the key of the next pair, where the innermost is a map that wants one. Whether that is so.
-    #[tactic(auto, using(crate::proofs::Innermost::innermost))]
+    #[tactic(auto, using(crate::proofs::Reader::Innermost::innermost))]
     pub(crate) fn key(&mut self, item: Option<Node>) -> bool
         ensures { pure.keyed_in self.old item ≡ (if result then Some self.new else None) }
     {

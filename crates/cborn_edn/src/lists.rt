@@ -36,7 +36,7 @@ impl NodeList {
     }
 
     /// One more behind the others.
-    #[tactic(auto, using(crate::proofs::Snocs::snocs))]
+    #[tactic(auto, using(crate::proofs::Reader::Snocs::snocs))]
     pub(crate) fn add(&mut self, node: Node) -> Result<(), AllocError>
         ensures { OnOk result (self.new ≡ snoc self.old node) }
     {
@@ -83,7 +83,7 @@ impl SpelledList {
     }
 
     /// One more behind the others.
-    #[tactic(auto, using(crate::proofs::Snocs::snocs))]
+    #[tactic(auto, using(crate::proofs::Reader::Snocs::snocs))]
     pub(crate) fn add(&mut self, item: Spelled) -> Result<(), AllocError>
         ensures { OnOk result (self.new ≡ snoc self.old item) }
     {
@@ -137,7 +137,7 @@ impl NodePairs {
     }
 
     /// One more behind the others.
-    #[tactic(auto, using(crate::proofs::Snocs::snocs))]
+    #[tactic(auto, using(crate::proofs::Reader::Snocs::snocs))]
     pub(crate) fn add(&mut self, key: Node, value: Node) -> Result<(), AllocError>
         ensures { OnOk result (self.new ≡ snoc_entry self.old key value) }
     {

@@ -130,7 +130,7 @@ impl State {
 
     /// What is wrong, if anything, with what was just read.
     #[inline]
-    #[tactic(auto, using(crate::proofs::Earliest::slips))]
+    #[tactic(auto, using(crate::proofs::Meaning::Earliest::slips))]
     pub(crate) fn note(&mut self, found: Option<Slip>)
         ensures { self.new ≡ pure.keep self.old.brackets self.old.phase (pure.earlier self.old.slip found) }
     {

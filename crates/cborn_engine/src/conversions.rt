@@ -27,7 +27,7 @@ use std::alloc::{AllocError, Global};
 ///
 /// # Errors
 /// Those of `load_within`, and `Invalid`: the first flaw of the first item that isn't valid, at its offset in bytes from the start of the input. At these the writer is as it was. `WriteFault` where the writer failed; then a front of the answer went out.
-#[tactic(auto, using(crate::proofs::Unanswered::not_normalised, crate::proofs::Canonicity::no_answer))]
+#[tactic(auto, using(crate::proofs::Answers::Unanswered::not_normalised, crate::proofs::Canonical::Canonicity::no_answer))]
 pub fn normalise<O: KeyOrder, R: Source, W: Sink>(
     alloc: Global,
     limit: Limit,

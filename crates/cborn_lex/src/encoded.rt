@@ -58,7 +58,7 @@ fn strip(alloc: Global, content: &[u8]) -> Result<Option<Vec<u8>>, AllocError>
 }
 
 /// The bytes that a content in hexadecimal stands for, if it does.
-#[tactic(auto, using(crate::proofs::Hexes::hex_ok))]
+#[tactic(auto, using(crate::proofs::Contents::Hexes::hex_ok))]
 fn hex_bytes(alloc: Global, content: &[u8]) -> Result<Option<Vec<u8>>, AllocError>
     ensures { IfOk result (λ r. MatchOption r ((bytes : List ℕ) → IsHex content.now bytes → ⊥) (λ v. IsHex content.now v.items)) }
 {

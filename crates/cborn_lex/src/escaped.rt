@@ -16,7 +16,7 @@ use cborn_model::ByteString;
 use std::alloc::{AllocError, Global};
 
 /// The place of the closing quote q.
-#[tactic(auto, using(crate::proofs::Ends::one_more, crate::proofs::Ends::two_more, crate::proofs::Ends::ends, crate::proofs::Ends::ends_escaped))]
+#[tactic(auto, using(crate::proofs::Contents::Ends::one_more, crate::proofs::Contents::Ends::two_more, crate::proofs::Contents::Ends::ends, crate::proofs::Contents::Ends::ends_escaped))]
 fn content_end(q: u8, tail: &[u8]) -> Option<usize>
     requires { (q == 92) ≡ false }
     ensures { MatchOption result (is_unclosed q tail.now ≡ true) (λ i. (i < length tail.now) × (is_content q (take i tail.now) ≡ true) × (slice_index tail.now i ≡ q)) }
@@ -58,7 +58,7 @@ fn raw_len(x: &[u8]) -> usize
 }
 
 /// The number of the four hexadecimal digits at the front.
-#[tactic(auto, using(crate::proofs::Letters::no_code))]
+#[tactic(auto, using(crate::proofs::Contents::Letters::no_code))]
 fn code_at(x: &[u8]) -> Option<u32>
     ensures value { result ≡ code_at x.now }
     ensures small { IfSome result (λ n. (n < 65536) × (4 ≤ length x.now)) }
@@ -71,7 +71,7 @@ fn code_at(x: &[u8]) -> Option<u32>
 }
 
 /// The low surrogate of an escape at the front.
-#[tactic(auto, using(crate::proofs::Letters::no_low))]
+#[tactic(auto, using(crate::proofs::Contents::Letters::no_low))]
 fn low_code(x: &[u8]) -> Option<u32>
     ensures value { result ≡ low_code x.now }
     ensures low { IfSome result (λ n. is_low n ≡ true) }

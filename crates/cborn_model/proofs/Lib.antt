@@ -1,14 +1,4 @@
-pub mod Majors
-pub mod OneHead
-pub mod OneMagnitude
-pub mod SomeMagnitude
-pub mod Rearranging
-pub mod Sameness
-pub mod Matching
-pub mod Trees
-pub mod Values
-pub mod Comparing
-pub mod Validating
-pub mod Deciding
-pub mod Fitting
+pub mod Numbers
+pub mod SameItems
+pub mod Listed
 pub mod Firsts

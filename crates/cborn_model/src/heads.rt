@@ -61,7 +61,7 @@ impl Major {
 
     /// The major type of the head that begins with this byte.
     #[inline(always)]
-    #[tactic(auto, using(crate::proofs::Majors::code_at))]
+    #[tactic(auto, using(crate::proofs::Numbers::Majors::code_at))]
     pub fn of_initial_byte(byte: u8) -> Major
         ensures { code result ≡ byte / 32 }
     {

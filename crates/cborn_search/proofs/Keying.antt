@@ -13,12 +13,12 @@ use Rattle.cborn_model.specs.Valid.{IsProper}
 use Rattle.cborn_model.specs.Value.{Value, Values, Couples, bytes, text, no_values, value, no_pairs, pair}
 use Rattle.cborn_model.specs.Meaning.{Means, AllMean, EntriesMean, IsByteString, IsBignum, ChunksAreText, joined_chunks}
 use Rattle.cborn_wire.specs.Places.{chunks_from, placed_from, all_from, entries_from}
-use Rattle.cborn_wire.proofs.AsPlaced.{same_all-from}
-use Rattle.cborn_wire.proofs.OneReading.{one_spelling}
+use Rattle.cborn_wire.proofs.Spelled.AsPlaced.{same_all-from}
+use Rattle.cborn_wire.proofs.Spelled.OneReading.{one_spelling}
 use Rattle.cborn_det.specs.Det.{Det, DetSeq}
 use Rattle.cborn_judge.specs.Flaws.{Flaw}
-use Rattle.cborn_judge.proofs.Judging.{no_flaw}
-use Rattle.cborn_judge.proofs.Meanings.{meaning_valid, some_bytes}
+use Rattle.cborn_judge.proofs.Meaning.Judging.{no_flaw}
+use Rattle.cborn_judge.proofs.Meaning.Meanings.{meaning_valid, some_bytes}
 use Rattle.cborn_transcode.specs.Transcoding.{IsTranscoded}
 use Rattle.cborn_search.specs.Reading.{NodeRead}
 use Rattle.cborn_search.specs.Flawed.{Told, FindsTold, Scanned}

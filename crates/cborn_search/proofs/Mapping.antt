@@ -11,10 +11,10 @@ use Rattle.cborn_model.specs.Tree.{Tree, Pairs, entries}
 use Rattle.cborn_judge.specs.Flaws.{Flaw}
 use Rattle.cborn_judge.specs.Judged.{FlawAmong, RepeatFlaw}
 use Rattle.cborn_judge.specs.declared.faults.InvalidReason.{InvalidReason}
-use Rattle.cborn_judge.proofs.Firsts.{Either}
-use Rattle.cborn_judge.proofs.Pairing.{after, before, last_key, last_value}
-use Rattle.cborn_judge.proofs.Pushing.{keys_push, keys_skip}
-use Rattle.cborn_judge.proofs.Steps.{flaw_pairs}
+use Rattle.cborn_judge.proofs.Loops.Firsts.{Either}
+use Rattle.cborn_judge.proofs.FirstFlaw.Pairing.{after, before, last_key, last_value}
+use Rattle.cborn_judge.proofs.SameKeys.Pushing.{keys_push, keys_skip}
+use Rattle.cborn_judge.proofs.FirstFlaw.Steps.{flaw_pairs}
 use Rattle.cborn_transcode.specs.Transcoding.{IsTranscoded}
 use Rattle.cborn_search.specs.Reading.{Pair, NodeRead}
 use Rattle.cborn_search.specs.Flawed.{Told, IsEarliestTold, FindsTold, SeenKey, seen_bytes, seen_position, seen_place, AreSeen, HasFlaw, Scanned, PairsFlaw, PairsSeen}

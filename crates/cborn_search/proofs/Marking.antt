@@ -12,9 +12,9 @@ use Rattle.cborn_judge.specs.Judged.{RepeatFlaw}
 use Rattle.cborn_judge.specs.Repeats.{IsOneOf, IsAgain, IsTied, PositionsRise}
 use Rattle.cborn_judge.specs.declared.faults.InvalidReason.{InvalidReason}
 use Rattle.cborn_judge.specs.declared.faults.InvalidReason.TheVariants.{DuplicateKey}
-use Rattle.cborn_judge.proofs.Firsts.{Either}
-use Rattle.cborn_judge.proofs.Passing.{passed_one}
-use Rattle.cborn_judge.proofs.Repeating.{repeat_again, again_repeat, InOrder, again_tied}
+use Rattle.cborn_judge.proofs.Loops.Firsts.{Either}
+use Rattle.cborn_judge.proofs.Loops.Passing.{passed_one}
+use Rattle.cborn_judge.proofs.SameKeys.Repeating.{repeat_again, again_repeat, InOrder, again_tied}
 use Rattle.cborn_search.specs.Reading.{Pair}
 use Rattle.cborn_search.specs.Flawed.{Told, IsEarliestTold, FindsTold, SeenKey, seen_bytes, seen_position, seen_place, AreSeen}
 use Rattle.cborn_search.specs.Marks.{mark_start, mark_bytes, IsMark, StartsRise, AreMarked, Comes, InPlace, ComesAfter, TieAfter, TieFlaw}

@@ -17,9 +17,9 @@ use Rattle.cborn_judge.specs.Flaws.{FlawAt, Flaw, HasBadChunk, flaw_rank}
 use Rattle.cborn_judge.specs.Judged.{FlawIn, ChunkFlaw}
 use Rattle.cborn_judge.specs.declared.faults.InvalidReason.{InvalidReason}
 use Rattle.cborn_judge.specs.declared.faults.InvalidReason.TheVariants.{BadBignum}
-use Rattle.cborn_judge.proofs.Firsts.{Either, found_both, found_alike}
-use Rattle.cborn_judge.proofs.Steps.{flaw_items, flaw_tagged}
-use Rattle.cborn_judge.proofs.Walking.{one_more}
+use Rattle.cborn_judge.proofs.Loops.Firsts.{Either, found_both, found_alike}
+use Rattle.cborn_judge.proofs.FirstFlaw.Steps.{flaw_items, flaw_tagged}
+use Rattle.cborn_judge.proofs.FirstFlaw.Walking.{one_more}
 use Rattle.cborn_search.specs.Reading.{StringRead, IsSimpleArgument}
 use Rattle.cborn_search.specs.Flawed.{Told, told_place, told_reason, IsEarliestTold, FindsTold, TextFlaw, BadChunk, ChunkSeen, ChunksSeen, IsKind, HasFlaw, Scanned, HaveFlaw, ScannedAll}
 use Rattle.cborn_search.proofs.Nodes.{uint_read, nint_read, bytes_read, text_read, simple_read, no_chunk, chunk_more, byte_chunks_read, text_chunks_read, no_node, node_more, array_read, endless_array_read, tagged_read}

@@ -10,7 +10,7 @@ use Rattle.cborn_model.specs.Value.{Value}
 use Rattle.cborn_judge.specs.Flaws.{Flaw, IsRefusal, IsRefusalOfAll}
 use Rattle.cborn_judge.specs.declared.faults.Invalid.TheVariants.{Refused, OutOfMemory}
 use Rattle.cborn_judge.specs.declared.faults.InvalidReason.{InvalidReason}
-use Rattle.cborn_judge.proofs.Judging.{meaning}
+use Rattle.cborn_judge.proofs.Meaning.Judging.{meaning}
 use Rattle.cborn_search.specs.Flawed.{Told, FindsTold, HasFlaw, Scanned}
 use Rattle.cborn_search.specs.Reading.{NodesRead}
 use Rattle.cborn_search.specs.Searching.{FlawVerdict, IsFirstFlawOf}

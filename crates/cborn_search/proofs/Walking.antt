@@ -23,10 +23,10 @@ use Rattle.cborn_judge.specs.Defects.{defect_rank, ChunksDefect, DefectAt, IsLoo
 use Rattle.cborn_judge.specs.declared.defects.Defect.{Defect}
 use Rattle.cborn_judge.specs.declared.defects.DefectReason.{DefectReason}
 use Rattle.cborn_judge.specs.declared.defects.DefectReason.TheVariants.{EndlessLength, LooseBignum}
-use Rattle.cborn_judge.proofs.Departing.{both_found, alike, chunk-take_more, uint_found, nint_found, bytes_found, text_found, byte_chunks_found, text_chunks_found, items_found, pairs_found, tag_found}
-use Rattle.cborn_judge.proofs.Descending.{item-take_more, Seen, After, seen-take_more}
-use Rattle.cborn_judge.proofs.Firsts.{Either}
-use Rattle.cborn_judge.proofs.Pairing.{after, before, last_key, last_value}
+use Rattle.cborn_judge.proofs.FirstDefect.Departing.{both_found, alike, chunk-take_more, uint_found, nint_found, bytes_found, text_found, byte_chunks_found, text_chunks_found, items_found, pairs_found, tag_found}
+use Rattle.cborn_judge.proofs.FirstDefect.Descending.{item-take_more, Seen, After, seen-take_more}
+use Rattle.cborn_judge.proofs.Loops.Firsts.{Either}
+use Rattle.cborn_judge.proofs.FirstFlaw.Pairing.{after, before, last_key, last_value}
 use Rattle.cborn_transcode.specs.Transcoding.{IsTranscoded}
 use Rattle.cborn_search.specs.Reading.{Pair, StringRead, IsSimpleArgument, NodeRead, PairsRead}
 use Rattle.cborn_search.specs.Digits.{AreDigits, BeginsWith, DigitsWalked}

@@ -7,8 +7,8 @@ use Rattle.cborn_model.specs.declared.heads.Width.TheVariants.{Direct}
 use Rattle.cborn_model.specs.declared.heads.Major.{Major}
 use Rattle.cborn_model.specs.declared.heads.Major.TheVariants.{Unsigned, Negative, ByteString, TextString, Array, Map, Tag, Other}
 use Rattle.cborn_model.specs.Heads.{Argument, Given, Unbounded, head, code, information, WidthFits}
-use Rattle.cborn_model.proofs.Majors.{major_at-code}
-use Rattle.cborn_model.proofs.OneHead.{one_head}
+use Rattle.cborn_model.proofs.Numbers.Majors.{major_at-code}
+use Rattle.cborn_model.proofs.Numbers.OneHead.{one_head}
 use Rattle.cborn_wire.specs.declared.heads.Head.{Head}
 use Rattle.cborn_wire.specs.HeadReading.{major_at, IsHeadOf, seen_argument, ArgumentFits}
 use Rattle.cborn_wire.specs.Scanning.{content_of}

@@ -16,7 +16,7 @@ use Rattle.cborn_model.specs.Tree.{Tree, Uint, Nint, Bytes, Text, ByteChunks, Te
 use Rattle.cborn_edn.specs.Shown.{IsBadText, IsBadAmong, IsBadInPairs, IsBadChunk, LowestBadText}
 use Rattle.cborn_wire.specs.HeadReading.{ArgumentFits}
 use Rattle.cborn_wire.specs.Scanning.{content_of}
-use Rattle.cborn_wire.proofs.TakesItems.{simple_fits}
+use Rattle.cborn_wire.proofs.Machine.TakesItems.{simple_fits}
 use Rattle.cborn_show.specs.Pieces.{Piece, piece_bytes, all_bytes, AllFit, BadAt, IsFirstBad}
 
 abbrev bare : Major → Argument → Piece

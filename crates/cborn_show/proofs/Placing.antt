@@ -13,12 +13,12 @@ use Rattle.cborn_model.specs.Placed.{PlacedAll}
 use Rattle.cborn_edn.specs.Shown.{Shown, shown, shown_lines}
 use Rattle.cborn_edn.specs.ReadingBack.{unplaced_chunks, unplaced, unplaced_all, unplaced_entries}
 use Rattle.cborn_edn.specs.devices.Between.{separated}
-use Rattle.cborn_edn.proofs.Separated.{lines-separated}
-use Rattle.cborn_edn.proofs.Characters.{lines_text}
-use Rattle.cborn_edn.proofs.SameText.{same_notation}
+use Rattle.cborn_edn.proofs.Shown.Separated.{lines-separated}
+use Rattle.cborn_edn.proofs.Shown.Characters.{lines_text}
+use Rattle.cborn_edn.proofs.Shown.SameText.{same_notation}
 use Rattle.cborn_wire.specs.Places.{chunks_from, placed_from, all_from, entries_from}
-use Rattle.cborn_wire.proofs.AsPlaced.{spelled_all-from, depth_all-from, fits_all-from, placed_all-from}
-use Rattle.cborn_wire.proofs.TreeLists.{tree_list, trees-tree_list}
+use Rattle.cborn_wire.proofs.Spelled.AsPlaced.{spelled_all-from, depth_all-from, fits_all-from, placed_all-from}
+use Rattle.cborn_wire.proofs.Spelled.TreeLists.{tree_list, trees-tree_list}
 use Rattle.cborn_show.specs.Passed.{NodesShown, PassShown, IsShownText}
 
 chunks-aside : (m : Major) (cs : List Chunk) (p : ℕ) → unplaced_chunks (chunks_from m p cs) ≡ unplaced_chunks cs

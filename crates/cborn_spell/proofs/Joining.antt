@@ -18,7 +18,7 @@ use Rattle.cborn_lex.specs.Tokens as lex
 use Rattle.cborn_lex.specs.Tokens.{begins}
 use Rattle.cborn_lex.specs.Forms.{IsIndicator}
 use Rattle.cborn_lex.specs.Lex.{Between}
-use Rattle.cborn_lex.proofs.Progress.{joins}
+use Rattle.cborn_lex.proofs.WholeTexts.Progress.{joins}
 use Rattle.cborn_edn.specs.declared.strings.StringKind.{StringKind}
 use Rattle.cborn_edn.specs.declared.strings.StringKind.TheVariants.{Bytes as OfBytes, Text as OfText}
 use Rattle.cborn_edn.specs.Syntax.{Piece, text as text_piece, bytes as bytes_piece, embedded, Pieces, piece, also, strings, StringsBefore, no_string, after_strings, string, chunked, tokens_of_piece, tokens_of_pieces, tokens_of_strings, tokens_of_content}

@@ -16,11 +16,11 @@ use Rattle.cborn_lex.specs.declared.classes.Class.TheVariants.{Text, Bytes}
 use Rattle.cborn_lex.specs.Tokens.{Read, begins, marked, mark_of}
 use Rattle.cborn_lex.specs.Strings.{is_content, IsText}
 use Rattle.cborn_lex.specs.Letters.{Letter, raw, written, meant, is_letter}
-use Rattle.cborn_lex.proofs.Lettered.{is_text}
+use Rattle.cborn_lex.proofs.Contents.Lettered.{is_text}
 use Rattle.cborn_lex.specs.Scan.{is_raw}
 use Rattle.cborn_lex.specs.Forms.{Reads, IsIndicator}
-use Rattle.cborn_lex.proofs.Quotes.{content_cons}
-use Rattle.cborn_lex.proofs.Progress.{nothing, then_token}
+use Rattle.cborn_lex.proofs.OneFront.Quotes.{content_cons}
+use Rattle.cborn_lex.proofs.WholeTexts.Progress.{nothing, then_token}
 use Rattle.cborn_edn.specs.Syntax.{Span, text as text_piece, bytes as bytes_piece, piece, string}
 use Rattle.cborn_edn.specs.Meaning.{means, and_then, when, width_for}
 use Rattle.cborn_spell.proofs.Allowing.{allows_none}

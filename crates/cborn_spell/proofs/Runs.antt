@@ -12,8 +12,8 @@ use Rattle.std.specs.List.{list_all, flat_map, prefix_len}
 use Rattle.std.specs.Simd.Lanes.{zip2, mask_l, top}
 use Rattle.cborn_lex.specs.Strings.{is_content, is_escape, escape_code}
 use Rattle.cborn_lex.specs.Letters.{Letter, escaped, written, meant, is_letter}
-use Rattle.cborn_lex.proofs.Lettered.{is_text}
-use Rattle.cborn_lex.proofs.Ends.{content_then}
+use Rattle.cborn_lex.proofs.Contents.Lettered.{is_text}
+use Rattle.cborn_lex.proofs.Contents.Ends.{content_then}
 use Rattle.cborn_lex.specs.Tokens.{begins}
 use Rattle.cborn_spell.specs.Descent.{is_plain, is_special, LettersSoFar, LettersTaken, LetterTaken}
 use Rattle.cborn_spell.proofs.Quoting.{raw_content, raws, raws_allowed, raws_written, raws_meant}

@@ -17,8 +17,8 @@ use Rattle.cborn_lex.specs.Tokens.{Read, Blank, begins, is_numeral, is_not, mark
 use Rattle.cborn_lex.specs.Numbers.{number, within, integer, number_front, signed}
 use Rattle.cborn_lex.specs.Forms.{Start, single, opening, start_of, IsIndicator, ReadsFrom, ReadsNumber, Reads}
 use Rattle.cborn_lex.specs.Lex.{Between}
-use Rattle.cborn_lex.proofs.Progress.{nothing, after_blank, then_token}
-use Rattle.cborn_edn.proofs.DecimalTexts.{digits_pass, starts, plain_integer}
+use Rattle.cborn_lex.proofs.WholeTexts.Progress.{nothing, after_blank, then_token}
+use Rattle.cborn_edn.proofs.Lexed.DecimalTexts.{digits_pass, starts, plain_integer}
 use Rattle.cborn_spell.specs.Descent.{TokenAt, IsPlain, goes_on}
 
 -- Characters that are tokens alone.

@@ -11,14 +11,14 @@ use Rattle.cborn_model.specs.Tree.{Tree, Uint, Nint, Bytes as ByteNode, Items, P
 use Rattle.cborn_model.specs.Spelled.{spelled, spelled_all, spelled_entries}
 use Rattle.cborn_lex.specs.declared.classes.Profile.{Profile}
 use Rattle.cborn_lex.specs.declared.classes.Profile.TheVariants.{Two}
-use Rattle.cborn_wire.proofs.TreeLists.{tree_list, trees-tree_list}
+use Rattle.cborn_wire.proofs.Spelled.TreeLists.{tree_list, trees-tree_list}
 use Rattle.cborn_lex.specs.declared.classes.Mark.{Mark}
 use Rattle.cborn_lex.specs.declared.classes.Mark.TheVariants.{Absent, Endless, Wide}
 use Rattle.cborn_lex.specs.declared.classes.Class.TheVariants.{ArrayOpen, MapOpen, ArrayClose, MapClose, ParenClose, Comma, Colon, Number, TagOpen, Word, SimpleOpen}
 use Rattle.cborn_lex.specs.Lex.{Between}
-use Rattle.cborn_lex.proofs.Progress.{nothing, joins, whole_text}
-use Rattle.cborn_edn.proofs.Agree.{count-snoc, count-snoc_entry}
-use Rattle.cborn_edn.proofs.Trailing.{parse_of}
+use Rattle.cborn_lex.proofs.WholeTexts.Progress.{nothing, joins, whole_text}
+use Rattle.cborn_edn.proofs.Meaning.Agree.{count-snoc, count-snoc_entry}
+use Rattle.cborn_edn.proofs.Grammar.Trailing.{parse_of}
 use Rattle.cborn_edn.specs.Syntax.{Span, depth_of_number, tokens_of_content, depth_of_content, tokens_of_fields, depth_of_fields, tokens_of_pairs, number, word, tag, simple, array, map, tokens_of, row, no_item, after_row, Content, loose, tight, tokens_of_row, pairs, no_pair, after_pairs, Fields, loose_fields, tight_fields, nothing as nothing_there, items, is_small, is_below, argument_of}
 use Rattle.cborn_edn.specs.devices.Commas.{commas_of_content, commas_of_fields, AllowsCount}
 use Rattle.std.specs.Prelude.{nat_lt}

@@ -11,8 +11,8 @@ use Rattle.cborn_model.specs.Value.{integer, bytes, text, tagged, simple}
 use Rattle.cborn_model.specs.Meaning.{joined_chunks, IsBignum}
 use Rattle.cborn_model.specs.declared.nodes.Chunk.{Chunk}
 use Rattle.cborn_model.specs.declared.heads.Size.TheVariants.{Endless}
-use Rattle.cborn_model.proofs.SomeMagnitude.{magnitude_of}
-use Rattle.cborn_judge.proofs.Meanings.{holds_below}
+use Rattle.cborn_model.proofs.Numbers.SomeMagnitude.{magnitude_of}
+use Rattle.cborn_judge.proofs.Meaning.Meanings.{holds_below}
 use Rattle.std.specs.List.{flat_map}
 use Rattle.cborn_det.specs.Appending.{Appends}
 use Rattle.cborn_wire.specs.declared.heads.Argument.{Argument}

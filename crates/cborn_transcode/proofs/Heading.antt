@@ -3,7 +3,7 @@ use Rattle.std.proofs.Common.{◌≡◌, ℕ, ◌-◌, ◌<◌, ◌≤◌, List,
 use Rattle.std.proofs.lemmas.List.{take-append-drop, length-take-le}
 use Rattle.cborn_model.specs.Bytes.{AreBytes, IsShortest, big_endian}
 use Rattle.cborn_model.specs.Tree.{Bytes}
-use Rattle.cborn_model.proofs.OneMagnitude.{large}
+use Rattle.cborn_model.proofs.Numbers.OneMagnitude.{large}
 use Rattle.cborn_det.specs.Det.{IsInteger, bignum_tag}
 use Rattle.cborn_det.specs.Appending.{Appends}
 use Rattle.std.specs.List.{flat_map}

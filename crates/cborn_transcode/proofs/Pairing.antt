@@ -14,8 +14,8 @@ use Rattle.cborn_model.specs.Value.{Value, Couples, no_pairs, pair, pairs_of, di
 use Rattle.cborn_model.specs.Valid.{IsProper, HasProperPairs, IsNew, HasNewKeys}
 use Rattle.cborn_model.specs.Meaning.{Means, EntriesMean}
 use Rattle.cborn_model.specs.Orders.{IsKeyOrder, Rising}
-use Rattle.cborn_model.proofs.Values.{pair_count-pairs_of}
-use Rattle.cborn_judge.proofs.Meanings.{Short, left, right, meaning_valid, same_count_entries}
+use Rattle.cborn_model.proofs.Listed.Values.{pair_count-pairs_of}
+use Rattle.cborn_judge.proofs.Meaning.Meanings.{Short, left, right, meaning_valid, same_count_entries}
 use Rattle.cborn_det.specs.Det.{Det, DetPairs, Entry, joined, keys}
 use Rattle.cborn_det.specs.Writing.{HasDistinctKeys}
 use Rattle.cborn_det.specs.Appending.{Appends}

@@ -11,8 +11,8 @@ use Rattle.cborn_model.specs.Placed.{PlacedAll}
 use Rattle.cborn_model.specs.Value.{Value, Values, Couples, bytes, text, no_values, value, no_pairs, pair}
 use Rattle.cborn_model.specs.Meaning.{Means, AllMean, EntriesMean, IsByteString, IsBignum, ChunksAreText, joined_chunks}
 use Rattle.cborn_wire.specs.Places.{chunks_from, placed_from, all_from, entries_from}
-use Rattle.cborn_wire.proofs.AsPlaced.{spelled_all-from, depth_all-from, fits_all-from, placed_all-from}
-use Rattle.cborn_wire.proofs.TreeLists.{tree_list, trees-tree_list}
+use Rattle.cborn_wire.proofs.Spelled.AsPlaced.{spelled_all-from, depth_all-from, fits_all-from, placed_all-from}
+use Rattle.cborn_wire.proofs.Spelled.TreeLists.{tree_list, trees-tree_list}
 use Rattle.cborn_transcode.specs.Transcoding.{IsTranscoded}
 
 joined-from : (m : Major) (cs : List Chunk) (p : ℕ) → joined_chunks (chunks_from m p cs) ≡ joined_chunks cs

@@ -14,8 +14,8 @@ use Rattle.cborn_model.specs.Tree.{Simple, Bytes}
 use Rattle.cborn_model.specs.Spelled.{Fits, simple_width}
 use Rattle.cborn_model.specs.Value.{simple}
 use Rattle.cborn_model.specs.Orders.{IsKeyOrder, Rising}
-use Rattle.cborn_model.proofs.OneHead.{append_same}
-use Rattle.cborn_judge.proofs.Meanings.{Short}
+use Rattle.cborn_model.proofs.Numbers.OneHead.{append_same}
+use Rattle.cborn_judge.proofs.Meaning.Meanings.{Short}
 use Rattle.cborn_det.specs.Det.{IsSimple, bignum_tag, Entry, joined, keys}
 use Rattle.cborn_det.proofs.Cutting.{EndsIn, Below, rise_more}
 use Rattle.cborn_wire.specs.declared.heads.Head.{Head}

@@ -1,4 +1,4 @@
--- A device of the proofs: the table of faults once more, by the major type and the information as data. No definition and no public contract cites it; the contracts of the crate's own functions do. That it says what the table of `Faults` says is proved in proofs/InitialBytes.antt.
+-- A device of the proofs: the table of faults once more, by the major type and the information as data. No definition and no public contract cites it; the contracts of the crate's own functions do. That it says what the table of `Faults` says is proved in proofs/HeadReading/InitialBytes.antt.
 use Rattle.std.specs.Prelude.{ℕ, ◌/◌, ◌%◌, List, [], ◌∷◌, Bool, true, false, ◌&&◌, ◌||◌, not, if◌then◌else◌, nat_lt, nat_le, ◌==◌, Option, Some, None}
 use Rattle.cborn_model.specs.declared.heads.Width.{Width}
 use Rattle.cborn_model.specs.declared.heads.Width.TheVariants.{One, Two, Four, Eight}

@@ -2,7 +2,7 @@ use Rattle.std.proofs.Common.{append_assoc, rules, ◌≡◌, List, ◌++◌, ma
 use Rattle.std.proofs.lemmas.List.{length-map}
 use Rattle.cborn_model.specs.ItemView.{item_value, pair_value}
 use Rattle.cborn_model.specs.Value.{Value, values_of, pairs_of, array}
-use Rattle.cborn_model.proofs.Values.{height_of_item, height_of_pair}
+use Rattle.cborn_model.proofs.Listed.Values.{height_of_item, height_of_pair}
 use Rattle.cborn_det.specs.Appending.{Appends}
 use Rattle.cborn_det.specs.Det.{Det}
 use Rattle.cborn_det.specs.Det.{joined}

@@ -1,4 +1,4 @@
-use Rattle.cborn_edn.proofs.OneTree.{answered, not_both, not_two}
+use Rattle.cborn_edn.proofs.Grammar.OneTree.{answered, not_both, not_two}
 use Rattle.cborn_edn.proofs.laws.one_answer.Goals as goal
 
 pub returns : goal.returns

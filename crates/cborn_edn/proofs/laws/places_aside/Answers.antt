@@ -1,5 +1,5 @@
-use Rattle.cborn_edn.proofs.SameText.{same_notation}
-use Rattle.cborn_edn.proofs.Unplaced.{same_fit, same_depth, same_bytes, same_meaning}
+use Rattle.cborn_edn.proofs.Shown.SameText.{same_notation}
+use Rattle.cborn_edn.proofs.RoundTrip.Unplaced.{same_fit, same_depth, same_bytes, same_meaning}
 use Rattle.cborn_edn.proofs.laws.places_aside.Goals as goal
 
 pub returns : goal.returns

@@ -1,5 +1,5 @@
-use Rattle.cborn_edn.proofs.Counting.{counted_text}
-use Rattle.cborn_edn.proofs.ShortTexts.{short_answer, notated_or_slips, notated_fits}
+use Rattle.cborn_edn.proofs.Meaning.Counting.{counted_text}
+use Rattle.cborn_edn.proofs.Meaning.ShortTexts.{short_answer, notated_or_slips, notated_fits}
 use Rattle.cborn_edn.proofs.laws.short_text.Goals as goal
 
 pub returns : goal.returns

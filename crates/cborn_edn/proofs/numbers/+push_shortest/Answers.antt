@@ -1,4 +1,4 @@
-use Rattle.cborn_edn.proofs.Bignums.{one_digit}
+use Rattle.cborn_edn.proofs.Reader.Bignums.{one_digit}
 use Rattle.cborn_edn.proofs.numbers.+push_shortest.Goals as goal
 
 pub returns-in_ok-push : goal.returns-in_ok-push

@@ -1,5 +1,5 @@
 use Rattle.std.proofs.Common.{rules, arith}
-use Rattle.cborn_edn.proofs.Bignums.{big_means}
+use Rattle.cborn_edn.proofs.Reader.Bignums.{big_means}
 use Rattle.cborn_edn.proofs.numbers.integer.Goals as goal
 
 pub returns-then-argument-ge18446744073709551616-clause-means : goal.returns-then-argument-ge18446744073709551616-clause-means

@@ -1,6 +1,6 @@
 use Rattle.std.proofs.Common.{subst, ◌∷◌, [], ◌++◌, inl, inr, refl, arith}
 use Rattle.cborn_lex.specs.Lex.{IsNext}
-use Rattle.cborn_lex.proofs.Progress.{nothing, joins, inside, few, stops}
+use Rattle.cborn_lex.proofs.WholeTexts.Progress.{nothing, joins, inside, few, stops}
 use Rattle.cborn_edn.proofs.readers.first_fault.Goals as goal
 
 pub tokens-init : goal.tokens-init

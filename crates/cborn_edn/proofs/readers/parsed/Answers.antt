@@ -1,8 +1,8 @@
 use Rattle.std.proofs.Common.{sym, subst, ◌∷◌, [], arith}
 use Rattle.cborn_lex.specs.Lex.{IsNext}
-use Rattle.cborn_lex.proofs.Progress.{inside, few}
-use Rattle.cborn_lex.proofs.Weights.{utf8_bytes}
-use Rattle.cborn_edn.proofs.Underway.{Underway, begins, is_ready, is_told, passed_on, goes_on, ends, stopped, jams}
+use Rattle.cborn_lex.proofs.WholeTexts.Progress.{inside, few}
+use Rattle.cborn_lex.proofs.WholeTexts.Weights.{utf8_bytes}
+use Rattle.cborn_edn.proofs.Reader.Underway.{Underway, begins, is_ready, is_told, passed_on, goes_on, ends, stopped, jams}
 use Rattle.cborn_edn.specs.Notates.{IsNoNotation}
 use Rattle.cborn_edn.specs.devices.Draft.{lexical}
 use Rattle.cborn_edn.proofs.readers.parsed.Goals as goal

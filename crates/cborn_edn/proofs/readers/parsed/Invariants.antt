@@ -1,5 +1,5 @@
 use Rattle.std.proofs.Common.{◌≤◌, ◌-◌, length}
-use Rattle.cborn_edn.proofs.Underway.{Underway}
+use Rattle.cborn_edn.proofs.Reader.Underway.{Underway}
 use Rattle.cborn_edn.proofs.readers.parsed.Given as goal
 
 abbrev pub invariant-tokens : goal.invariant-tokens

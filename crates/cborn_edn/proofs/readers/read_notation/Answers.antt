@@ -2,8 +2,8 @@ use Rattle.std.proofs.Common.{◌∙◌, sym, ap, Some, None, Ok, Err, IfOk, IfE
 use Rattle.std.specs.Prelude.{Result}
 use Rattle.cborn_model.specs.Tree.{trees}
 use Rattle.cborn_edn.specs.Notates.{IsNoNotation}
-use Rattle.cborn_edn.proofs.Reading.{no_end, notated, whole_told}
-use Rattle.cborn_edn.proofs.Underway.{passed_on}
+use Rattle.cborn_edn.proofs.Reader.Reading.{no_end, notated, whole_told}
+use Rattle.cborn_edn.proofs.Reader.Underway.{passed_on}
 use Rattle.cborn_edn.proofs.readers.read_notation.Goals as goal
 
 if_ok : {A E : Type 0} (r : Result A E) (P Q : A → Type 0) → ((x : A) → P x → Q x) → IfOk r P → IfOk r Q

@@ -1,8 +1,8 @@
 use Rattle.std.proofs.Common.{sym, ◌∙◌, subst, ap}
 use Rattle.std.specs.Str.{IsUtf8}
 use Rattle.cborn_model.specs.Tree.{trees}
-use Rattle.cborn_edn.proofs.Characters.{lines_text}
-use Rattle.cborn_edn.proofs.Lowests.{lowest_is, none_bad, each_showable}
+use Rattle.cborn_edn.proofs.Shown.Characters.{lines_text}
+use Rattle.cborn_edn.proofs.Shown.Lowests.{lowest_is, none_bad, each_showable}
 use Rattle.cborn_edn.proofs.showing.show.Goals as goal
 
 pub returns-in-Some-clause-refused : goal.returns-in-Some-clause-refused

@@ -3,8 +3,8 @@ use Rattle.std.proofs.lemmas.Bool.{eqb-true}
 use Rattle.cborn_model.specs.Tree.{Tree, trees}
 use Rattle.cborn_edn.specs.devices.Between.{separated}
 use Rattle.cborn_edn.specs.Shown as pure
-use Rattle.cborn_edn.proofs.Characters.{fits_more, fits_whole}
-use Rattle.cborn_edn.proofs.Separated.{one_more, all_of, lines-separated}
+use Rattle.cborn_edn.proofs.Shown.Characters.{fits_more, fits_whole}
+use Rattle.cborn_edn.proofs.Shown.Separated.{one_more, all_of, lines-separated}
 use Rattle.cborn_edn.proofs.showing.shown.Goals.{then-not-is_empty+in_ok-push, else-not-is_empty}
 use Rattle.cborn_edn.proofs.showing.shown.Goals as goal
 

@@ -1,4 +1,4 @@
-use Rattle.cborn_edn.proofs.Lowests.{utf8_is}
+use Rattle.cborn_edn.proofs.Shown.Lowests.{utf8_is}
 use Rattle.cborn_edn.proofs.strings.is_good.Goals as goal
 
 pub returns-in-Text : goal.returns-in-Text

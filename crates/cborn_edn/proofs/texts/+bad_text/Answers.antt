@@ -1,6 +1,6 @@
 use Rattle.std.proofs.Common.{arith}
-use Rattle.cborn_model.proofs.Trees.{depth_of_item, depth_of_pair}
-use Rattle.cborn_edn.proofs.Lowests.{item-take, pair-take}
+use Rattle.cborn_model.proofs.Listed.Trees.{depth_of_item, depth_of_pair}
+use Rattle.cborn_edn.proofs.Shown.Lowests.{item-take, pair-take}
 use Rattle.cborn_edn.proofs.texts.+bad_text.Goals as goal
 
 pub bad_item-bad_text-requires : goal.bad_item-bad_text-requires

@@ -1,5 +1,5 @@
 use Rattle.std.proofs.Common.{true, false, ◌≡◌}
-use Rattle.cborn_edn.proofs.Lowests.{good_bytes, wrong_bytes}
+use Rattle.cborn_edn.proofs.Shown.Lowests.{good_bytes, wrong_bytes}
 use Rattle.cborn_edn.proofs.texts.bad_bytes.Goals as goal
 
 pub returns-then-is_utf8 : goal.returns-then-is_utf8

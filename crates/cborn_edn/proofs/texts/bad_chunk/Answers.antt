@@ -1,5 +1,5 @@
 use Rattle.std.proofs.Common.{arith}
-use Rattle.cborn_edn.proofs.Lowests.{chunk-take}
+use Rattle.cborn_edn.proofs.Shown.Lowests.{chunk-take}
 use Rattle.cborn_edn.proofs.texts.bad_chunk.Goals as goal
 
 pub loop-chunk-preserved : goal.loop-chunk-preserved

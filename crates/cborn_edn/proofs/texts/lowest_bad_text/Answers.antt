@@ -1,5 +1,5 @@
 use Rattle.std.proofs.Common.{arith}
-use Rattle.cborn_edn.proofs.Lowests.{item-take}
+use Rattle.cborn_edn.proofs.Shown.Lowests.{item-take}
 use Rattle.cborn_edn.proofs.texts.lowest_bad_text.Goals as goal
 
 pub loop-item-preserved : goal.loop-item-preserved

@@ -1,7 +1,7 @@
 use Rattle.std.proofs.Common.{codes, ◌∙◌, sym, ap, ◌++◌, arith, rules}
-use Rattle.cborn_model.proofs.Trees.{depth_of_item, depth_of_pair}
+use Rattle.cborn_model.proofs.Listed.Trees.{depth_of_item, depth_of_pair}
 use Rattle.cborn_edn.specs.Shown as pure
-use Rattle.cborn_edn.proofs.Separated.{shown_pair, one_more, all_of, all-separated, entries-separated, after_three, shown_items, shown_pairs}
+use Rattle.cborn_edn.proofs.Shown.Separated.{shown_pair, one_more, all_of, all-separated, entries-separated, after_three, shown_items, shown_pairs}
 use Rattle.cborn_edn.proofs.writing.+push_node.Goals as goal
 
 pub push_items-push_node-requires : goal.push_items-push_node-requires

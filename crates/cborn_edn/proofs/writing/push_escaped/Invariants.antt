@@ -1,4 +1,4 @@
-use Rattle.cborn_edn.proofs.Escapes.{Written}
+use Rattle.cborn_edn.proofs.Shown.Escapes.{Written}
 use Rattle.cborn_edn.proofs.writing.push_escaped.Given as goal
 
 abbrev pub invariant-loop-i : goal.invariant-loop-i

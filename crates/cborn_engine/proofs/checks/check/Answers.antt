@@ -1,7 +1,7 @@
 use Rattle.std.proofs.Common.{◌^◌}
 use Rattle.cborn_engine.specs.Checking.{Checks}
-use Rattle.cborn_engine.proofs.Told.{told}
-use Rattle.cborn_engine.proofs.Whole.{not_checked, checked_whole}
+use Rattle.cborn_engine.proofs.Answers.Told.{told}
+use Rattle.cborn_engine.proofs.Answers.Whole.{not_checked, checked_whole}
 use Rattle.cborn_engine.proofs.checks.check.Goals as goal
 
 pub returns-in_err-input-clause-checks : goal.returns-in_err-input-clause-checks

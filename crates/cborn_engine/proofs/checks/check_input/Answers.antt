@@ -1,5 +1,5 @@
 use Rattle.std.proofs.Common.{◌^◌}
-use Rattle.cborn_engine.proofs.Whole.{deterministic}
+use Rattle.cborn_engine.proofs.Answers.Whole.{deterministic}
 use Rattle.cborn_engine.proofs.checks.check_input.Goals as goal
 
 pub returns-then-is_deterministic-clause-answers : goal.returns-then-is_deterministic-clause-answers

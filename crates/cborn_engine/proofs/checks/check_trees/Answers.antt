@@ -1,5 +1,5 @@
 use Rattle.std.proofs.Common.{◌^◌, arith}
-use Rattle.cborn_engine.proofs.Whole.{checked_trees}
+use Rattle.cborn_engine.proofs.Answers.Whole.{checked_trees}
 use Rattle.cborn_engine.proofs.checks.check_trees.Goals as goal
 
 pub returns-clause-answers : goal.returns-clause-answers

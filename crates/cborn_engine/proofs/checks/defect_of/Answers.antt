@@ -1,7 +1,7 @@
 use Rattle.std.proofs.Common.{arith, subst, sym}
-use Rattle.cborn_judge.proofs.Sequences.{passed_on}
+use Rattle.cborn_judge.proofs.FirstFlaw.Sequences.{passed_on}
 use Rattle.cborn_judge.specs.Flaws.{IsRefusalOfAll}
-use Rattle.cborn_engine.proofs.Checked.{finds_more, refused}
+use Rattle.cborn_engine.proofs.Answers.Checked.{finds_more, refused}
 use Rattle.cborn_engine.proofs.checks.defect_of.Goals as goal
 
 pub returns-in_err-defect-clause-refused : goal.returns-in_err-defect-clause-refused

@@ -1,6 +1,6 @@
 use Rattle.std.proofs.Common.{◌^◌, arith, subst}
 use Rattle.cborn_search.specs.Searching.{IsFirstFlawOf}
-use Rattle.cborn_engine.proofs.Whole.{checked_searched}
+use Rattle.cborn_engine.proofs.Answers.Whole.{checked_searched}
 use Rattle.cborn_engine.proofs.checks.search.Goals as goal
 
 pub returns-in_ok-defect-in-None-clause-answers : goal.returns-in_ok-defect-in-None-clause-answers

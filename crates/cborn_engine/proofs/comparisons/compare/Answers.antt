@@ -1,5 +1,5 @@
 use Rattle.std.proofs.Common.{◌^◌, arith}
-use Rattle.cborn_engine.proofs.Compared.{encodes_itself, compared}
+use Rattle.cborn_engine.proofs.Comparison.Compared.{encodes_itself, compared}
 use Rattle.cborn_engine.proofs.comparisons.compare.Goals as goal
 
 pub difference-requires : goal.difference-requires

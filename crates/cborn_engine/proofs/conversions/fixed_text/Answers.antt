@@ -1,4 +1,4 @@
-use Rattle.cborn_engine.proofs.Telling.{as_fixed}
+use Rattle.cborn_engine.proofs.Answers.Telling.{as_fixed}
 use Rattle.cborn_engine.proofs.conversions.fixed_text.Goals as goal
 
 pub returns-in-Some : goal.returns-in-Some

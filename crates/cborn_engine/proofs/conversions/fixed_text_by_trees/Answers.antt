@@ -1,7 +1,7 @@
 use Rattle.std.proofs.Common.{List, ℕ, Vec, Global, subst, sym}
 use Rattle.cborn_model.specs.Tree.{Tree, trees}
 use Rattle.cborn_edn.specs.Shown.{Shown, IsShowFault}
-use Rattle.cborn_engine.proofs.Unfailing.{no_bad_text}
+use Rattle.cborn_engine.proofs.Answers.Unfailing.{no_bad_text}
 use Rattle.cborn_engine.proofs.conversions.fixed_text_by_trees.Goals as goal
 
 pub unreachable-requires : goal.unreachable-requires

@@ -1,6 +1,6 @@
 use Rattle.cborn_engine.specs.Showing.{Shows}
-use Rattle.cborn_engine.proofs.Told.{told}
-use Rattle.cborn_engine.proofs.Telling.{not_told, told_out}
+use Rattle.cborn_engine.proofs.Answers.Told.{told}
+use Rattle.cborn_engine.proofs.Answers.Telling.{not_told, told_out}
 use Rattle.cborn_engine.proofs.conversions.show_all.Goals as goal
 
 pub returns-in_err-answer-clause-shows : goal.returns-in_err-answer-clause-shows

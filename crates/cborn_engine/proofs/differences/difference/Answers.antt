@@ -1,5 +1,5 @@
 use Rattle.std.proofs.Common.{rules}
-use Rattle.cborn_engine.proofs.Apart.{equal}
+use Rattle.cborn_engine.proofs.Comparison.Apart.{equal}
 use Rattle.cborn_engine.proofs.differences.difference.Goals as goal
 
 pub returns-then-eq : goal.returns-then-eq

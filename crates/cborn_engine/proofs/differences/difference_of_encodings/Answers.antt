@@ -1,5 +1,5 @@
 use Rattle.std.proofs.Common.{rules}
-use Rattle.cborn_engine.proofs.Apart.{at_first, ours_ended, theirs_ended, apart_here, passed}
+use Rattle.cborn_engine.proofs.Comparison.Apart.{at_first, ours_ended, theirs_ended, apart_here, passed}
 use Rattle.cborn_engine.proofs.differences.difference_of_encodings.Goals as goal
 
 pub items-init : goal.items-init

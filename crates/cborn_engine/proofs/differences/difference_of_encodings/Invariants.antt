@@ -1,4 +1,4 @@
-use Rattle.cborn_engine.proofs.Apart.{SoFar}
+use Rattle.cborn_engine.proofs.Comparison.Apart.{SoFar}
 use Rattle.cborn_engine.proofs.differences.difference_of_encodings.Given as goal
 
 abbrev pub invariant-items : goal.invariant-items

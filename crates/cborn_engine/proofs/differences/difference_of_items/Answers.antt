@@ -1,6 +1,6 @@
 use Rattle.std.proofs.Common.{arith, refl}
-use Rattle.cborn_model.proofs.Deciding.{passed}
-use Rattle.cborn_engine.proofs.Differing.{alike_on, all_alike, one_longer}
+use Rattle.cborn_model.proofs.Listed.Deciding.{passed}
+use Rattle.cborn_engine.proofs.Comparison.Differing.{alike_on, all_alike, one_longer}
 use Rattle.cborn_engine.proofs.differences.difference_of_items.Goals as goal
 
 pub loop-index-preserved : goal.loop-index-preserved

@@ -1,6 +1,6 @@
 use Rattle.std.proofs.Common.{subst}
 use Rattle.cborn_judge.specs.Flaws.{IsRefusalOfAll}
-use Rattle.cborn_engine.proofs.Compared.{no_flaw_held}
+use Rattle.cborn_engine.proofs.Comparison.Compared.{no_flaw_held}
 use Rattle.cborn_engine.proofs.differences.held_items.Goals as goal
 
 pub unreachable-requires : goal.unreachable-requires

@@ -1,4 +1,4 @@
-use Rattle.cborn_engine.proofs.Apart.{encoding_taken, whatever}
+use Rattle.cborn_engine.proofs.Comparison.Apart.{encoding_taken, whatever}
 use Rattle.cborn_engine.proofs.differences.take_item.Goals as goal
 
 pub returns-clause-encoding : goal.returns-clause-encoding

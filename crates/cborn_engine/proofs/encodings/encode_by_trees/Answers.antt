@@ -1,6 +1,6 @@
 use Rattle.std.proofs.Common.{◌≤◌, ◌^◌, length}
 use Rattle.cborn_engine.specs.Encoding.{EncodeAnswers}
-use Rattle.cborn_engine.proofs.Told.{told}
+use Rattle.cborn_engine.proofs.Answers.Told.{told}
 use Rattle.cborn_engine.proofs.encodings.encode_by_trees.Goals as goal
 
 pub returns-in_err-nodes-clause-answers : goal.returns-in_err-nodes-clause-answers

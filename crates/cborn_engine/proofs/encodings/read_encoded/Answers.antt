@@ -1,8 +1,8 @@
 use Rattle.std.proofs.Common.{◌^◌, ℕ, List, Ok, subst}
 use Rattle.cborn_engine.specs.Encoding.{EncodeAnswers, IsEncoded}
 use Rattle.cborn_engine.specs.Pieces.{Reads}
-use Rattle.cborn_engine.proofs.Told.{told}
-use Rattle.cborn_engine.proofs.Whole.{unread, read_whole}
+use Rattle.cborn_engine.proofs.Answers.Told.{told}
+use Rattle.cborn_engine.proofs.Answers.Whole.{unread, read_whole}
 use Rattle.cborn_engine.proofs.encodings.read_encoded.Goals as goal
 
 pub returns-in_err-input-clause-encodes : goal.returns-in_err-input-clause-encodes

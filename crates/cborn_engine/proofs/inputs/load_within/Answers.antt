@@ -1,6 +1,6 @@
 use Rattle.cborn_engine.specs.Loading.{Loads}
-use Rattle.cborn_engine.proofs.Told.{told}
-use Rattle.cborn_engine.proofs.Whole.{not_loaded, loaded}
+use Rattle.cborn_engine.proofs.Answers.Told.{told}
+use Rattle.cborn_engine.proofs.Answers.Whole.{not_loaded, loaded}
 use Rattle.cborn_engine.proofs.inputs.load_within.Goals as goal
 
 pub returns-in_err-input-clause-loads : goal.returns-in_err-input-clause-loads

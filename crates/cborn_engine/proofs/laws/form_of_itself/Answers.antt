@@ -1,4 +1,4 @@
-use Rattle.cborn_engine.proofs.Canonicity.{settled}
+use Rattle.cborn_engine.proofs.Canonical.Canonicity.{settled}
 use Rattle.cborn_engine.proofs.laws.form_of_itself.Goals as goal
 
 pub returns : goal.returns

@@ -1,4 +1,4 @@
-use Rattle.cborn_engine.proofs.Canonicity.{one_for_same}
+use Rattle.cborn_engine.proofs.Canonical.Canonicity.{one_for_same}
 use Rattle.cborn_engine.proofs.laws.form_of_same.Goals as goal
 
 pub returns : goal.returns

@@ -1,6 +1,6 @@
 use Rattle.std.proofs.Common.{arith}
-use Rattle.cborn_engine.proofs.Canonicity.{again}
-use Rattle.cborn_engine.proofs.Headline.{alike, same_held, refused_again}
+use Rattle.cborn_engine.proofs.Canonical.Canonicity.{again}
+use Rattle.cborn_engine.proofs.Canonical.Headline.{alike, same_held, refused_again}
 use Rattle.cborn_engine.proofs.laws.headline.Goals as goal
 
 pub returns-clause-alike : goal.returns-clause-alike

@@ -1,4 +1,4 @@
-use Rattle.cborn_engine.proofs.Canonicity.{alone}
+use Rattle.cborn_engine.proofs.Canonical.Canonicity.{alone}
 use Rattle.cborn_engine.proofs.laws.one_form.Goals as goal
 
 pub returns : goal.returns

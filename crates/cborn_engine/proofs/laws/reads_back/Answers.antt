@@ -1,4 +1,4 @@
-use Rattle.cborn_engine.proofs.Canonicity.{reads_back}
+use Rattle.cborn_engine.proofs.Canonical.Canonicity.{reads_back}
 use Rattle.cborn_engine.proofs.laws.reads_back.Goals as goal
 
 pub returns : goal.returns

@@ -1,4 +1,4 @@
-use Rattle.cborn_engine.proofs.Canonicity.{again}
+use Rattle.cborn_engine.proofs.Canonical.Canonicity.{again}
 use Rattle.cborn_engine.proofs.laws.same_again.Goals as goal
 
 pub returns : goal.returns

@@ -1,4 +1,4 @@
-use Rattle.cborn_engine.proofs.Headline.{one_output}
+use Rattle.cborn_engine.proofs.Canonical.Headline.{one_output}
 use Rattle.cborn_engine.proofs.laws.same_answer.Goals as goal
 
 pub returns : goal.returns

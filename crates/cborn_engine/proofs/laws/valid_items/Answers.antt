@@ -1,4 +1,4 @@
-use Rattle.cborn_engine.proofs.Canonicity.{valid}
+use Rattle.cborn_engine.proofs.Canonical.Canonicity.{valid}
 use Rattle.cborn_engine.proofs.laws.valid_items.Goals as goal
 
 pub returns : goal.returns

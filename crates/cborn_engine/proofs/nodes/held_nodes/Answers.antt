@@ -1,5 +1,5 @@
 use Rattle.std.proofs.Common.{◌∙◌, ap, Err}
-use Rattle.cborn_engine.proofs.Unfailing.{no_fault}
+use Rattle.cborn_engine.proofs.Answers.Unfailing.{no_fault}
 use Rattle.cborn_engine.proofs.nodes.held_nodes.Goals as goal
 
 pub unreachable-requires : goal.unreachable-requires

@@ -3,8 +3,8 @@ use Rattle.std.specs.Prelude.{IfErr}
 use Rattle.cborn_engine.specs.Encoding.{kind_of}
 use Rattle.cborn_engine.specs.Loading.{IsNoFlaw}
 use Rattle.cborn_engine.specs.Refusing.{IsRefused}
-use Rattle.cborn_engine.proofs.Told.{told}
-use Rattle.cborn_engine.proofs.Untold.{untold}
+use Rattle.cborn_engine.proofs.Answers.Told.{told}
+use Rattle.cborn_engine.proofs.Answers.Untold.{untold}
 use Rattle.cborn_engine.proofs.nodes.notated_nodes.Goals as goal
 
 pub returns-in_err-read_notation-clause-refused : goal.returns-in_err-read_notation-clause-refused

@@ -2,8 +2,8 @@ use Rattle.cborn_model.specs.Tree.{trees}
 use Rattle.cborn_edn.specs.declared.faults.ShowFault.TheVariants.{NotUtf8}
 use Rattle.cborn_show.proofs.Decimals.{under}
 use Rattle.cborn_engine.specs.Showing.{IsUnshownAs}
-use Rattle.cborn_engine.proofs.Noted.{never_wire}
-use Rattle.cborn_engine.proofs.Told.{notation}
+use Rattle.cborn_engine.proofs.Answers.Noted.{never_wire}
+use Rattle.cborn_engine.proofs.Answers.Told.{notation}
 use Rattle.cborn_engine.proofs.showings.bad_text.Goals as goal
 
 pub returns-in-Notation : goal.returns-in-Notation

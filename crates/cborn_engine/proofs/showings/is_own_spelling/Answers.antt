@@ -6,8 +6,8 @@ use Rattle.cborn_wire.specs.Faults.{Fault}
 use Rattle.cborn_engine.specs.declared.kinds.Kind.{Kind}
 use Rattle.cborn_engine.specs.declared.kinds.Kind.TheVariants as kind
 use Rattle.cborn_engine.specs.Showing.{IsShown}
-use Rattle.cborn_engine.proofs.AtHand.{none_found}
-use Rattle.cborn_engine.proofs.Telling.{own_spelling}
+use Rattle.cborn_engine.proofs.Answers.AtHand.{none_found}
+use Rattle.cborn_engine.proofs.Answers.Telling.{own_spelling}
 use Rattle.cborn_engine.proofs.showings.is_own_spelling.Goals as goal
 
 pub returns-then-eq-2 : goal.returns-then-eq-2

@@ -1,9 +1,9 @@
 use Rattle.std.proofs.Common.{◌^◌, ℕ, List, Ok, subst}
 use Rattle.cborn_engine.specs.Pieces.{Reads}
 use Rattle.cborn_engine.specs.Showing.{IsShown, TellAnswers}
-use Rattle.cborn_engine.proofs.Telling.{refused}
-use Rattle.cborn_engine.proofs.Told.{told}
-use Rattle.cborn_engine.proofs.Whole.{unread, read_whole}
+use Rattle.cborn_engine.proofs.Answers.Telling.{refused}
+use Rattle.cborn_engine.proofs.Answers.Told.{told}
+use Rattle.cborn_engine.proofs.Answers.Whole.{unread, read_whole}
 use Rattle.cborn_engine.proofs.showings.read_shown.Goals as goal
 
 pub returns-in_err-input-clause-tells : goal.returns-in_err-input-clause-tells

@@ -4,8 +4,8 @@ use Rattle.cborn_engine.specs.declared.faults.EngineFault.TheVariants as fault
 use Rattle.cborn_engine.specs.declared.kinds.Kind.{Kind}
 use Rattle.cborn_engine.specs.declared.kinds.Kind.TheVariants as kind
 use Rattle.cborn_engine.specs.Showing.{TellAnswers}
-use Rattle.cborn_engine.proofs.Telling.{refused, untold_text}
-use Rattle.cborn_engine.proofs.Told.{told}
+use Rattle.cborn_engine.proofs.Answers.Telling.{refused, untold_text}
+use Rattle.cborn_engine.proofs.Answers.Told.{told}
 use Rattle.cborn_engine.proofs.showings.show_by_trees.Goals as goal
 
 pub returns-in_err-nodes-clause-answers : goal.returns-in_err-nodes-clause-answers

@@ -1,5 +1,5 @@
 use Rattle.std.proofs.Common.{◌^◌}
-use Rattle.cborn_engine.proofs.AtHand.{short, not_checked}
+use Rattle.cborn_engine.proofs.Answers.AtHand.{short, not_checked}
 use Rattle.cborn_engine.proofs.slices.check_slice.Goals as goal
 
 pub returns-clause-refused : goal.returns-clause-refused

@@ -1,5 +1,5 @@
 use Rattle.std.specs.Cow.{cow_slice_items}
-use Rattle.cborn_engine.proofs.Compared.{its_own, bytes_compared}
+use Rattle.cborn_engine.proofs.Comparison.Compared.{its_own, bytes_compared}
 use Rattle.cborn_engine.proofs.slices.compare_slices.Goals as goal
 
 pub difference-requires-clause-ours : goal.difference-requires-clause-ours

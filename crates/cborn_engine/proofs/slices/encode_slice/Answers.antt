@@ -1,8 +1,8 @@
 use Rattle.std.proofs.Common.{◌^◌}
 use Rattle.std.specs.Prelude.{IfErr}
 use Rattle.cborn_engine.specs.Whole.{IsRefusedWhole}
-use Rattle.cborn_engine.proofs.AtHand.{short, not_encoded}
-use Rattle.cborn_engine.proofs.Told.{told}
+use Rattle.cborn_engine.proofs.Answers.AtHand.{short, not_encoded}
+use Rattle.cborn_engine.proofs.Answers.Told.{told}
 use Rattle.cborn_engine.proofs.slices.encode_slice.Goals as goal
 
 pub returns-in_err-encode_input-clause-refused : goal.returns-in_err-encode_input-clause-refused

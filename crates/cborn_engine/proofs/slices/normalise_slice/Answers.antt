@@ -1,5 +1,5 @@
 use Rattle.std.specs.Cow.{cow_slice_items}
-use Rattle.cborn_engine.proofs.AtHand.{held, room}
+use Rattle.cborn_engine.proofs.Answers.AtHand.{held, room}
 use Rattle.cborn_engine.proofs.slices.normalise_slice.Goals as goal
 
 pub written_as-requires : goal.written_as-requires

@@ -1,8 +1,8 @@
 use Rattle.std.proofs.Common.{◌^◌}
 use Rattle.std.specs.Prelude.{IfErr}
 use Rattle.cborn_engine.specs.Whole.{IsUnshownWhole}
-use Rattle.cborn_engine.proofs.AtHand.{short, not_shown}
-use Rattle.cborn_engine.proofs.Told.{told}
+use Rattle.cborn_engine.proofs.Answers.AtHand.{short, not_shown}
+use Rattle.cborn_engine.proofs.Answers.Told.{told}
 use Rattle.cborn_engine.proofs.slices.show_slice.Goals as goal
 
 pub returns-in_err-show_input-clause-refused : goal.returns-in_err-show_input-clause-refused

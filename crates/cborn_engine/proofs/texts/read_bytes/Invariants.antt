@@ -1,5 +1,5 @@
 use Rattle.std.proofs.Common.{◌≡◌, ◌≤◌, ◌+◌, ◌-◌}
-use Rattle.cborn_engine.proofs.Collecting.{Filled}
+use Rattle.cborn_engine.proofs.Streams.Collecting.{Filled}
 use Rattle.cborn_engine.proofs.texts.read_bytes.Given as goal
 
 abbrev pub invariant-pieces : goal.invariant-pieces

@@ -1,5 +1,5 @@
 use Rattle.std.proofs.Common.{arith}
-use Rattle.cborn_judge.proofs.Numbering.{short_magnitude}
+use Rattle.cborn_judge.proofs.FirstFlaw.Numbering.{short_magnitude}
 use Rattle.cborn_judge.proofs.bignums.magnitude_of.Goals as goal
 
 pub returns-then-digits-le8 : goal.returns-then-digits-le8

@@ -1,7 +1,7 @@
 use Rattle.std.proofs.Common.{◌+◌, ◌*◌, take}
 use Rattle.cborn_model.specs.Tree.{trees, entries, depth, depth_all, depth_entries}
 use Rattle.cborn_judge.specs.Checked.{FindsDefect, DefectInAll, DescentAt, DefectAmong}
-use Rattle.cborn_judge.proofs.Firsts.{Either}
+use Rattle.cborn_judge.proofs.Loops.Firsts.{Either}
 use Rattle.cborn_judge.proofs.checks.+checked.Given as goal
 
 abbrev pub decreases-defect_of : goal.decreases-defect_of

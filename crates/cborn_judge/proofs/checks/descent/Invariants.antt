@@ -1,5 +1,5 @@
 use Rattle.std.proofs.Common.{take}
-use Rattle.cborn_judge.proofs.Descending.{Seen}
+use Rattle.cborn_judge.proofs.FirstDefect.Descending.{Seen}
 use Rattle.cborn_judge.proofs.checks.descent.Given as goal
 
 abbrev pub invariant-loop-i : goal.invariant-loop-i

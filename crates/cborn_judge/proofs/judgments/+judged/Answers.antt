@@ -1,13 +1,13 @@
 use Rattle.std.proofs.Common.{rules, arith, subst, refl, inl, inr}
-use Rattle.cborn_model.proofs.Fitting.{fits_at, pair_fits_at}
-use Rattle.cborn_model.proofs.Trees.{depth_of_item, depth_of_pair}
+use Rattle.cborn_model.proofs.Listed.Fitting.{fits_at, pair_fits_at}
+use Rattle.cborn_model.proofs.Listed.Trees.{depth_of_item, depth_of_pair}
 use Rattle.cborn_judge.specs.Judged.{IsJudged, IsJudgedPair, IsBignumItem, MeansItem}
 use Rattle.cborn_judge.specs.Places.{key_places}
-use Rattle.cborn_judge.proofs.Pairing as pairs
-use Rattle.cborn_judge.proofs.Pairing.{kept_valid, kept_flawed, kept-take_more}
-use Rattle.cborn_judge.proofs.Tagging.{plain_flawed, bad_judged}
-use Rattle.cborn_judge.proofs.Walking.{valid-take_more, flawed-take_more, all_valid, some_flawed}
-use Rattle.cborn_judge.proofs.Meanings.{number_valid}
+use Rattle.cborn_judge.proofs.FirstFlaw.Pairing as pairs
+use Rattle.cborn_judge.proofs.FirstFlaw.Pairing.{kept_valid, kept_flawed, kept-take_more}
+use Rattle.cborn_judge.proofs.FirstFlaw.Tagging.{plain_flawed, bad_judged}
+use Rattle.cborn_judge.proofs.FirstFlaw.Walking.{valid-take_more, flawed-take_more, all_valid, some_flawed}
+use Rattle.cborn_judge.proofs.Meaning.Meanings.{number_valid}
 use Rattle.cborn_judge.proofs.judgments.+judged.Goals as goal
 use Rattle.cborn_judge.proofs.judgments.+judged.Goals.{judge_items-in-Uint+in_ok-push-in-Uint, judge_items-in-Nint+in_ok-push-in-Nint, judge_items-in_default+in_ok-item-in_default+in-Valid+in_ok-push-in-Valid, judge_items-in_default+in_ok-item-in_default+in-Flawed, judge_key-in-Valid+in_ok-push, judge_key-in_default, judge_pairs-in-Valid+in_ok-push-in-Valid, judge_pairs-in-Flawed, judge_tagged-then-number-eq2-via-then-number-eq2, judge_tagged-then-number-eq2-via-else-number-eq2+then-number-eq3}
 

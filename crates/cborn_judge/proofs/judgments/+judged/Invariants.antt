@@ -1,7 +1,7 @@
 use Rattle.std.proofs.Common.{◌+◌, ◌*◌, take, max}
 use Rattle.cborn_model.specs.Tree.{trees, entries, depth, depth_all, depth_entries}
-use Rattle.cborn_judge.proofs.Walking.{AreJudged}
-use Rattle.cborn_judge.proofs.Pairing.{ArePairsJudged}
+use Rattle.cborn_judge.proofs.FirstFlaw.Walking.{AreJudged}
+use Rattle.cborn_judge.proofs.FirstFlaw.Pairing.{ArePairsJudged}
 use Rattle.cborn_judge.specs.Keeping.{AreKept}
 use Rattle.cborn_judge.specs.Places.{key_places}
 use Rattle.cborn_judge.proofs.judgments.+judged.Given as goal

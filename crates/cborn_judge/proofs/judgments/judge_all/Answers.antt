@@ -1,5 +1,5 @@
 use Rattle.std.proofs.Common.{rules, arith, subst, sym}
-use Rattle.cborn_judge.proofs.Sequences.{mean-take_more, refused_at, refused_memory, passed_on}
+use Rattle.cborn_judge.proofs.FirstFlaw.Sequences.{mean-take_more, refused_at, refused_memory, passed_on}
 use Rattle.cborn_judge.specs.Flaws.{IsRefusalOfAll}
 use Rattle.cborn_judge.proofs.judgments.judge_all.Goals as goal
 

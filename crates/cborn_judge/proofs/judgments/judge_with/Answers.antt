@@ -2,7 +2,7 @@ use Rattle.std.proofs.Common.{arith, subst, ◌≤◌}
 use Rattle.cborn_model.specs.ItemView.{item_value}
 use Rattle.cborn_model.specs.Tree.{depth}
 use Rattle.cborn_judge.specs.Judged.{IsJudged, MeansItem}
-use Rattle.cborn_judge.proofs.Meanings.{meaning_shallow}
+use Rattle.cborn_judge.proofs.Meaning.Meanings.{meaning_shallow}
 use Rattle.cborn_judge.proofs.judgments.judge_with.Goals as goal
 
 pub new-requires : goal.new-requires

@@ -1,6 +1,6 @@
 use Rattle.std.proofs.Common.{subst}
 use Rattle.cborn_judge.specs.Judged.{IsJudged}
-use Rattle.cborn_judge.proofs.Pairing.{value_flawed, key_flawed_with}
+use Rattle.cborn_judge.proofs.FirstFlaw.Pairing.{value_flawed, key_flawed_with}
 use Rattle.cborn_judge.proofs.judgments.paired.Goals as goal
 
 pub returns-in-Flawed-value : goal.returns-in-Flawed-value

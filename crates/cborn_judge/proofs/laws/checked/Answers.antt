@@ -1,4 +1,4 @@
-use Rattle.cborn_judge.proofs.Checking.{check_sound, check_whole, check_sequence_sound, check_sequence_whole}
+use Rattle.cborn_judge.proofs.Encoded.Checking.{check_sound, check_whole, check_sequence_sound, check_sequence_whole}
 use Rattle.cborn_judge.proofs.laws.checked.Goals as goal
 
 pub returns-clause-one : goal.returns-clause-one

@@ -1,4 +1,4 @@
-use Rattle.cborn_judge.proofs.Judging.{meaning, no_flaw}
+use Rattle.cborn_judge.proofs.Meaning.Judging.{meaning, no_flaw}
 use Rattle.cborn_judge.proofs.laws.no_flaw.Goals as goal
 
 pub returns : goal.returns

@@ -1,6 +1,6 @@
 use Rattle.cborn_model.proofs.Firsts.{first_once}
 use Rattle.cborn_judge.specs.Defects.{Defect, SequenceDefect, defect_rank}
-use Rattle.cborn_judge.proofs.Placing.{defect_rank_once, defect_within}
+use Rattle.cborn_judge.proofs.Meaning.Placing.{defect_rank_once, defect_within}
 use Rattle.cborn_judge.proofs.laws.one_defect.Goals as goal
 
 pub returns-clause-one : goal.returns-clause-one

@@ -1,6 +1,6 @@
 use Rattle.cborn_model.proofs.Firsts.{first_once}
 use Rattle.cborn_judge.specs.Flaws.{Flaw, flaw_rank}
-use Rattle.cborn_judge.proofs.Placing.{rank_once, flaw_within}
+use Rattle.cborn_judge.proofs.Meaning.Placing.{rank_once, flaw_within}
 use Rattle.cborn_judge.proofs.laws.one_flaw.Goals as goal
 
 pub returns-clause-one : goal.returns-clause-one

@@ -1,4 +1,4 @@
-use Rattle.cborn_judge.proofs.Meanings.{means_once}
+use Rattle.cborn_judge.proofs.Meaning.Meanings.{means_once}
 use Rattle.cborn_judge.proofs.laws.one_meaning.Goals as goal
 
 pub returns : goal.returns

@@ -1,4 +1,4 @@
-use Rattle.cborn_judge.proofs.Meanings.{meaning_valid, means_shallow}
+use Rattle.cborn_judge.proofs.Meaning.Meanings.{meaning_valid, means_shallow}
 use Rattle.cborn_judge.proofs.laws.valid_meaning.Goals as goal
 
 pub returns-clause-valid : goal.returns-clause-valid

@@ -1,6 +1,6 @@
 use Rattle.std.proofs.Common.{take}
 use Rattle.cborn_judge.specs.Judged.{FindsFlaw}
-use Rattle.cborn_judge.proofs.Neighbours.{TieAt}
+use Rattle.cborn_judge.proofs.SameKeys.Neighbours.{TieAt}
 use Rattle.cborn_judge.proofs.repeats.first_tie.Given as goal
 
 abbrev pub invariant-loop-i : goal.invariant-loop-i

@@ -1,5 +1,5 @@
 use Rattle.std.proofs.Common.{arith}
-use Rattle.cborn_judge.proofs.Departing.{chunk-take_more, all_chunks}
+use Rattle.cborn_judge.proofs.FirstDefect.Departing.{chunk-take_more, all_chunks}
 use Rattle.cborn_judge.proofs.spellings.chunks_defect.Goals as goal
 
 pub loop-chunk-preserved : goal.loop-chunk-preserved

@@ -1,5 +1,5 @@
 use Rattle.std.proofs.Common.{rules}
-use Rattle.cborn_judge.proofs.Meanings.{joined_bytes}
+use Rattle.cborn_judge.proofs.Meaning.Meanings.{joined_bytes}
 use Rattle.cborn_judge.proofs.strings.judge_byte_chunks.Goals as goal
 
 pub returns : goal.returns

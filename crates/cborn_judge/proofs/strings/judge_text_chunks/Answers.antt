@@ -1,8 +1,8 @@
 use Rattle.std.proofs.Common.{rules, arith, ◌++◌, string_bytes, refl, sym, ap, ◌∙◌, subst}
 use Rattle.std.specs.Prelude.{IsUtf8}
 use Rattle.cborn_model.specs.Value.{text}
-use Rattle.cborn_judge.proofs.Texts.{fine-take_more, bad-take_more, all_text, some_bad}
-use Rattle.cborn_judge.proofs.Meanings.{joined_text}
+use Rattle.cborn_judge.proofs.FirstFlaw.Texts.{fine-take_more, bad-take_more, all_text, some_bad}
+use Rattle.cborn_judge.proofs.Meaning.Meanings.{joined_text}
 use Rattle.cborn_judge.proofs.strings.judge_text_chunks.Goals as goal
 use Rattle.cborn_judge.proofs.strings.judge_text_chunks.Goals.{in-Ok+in_ok-push_str-in-Ok, in-Err}
 

@@ -1,5 +1,5 @@
 use Rattle.std.proofs.Common.{take, string_bytes}
-use Rattle.cborn_judge.proofs.Texts.{AreChunksJudged}
+use Rattle.cborn_judge.proofs.FirstFlaw.Texts.{AreChunksJudged}
 use Rattle.cborn_judge.proofs.strings.judge_text_chunks.Given as goal
 
 abbrev pub invariant-loop-chunk : goal.invariant-loop-chunk

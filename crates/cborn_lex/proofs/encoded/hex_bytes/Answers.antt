@@ -1,6 +1,6 @@
 use Rattle.std.proofs.Common.{◌∙◌, sym, ap, inl, inr}
 use Rattle.hex.specs.Hex.{decode_of}
-use Rattle.cborn_lex.proofs.Hexes.{hex_no_digits, hex_err}
+use Rattle.cborn_lex.proofs.Contents.Hexes.{hex_no_digits, hex_err}
 use Rattle.cborn_lex.proofs.encoded.hex_bytes.Goals as goal
 
 pub returns-in_default : goal.returns-in_default

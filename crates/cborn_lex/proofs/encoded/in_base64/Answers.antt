@@ -5,7 +5,7 @@ use Rattle.cborn_lex.specs.declared.classes.Class.TheVariants.{Bytes}
 use Rattle.cborn_lex.specs.Tokens.{is_not, Bad}
 use Rattle.cborn_lex.specs.Strings.{IsBase64}
 use Rattle.cborn_lex.specs.View.{front_view}
-use Rattle.cborn_lex.proofs.Words.{IsClosedAt, string_ok, string_bad}
+use Rattle.cborn_lex.proofs.Sliced.Words.{IsClosedAt, string_ok, string_bad}
 use Rattle.cborn_lex.proofs.encoded.in_base64.Goals as goal
 use Rattle.cborn_lex.proofs.encoded.in_base64.Goals.{In_ok-bytes}
 

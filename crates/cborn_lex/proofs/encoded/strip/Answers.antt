@@ -1,6 +1,6 @@
 use Rattle.std.proofs.Common.{◌∙◌, sym, ap, true, false, get_or, drop, nat_lt, ◌+◌}
 use Rattle.std.proofs.lemmas.Bool.{lt-ltb, le-ltb}
-use Rattle.cborn_lex.proofs.Hexes.{at_close, at_stay, at_digit, at_space, at_open, moved}
+use Rattle.cborn_lex.proofs.Contents.Hexes.{at_close, at_stay, at_digit, at_space, at_open, moved}
 use Rattle.cborn_lex.proofs.encoded.strip.Goals as goal
 use Rattle.cborn_lex.proofs.encoded.strip.Goals.{then-inside+then-c-eq47, then-inside+else-c-eq47, else-inside+then-digit_of-lt16+in_ok-push, else-inside+else-digit_of-lt16+then-not-is_white+else-c-ne47, else-inside+else-digit_of-lt16+else-not-is_white}
 

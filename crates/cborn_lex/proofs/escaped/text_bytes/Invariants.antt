@@ -1,5 +1,5 @@
 use Rattle.std.proofs.Common.{◌-◌, length, drop, ◌≤◌}
-use Rattle.cborn_lex.proofs.Letters.{Decoded}
+use Rattle.cborn_lex.proofs.Contents.Letters.{Decoded}
 use Rattle.cborn_lex.proofs.escaped.text_bytes.Given as goal
 
 abbrev pub invariant-loop-bytes : goal.invariant-loop-bytes

@@ -1,6 +1,6 @@
 use Rattle.std.proofs.Common.{inl, sym, ◌∙◌}
 use Rattle.cborn_lex.specs.View.{front_view}
-use Rattle.cborn_lex.proofs.Words.{close_made}
+use Rattle.cborn_lex.proofs.Sliced.Words.{close_made}
 use Rattle.cborn_lex.proofs.fronts.greater.Goals as goal
 
 pub returns-then-begins_with-clause-reads : goal.returns-then-begins_with-clause-reads

@@ -1,5 +1,5 @@
 use Rattle.std.proofs.Common.{arith}
-use Rattle.cborn_lex.proofs.Values.{too_large, all_read}
+use Rattle.cborn_lex.proofs.Sliced.Values.{too_large, all_read}
 use Rattle.cborn_lex.proofs.integers.value.Goals as goal
 
 pub returns-in_default : goal.returns-in_default

@@ -1,6 +1,6 @@
 use Rattle.std.proofs.Common.{sym, ◌∙◌}
 use Rattle.cborn_lex.specs.View.{front_view}
-use Rattle.cborn_lex.proofs.Words.{prefix_made}
+use Rattle.cborn_lex.proofs.Sliced.Words.{prefix_made}
 use Rattle.cborn_lex.proofs.keywords.after_word.Goals as goal
 
 pub returns-in_ok-front : goal.returns-in_ok-front

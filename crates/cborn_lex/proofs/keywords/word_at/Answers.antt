@@ -1,6 +1,6 @@
 use Rattle.std.proofs.Common.{get_or, ◌∙◌}
 use Rattle.cborn_lex.specs.View.{front_view}
-use Rattle.cborn_lex.proofs.Words.{word_made, word_text}
+use Rattle.cborn_lex.proofs.Sliced.Words.{word_made, word_text}
 use Rattle.cborn_lex.proofs.keywords.word_at.Goals as goal
 
 pub returns : goal.returns

@@ -1,4 +1,4 @@
-use Rattle.cborn_lex.proofs.Chains.{stop_inside, stop_no_piece}
+use Rattle.cborn_lex.proofs.WholeTexts.Chains.{stop_inside, stop_no_piece}
 use Rattle.cborn_lex.proofs.laws.no_token_at_stop.Goals as goal
 
 pub returns : goal.returns

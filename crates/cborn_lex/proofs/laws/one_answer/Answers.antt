@@ -1,5 +1,5 @@
-use Rattle.cborn_lex.proofs.Base64s.{bytes_from}
-use Rattle.cborn_lex.proofs.Chains.{some_answer, not_both, one_list, one_stop}
+use Rattle.cborn_lex.proofs.Contents.Base64s.{bytes_from}
+use Rattle.cborn_lex.proofs.WholeTexts.Chains.{some_answer, not_both, one_list, one_stop}
 use Rattle.cborn_lex.proofs.laws.one_answer.Goals as goal
 
 pub returns : goal.returns

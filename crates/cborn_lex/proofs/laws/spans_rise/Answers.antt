@@ -1,4 +1,4 @@
-use Rattle.cborn_lex.proofs.Chains as chains
+use Rattle.cborn_lex.proofs.WholeTexts.Chains as chains
 use Rattle.cborn_lex.proofs.laws.spans_rise.Goals as goal
 
 pub returns : goal.returns

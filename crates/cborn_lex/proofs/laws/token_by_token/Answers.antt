@@ -1,4 +1,4 @@
-use Rattle.cborn_lex.proofs.Progress.{nothing, joins, whole_text, whole_stop, stops}
+use Rattle.cborn_lex.proofs.WholeTexts.Progress.{nothing, joins, whole_text, whole_stop, stops}
 use Rattle.cborn_lex.proofs.laws.token_by_token.Goals as goal
 
 pub returns : goal.returns

@@ -2,7 +2,7 @@ use Rattle.std.proofs.Common.{sym, subst, ◌∷◌, [], arith, append-nil, Ok, 
 use Rattle.std.specs.Prelude.{Result}
 use Rattle.std.specs.Result.{IsErr, IsErrAnd}
 use Rattle.cborn_lex.specs.Lex.{Between, IsNext, IsStopAt}
-use Rattle.cborn_lex.proofs.Progress.{nothing, joins, inside, few, whole_text, stops, whole_stop}
+use Rattle.cborn_lex.proofs.WholeTexts.Progress.{nothing, joins, inside, few, whole_text, stops, whole_stop}
 use Rattle.cborn_lex.proofs.lexer.tokens.Goals as goal
 
 pub tokens-init : goal.tokens-init

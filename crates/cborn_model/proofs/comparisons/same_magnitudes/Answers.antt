@@ -1,5 +1,5 @@
 use Rattle.std.proofs.Common.{rules, ◌≡◌, ◌↔◌, IsTrue}
-use Rattle.cborn_model.proofs.OneMagnitude.{equal_magnitudes}
+use Rattle.cborn_model.proofs.Numbers.OneMagnitude.{equal_magnitudes}
 use Rattle.cborn_model.proofs.comparisons.same_magnitudes.Goals as goal
 
 pub returns-in-Long-Long : goal.returns-in-Long-Long

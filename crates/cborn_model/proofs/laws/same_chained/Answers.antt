@@ -1,4 +1,4 @@
-use Rattle.cborn_model.proofs.Sameness.{same_chained, values_chained}
+use Rattle.cborn_model.proofs.SameItems.Sameness.{same_chained, values_chained}
 use Rattle.cborn_model.proofs.laws.same_chained.Goals as goal
 
 pub returns-clause-items : goal.returns-clause-items

@@ -1,4 +1,4 @@
-use Rattle.cborn_model.proofs.Sameness.{same_itself, values_same}
+use Rattle.cborn_model.proofs.SameItems.Sameness.{same_itself, values_same}
 use Rattle.cborn_model.proofs.laws.same_itself.Goals as goal
 
 pub returns-clause-items : goal.returns-clause-items

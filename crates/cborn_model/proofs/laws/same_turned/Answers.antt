@@ -1,4 +1,4 @@
-use Rattle.cborn_model.proofs.Sameness.{same_turned, values_turned}
+use Rattle.cborn_model.proofs.SameItems.Sameness.{same_turned, values_turned}
 use Rattle.cborn_model.proofs.laws.same_turned.Goals as goal
 
 pub returns-clause-items : goal.returns-clause-items

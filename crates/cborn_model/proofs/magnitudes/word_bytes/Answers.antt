@@ -1,6 +1,6 @@
 use Rattle.std.proofs.Common.{arith, ap, ◌∙◌}
 use Rattle.cborn_model.specs.Bytes.{big_endian}
-use Rattle.cborn_model.proofs.SomeMagnitude.{digits_of_shortest, number_of_eight}
+use Rattle.cborn_model.proofs.Numbers.SomeMagnitude.{digits_of_shortest, number_of_eight}
 use Rattle.cborn_model.proofs.magnitudes.word_bytes.Goals as goal
 
 pub returns : goal.returns

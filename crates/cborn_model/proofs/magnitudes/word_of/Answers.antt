@@ -1,6 +1,6 @@
 use Rattle.std.proofs.Common.{arith}
-use Rattle.cborn_model.proofs.OneMagnitude.{read_more}
-use Rattle.cborn_model.proofs.SomeMagnitude.{number_above}
+use Rattle.cborn_model.proofs.Numbers.OneMagnitude.{read_more}
+use Rattle.cborn_model.proofs.Numbers.SomeMagnitude.{number_above}
 use Rattle.cborn_model.proofs.magnitudes.word_of.Goals as goal
 
 pub returns-then-n-ge72057594037927936-clause-number : goal.returns-then-n-ge72057594037927936-clause-number

@@ -1,7 +1,7 @@
 use Rattle.std.proofs.Common.{rules, arith}
-use Rattle.cborn_model.proofs.Deciding.{granted, refuted, passed, failed}
-use Rattle.cborn_model.proofs.Fitting.{items_and_size, entries_and_size, items_without_size, entries_without_size, all_fit, fits_at, PairFits, pairs_fit, pair_fits_at}
-use Rattle.cborn_model.proofs.Trees.{depth_of_item, depth_of_pair}
+use Rattle.cborn_model.proofs.Listed.Deciding.{granted, refuted, passed, failed}
+use Rattle.cborn_model.proofs.Listed.Fitting.{items_and_size, entries_and_size, items_without_size, entries_without_size, all_fit, fits_at, PairFits, pairs_fit, pair_fits_at}
+use Rattle.cborn_model.proofs.Listed.Trees.{depth_of_item, depth_of_pair}
 use Rattle.cborn_model.proofs.spellings.+has_room.Goals.{pairs_have_room-then-not-has_room-via-then-not-has_room, pairs_have_room-then-not-has_room-via-else-not-has_room+then-not-has_room-2}
 use Rattle.cborn_model.proofs.spellings.+has_room.Goals as goal
 

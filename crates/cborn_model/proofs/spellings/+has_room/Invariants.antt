@@ -1,7 +1,7 @@
 use Rattle.std.proofs.Common.{◌+◌, ◌*◌}
 use Rattle.cborn_model.specs.Tree.{trees, entries, depth, depth_all, depth_entries}
 use Rattle.cborn_model.specs.Spelled.{Fits}
-use Rattle.cborn_model.proofs.Fitting.{Front, PairFits}
+use Rattle.cborn_model.proofs.Listed.Fitting.{Front, PairFits}
 use Rattle.cborn_model.proofs.spellings.+has_room.Given as goal
 
 abbrev pub invariant-items_have_room-loop-item : goal.invariant-items_have_room-loop-item

@@ -1,10 +1,10 @@
 use Rattle.std.proofs.Common.{arith}
 use Rattle.cborn_model.specs.Valid.{IsProper}
 use Rattle.cborn_model.specs.ItemView.{item_value}
-use Rattle.cborn_model.proofs.Deciding.{granted, refuted, passed, failed}
-use Rattle.cborn_model.proofs.Values.{height_of_item, height_of_pair}
-use Rattle.cborn_model.proofs.Comparing.{proper_item, proper_pair}
-use Rattle.cborn_model.proofs.Validating.{are_proper_by_item, are_proper_by_pair, array_proper, dict_proper}
+use Rattle.cborn_model.proofs.Listed.Deciding.{granted, refuted, passed, failed}
+use Rattle.cborn_model.proofs.Listed.Values.{height_of_item, height_of_pair}
+use Rattle.cborn_model.proofs.SameItems.Comparing.{proper_item, proper_pair}
+use Rattle.cborn_model.proofs.Listed.Validating.{are_proper_by_item, are_proper_by_pair, array_proper, dict_proper}
 use Rattle.cborn_model.proofs.validity.+is_proper.Goals.{has_proper_pairs-then-not-is_proper-via-then-not-is_proper, has_proper_pairs-then-not-is_proper-via-else-not-is_proper+then-not-is_proper-2}
 use Rattle.cborn_model.proofs.validity.+is_proper.Goals as goal
 

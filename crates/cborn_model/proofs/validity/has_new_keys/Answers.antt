@@ -1,7 +1,7 @@
 use Rattle.std.proofs.Common.{arith, sym, ◌∙◌}
-use Rattle.cborn_model.proofs.Deciding.{refuted, there}
+use Rattle.cborn_model.proofs.Listed.Deciding.{refuted, there}
 use Rattle.cborn_model.specs.ItemView.{item_value}
-use Rattle.cborn_model.proofs.Validating.{given_behind_head}
+use Rattle.cborn_model.proofs.Listed.Validating.{given_behind_head}
 use Rattle.cborn_model.proofs.validity.has_new_keys.Goals as goal
 
 pub returns-then-is_some : goal.returns-then-is_some

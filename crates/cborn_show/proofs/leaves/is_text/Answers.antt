@@ -1,5 +1,5 @@
 use Rattle.std.proofs.lemmas.Str.{IsUtf8-from_ascii}
-use Rattle.cborn_edn.proofs.Lowests.{utf8_is}
+use Rattle.cborn_edn.proofs.Shown.Lowests.{utf8_is}
 use Rattle.cborn_show.proofs.leaves.is_text.Goals as goal
 
 pub returns-then-is_ascii : goal.returns-then-is_ascii

@@ -1,4 +1,4 @@
-use Rattle.cborn_wire.proofs.ByteLists.{are_bytes}
+use Rattle.cborn_wire.proofs.Spelled.ByteLists.{are_bytes}
 use Rattle.cborn_show.proofs.Heading.{string_taken}
 use Rattle.cborn_show.proofs.leaves.put_string.Goals as goal
 

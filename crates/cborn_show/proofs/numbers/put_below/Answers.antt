@@ -1,6 +1,6 @@
 use Rattle.std.proofs.Common.{rules, suc, codes, decimal}
 use Rattle.cborn_edn.specs.Shown.{mark_for, indicator}
-use Rattle.cborn_edn.proofs.Separated.{after_three}
+use Rattle.cborn_edn.proofs.Shown.Separated.{after_three}
 use Rattle.cborn_show.proofs.Decimals.{on}
 use Rattle.cborn_show.proofs.numbers.put_below.Goals as goal
 

@@ -1,5 +1,5 @@
 use Rattle.std.proofs.Common.{rules}
-use Rattle.cborn_edn.proofs.Bignums.{one_digit}
+use Rattle.cborn_edn.proofs.Reader.Bignums.{one_digit}
 use Rattle.cborn_spell.proofs.numbers.+push_shortest.Goals as goal
 
 pub returns-in_ok-ok : goal.returns-in_ok-ok

@@ -1,4 +1,4 @@
-use Rattle.cborn_lex.proofs.Progress.{nothing}
+use Rattle.cborn_lex.proofs.WholeTexts.Progress.{nothing}
 use Rattle.cborn_spell.proofs.scans.skip.Goals as goal
 
 pub returns-then-bytes-at-gt47-clause-gap : goal.returns-then-bytes-at-gt47-clause-gap

@@ -1,6 +1,6 @@
 use Rattle.std.proofs.Common.{◌≡◌, ◌∙◌, ◌+◌, ◌-◌, sym, ap, arith, take, drop, get_or, length, length-drop, get_or-drop}
 use Rattle.std.proofs.lemmas.List.{drop-drop, take_rest}
-use Rattle.cborn_lex.proofs.Progress.{nothing, after_white}
+use Rattle.cborn_lex.proofs.WholeTexts.Progress.{nothing, after_white}
 use Rattle.cborn_spell.proofs.Scanning.{after_comment}
 use Rattle.cborn_spell.proofs.scans.skip_gaps.Goals as goal
 

@@ -2,7 +2,7 @@ use Rattle.cborn_model.specs.declared.heads.Major.TheVariants.{ByteString}
 use Rattle.std.proofs.Common.{◌≡◌, rules, sym, ◌∙◌, ap, List, ℕ, subst}
 use Rattle.std.proofs.lemmas.List.{take_rest}
 use Rattle.cborn_model.specs.Bytes.{AreBytes, big_endian}
-use Rattle.cborn_wire.proofs.ByteLists.{are_bytes}
+use Rattle.cborn_wire.proofs.Spelled.ByteLists.{are_bytes}
 use Rattle.cborn_transcode.specs.Transcoding.{BignumTaken}
 use Rattle.cborn_transcode.proofs.Heading.{bytes_behind, bignum_taken}
 use Rattle.cborn_transcode.proofs.leaves.put_bignum.Goals as goal

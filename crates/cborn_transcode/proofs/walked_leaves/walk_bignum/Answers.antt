@@ -1,6 +1,6 @@
 use Rattle.cborn_model.specs.declared.heads.Major.TheVariants.{ByteString}
 use Rattle.std.proofs.Common.{◌≡◌, rules, arith, refl}
-use Rattle.cborn_wire.proofs.ByteLists.{are_bytes}
+use Rattle.cborn_wire.proofs.Spelled.ByteLists.{are_bytes}
 use Rattle.cborn_transcode.proofs.Walking.{bignum_found}
 use Rattle.cborn_transcode.proofs.walked_leaves.walk_bignum.Goals as goal
 

@@ -1,6 +1,6 @@
 use Rattle.std.proofs.Common.{sym, ◌∙◌}
 use Rattle.cborn_model.specs.Heads.{code}
-use Rattle.cborn_wire.proofs.HeadFronts.{code_small, endless_head}
+use Rattle.cborn_wire.proofs.HeadReading.HeadFronts.{code_small, endless_head}
 use Rattle.cborn_wire.proofs.heads.read_endless.Goals as goal
 
 pub returns : goal.returns

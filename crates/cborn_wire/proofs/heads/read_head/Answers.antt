@@ -1,7 +1,7 @@
 use Rattle.std.proofs.Common.{sym, ◌∙◌}
 use Rattle.std.proofs.lemmas.List.{take_rest}
-use Rattle.cborn_wire.proofs.ByteLists.{are_bytes}
-use Rattle.cborn_wire.proofs.HeadFronts.{no_head, direct_front, endless_front, wide_fronts}
+use Rattle.cborn_wire.proofs.Spelled.ByteLists.{are_bytes}
+use Rattle.cborn_wire.proofs.HeadReading.HeadFronts.{no_head, direct_front, endless_front, wide_fronts}
 use Rattle.cborn_wire.proofs.heads.read_head.Goals as goal
 
 pub returns-in_default : goal.returns-in_default

@@ -1,6 +1,6 @@
 use Rattle.cborn_model.specs.Heads.{code}
-use Rattle.cborn_wire.proofs.ByteLists.{are_bytes}
-use Rattle.cborn_wire.proofs.HeadFronts.{code_small, wide_head, wide_front}
+use Rattle.cborn_wire.proofs.Spelled.ByteLists.{are_bytes}
+use Rattle.cborn_wire.proofs.HeadReading.HeadFronts.{code_small, wide_head, wide_front}
 use Rattle.cborn_wire.proofs.heads.read_wide.Goals as goal
 
 pub returns-in-Some : goal.returns-in-Some

@@ -1,4 +1,4 @@
-use Rattle.cborn_wire.proofs.FaultLaws.{refused_stays, fault_stays}
+use Rattle.cborn_wire.proofs.Spelled.FaultLaws.{refused_stays, fault_stays}
 use Rattle.cborn_wire.proofs.laws.faults_stay.Goals as goal
 
 pub returns-clause-refused : goal.returns-clause-refused

@@ -1,4 +1,4 @@
-use Rattle.cborn_wire.proofs.FaultLaws.{fronts}
+use Rattle.cborn_wire.proofs.Spelled.FaultLaws.{fronts}
 use Rattle.cborn_wire.proofs.laws.fronts.Goals as goal
 
 pub returns : goal.returns

@@ -1,4 +1,4 @@
-use Rattle.cborn_wire.proofs.FaultLaws.{larger_limit}
+use Rattle.cborn_wire.proofs.Spelled.FaultLaws.{larger_limit}
 use Rattle.cborn_wire.proofs.laws.larger_limits.Goals as goal
 
 pub returns : goal.returns

@@ -1,4 +1,4 @@
-use Rattle.cborn_wire.proofs.FaultLaws.{well_or_fault, not_both, one_fault}
+use Rattle.cborn_wire.proofs.Spelled.FaultLaws.{well_or_fault, not_both, one_fault}
 use Rattle.cborn_wire.proofs.laws.one_fault.Goals as goal
 
 pub returns-clause-some : goal.returns-clause-some

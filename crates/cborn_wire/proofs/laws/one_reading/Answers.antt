@@ -1,4 +1,4 @@
-use Rattle.cborn_wire.proofs.OneReading.{one_placed_reading, one_spelling}
+use Rattle.cborn_wire.proofs.Spelled.OneReading.{one_placed_reading, one_spelling}
 use Rattle.cborn_wire.proofs.laws.one_reading.Goals as goal
 
 pub returns-clause-placed : goal.returns-clause-placed

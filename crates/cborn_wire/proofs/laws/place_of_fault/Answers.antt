@@ -1,4 +1,4 @@
-use Rattle.cborn_wire.proofs.FaultLaws.{fault_inside, fault_at_end}
+use Rattle.cborn_wire.proofs.Spelled.FaultLaws.{fault_inside, fault_at_end}
 use Rattle.cborn_wire.proofs.laws.place_of_fault.Goals as goal
 
 pub returns-clause-inside : goal.returns-clause-inside

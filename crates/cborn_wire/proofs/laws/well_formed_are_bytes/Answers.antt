@@ -1,4 +1,4 @@
-use Rattle.cborn_wire.proofs.AllBytes.{well_bytes}
+use Rattle.cborn_wire.proofs.Spelled.AllBytes.{well_bytes}
 use Rattle.cborn_wire.proofs.laws.well_formed_are_bytes.Goals as goal
 
 pub returns : goal.returns

@@ -1,6 +1,6 @@
 use Rattle.cborn_wire.specs.declared.faults.WireFault.TheVariants.{Refused}
-use Rattle.cborn_wire.proofs.Outcomes.{passed_on}
-use Rattle.cborn_wire.proofs.WholeInput.{piece_refused, input_ends}
+use Rattle.cborn_wire.proofs.Feeding.Outcomes.{passed_on}
+use Rattle.cborn_wire.proofs.Feeding.WholeInput.{piece_refused, input_ends}
 use Rattle.cborn_wire.proofs.readers.read_all.Goals as goal
 
 pub returns-in_err-feed-clause-fault : goal.returns-in_err-feed-clause-fault

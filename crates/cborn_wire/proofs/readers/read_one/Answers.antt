@@ -8,10 +8,10 @@ use Rattle.cborn_wire.specs.Machine.{Live, Settles, run}
 use Rattle.cborn_wire.specs.Reading.{ItemFault}
 use Rattle.cborn_wire.specs.Standing.{Standing}
 use Rattle.cborn_wire.specs.StackView.{seen, seen_partial, opened, Fails}
-use Rattle.cborn_wire.proofs.ByteLists.{are_bytes}
-use Rattle.cborn_wire.proofs.Outcomes.{refused_is, err_is, passed_on}
-use Rattle.cborn_wire.proofs.OneItem.{ReadSoFar, read_more, read_item, read_refused, read_cut}
-use Rattle.cborn_wire.proofs.Advancing.{stops_bare}
+use Rattle.cborn_wire.proofs.Spelled.ByteLists.{are_bytes}
+use Rattle.cborn_wire.proofs.Feeding.Outcomes.{refused_is, err_is, passed_on}
+use Rattle.cborn_wire.proofs.Feeding.OneItem.{ReadSoFar, read_more, read_item, read_refused, read_cut}
+use Rattle.cborn_wire.proofs.Stacked.Advancing.{stops_bare}
 use Rattle.cborn_wire.proofs.readers.read_one.Goals as goal
 
 pub advance-requires-clause-room : goal.advance-requires-clause-room

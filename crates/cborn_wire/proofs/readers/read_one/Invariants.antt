@@ -1,6 +1,6 @@
 use Rattle.std.proofs.Common.{◌≡◌, [], ◌-◌, length, None}
 use Rattle.cborn_wire.specs.StackView.{seen}
-use Rattle.cborn_wire.proofs.OneItem.{ReadSoFar}
+use Rattle.cborn_wire.proofs.Feeding.OneItem.{ReadSoFar}
 use Rattle.cborn_wire.proofs.readers.read_one.Given as goal
 
 abbrev pub invariant-loop-end : goal.invariant-loop-end

@@ -1,5 +1,5 @@
 use Rattle.std.proofs.Common.{rules, ◌<◌, length, arith}
-use Rattle.cborn_wire.proofs.ScanIntegers.{small_more}
+use Rattle.cborn_wire.proofs.Scans.ScanIntegers.{small_more}
 use Rattle.cborn_wire.proofs.scanning.small_run.Goals as goal
 
 pub loop-at-preserved : goal.loop-at-preserved

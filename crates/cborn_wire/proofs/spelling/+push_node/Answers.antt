@@ -1,6 +1,6 @@
 use Rattle.std.proofs.Common.{◌≡◌, ◌<◌, length, get_or, arith}
-use Rattle.cborn_model.proofs.Trees.{depth_of_item, depth_of_pair}
-use Rattle.cborn_wire.proofs.Spellings.{items_spelled, pairs_spelled, array_fits, map_fits, item_fits, pair_fits}
+use Rattle.cborn_model.proofs.Listed.Trees.{depth_of_item, depth_of_pair}
+use Rattle.cborn_wire.proofs.Spelled.Spellings.{items_spelled, pairs_spelled, array_fits, map_fits, item_fits, pair_fits}
 use Rattle.cborn_wire.proofs.spelling.+push_node.Goals as goal
 
 pub push_opening-requires : goal.push_opening-requires

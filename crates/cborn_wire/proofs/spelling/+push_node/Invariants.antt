@@ -2,7 +2,7 @@ use Rattle.std.proofs.Common.{◌≡◌, ◌++◌, take}
 use Rattle.std.specs.List.{flat_map}
 use Rattle.cborn_model.specs.Tree.{depth}
 use Rattle.cborn_model.specs.Spelled.{spelled}
-use Rattle.cborn_model.proofs.Trees.{spelled_pair}
+use Rattle.cborn_model.proofs.Listed.Trees.{spelled_pair}
 use Rattle.cborn_wire.proofs.spelling.+push_node.Given as goal
 
 abbrev pub invariant-loop-item : goal.invariant-loop-item

@@ -1,4 +1,4 @@
-use Rattle.cborn_wire.proofs.Spellings.{chunk_fits, chunk_pushed}
+use Rattle.cborn_wire.proofs.Spelled.Spellings.{chunk_fits, chunk_pushed}
 use Rattle.cborn_wire.proofs.spelling.push_chunks.Goals as goal
 
 pub push_string-requires : goal.push_string-requires

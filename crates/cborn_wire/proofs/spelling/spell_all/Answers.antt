@@ -1,4 +1,4 @@
-use Rattle.cborn_wire.proofs.Spellings.{all_spelled}
+use Rattle.cborn_wire.proofs.Spelled.Spellings.{all_spelled}
 use Rattle.cborn_wire.proofs.spelling.spell_all.Goals as goal
 
 pub returns : goal.returns

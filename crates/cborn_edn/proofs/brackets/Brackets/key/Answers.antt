@@ -2,7 +2,7 @@ use Rattle.std.proofs.Common.{rules, ◌≡◌, sym, ap, ◌∙◌, ◌<◌, ◌
 use mathlib.Core.List.{reverse}
 use Rattle.std.specs.Vec.{vec_len}
 use Rattle.cborn_edn.specs.devices.Draft.{keyed, keyed_in}
-use Rattle.cborn_edn.proofs.Innermost.{last_is, levels_set, innermost_set}
+use Rattle.cborn_edn.proofs.Reader.Innermost.{last_is, levels_set, innermost_set}
 use Rattle.cborn_edn.proofs.brackets.Brackets.key.Goals as goal
 
 pub invariant_of-self-2 : goal.invariant_of-self-2

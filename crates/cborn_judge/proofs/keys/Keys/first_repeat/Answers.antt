@@ -5,10 +5,10 @@ use Rattle.cborn_model.specs.Tree.{Tree, entries, place}
 use Rattle.cborn_judge.specs.Flaws.{flaw_rank}
 use Rattle.cborn_judge.specs.Judged.{FindsFlaw, RepeatFlaw}
 use Rattle.cborn_judge.specs.Places.{Key, key_bytes, key_position, key_places, RepeatAt}
-use Rattle.cborn_judge.proofs.Codes.{keys_kept, keys_below, none_repeated}
-use Rattle.cborn_judge.proofs.Firsts.{found_alike}
-use Rattle.cborn_judge.proofs.Repeating.{keys_rise}
-use Rattle.cborn_judge.proofs.Steps.{repeats_alike}
+use Rattle.cborn_judge.proofs.SameKeys.Codes.{keys_kept, keys_below, none_repeated}
+use Rattle.cborn_judge.proofs.Loops.Firsts.{found_alike}
+use Rattle.cborn_judge.proofs.SameKeys.Repeating.{keys_rise}
+use Rattle.cborn_judge.proofs.FirstFlaw.Steps.{repeats_alike}
 use Rattle.cborn_judge.proofs.keys.Keys.first_repeat.Goals as goal
 
 pub returns-then-self : goal.returns-then-self

@@ -3,7 +3,7 @@ use Rattle.std.proofs.lemmas.List.{take_all}
 use Rattle.std.proofs.Math.Seq.{drop-append_seam, take-append_seam}
 use Rattle.cborn_model.specs.Orders.{bytewise}
 use Rattle.cborn_det.proofs.Cutting.{is_less}
-use Rattle.cborn_judge.proofs.Codes.{codes_more}
+use Rattle.cborn_judge.proofs.SameKeys.Codes.{codes_more}
 use Rattle.cborn_judge.proofs.keys.Keys.push.Goals as goal
 use Rattle.cborn_judge.proofs.keys.Keys.push.Goals.{then-self, else-self}
 

@@ -1,5 +1,5 @@
 use Rattle.std.proofs.Common.{refl}
-use Rattle.cborn_model.proofs.SomeMagnitude.{digits_are_shortest}
+use Rattle.cborn_model.proofs.Numbers.SomeMagnitude.{digits_are_shortest}
 use Rattle.cborn_model.proofs.magnitudes.Magnitude.is_shortest.Goals as goal
 
 pub returns-in-Word : goal.returns-in-Word

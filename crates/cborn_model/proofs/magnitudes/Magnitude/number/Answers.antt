@@ -1,5 +1,5 @@
 use Rattle.std.proofs.Common.{arith}
-use Rattle.cborn_model.proofs.SomeMagnitude.{digits_are_bytes, digits_are_few, number_of_digits}
+use Rattle.cborn_model.proofs.Numbers.SomeMagnitude.{digits_are_bytes, digits_are_few, number_of_digits}
 use Rattle.cborn_model.proofs.magnitudes.Magnitude.number.Goals as goal
 
 pub returns-in-Word-clause-number : goal.returns-in-Word-clause-number

@@ -1,4 +1,4 @@
-use Rattle.cborn_model.proofs.SomeMagnitude.{digits_are_bytes, digits_are_shortest, number_of_digits}
+use Rattle.cborn_model.proofs.Numbers.SomeMagnitude.{digits_are_bytes, digits_are_shortest, number_of_digits}
 use Rattle.cborn_model.proofs.magnitudes.Magnitude.word.Goals as goal
 
 pub returns-clause-bytes : goal.returns-clause-bytes

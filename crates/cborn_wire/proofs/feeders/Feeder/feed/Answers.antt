@@ -3,8 +3,8 @@ use Rattle.std.proofs.lemmas.Result.{err_from_is_err_and}
 use Rattle.cborn_wire.specs.Feeding.{Feeding, Feeds}
 use Rattle.cborn_wire.specs.Machine.{held}
 use Rattle.cborn_wire.specs.StackView.{seen, seen_partial, opened}
-use Rattle.cborn_wire.proofs.ByteLists.{are_bytes}
-use Rattle.cborn_wire.proofs.FeederLaws.{accepts, fails}
+use Rattle.cborn_wire.proofs.Spelled.ByteLists.{are_bytes}
+use Rattle.cborn_wire.proofs.Feeding.FeederLaws.{accepts, fails}
 use Rattle.cborn_wire.proofs.feeders.Feeder.feed.Goals as goal
 
 pub invariant_of-self : goal.invariant_of-self

@@ -2,7 +2,7 @@ use Rattle.std.proofs.Common.{sym, ap, ◌∙◌}
 use Rattle.cborn_wire.specs.Feeding.{Feeding}
 use Rattle.cborn_wire.specs.Standing.{Standing}
 use Rattle.cborn_wire.specs.StackView.{seen_partial, opened}
-use Rattle.cborn_wire.proofs.FeederLaws.{is_fed}
+use Rattle.cborn_wire.proofs.Feeding.FeederLaws.{is_fed}
 use Rattle.cborn_wire.proofs.feeders.Feeder.take.Goals as goal
 
 pub returns-clause-fed : goal.returns-clause-fed

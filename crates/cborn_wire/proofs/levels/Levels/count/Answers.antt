@@ -1,5 +1,5 @@
 use Rattle.std.proofs.Common.{rules, ◌≡◌, sym, length, arith}
-use Rattle.cborn_wire.proofs.OpenLevels.{open_count}
+use Rattle.cborn_wire.proofs.Scans.OpenLevels.{open_count}
 use Rattle.cborn_wire.proofs.levels.Levels.count.Goals as goal
 
 pub returns-in-Some : goal.returns-in-Some

@@ -1,5 +1,5 @@
 use Rattle.std.proofs.Common.{rules, ◌≡◌, sym, ◌∙◌, length, arith}
-use Rattle.cborn_wire.proofs.OpenLevels.{left_around}
+use Rattle.cborn_wire.proofs.Scans.OpenLevels.{left_around}
 use Rattle.cborn_wire.proofs.levels.Levels.leave.Goals as goal
 
 pub returns-then-is_some-clause-open : goal.returns-then-is_some-clause-open

@@ -1,9 +1,9 @@
 use Rattle.std.proofs.Common.{rules, ◌≡◌, ◌+◌, sym, ap, ◌∙◌, subst, length, take, None, arith}
 use Rattle.cborn_wire.specs.Machine.{Live, nothing, run}
 use Rattle.cborn_wire.specs.Scanning.{levels, IsScanned}
-use Rattle.cborn_wire.proofs.HeadSteps.{head_fits}
-use Rattle.cborn_wire.proofs.ScanItems.{levels_most}
-use Rattle.cborn_wire.proofs.ScanSteps.{reason_here, step_refused, step_bad, step_taken, step_cut, step_short}
+use Rattle.cborn_wire.proofs.HeadReading.HeadSteps.{head_fits}
+use Rattle.cborn_wire.proofs.Scans.ScanItems.{levels_most}
+use Rattle.cborn_wire.proofs.Scans.ScanSteps.{reason_here, step_refused, step_bad, step_taken, step_cut, step_short}
 use Rattle.cborn_wire.proofs.levels.Levels.take_any.Goals as goal
 
 pub take_head-requires-clause-room : goal.take_head-requires-clause-room

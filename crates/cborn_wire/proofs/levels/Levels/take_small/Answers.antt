@@ -2,7 +2,7 @@ use Rattle.std.proofs.Common.{◌≡◌, ◌+◌, sym, subst, ap, ◌∙◌, tak
 use Rattle.cborn_wire.specs.Machine.{Live, nothing, run}
 use Rattle.cborn_wire.specs.Scanning.{levels, finish, slot_at, Steps, IsScanned}
 use Rattle.cborn_wire.specs.Slots.{IsNoChunk}
-use Rattle.cborn_wire.proofs.ScanSteps.{step_small}
+use Rattle.cborn_wire.proofs.Scans.ScanSteps.{step_small}
 use Rattle.cborn_wire.proofs.levels.Levels.take_small.Goals as goal
 
 pub returns-then-run-gt0-clause-steps : goal.returns-then-run-gt0-clause-steps

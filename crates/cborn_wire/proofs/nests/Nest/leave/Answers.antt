@@ -1,5 +1,5 @@
 use Rattle.std.proofs.Common.{sym}
-use Rattle.cborn_wire.proofs.Opening.{open_pop}
+use Rattle.cborn_wire.proofs.Stacked.Opening.{open_pop}
 use Rattle.cborn_wire.proofs.nests.Nest.leave.Goals as goal
 
 pub returns-clause-open : goal.returns-clause-open

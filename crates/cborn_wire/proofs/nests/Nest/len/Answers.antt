@@ -1,4 +1,4 @@
-use Rattle.cborn_wire.proofs.Opening.{open_length}
+use Rattle.cborn_wire.proofs.Stacked.Opening.{open_length}
 use Rattle.cborn_wire.proofs.nests.Nest.len.Goals as goal
 
 pub returns-in-Some : goal.returns-in-Some

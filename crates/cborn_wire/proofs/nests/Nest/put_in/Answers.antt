@@ -3,7 +3,7 @@ use Rattle.cborn_model.specs.Tree.{no_item}
 use Rattle.cborn_wire.specs.HeadReading.{seen_argument}
 use Rattle.cborn_wire.specs.Machine.{is_full}
 use Rattle.cborn_wire.specs.StackView.{around}
-use Rattle.cborn_wire.proofs.Putting.{items_room}
+use Rattle.cborn_wire.proofs.Stacked.Putting.{items_room}
 use Rattle.cborn_wire.proofs.nests.Nest.put_in.Goals as goal
 
 pub returns-then-not-is_met : goal.returns-then-not-is_met

@@ -4,7 +4,7 @@ use Rattle.std.specs.Option.{option_to_list}
 use Rattle.cborn_model.specs.Tree.{no_item}
 use Rattle.cborn_wire.specs.Machine.{finished}
 use Rattle.cborn_wire.specs.StackView.{around}
-use Rattle.cborn_wire.proofs.Putting.{put_stays, put_whole, put_fails}
+use Rattle.cborn_wire.proofs.Stacked.Putting.{put_stays, put_whole, put_fails}
 use Rattle.cborn_wire.proofs.nests.Nest.put_in_innermost.Goals as goal
 
 pub returns-in-None : goal.returns-in-None

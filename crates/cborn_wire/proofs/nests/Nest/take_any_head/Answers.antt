@@ -6,10 +6,10 @@ use Rattle.cborn_wire.specs.InitialBytes.{info_at, head_reason}
 use Rattle.cborn_wire.specs.HeadReading.{major_at, seen_argument}
 use Rattle.cborn_wire.specs.Machine.{nothing}
 use Rattle.cborn_wire.specs.StackView.{opened}
-use Rattle.cborn_wire.proofs.Settling.{settles_head}
-use Rattle.cborn_wire.proofs.Advancing.{fails_on, took}
-use Rattle.cborn_wire.proofs.HeadFronts.{short_front}
-use Rattle.cborn_wire.proofs.HeadSteps.{first_refused, second_refused, head_fits, head_taken}
+use Rattle.cborn_wire.proofs.Stacked.Settling.{settles_head}
+use Rattle.cborn_wire.proofs.Stacked.Advancing.{fails_on, took}
+use Rattle.cborn_wire.proofs.HeadReading.HeadFronts.{short_front}
+use Rattle.cborn_wire.proofs.HeadReading.HeadSteps.{first_refused, second_refused, head_fits, head_taken}
 use Rattle.cborn_wire.proofs.nests.Nest.take_any_head.Goals as goal
 
 pub returns-in-Some : goal.returns-in-Some

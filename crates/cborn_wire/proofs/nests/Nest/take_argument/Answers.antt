@@ -7,9 +7,9 @@ use Rattle.cborn_model.specs.Tree.{no_item}
 use Rattle.cborn_wire.specs.HeadReading.{major_at}
 use Rattle.cborn_wire.specs.Machine.{width_bytes, gathering, argument_of}
 use Rattle.cborn_wire.specs.StackView.{opened}
-use Rattle.cborn_wire.proofs.Settling.{settles_head}
-use Rattle.cborn_wire.proofs.Advancing.{fails_on, took}
-use Rattle.cborn_wire.proofs.HeadSteps.{argument_room, argument_ends}
+use Rattle.cborn_wire.proofs.Stacked.Settling.{settles_head}
+use Rattle.cborn_wire.proofs.Stacked.Advancing.{fails_on, took}
+use Rattle.cborn_wire.proofs.HeadReading.HeadSteps.{argument_room, argument_ends}
 use Rattle.cborn_wire.proofs.nests.Nest.take_argument.Goals as goal
 
 pub bounds-bytes-len : goal.bounds-bytes-len

@@ -7,10 +7,10 @@ use Rattle.cborn_wire.specs.declared.heads.Head.{Head}
 use Rattle.cborn_wire.specs.HeadReading.{major_at, seen_argument, IsHeadOf}
 use Rattle.cborn_wire.specs.Machine.{nothing}
 use Rattle.cborn_wire.specs.StackView.{opened}
-use Rattle.cborn_wire.proofs.Settling.{settles_head}
-use Rattle.cborn_wire.proofs.Advancing.{fails_on, took}
-use Rattle.cborn_wire.proofs.HeadFronts.{small_head}
-use Rattle.cborn_wire.proofs.HeadSteps.{head_fits, head_taken}
+use Rattle.cborn_wire.proofs.Stacked.Settling.{settles_head}
+use Rattle.cborn_wire.proofs.Stacked.Advancing.{fails_on, took}
+use Rattle.cborn_wire.proofs.HeadReading.HeadFronts.{small_head}
+use Rattle.cborn_wire.proofs.HeadReading.HeadSteps.{head_fits, head_taken}
 use Rattle.cborn_wire.proofs.nests.Nest.take_head.Goals as goal
 
 pub returns-in_err-outcome : goal.returns-in_err-outcome

@@ -1,4 +1,4 @@
-use Rattle.cborn_wire.proofs.Reached.{reached_start}
+use Rattle.cborn_wire.proofs.Machine.Reached.{reached_start}
 use Rattle.cborn_wire.proofs.stacks.Stack.new.Goals as goal
 
 pub invariant_of-result : goal.invariant_of-result

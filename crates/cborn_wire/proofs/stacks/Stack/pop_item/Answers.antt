@@ -1,7 +1,7 @@
 use Rattle.std.proofs.Common.{ap, ◌∙◌}
 use Rattle.cborn_wire.specs.Standing.{Standing}
 use Rattle.cborn_wire.specs.StackView.{opened, seen_partial}
-use Rattle.cborn_wire.proofs.FeederLaws.{taken}
+use Rattle.cborn_wire.proofs.Feeding.FeederLaws.{taken}
 use Rattle.cborn_wire.proofs.stacks.Stack.pop_item.Goals as goal
 
 pub invariant_of-self : goal.invariant_of-self

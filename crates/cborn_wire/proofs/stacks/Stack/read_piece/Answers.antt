@@ -1,7 +1,7 @@
 use Rattle.std.proofs.Common.{◌++◌, sym, ap, ◌∙◌, length, take, arith, length-append}
 use Rattle.std.proofs.lemmas.List.{take_rest}
 use Rattle.std.proofs.lemmas.Result.{err_from_is_err_and}
-use Rattle.cborn_wire.proofs.Advancing.{then_stops, then_moved}
+use Rattle.cborn_wire.proofs.Stacked.Advancing.{then_stops, then_moved}
 use Rattle.cborn_wire.proofs.stacks.Stack.read_piece.Goals as goal
 
 pub advance-requires-clause-room : goal.advance-requires-clause-room

@@ -1,0 +1,185 @@
+-- What the machine holds: the tokens that it took, how deep they went, and the commas before brackets.
+use Rattle.std.proofs.Common.{◌≡◌, refl, ap, ◌∙◌, ℕ, suc, ◌+◌, ◌≤◌, List, [], ◌∷◌, ◌++◌, Option, Some, None, append_assoc, arith}
+use Rattle.std.specs.Prelude.{max}
+use Rattle.cborn_lex.specs.declared.classes.Class.{Class}
+use Rattle.cborn_lex.specs.declared.classes.Class.TheVariants.{ArrayOpen, MapOpen, EmbedClose, ArrayClose, MapClose, Colon, EmbedOpen, ChunkOpen, SimpleOpen, Number, TagOpen}
+use Rattle.cborn_lex.specs.declared.classes.Token.{Token}
+use Rattle.cborn_edn.specs.Syntax.{Span, token, Piece, embedded, Pieces, Content, tokens_of, tokens_of_piece, tokens_of_pieces, tokens_of_strings_before, tokens_of_row_before, tokens_of_content, tokens_of_pairs_before, depth_of_number, depth, depth_of_piece, depth_of_pieces, depth_of_strings_before, depth_of_row_before, depth_of_content, depth_of_pairs_before}
+use Rattle.cborn_edn.specs.devices.Commas.{last_comma, last_pair_comma, commas, commas_of_piece, commas_of_pieces, commas_of_strings_before, commas_of_row_before, commas_of_content, commas_of_pairs_before}
+use Rattle.cborn_edn.proofs.Grammar.Machine.{Stack, in_row, in_key, in_value, in_tag, Nest, at_top, in_array, in_embed, Home, as_item, as_chunk, State, wants, has, builds, wants_chunk, wants_number, has_number, with_piece, ends}
+
+abbrev pub tokens_before : Option Pieces → List Token
+tokens_before None = []
+tokens_before (Some ps) = tokens_of_pieces ps
+
+abbrev pub depth_before : Option Pieces → ℕ
+depth_before None = 0
+depth_before (Some ps) = depth_of_pieces ps
+
+abbrev pub commas_before : Option Pieces → ℕ
+commas_before None = 0
+commas_before (Some ps) = commas_of_pieces ps
+
+abbrev mutual
+  pub held_stack : Stack → List Token
+  held_stack (in_row n b) = held_nest n ++ tokens_of_row_before b
+  held_stack (in_key st s m b) = held_stack st ++ (token s (MapOpen m) ∷ tokens_of_pairs_before b)
+  held_stack (in_value st s m b k c) = held_stack st ++ (token s (MapOpen m) ∷ (tokens_of_pairs_before b ++ (tokens_of k ++ (token c Colon ∷ []))))
+  held_stack (in_tag st s n m) = held_stack st ++ (token s (TagOpen n m) ∷ [])
+
+  pub held_nest : Nest → List Token
+  held_nest at_top = []
+  held_nest (in_array st s m) = held_stack st ++ (token s (ArrayOpen m) ∷ [])
+  held_nest (in_embed h b s) = held_home h ++ (tokens_before b ++ (token s EmbedOpen ∷ []))
+
+  pub held_home : Home → List Token
+  held_home (as_item st) = held_stack st
+  held_home (as_chunk st s b) = held_stack st ++ (token s ChunkOpen ∷ tokens_of_strings_before b)
+
+abbrev pub held : State → List Token
+held (wants st) = held_stack st
+held (has st i) = held_stack st ++ tokens_of i
+held (builds h ps) = held_home h ++ tokens_of_pieces ps
+held (wants_chunk st s b) = held_stack st ++ (token s ChunkOpen ∷ tokens_of_strings_before b)
+held (wants_number st s) = held_stack st ++ (token s SimpleOpen ∷ [])
+held (has_number st s b n v m) = held_stack st ++ (token s SimpleOpen ∷ token b (Number n v m) ∷ [])
+
+-- how many arrays, maps, tags and embedded items are open
+abbrev mutual
+  pub levels : Stack → ℕ
+  levels (in_row n b) = levels_nest n
+  levels (in_key st s m b) = suc (levels st)
+  levels (in_value st s m b k c) = suc (levels st)
+  levels (in_tag st s n m) = suc (levels st)
+
+  pub levels_nest : Nest → ℕ
+  levels_nest at_top = 0
+  levels_nest (in_array st s m) = suc (levels st)
+  levels_nest (in_embed h b s) = suc (levels_home h)
+
+  pub levels_home : Home → ℕ
+  levels_home (as_item st) = levels st
+  levels_home (as_chunk st s b) = levels st
+
+abbrev pub open_levels : State → ℕ
+open_levels (wants st) = levels st
+open_levels (has st i) = levels st
+open_levels (builds h ps) = levels_home h
+open_levels (wants_chunk st s b) = levels st
+open_levels (wants_number st s) = levels st
+open_levels (has_number st s b n v m) = levels st
+
+abbrev mutual
+  pub deep_stack : Stack → ℕ
+  deep_stack (in_row n b) = max (deep_nest n) (levels_nest n + depth_of_row_before b)
+  deep_stack (in_key st s m b) = max (deep_stack st) (suc (levels st) + depth_of_pairs_before b)
+  deep_stack (in_value st s m b k c) = max (deep_stack st) (suc (levels st) + max (depth_of_pairs_before b) (depth k))
+  deep_stack (in_tag st s n m) = max (deep_stack st) (suc (levels st))
+
+  pub deep_nest : Nest → ℕ
+  deep_nest at_top = 0
+  deep_nest (in_array st s m) = max (deep_stack st) (suc (levels st))
+  deep_nest (in_embed h b s) = max (deep_home h) (max (levels_home h + depth_before b) (suc (levels_home h)))
+
+  pub deep_home : Home → ℕ
+  deep_home (as_item st) = deep_stack st
+  deep_home (as_chunk st s b) = max (deep_stack st) (levels st + depth_of_strings_before b)
+
+abbrev pub deep : State → ℕ
+deep (wants st) = deep_stack st
+deep (has st i) = max (deep_stack st) (levels st + depth i)
+deep (builds h ps) = max (deep_home h) (levels_home h + depth_of_pieces ps)
+deep (wants_chunk st s b) = max (deep_stack st) (levels st + depth_of_strings_before b)
+deep (wants_number st s) = deep_stack st
+deep (has_number st s b n v m) = max (deep_stack st) (levels st + depth_of_number n v)
+
+abbrev mutual
+  pub commas_stack : Stack → ℕ
+  commas_stack (in_row n b) = commas_nest n + commas_of_row_before b
+  commas_stack (in_key st s m b) = commas_stack st + commas_of_pairs_before b
+  commas_stack (in_value st s m b k c) = commas_stack st + (commas_of_pairs_before b + commas k)
+  commas_stack (in_tag st s n m) = commas_stack st
+
+  pub commas_nest : Nest → ℕ
+  commas_nest at_top = 0
+  commas_nest (in_array st s m) = commas_stack st
+  commas_nest (in_embed h b s) = commas_home h + commas_before b
+
+  pub commas_home : Home → ℕ
+  commas_home (as_item st) = commas_stack st
+  commas_home (as_chunk st s b) = commas_stack st + commas_of_strings_before b
+
+abbrev pub commas_held : State → ℕ
+commas_held (wants st) = commas_stack st
+commas_held (has st i) = commas_stack st + commas i
+commas_held (builds h ps) = commas_home h + commas_of_pieces ps
+commas_held (wants_chunk st s b) = commas_stack st + commas_of_strings_before b
+commas_held (wants_number st s) = commas_stack st
+commas_held (has_number st s b n v m) = commas_stack st
+
+-- whether a comma stands behind the items, or the pairs
+abbrev pub row_comma : Stack → ℕ
+row_comma (in_row n b) = last_comma b
+row_comma _ = 0
+
+abbrev pub pair_comma : Stack → ℕ
+pair_comma (in_key st s m b) = last_pair_comma b
+pair_comma _ = 0
+
+-- whether a comma stands before a bracket
+abbrev pub comma_in : Stack → Class → ℕ
+comma_in st ArrayClose = row_comma st
+comma_in st (EmbedClose m) = row_comma st
+comma_in st MapClose = pair_comma st
+comma_in st _ = 0
+
+abbrev pub comma_at : State → Class → ℕ
+comma_at (wants st) c = comma_in st c
+comma_at _ c = 0
+
+abbrev pub After : Option State → (State → Type 0) → Type 0
+After None P = Unit {0}
+After (Some s) P = P s
+
+-- s is the state behind x and the token
+pub record Grows (x : List Token) (d n : ℕ) (t : Token) (s : State) : Type 0 where
+  pub held : held s ≡ x ++ (t ∷ [])
+  pub deep : deep s ≡ d
+  pub commas : commas_held s ≡ n
+
+pub after-is : (o : Option State) (x y : List Token) (d e m n : ℕ) (t : Token) → x ≡ y → d ≡ e → m ≡ n → After o (Grows x d m t) → After o (Grows y e n t)
+after-is None x y d e m n t p q r g = tt
+after-is (Some s) x y d e m n t p q r g = record { held = g.held ∙ ap (λ l. l ++ (t ∷ [])) p; deep = g.deep ∙ q; commas = g.commas ∙ r }
+
+pub with_piece-tokens : (b : Option Pieces) (p : Piece) → tokens_of_pieces (with_piece b p) ≡ tokens_before b ++ tokens_of_piece p
+with_piece-tokens None p = refl
+with_piece-tokens (Some ps) p = refl
+
+pub with_piece-depth : (b : Option Pieces) (p : Piece) → depth_of_pieces (with_piece b p) ≡ max (depth_before b) (depth_of_piece p)
+with_piece-depth None p = omega arith
+with_piece-depth (Some ps) p = refl
+
+pub with_piece-commas : (b : Option Pieces) (p : Piece) → commas_of_pieces (with_piece b p) ≡ commas_before b + commas_of_piece p
+with_piece-commas None p = omega arith
+with_piece-commas (Some ps) p = refl
+
+pub ends_grow : (n : Nest) (c : Content) (e : Class) (a : Span) → After (ends n c e a) (Grows (held_nest n ++ tokens_of_content c) (max (deep_nest n) (levels_nest n + depth_of_content c)) (commas_nest n + commas_of_content c) (token a e))
+ends_grow (in_array st s m) c ArrayClose a = record { held = simp append_assoc; deep = omega arith; commas = refl }
+ends_grow (in_embed h b s) c (EmbedClose m) a = record {
+  held = ap (λ l. held_home h ++ l) (with_piece-tokens b (embedded s c a m)) ∙ simp append_assoc;
+  deep = omega (arith, with_piece-depth b (embedded s c a m));
+  commas = omega (arith, with_piece-commas b (embedded s c a m));
+}
+ends_grow _ _ _ _ = tt
+
+mutual
+  pub levels-deep : (st : Stack) → levels st ≤ deep_stack st
+  levels-deep (in_row n b) = omega (arith, levels_nest-deep n)
+  levels-deep (in_key st s m b) = omega arith
+  levels-deep (in_value st s m b k c) = omega arith
+  levels-deep (in_tag st s n m) = omega arith
+
+  pub levels_nest-deep : (n : Nest) → levels_nest n ≤ deep_nest n
+  levels_nest-deep at_top = omega arith
+  levels_nest-deep (in_array st s m) = omega arith
+  levels_nest-deep (in_embed h b s) = omega arith

@@ -1,0 +1,254 @@
+-- Tokens have at most one tree, and within the limit a tree or one jam, never both; a larger limit and the second profile take no less.
+use Rattle.std.proofs.Common.{◌≡◌, refl, ap, ◌∙◌, sym, subst, ℕ, suc, ◌+◌, ◌≤◌, List, [], ◌∷◌, ◌++◌, Option, Some, None, append_assoc, append-nil, arith, ◌<◌, zero, ◌⊎◌, inl, inr}
+use Rattle.std.specs.Prelude.{max}
+use Rattle.cborn_lex.specs.declared.classes.Token.{Token}
+use Rattle.cborn_lex.specs.declared.classes.Profile.{Profile}
+use Rattle.cborn_lex.specs.declared.classes.Profile.TheVariants.{One as ProfileOne, Two as ProfileTwo}
+use Rattle.cborn_edn.specs.Syntax.{token, span, Item, number, word, simple, string, row, no_item, Input, nothing, items, tokens_of_input, depth, depth_of_input}
+use Rattle.cborn_edn.specs.devices.Commas.{commas, commas_of_input, AllowsCount}
+use Rattle.cborn_edn.proofs.Grammar.Machine.{Stack, in_row, at_top, as_item, State, wants, has, builds, start, step, run, run-append, run-none}
+use Rattle.cborn_edn.specs.declared.faults.EdnReason.{EdnReason}
+use Rattle.cborn_edn.specs.declared.faults.EdnReason.TheVariants.{UnexpectedToken, UnexpectedEnd, TooDeep}
+use Rattle.cborn_edn.specs.Parse.{Parse, HasTree, GoesOn, GoesOnAtAnyDepth, StopsAt, Jam}
+use Rattle.cborn_edn.proofs.Grammar.Takes.{landed, then, whole, takes_input, finish, finish-whole}
+use Rattle.cborn_edn.specs.devices.Levels.{reach}
+use Rattle.cborn_edn.proofs.Grammar.Held.{held, open_levels, deep_stack, deep, commas_stack, commas_held, levels, comma_at, After, Grows}
+use Rattle.cborn_edn.proofs.Grammar.Grows.{grows}
+use Rattle.cborn_edn.proofs.Grammar.Closes.{closes}
+use Rattle.cborn_edn.proofs.Grammar.Trailing.{parse_of, allowed_count}
+use Rattle.std.proofs.lemmas.Option.{same_Some}
+
+-- what the tokens lead to
+abbrev pub Leads : List Token → State → Type 0
+Leads ts s = run ts (Some start) ≡ Some s
+
+pub takes_all : (t : Input) → Leads (tokens_of_input t) (whole t)
+takes_all t = ap (λ l. run l (Some start)) (sym (append-nil (tokens_of_input t))) ∙ takes_input t []
+
+-- LAW: tokens have at most one tree
+pub one_tree : (p q : Profile) (ts : List Token) (t u : Input) → Parse p ts t → Parse q ts u → t ≡ u
+one_tree p q ts t u g h =
+    let same : Some (whole t) ≡ Some (whole u) = sym (takes_all t) ∙ ap (λ l. run l (Some start)) (g.is ∙ sym h.is) ∙ takes_all u in
+    same_Some _ _ (sym (finish-whole t) ∙ ap finish (same_Some _ _ same) ∙ finish-whole u)
+
+deep-landed : (st : Stack) (i : Item) → deep (landed st i) ≡ max (deep_stack st) (levels st + depth i)
+deep-landed st (string ps) = refl
+deep-landed st _ = refl
+
+commas-landed : (st : Stack) (i : Item) → commas_held (landed st i) ≡ commas_stack st + commas i
+commas-landed st (number a n v m) = omega arith
+commas-landed st (word a n) = omega arith
+commas-landed st (simple a c n v m e) = omega arith
+commas-landed st _ = refl
+
+deep-whole : (t : Input) → deep (whole t) ≡ depth_of_input t
+deep-whole nothing = omega arith
+deep-whole (items (row b i)) = omega (arith, deep-landed (in_row at_top b) i)
+
+commas-whole : (t : Input) → commas_held (whole t) ≡ commas_of_input t
+commas-whole nothing = omega arith
+commas-whole (items (row b i)) = omega (arith, commas-landed (in_row at_top b) i)
+
+no_some : {A : Type 0} {x : A} {B : Type 0} → None ≡ Some x → B
+no_some e = cc
+
+-- what a run adds
+pub record Ran (y : List Token) (s u : State) : Type 0 where
+  pub held : held u ≡ held s ++ y
+  pub deeper : deep s ≤ deep u
+  pub commas : commas_held s ≤ commas_held u
+
+pub ran : (y : List Token) (s u : State) → then y s ≡ Some u → Ran y s u
+ran [] s u e = let same : s ≡ u = same_Some _ _ e in record { held = ap held (sym same) ∙ sym (append-nil (held s)); deeper = omega (arith, ap deep same); commas = omega (arith, ap commas_held same) }
+ran (t ∷ y) s u e = go (step s t) (grows s t.class (span t)) e (λ v. ran y v u)
+  where
+    go : (o : Option State) → After o (Grows (held s) (max (deep s) (reach (open_levels s) t.class)) (commas_held s + comma_at s t.class) (token (span t) t.class)) → run y o ≡ Some u
+        → ((v : State) → then y v ≡ Some u → Ran y v u) → Ran (t ∷ y) s u
+    go None g f rest = no_some (sym (run-none y) ∙ f)
+    go (Some v) g f rest =
+        let r = rest v f in
+        record { held = r.held ∙ ap (λ l. l ++ y) g.held ∙ append_assoc (held s) (t ∷ []) y; deeper = omega (arith, g.deep, r.deeper); commas = omega (arith, g.commas, r.commas) }
+
+pub held_by : (ts : List Token) (s : State) → Leads ts s → held s ≡ ts
+held_by ts s e = (ran ts start s e).held
+
+allows_less : (p : Profile) (m n : ℕ) → m ≤ n → AllowsCount p n → AllowsCount p m
+allows_less ProfileOne m n h a = omega (arith, a)
+allows_less ProfileTwo m n h a = tt
+
+-- tokens that lead to a state within the profile and the limit
+pub record Good (p : Profile) (limit : ℕ) (ts : List Token) : Type 0 where
+  pub state : State
+  pub leads : Leads ts state
+  pub allowed : AllowsCount p (commas_held state)
+  pub shallow : deep state ≤ limit
+
+pub good : (p : Profile) (limit : ℕ) (ts : List Token) → GoesOn p limit ts → Good p limit ts
+good p limit ts (more, (tree, parse, low)) = go (run ts (Some start)) refl (sym (run-append ts more (Some start)) ∙ ap (λ l. run l (Some start)) (sym parse.is) ∙ takes_all tree)
+  where
+    go : (o : Option State) → run ts (Some start) ≡ o → run more o ≡ Some (whole tree) → Good p limit ts
+    go None e f = no_some (sym (run-none more) ∙ f)
+    go (Some s) e f =
+        let r = ran more s (whole tree) f in
+        record { state = s; leads = e; allowed = allows_less p _ (commas_of_input tree) (omega (arith, r.commas, commas-whole tree)) (allowed_count p _ tree parse); shallow = omega (arith, r.deeper, deep-whole tree, low) }
+
+pub goes_on : (p : Profile) (limit : ℕ) (ts : List Token) → Good p limit ts → GoesOn p limit ts
+goes_on p limit ts g =
+    let c = closes g.state in
+    (c.more, (c.tree, parse_of p _ c.tree (c.is ∙ ap (λ l. l ++ c.more) (held_by ts g.state g.leads)) (allows_less p _ _ c.few g.allowed), omega (arith, c.shallow, g.shallow)))
+
+pub record Ended (s : State) (t : Input) : Type 0 where
+  pub is : tokens_of_input t ≡ held s
+  pub depth : depth_of_input t ≡ deep s
+  pub commas : commas_of_input t ≡ commas_held s
+
+abbrev pub IfTree : Option Input → (Input → Type 0) → Type 0
+IfTree None P = Unit {0}
+IfTree (Some t) P = P t
+
+pub ends_tree : (s : State) → IfTree (finish s) (Ended s)
+ends_tree (wants (in_row at_top no_item)) = record { is = refl; depth = omega arith; commas = omega arith }
+ends_tree (has (in_row at_top b) i) = record { is = refl; depth = omega arith; commas = omega arith }
+ends_tree (builds (as_item (in_row at_top b)) ps) = record { is = refl; depth = omega arith; commas = omega arith }
+ends_tree _ = tt
+
+has_goes : (p : Profile) (limit : ℕ) (ts : List Token) → HasTree p limit ts → GoesOn p limit ts
+has_goes p limit ts (tree, parse, low) = ([], (tree, parse_of p _ tree (parse.is ∙ sym (append-nil ts)) (allowed_count p ts tree parse), low))
+
+pub no_tree : (p : Profile) (limit : ℕ) (ts : List Token) (s : State) → Leads ts s → finish s ≡ None → HasTree p limit ts → ⊥
+no_tree p limit ts s e f (tree, parse, low) =
+    let same : Some (whole tree) ≡ Some s = sym (takes_all tree) ∙ ap (λ l. run l (Some start)) parse.is ∙ e in
+    no_some (sym f ∙ ap finish (sym (same_Some _ _ same)) ∙ finish-whole tree)
+
+pub nothing_goes : (p : Profile) (limit : ℕ) (f : List Token) (t : Token) (s : State) → Leads f s → step s t ≡ None → GoesOn p limit (f ++ (t ∷ [])) → ⊥
+nothing_goes p limit f t s e none g =
+    let h = good p limit (f ++ (t ∷ [])) g in
+    no_some (sym (run-append f (t ∷ []) (Some start) ∙ ap (run (t ∷ [])) e ∙ none) ∙ h.leads)
+
+pub leads_on : (f : List Token) (t : Token) (s u : State) → Leads f s → step s t ≡ Some u → Leads (f ++ (t ∷ [])) u
+leads_on f t s u e next = run-append f (t ∷ []) (Some start) ∙ ap (run (t ∷ [])) e ∙ next
+
+-- two ends of one run
+pub same_end : (ts : List Token) (s u : State) → Leads ts s → Leads ts u → s ≡ u
+same_end ts s u e f = same_Some _ _ (sym e ∙ f)
+
+-- whether the profile allows so many
+allows : (p : Profile) (n : ℕ) → AllowsCount p n ⊎ (AllowsCount p n → ⊥)
+allows ProfileOne zero = inl refl
+allows ProfileOne (suc n) = inr (λ e. omega arith)
+allows ProfileTwo n = inl tt
+
+low : (d limit : ℕ) → (d ≤ limit) ⊎ (limit < d)
+low d limit = grind arith
+
+-- LAW: tokens have a tree within the limit, or a jam
+abbrev pub Answered : Profile → ℕ → ℕ → List Token → Type 0
+Answered p limit end ts = HasTree p limit ts ⊎ ((q : ℕ) × (r : EdnReason) × Jam p limit end ts q r)
+
+module _ (p : Profile) (limit end : ℕ) where
+  pub stops : (f y : List Token) (t : Token) (s : State) → Leads f s → AllowsCount p (commas_held s) → deep s ≤ limit → (GoesOn p limit (f ++ (t ∷ [])) → ⊥) → StopsAt p limit (f ++ (t ∷ y)) f t
+  stops f y t s e a d never = record { y = y; split = refl; before = goes_on p limit f (record { state = s; leads = e; allowed = a; shallow = d }); here = never }
+
+  search_on : (y f : List Token) (s : State) → Leads f s → AllowsCount p (commas_held s) → deep s ≤ limit → Answered p limit end (f ++ y)
+  search_on [] f s e a d = go (finish s) refl (ends_tree s)
+    where
+      go : (o : Option Input) → finish s ≡ o → IfTree o (Ended s) → Answered p limit end (f ++ [])
+      go None none h = inr (end, UnexpectedEnd, (refl, rw append-nil (goes_on p limit f (record { state = s; leads = e; allowed = a; shallow = d })), rw append-nil (no_tree p limit f s e none)))
+      go (Some t) some h = inl (t, parse_of p _ t (h.is ∙ held_by f s e ∙ sym (append-nil f)) (rw h.commas a), omega (arith, h.depth))
+  search_on (t ∷ y) f s e a d = go (step s t) refl (λ u next b c. rw append_assoc at (search_on y (f ++ (t ∷ [])) u (leads_on f t s u e next) b c))
+    where
+      go : (o : Option State) → step s t ≡ o → ((u : State) → step s t ≡ Some u → AllowsCount p (commas_held u) → deep u ≤ limit → Answered p limit end (f ++ (t ∷ y))) → Answered p limit end (f ++ (t ∷ y))
+      go None none rest = inr (t.start, UnexpectedToken, (f, t, stops f y t s e a d (nothing_goes p limit f t s e none), refl, λ g. nothing_goes p g.0 f t s e none g.1))
+      go (Some u) next rest = choose (allows p (commas_held u)) (low (deep u) limit)
+        where
+          deeper : (m : ℕ) → GoesOn p m (f ++ (t ∷ [])) → AllowsCount p (commas_held u) × (deep u ≤ m)
+          deeper m g =
+              let h = good p m (f ++ (t ∷ [])) g in
+              let same : h.state ≡ u = same_end (f ++ (t ∷ [])) h.state u h.leads (leads_on f t s u e next) in
+              (subst (λ v. AllowsCount p (commas_held v)) same h.allowed, omega (arith, ap deep same, h.shallow))
+
+          choose : AllowsCount p (commas_held u) ⊎ (AllowsCount p (commas_held u) → ⊥) → (deep u ≤ limit) ⊎ (limit < deep u) → Answered p limit end (f ++ (t ∷ y))
+          choose (inl b) (inl c) = rest u next b c
+          choose (inr never) _ = inr (t.start, UnexpectedToken, (f, t, stops f y t s e a d (λ g. never (deeper limit g).0), refl, λ g. never (deeper g.0 g.1).0))
+          choose (inl b) (inr c) = inr (t.start, TooDeep, (f, t, stops f y t s e a d (λ g. omega (arith, (deeper limit g).1)), refl, (deep u, goes_on p (deep u) (f ++ (t ∷ [])) (record { state = u; leads = leads_on f t s u e next; allowed = b; shallow = omega arith }))))
+
+  pub answered : (ts : List Token) → Answered p limit end ts
+  answered ts = search_on ts [] start refl (none p) (omega arith)
+    where
+      none : (p : Profile) → AllowsCount p (commas_held start)
+      none ProfileOne = omega arith
+      none ProfileTwo = tt
+
+  -- fronts of what goes on go on
+  front_goes : (x y : List Token) → GoesOn p limit (x ++ y) → GoesOn p limit x
+  front_goes x y g = (y ++ g.0, rw append_assoc at g.1)
+
+  -- LAW: not both
+  pub not_both : (ts : List Token) (q : ℕ) (r : EdnReason) → HasTree p limit ts → Jam p limit end ts q r → ⊥
+  not_both ts q UnexpectedEnd h j = j.2 h
+  not_both ts q UnexpectedToken h (f, t, s, at, never) = s.here (front_goes (f ++ (t ∷ [])) s.y (rw append_assoc (subst (GoesOn p limit) s.split (has_goes p limit ts h))))
+  not_both ts q TooDeep h (f, t, s, at, never) = s.here (front_goes (f ++ (t ∷ [])) s.y (rw append_assoc (subst (GoesOn p limit) s.split (has_goes p limit ts h))))
+  not_both ts q _ h j = absurd j
+
+-- two splits of one list
+abbrev SplitsAs : (f g : List Token) (t u : Token) → Type 0
+SplitsAs f g t u = ((f ≡ g) × (t ≡ u)) ⊎ (((w : List Token) × (g ≡ f ++ (t ∷ w))) ⊎ ((w : List Token) × (f ≡ g ++ (u ∷ w))))
+
+more_split : (f g : List Token) (t u v x : Token) → v ≡ x → SplitsAs f g t u → SplitsAs (v ∷ f) (x ∷ g) t u
+more_split f g t u v x e (inl h) = inl (cc, h.1)
+more_split f g t u v x e (inr (inl h)) = inr (inl (h.0, cc))
+more_split f g t u v x e (inr (inr h)) = inr (inr (h.0, cc))
+
+head_same : {v x : Token} {a b : List Token} → v ∷ a ≡ x ∷ b → v ≡ x
+head_same e = cc
+
+tail_same : {v x : Token} {a b : List Token} → v ∷ a ≡ x ∷ b → a ≡ b
+tail_same e = cc
+
+splits : (f y g z : List Token) (t u : Token) → f ++ (t ∷ y) ≡ g ++ (u ∷ z) → SplitsAs f g t u
+splits [] y [] z t u e = inl (refl, head_same e)
+splits [] y (x ∷ g) z t u e = inr (inl (g, ap (λ l. l ∷ g) (sym (head_same e))))
+splits (v ∷ f) y [] z t u e = inr (inr (f, ap (λ l. l ∷ f) (head_same e)))
+splits (v ∷ f) y (x ∷ g) z t u e = more_split f g t u v x (head_same e) (splits f y g z t u (tail_same e))
+
+module _ (p : Profile) (limit : ℕ) (ts : List Token) where
+  -- it stops at one token
+  one_stop : (f g : List Token) (t u : Token) → StopsAt p limit ts f t → StopsAt p limit ts g u → (f ≡ g) × (t ≡ u)
+  one_stop f g t u a b = go (splits f a.y g b.y t u (sym a.split ∙ b.split))
+    where
+      go : SplitsAs f g t u → (f ≡ g) × (t ≡ u)
+      go (inl h) = h
+      go (inr (inl (w, h))) = absurd (a.here (front_goes p limit 0 (f ++ (t ∷ [])) w (rw append_assoc (subst (GoesOn p limit) h b.before))))
+      go (inr (inr (w, h))) = absurd (b.here (front_goes p limit 0 (g ++ (u ∷ [])) w (rw append_assoc (subst (GoesOn p limit) h a.before))))
+
+  stop_goes_not : (f : List Token) (t : Token) → StopsAt p limit ts f t → GoesOn p limit ts → ⊥
+  stop_goes_not f t s g = s.here (front_goes p limit 0 (f ++ (t ∷ [])) s.y (rw append_assoc (subst (GoesOn p limit) s.split g)))
+
+  apart : (f g : List Token) (t u : Token) → (f ≡ g) × (t ≡ u) → GoesOnAtAnyDepth p (f ++ (t ∷ [])) → (GoesOnAtAnyDepth p (g ++ (u ∷ [])) → ⊥) → ⊥
+  apart f g t u e h never = never (subst (GoesOnAtAnyDepth p) (ap (λ l. l ++ (t ∷ [])) e.0 ∙ ap (λ v. g ++ (v ∷ [])) e.1) h)
+
+  place : (f g : List Token) (t u : Token) (i j : ℕ) → (f ≡ g) × (t ≡ u) → i ≡ t.start → j ≡ u.start → i ≡ j
+  place f g t u i j e a b = a ∙ ap (λ (v : Token). v.start) e.1 ∙ sym b
+
+  -- LAW: not two
+  pub not_two : (end i j : ℕ) (r s : EdnReason) → Jam p limit end ts i r → Jam p limit end ts j s → (i ≡ j) × (r ≡ s)
+  not_two end i j UnexpectedEnd UnexpectedEnd a b = (a.0 ∙ sym b.0, refl)
+  not_two end i j UnexpectedEnd UnexpectedToken a b = absurd (stop_goes_not b.0 b.1 b.2 a.1)
+  not_two end i j UnexpectedEnd TooDeep a b = absurd (stop_goes_not b.0 b.1 b.2 a.1)
+  not_two end i j UnexpectedToken UnexpectedEnd a b = absurd (stop_goes_not a.0 a.1 a.2 b.1)
+  not_two end i j TooDeep UnexpectedEnd a b = absurd (stop_goes_not a.0 a.1 a.2 b.1)
+  not_two end i j UnexpectedToken UnexpectedToken a b = (place a.0 b.0 a.1 b.1 i j (one_stop a.0 b.0 a.1 b.1 a.2 b.2) a.3 b.3, refl)
+  not_two end i j TooDeep TooDeep a b = (place a.0 b.0 a.1 b.1 i j (one_stop a.0 b.0 a.1 b.1 a.2 b.2) a.3 b.3, refl)
+  not_two end i j TooDeep UnexpectedToken a b = absurd (apart a.0 b.0 a.1 b.1 (one_stop a.0 b.0 a.1 b.1 a.2 b.2) a.4 b.4)
+  not_two end i j UnexpectedToken TooDeep a b = absurd (apart b.0 a.0 b.1 a.1 (one_stop b.0 a.0 b.1 a.1 b.2 a.2) b.4 a.4)
+  not_two end i j UnexpectedEnd s a b = absurd b
+  not_two end i j UnexpectedToken s a b = absurd b
+  not_two end i j TooDeep s a b = absurd b
+  not_two end i j r s a b = absurd a
+
+-- LAW: larger limits and profile 2 take no less
+pub larger_limit : (p : Profile) (limit most : ℕ) (ts : List Token) → limit ≤ most → HasTree p limit ts → HasTree p most ts
+larger_limit p limit most ts h t = (t.0, t.1, omega (arith, t.2))
+
+pub both_profiles : (ts : List Token) (t : Input) → Parse ProfileOne ts t → Parse ProfileTwo ts t
+both_profiles ts t h = record { is = h.is; allowed = tt }

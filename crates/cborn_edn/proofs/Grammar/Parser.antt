@@ -1,0 +1,105 @@
+-- The machine with its tests of the profile and the limit is a parser: it ends in the tree, or tells the jam.
+use Rattle.std.proofs.Common.{◌≡◌, refl, ap, ◌∙◌, sym, subst, ℕ, suc, ◌+◌, ◌≤◌, List, [], ◌∷◌, ◌++◌, Bool, true, false, Option, Some, None, append_assoc, append-nil, leb, cond, arith, ◌<◌, zero}
+use Rattle.std.specs.Prelude.{max}
+use Rattle.std.proofs.lemmas.Bool.{leb-true, leb-false}
+use Rattle.cborn_lex.specs.declared.classes.Token.{Token}
+use Rattle.cborn_lex.specs.declared.classes.Profile.{Profile}
+use Rattle.cborn_lex.specs.declared.classes.Profile.TheVariants.{One as ProfileOne, Two as ProfileTwo}
+use Rattle.cborn_edn.specs.devices.Commas.{AllowsCount}
+use Rattle.cborn_edn.specs.Syntax.{token, span, Input, depth_of_input}
+use Rattle.cborn_edn.proofs.Grammar.Machine.{State, start, step}
+use Rattle.cborn_edn.specs.declared.faults.EdnReason.{EdnReason}
+use Rattle.cborn_edn.specs.declared.faults.EdnReason.TheVariants.{UnexpectedToken, UnexpectedEnd, TooDeep}
+use Rattle.cborn_edn.specs.Parse.{Parse, GoesOn, Jam}
+use Rattle.cborn_edn.proofs.Grammar.Takes.{finish}
+use Rattle.cborn_edn.specs.devices.Levels.{reach}
+use Rattle.cborn_edn.proofs.Grammar.Held.{held, open_levels, deep, commas_held, comma_at, After, Grows}
+use Rattle.cborn_edn.proofs.Grammar.Grows.{grows}
+use Rattle.cborn_edn.proofs.Grammar.Trailing.{parse_of}
+use Rattle.cborn_edn.proofs.Grammar.OneTree.{Leads, Ended, IfTree, ends_tree, held_by, good, goes_on, nothing_goes, no_tree, leads_on, same_end, stops}
+
+-- The parser that the code is: each test looks at the token and at what is open, and at nothing else.
+
+pub data Answer : Type 0 where
+  Whole : Input → Answer
+  Jams : ℕ → EdnReason → Answer
+
+abbrev pub forbids : Profile → ℕ → Bool
+forbids ProfileOne zero = false
+forbids ProfileOne (suc n) = true
+forbids ProfileTwo n = false
+
+abbrev pub at_end : ℕ → Option Input → Answer
+at_end end None = Jams end UnexpectedEnd
+at_end end (Some t) = Whole t
+
+-- the step, by the profile and the limit
+abbrev pub checked : Profile → ℕ → State → Token → Option State → Option State
+checked p limit s t None = None
+checked p limit s t (Some u) = cond (forbids p (comma_at s t.class)) None (Some u)
+
+abbrev pub parse : Profile → ℕ → ℕ → List Token → State → Answer
+parse p limit end [] s = at_end end (finish s)
+parse p limit end (t ∷ ts) s = elim (checked p limit s t (step s t)) [ None ↦ Jams t.start UnexpectedToken | Some u ↦ cond (leb (reach (open_levels s) t.class) limit) (parse p limit end ts u) (Jams t.start TooDeep) ]
+
+-- what an answer promises
+abbrev pub Meets : Profile → ℕ → ℕ → List Token → Answer → Type 0
+Meets p limit end ts (Whole t) = Parse p ts t × (depth_of_input t ≤ limit)
+Meets p limit end ts (Jams q r) = Jam p limit end ts q r
+
+allows_more : (p : Profile) (m n : ℕ) → forbids p n ≡ false → AllowsCount p m → AllowsCount p (m + n)
+allows_more ProfileOne m zero f a = omega (arith, a)
+allows_more ProfileOne m (suc n) f a = absurd (let e : true ≡ false = f in cc)
+allows_more ProfileTwo m n f a = tt
+
+forbidden : (p : Profile) (m n : ℕ) → forbids p n ≡ true → AllowsCount p (m + n) → ⊥
+forbidden ProfileOne m zero f a = let e : false ≡ true = f in cc
+forbidden ProfileOne m (suc n) f a = omega (arith, a)
+forbidden ProfileTwo m n f a = let e : false ≡ true = f in cc
+
+module _ (p : Profile) (limit end : ℕ) where
+  pub parse_meets : (y f : List Token) (s : State) → Leads f s → AllowsCount p (commas_held s) → deep s ≤ limit → Meets p limit end (f ++ y) (parse p limit end y s)
+  parse_meets [] f s e a d = go (finish s) refl (ends_tree s)
+    where
+      go : (o : Option Input) → finish s ≡ o → IfTree o (Ended s) → Meets p limit end (f ++ []) (at_end end o)
+      go None none h = (refl, rw append-nil (goes_on p limit f (record { state = s; leads = e; allowed = a; shallow = d })), rw append-nil (no_tree p limit f s e none))
+      go (Some t) some h = (parse_of p _ t (h.is ∙ held_by f s e ∙ sym (append-nil f)) (rw h.commas a), omega (arith, h.depth))
+  parse_meets (t ∷ y) f s e a d = go (step s t) refl (grows s t.class (span t)) (λ u next b c. rw append_assoc at (parse_meets y (f ++ (t ∷ [])) u (leads_on f t s u e next) b c))
+    where
+      Goal : Answer → Type 0
+      Goal = Meets p limit end (f ++ (t ∷ y))
+
+      go : (o : Option State) → step s t ≡ o → After o (Grows (held s) (max (deep s) (reach (open_levels s) t.class)) (commas_held s + comma_at s t.class) (token (span t) t.class))
+          → ((u : State) → step s t ≡ Some u → AllowsCount p (commas_held u) → deep u ≤ limit → Meets p limit end (f ++ (t ∷ y)) (parse p limit end y u))
+          → Meets p limit end (f ++ (t ∷ y)) (elim (checked p limit s t o) [ None ↦ Jams t.start UnexpectedToken | Some u ↦ cond (leb (reach (open_levels s) t.class) limit) (parse p limit end y u) (Jams t.start TooDeep) ])
+      go None none g rest = (f, t, stops p limit end f y t s e a d (nothing_goes p limit f t s e none), refl, λ h. nothing_goes p h.0 f t s e none h.1)
+      go (Some u) next g rest = choose (forbids p (comma_at s t.class)) refl (leb (reach (open_levels s) t.class) limit) refl
+        where
+          deeper : (m : ℕ) → GoesOn p m (f ++ (t ∷ [])) → AllowsCount p (commas_held u) × (deep u ≤ m)
+          deeper m h =
+              let k = good p m (f ++ (t ∷ [])) h in
+              let same : k.state ≡ u = same_end (f ++ (t ∷ [])) k.state u k.leads (leads_on f t s u e next) in
+              (subst (λ v. AllowsCount p (commas_held v)) same k.allowed, omega (arith, ap deep same, k.shallow))
+
+          choose : (b : Bool) → forbids p (comma_at s t.class) ≡ b → (c : Bool) → leb (reach (open_levels s) t.class) limit ≡ c
+              → Meets p limit end (f ++ (t ∷ y)) (elim (cond b None (Some u)) [ None ↦ Jams t.start UnexpectedToken | Some v ↦ cond c (parse p limit end y v) (Jams t.start TooDeep) ])
+          choose true bad c low =
+              let never = λ (m : ℕ) (h : GoesOn p m (f ++ (t ∷ []))). forbidden p (commas_held s) (comma_at s t.class) bad (subst (AllowsCount p) g.commas (deeper m h).0) in
+              (f, t, stops p limit end f y t s e a d (never limit), refl, λ h. never h.0 h.1)
+          choose false fine true low = rest u next (subst (AllowsCount p) (sym g.commas) (allows_more p _ _ fine a)) (omega (arith, g.deep, leb-true _ _ low))
+          choose false fine false low =
+              let far : limit < reach (open_levels s) t.class = leb-false _ _ low in (
+                f,
+                t,
+                stops p limit end f y t s e a d (λ h. omega (arith, g.deep, (deeper limit h).1)),
+                refl,
+                (deep u, goes_on p (deep u) (f ++ (t ∷ [])) (record { state = u; leads = leads_on f t s u e next; allowed = subst (AllowsCount p) (sym g.commas) (allows_more p _ _ fine a); shallow = omega arith })),
+              )
+
+  -- the parser's answer is the tree within the limit, or the jam
+  pub parses : (ts : List Token) → Meets p limit end ts (parse p limit end ts start)
+  parses ts = parse_meets ts [] start refl (none p) (omega arith)
+    where
+      none : (p : Profile) → AllowsCount p (commas_held start)
+      none ProfileOne = omega arith
+      none ProfileTwo = tt

@@ -1,0 +1,11 @@
+-- The fixed notation of nodes, read as tokens, has the tokens of its tree.
+-- A part of a text, before what follows it, is read as pieces one after another (`Chained`): marks, numbers, strings, words, and then nodes.
+pub mod Tables
+pub mod Chained
+pub mod MarkTexts
+pub mod DecimalTexts
+pub mod HexTexts
+pub mod QuotedTexts
+pub mod WordTexts
+pub mod Joined
+pub mod NodeTexts

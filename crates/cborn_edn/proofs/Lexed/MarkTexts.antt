@@ -1,0 +1,133 @@
+-- Indicators, brackets and separators of the fixed notation, as pieces.
+use Rattle.std.proofs.Common.{◌≡◌, refl, sym, ap, subst, ℕ, List, [], ◌∷◌, ◌++◌, length, Bool, true, false, eqb, ◌==◌, cond, Some}
+use Rattle.std.specs.Prelude.{codes}
+use Rattle.std.proofs.lemmas.Bool.{lt-ltb, cond-true}
+use Rattle.cborn_model.specs.declared.heads.Width.{Width}
+use Rattle.cborn_model.specs.declared.heads.Width.TheVariants.{Direct, One, Two, Four, Eight}
+use Rattle.cborn_model.specs.declared.heads.Size.{Size}
+use Rattle.cborn_model.specs.declared.heads.Size.TheVariants.{Fixed, Endless as Unending}
+use Rattle.cborn_model.specs.Heads.{following, least, WidthFits, SizeFits}
+use Rattle.cborn_lex.specs.declared.classes.Profile.TheVariants.{One as ProfileOne}
+use Rattle.cborn_lex.specs.declared.classes.Mark.{Mark}
+use Rattle.cborn_lex.specs.declared.classes.Mark.TheVariants.{Absent, Endless, Wide}
+use Rattle.cborn_lex.specs.declared.classes.Class.{Class}
+use Rattle.cborn_lex.specs.declared.classes.Class.TheVariants.{ArrayOpen, MapOpen, ArrayClose, MapClose, ParenClose, Comma, Colon, ChunkOpen}
+use Rattle.cborn_lex.specs.Tokens.{Read, begins, is_word, is_numeral, mark_of, marked}
+use Rattle.cborn_lex.specs.Forms.{IsIndicator, Reads}
+use Rattle.cborn_lex.proofs.WholeTexts.Spelling.{IsMark}
+use Rattle.cborn_edn.specs.Syntax.{token}
+use Rattle.cborn_edn.specs.ReadingBack.{nowhere}
+use Rattle.cborn_edn.specs.Shown.{mark_for, mark_for_size, indicator, opened}
+use Rattle.cborn_edn.proofs.Lexed.Chained.{Chained, one_token, one_gap, both}
+
+-- what stands behind an item neither goes on its last token nor gives it an indicator
+pub record Closes (z : List ℕ) : Type 0 where
+  pub no_word : begins is_word z ≡ false
+  pub no_numeral : begins is_numeral z ≡ false
+  pub no_mark : begins (λ c. eqb c 95) z ≡ false
+  pub no_paren : begins (λ c. eqb c 40) z ≡ false
+  pub no_quote : begins (λ c. eqb c 39) z ≡ false
+
+pub comma_closes : (z : List ℕ) → Closes (44 ∷ z)
+comma_closes z = record { no_word = refl; no_numeral = refl; no_mark = refl; no_paren = refl; no_quote = refl }
+
+pub colon_closes : (z : List ℕ) → Closes (58 ∷ z)
+colon_closes z = record { no_word = refl; no_numeral = refl; no_mark = refl; no_paren = refl; no_quote = refl }
+
+pub paren_closes : (z : List ℕ) → Closes (41 ∷ z)
+paren_closes z = record { no_word = refl; no_numeral = refl; no_mark = refl; no_paren = refl; no_quote = refl }
+
+pub bracket_closes : (z : List ℕ) → Closes (93 ∷ z)
+bracket_closes z = record { no_word = refl; no_numeral = refl; no_mark = refl; no_paren = refl; no_quote = refl }
+
+pub brace_closes : (z : List ℕ) → Closes (125 ∷ z)
+brace_closes z = record { no_word = refl; no_numeral = refl; no_mark = refl; no_paren = refl; no_quote = refl }
+
+pub line_closes : (z : List ℕ) → Closes (10 ∷ z)
+line_closes z = record { no_word = refl; no_numeral = refl; no_mark = refl; no_paren = refl; no_quote = refl }
+
+-- an indicator that the notation has: never a direct width
+wide_or_none : (b : Bool) (w : Width) → IsMark (Wide w) → IsMark (cond b Absent (Wide w))
+wide_or_none true w h = tt
+wide_or_none false w h = h
+
+pub is_mark : (w : Width) (n : ℕ) → WidthFits w n → IsMark (mark_for w n)
+is_mark Direct n h = let e : least n ≡ Direct = cond-true _ _ _ (lt-ltb n 24 h) in subst (λ (v : Width). IsMark (cond (0 == length (following v n)) Absent (Wide Direct))) (sym e) tt
+is_mark One n h = wide_or_none (length (following One n) == length (following (least n) n)) One tt
+is_mark Two n h = wide_or_none (length (following Two n) == length (following (least n) n)) Two tt
+is_mark Four n h = wide_or_none (length (following Four n) == length (following (least n) n)) Four tt
+is_mark Eight n h = wide_or_none (length (following Eight n) == length (following (least n) n)) Eight tt
+
+pub is_size_mark : (s : Size) (n : ℕ) → SizeFits s n → IsMark (mark_for_size s n)
+is_size_mark Unending n h = tt
+is_size_mark (Fixed w) n h = is_mark w n h
+
+pub mark_is : (m : Mark) → IsMark m → mark_of (indicator m) ≡ Some m
+mark_is Absent h = refl
+mark_is (Wide Direct) h = absurd h
+mark_is _ h = refl
+
+pub indicates : (m : Mark) (z : List ℕ) → IsMark m → begins is_word z ≡ false → begins (λ c. eqb c 95) z ≡ false → IsIndicator (indicator m) z
+indicates Absent z h k e = e
+indicates Endless z h k e = (refl, record { pass = refl; ends = k })
+indicates (Wide Direct) z h k e = absurd h
+indicates (Wide One) z h k e = (refl, record { pass = refl; ends = k })
+indicates (Wide Two) z h k e = (refl, record { pass = refl; ends = k })
+indicates (Wide Four) z h k e = (refl, record { pass = refl; ends = k })
+indicates (Wide Eight) z h k e = (refl, record { pass = refl; ends = k })
+
+-- Separators and closing brackets.
+
+pub space : (z : List ℕ) → Chained (codes " ") z []
+space z = one_gap (codes " ") z (refl, refl)
+
+pub line : (z : List ℕ) → Chained (codes "\n") z []
+line z = one_gap (codes "\n") z (refl, refl)
+
+pub comma : (z : List ℕ) → Chained (codes ",") z (token nowhere Comma ∷ [])
+comma z = one_token Comma (codes ",") z (refl, refl)
+
+pub colon : (z : List ℕ) → Chained (codes ":") z (token nowhere Colon ∷ [])
+colon z = one_token Colon (codes ":") z (refl, refl)
+
+pub comma_space : (z : List ℕ) → Chained (codes ", ") z (token nowhere Comma ∷ [])
+comma_space z = both (codes ",") (codes " ") z (token nowhere Comma ∷ []) [] (comma (32 ∷ z)) (space z)
+
+pub comma_line : (z : List ℕ) → Chained (codes ",\n") z (token nowhere Comma ∷ [])
+comma_line z = both (codes ",") (codes "\n") z (token nowhere Comma ∷ []) [] (comma (10 ∷ z)) (line z)
+
+pub colon_space : (z : List ℕ) → Chained (codes ": ") z (token nowhere Colon ∷ [])
+colon_space z = both (codes ":") (codes " ") z (token nowhere Colon ∷ []) [] (colon (32 ∷ z)) (space z)
+
+pub bracket_close : (z : List ℕ) → Chained (codes "]") z (token nowhere ArrayClose ∷ [])
+bracket_close z = one_token ArrayClose (codes "]") z (refl, refl)
+
+pub brace_close : (z : List ℕ) → Chained (codes "}") z (token nowhere MapClose ∷ [])
+brace_close z = one_token MapClose (codes "}") z (refl, refl)
+
+pub paren_close : (z : List ℕ) → Chained (codes ")") z (token nowhere ParenClose ∷ [])
+paren_close z = one_token ParenClose (codes ")") z (refl, refl)
+
+-- Opening brackets.
+
+pub chunks_open : (z : List ℕ) → Chained (codes "(_ ") z (token nowhere ChunkOpen ∷ [])
+chunks_open z = both (codes "(_") (codes " ") z (token nowhere ChunkOpen ∷ []) [] (one_token ChunkOpen (codes "(_") (32 ∷ z) ((refl, record { pass = refl; ends = refl }), refl)) (space z)
+
+-- the bracket c and an indicator are a token of k
+abbrev Opens : ℕ → (Mark → Class) → Type 0
+Opens c k = (s z : List ℕ) (m : Mark) → IsIndicator s z → mark_of s ≡ Some m → Reads ProfileOne (c ∷ s) z (Read (k m))
+
+module _ (c : ℕ) (k : Mark → Class) (opens : Opens c k) where
+  spaced : (m : Mark) (z : List ℕ) → IsMark m → Chained (c ∷ (indicator m ++ codes " ")) z (token nowhere (k m) ∷ [])
+  spaced m z h = both (c ∷ indicator m) (codes " ") z (token nowhere (k m) ∷ []) [] (one_token (k m) (c ∷ indicator m) (32 ∷ z) (opens (indicator m) (32 ∷ z) m (indicates m (32 ∷ z) h refl refl) (mark_is m h))) (space z)
+
+  bracket : (m : Mark) (z : List ℕ) → IsMark m → begins (λ d. eqb d 95) z ≡ false → Chained (c ∷ opened m) z (token nowhere (k m) ∷ [])
+  bracket Absent z h e = one_token (k Absent) (c ∷ []) z (opens [] z Absent e refl)
+  bracket Endless z h e = spaced Endless z h
+  bracket (Wide w) z h e = spaced (Wide w) z h
+
+pub array_open : (m : Mark) (z : List ℕ) → IsMark m → begins (λ d. eqb d 95) z ≡ false → Chained (codes "[" ++ opened m) z (token nowhere (ArrayOpen m) ∷ [])
+array_open = bracket 91 ArrayOpen (λ s z m h e. (h, ap (marked ArrayOpen) (sym e)))
+
+pub map_open : (m : Mark) (z : List ℕ) → IsMark m → begins (λ d. eqb d 95) z ≡ false → Chained (codes "{" ++ opened m) z (token nowhere (MapOpen m) ∷ [])
+map_open = bracket 123 MapOpen (λ s z m h e. (h, ap (marked MapOpen) (sym e)))

@@ -1,0 +1,185 @@
+-- Nodes of the fixed notation, as pieces.
+use Rattle.std.proofs.Common.{◌≡◌, refl, sym, ap, ◌∙◌, subst, ℕ, List, [], ◌∷◌, ◌++◌, length, false, eqb, decimal, append_assoc, arith}
+use Rattle.std.specs.Prelude.{codes}
+use Rattle.cborn_model.specs.Bytes.{AreBytes}
+use Rattle.cborn_model.specs.declared.heads.Width.{Width}
+use Rattle.cborn_model.specs.declared.nodes.Chunk.{Chunk}
+use Rattle.cborn_model.specs.Tree.{Tree, Uint, Nint, Bytes as ByteNode, Text as TextNode, ByteChunks, TextChunks, Items, Pairs as PairNode, Tagged, Simple, Trees, no_item as no_node, more, Entries, no_entry, entry, count, count_entries}
+use Rattle.cborn_model.specs.Heads.{WidthFits}
+use Rattle.cborn_model.specs.Spelled.{ChunksFit, Fits, FitsAll, FitsEntries}
+use Rattle.cborn_lex.specs.declared.classes.Mark.{Mark}
+use Rattle.cborn_lex.specs.declared.classes.Class.TheVariants.{ArrayOpen, ArrayClose, MapOpen, MapClose, ParenClose, Comma, Colon, ChunkOpen, TagOpen}
+use Rattle.cborn_lex.specs.declared.classes.Token.{Token}
+use Rattle.cborn_lex.specs.Tokens.{begins}
+use Rattle.cborn_edn.specs.Syntax.{no_string, no_item, no_pair, token, tokens_of, tokens_of_pieces, tokens_of_strings, tokens_of_content, tokens_of_fields, tokens_of_input}
+use Rattle.cborn_edn.specs.declared.strings.StringKind.{StringKind}
+use Rattle.cborn_edn.specs.declared.strings.StringKind.TheVariants.{Bytes as OfBytes, Text as OfText}
+use Rattle.cborn_edn.specs.ReadingBack.{nowhere, chunk_pieces, chunk_row, chunk_item, notated, notated_content, notated_fields, notated_input}
+use Rattle.cborn_edn.specs.Shown.{mark_for, mark_for_size, indicator, opened, shown_string, shown_chunks, shown_more_chunks, shown, shown_all, shown_more, shown_entries, shown_more_entries, shown_lines, shown_more_lines}
+use Rattle.cborn_edn.proofs.RoundTrip.Back.{below, simple_below}
+use Rattle.cborn_edn.proofs.Lexed.Chained.{Chained, no_text, both, retell}
+use Rattle.cborn_edn.proofs.Lexed.Joined.{more_tokens, more_pair_tokens, more_chunk_tokens, row_tokens, chunk_tokens, pair_tokens}
+use Rattle.cborn_edn.proofs.Lexed.MarkTexts.{Closes, comma_closes, colon_closes, paren_closes, bracket_closes, brace_closes, line_closes, is_mark, is_size_mark, comma_space, comma_line, colon_space, bracket_close, brace_close, paren_close, line, chunks_open, array_open, map_open}
+use Rattle.cborn_edn.proofs.Lexed.DecimalTexts.{number_text, negative_text, tag_text, decimal_begins}
+use Rattle.cborn_edn.proofs.Lexed.HexTexts.{bytes_text}
+use Rattle.cborn_edn.proofs.Lexed.QuotedTexts.{text_text, no_text_chunks, no_byte_chunks}
+use Rattle.cborn_edn.proofs.Lexed.WordTexts.{simple_text, simple_begins}
+
+-- Strings.
+
+string_text : (k : StringKind) (w : Width) (x : List ℕ) (p : ℕ) (z : List ℕ) → WidthFits w (length x) → AreBytes x → Closes z → Chained (shown_string k w x) z (tokens_of_pieces (chunk_pieces k (record { place = p; width = w; bytes = x })))
+string_text OfBytes w x p z h b close = bytes_text x (mark_for w (length x)) z b (is_mark w (length x) h) close
+string_text OfText w x p z h b close = text_text x (mark_for w (length x)) z b (is_mark w (length x) h) close
+
+chunk_text : (k : StringKind) (c : Chunk) (z : List ℕ) → WidthFits c.width (length c.bytes) → AreBytes c.bytes → Closes z → Chained (shown_string k c.width c.bytes) z (tokens_of_pieces (chunk_pieces k c))
+chunk_text k c z h b close = string_text k c.width c.bytes c.place z h b close
+
+chunks_close : (k : StringKind) (cs : List Chunk) (z : List ℕ) → Closes z → Closes (shown_more_chunks k cs ++ z)
+chunks_close k [] z h = h
+chunks_close k (c ∷ cs) z h = comma_closes _
+
+more_chunks : (k : StringKind) (cs : List Chunk) (z : List ℕ) → ChunksFit cs → Closes z → Chained (shown_more_chunks k cs) z (more_chunk_tokens k cs)
+more_chunks k [] z h close = no_text z
+more_chunks k (c ∷ cs) z h close =
+    both (codes ", ") (shown_string k c.width c.bytes ++ shown_more_chunks k cs) z (token nowhere Comma ∷ []) (tokens_of_pieces (chunk_pieces k c) ++ more_chunk_tokens k cs) (comma_space _)
+    (both (shown_string k c.width c.bytes) (shown_more_chunks k cs) z (tokens_of_pieces (chunk_pieces k c)) (more_chunk_tokens k cs) (chunk_text k c _ h.0.0 h.0.1 (chunks_close k cs z close)) (more_chunks k cs z h.1 close))
+
+-- one chunk or more
+chunks_text : (k : StringKind) (c : Chunk) (cs : List Chunk) (z : List ℕ) → ChunksFit (c ∷ cs) → Chained (codes "(_ " ++ (shown_string k c.width c.bytes ++ (shown_more_chunks k cs ++ codes ")"))) z (tokens_of (chunk_item k (c ∷ cs)))
+chunks_text k c cs z h =
+    let rest = both (shown_more_chunks k cs) (codes ")") z (more_chunk_tokens k cs) (token nowhere ParenClose ∷ []) (more_chunks k cs (41 ∷ z) h.1 (paren_closes z)) (paren_close z) in
+    let ends : Closes ((shown_more_chunks k cs ++ codes ")") ++ z) = rw append_assoc (chunks_close k cs (41 ∷ z) (paren_closes z)) in
+    let row = both (shown_string k c.width c.bytes) (shown_more_chunks k cs ++ codes ")") z (tokens_of_pieces (chunk_pieces k c)) (more_chunk_tokens k cs ++ token nowhere ParenClose ∷ []) (chunk_text k c _ h.0.0 h.0.1 ends) rest in
+    let told : tokens_of_pieces (chunk_pieces k c) ++ (more_chunk_tokens k cs ++ token nowhere ParenClose ∷ []) ≡ tokens_of_strings (chunk_row k cs no_string c) ++ token nowhere ParenClose ∷ [] =
+    sym (append_assoc (tokens_of_pieces (chunk_pieces k c)) (more_chunk_tokens k cs) (token nowhere ParenClose ∷ [])) ∙ ap (λ ts. ts ++ token nowhere ParenClose ∷ []) (sym (chunk_tokens k cs no_string c)) in
+    both (codes "(_ ") _ z (token nowhere ChunkOpen ∷ []) (tokens_of_strings (chunk_row k cs no_string c) ++ token nowhere ParenClose ∷ []) (chunks_open _) (retell _ z _ _ told row)
+
+chunked_bytes : (cs : List Chunk) (z : List ℕ) → ChunksFit cs → Closes z → Chained (shown_chunks OfBytes cs) z (tokens_of (chunk_item OfBytes cs))
+chunked_bytes [] z h close = no_byte_chunks z close
+chunked_bytes (c ∷ cs) z h close = chunks_text OfBytes c cs z h
+
+chunked_text : (cs : List Chunk) (z : List ℕ) → ChunksFit cs → Closes z → Chained (shown_chunks OfText cs) z (tokens_of (chunk_item OfText cs))
+chunked_text [] z h close = no_text_chunks z close
+chunked_text (c ∷ cs) z h close = chunks_text OfText c cs z h
+
+-- No node begins as an indicator does.
+
+abbrev Unmarked : List ℕ → Type 0
+Unmarked z = begins (λ c. eqb c 95) z ≡ false
+
+chunks_begin : (k : StringKind) (cs : List Chunk) (z : List ℕ) → Unmarked (shown_chunks k cs ++ z)
+chunks_begin OfBytes [] z = refl
+chunks_begin OfText [] z = refl
+chunks_begin OfBytes (c ∷ cs) z = refl
+chunks_begin OfText (c ∷ cs) z = refl
+
+node_begins : (t : Tree) (z : List ℕ) → Fits t → Unmarked (shown t ++ z)
+node_begins (Uint p w n) z h = let l = below w n h in rw append_assoc (decimal_begins n (indicator (mark_for w n) ++ z) (omega arith))
+node_begins (Nint p w n) z h = refl
+node_begins (ByteChunks p cs) z h = chunks_begin OfBytes cs z
+node_begins (TextChunks p cs) z h = chunks_begin OfText cs z
+node_begins (Tagged p w n t) z h = let l = below w n h.0 in rw append_assoc (decimal_begins n _ (omega arith))
+node_begins (Simple p n) z h = simple_begins n z
+node_begins _ z h = refl
+
+all_begin : (ts : Trees) (z : List ℕ) → FitsAll ts → Unmarked z → Unmarked (shown_all ts ++ z)
+all_begin no_node z h e = e
+all_begin (more t ts) z h e = rw append_assoc (node_begins t (shown_more ts ++ z) h.0)
+
+entries_begin : (es : Entries) (z : List ℕ) → FitsEntries es → Unmarked z → Unmarked (shown_entries es ++ z)
+entries_begin no_entry z h e = e
+entries_begin (entry k v es) z h e = rw append_assoc (node_begins k ((codes ": " ++ (shown v ++ shown_more_entries es)) ++ z) h.0)
+
+-- What closes a node.
+
+more_close : (ts : Trees) (z : List ℕ) → Closes z → Closes (shown_more ts ++ z)
+more_close no_node z h = h
+more_close (more t ts) z h = comma_closes _
+
+entries_close : (es : Entries) (z : List ℕ) → Closes z → Closes (shown_more_entries es ++ z)
+entries_close no_entry z h = h
+entries_close (entry k v es) z h = comma_closes _
+
+lines_close : (ts : Trees) (z : List ℕ) → Closes (shown_more_lines ts ++ z)
+lines_close no_node z = line_closes _
+lines_close (more t ts) z = comma_closes _
+
+-- Nodes.
+
+-- the text of a tag over an item's text
+tag_whole : (n : ℕ) (m : Mark) (x z : List ℕ) (ts : List Token) → Chained ((decimal n ++ (indicator m ++ codes "(")) ++ (x ++ codes ")")) z ts → Chained (decimal n ++ (indicator m ++ (codes "(" ++ (x ++ codes ")")))) z ts
+tag_whole n m x z ts h = subst (λ (y : List ℕ). Chained y z ts) (append_assoc (decimal n) (indicator m ++ codes "(") (x ++ codes ")") ∙ ap (λ y. decimal n ++ y) (append_assoc (indicator m) (codes "(") (x ++ codes ")"))) h
+
+-- a pair and those behind it, from the readings of both
+abbrev pair_tail : Tree → Entries → List ℕ
+pair_tail v es = codes ": " ++ (shown v ++ shown_more_entries es)
+
+pair_text : (k v : Tree) (es : Entries) (z : List ℕ) → Chained (shown k) (pair_tail v es ++ z) (tokens_of (notated k)) → Chained (shown v) (shown_more_entries es ++ z) (tokens_of (notated v)) → Chained (shown_more_entries es) z (more_pair_tokens es)
+    → Chained (shown k ++ pair_tail v es) z (tokens_of (notated k) ++ (token nowhere Colon ∷ (tokens_of (notated v) ++ more_pair_tokens es)))
+pair_text k v es z key value rest =
+    both (shown k) (pair_tail v es) z (tokens_of (notated k)) (token nowhere Colon ∷ (tokens_of (notated v) ++ more_pair_tokens es)) key
+    (both (codes ": ") (shown v ++ shown_more_entries es) z (token nowhere Colon ∷ []) (tokens_of (notated v) ++ more_pair_tokens es) (colon_space _)
+    (both (shown v) (shown_more_entries es) z (tokens_of (notated v)) (more_pair_tokens es) value rest))
+
+mutual
+  pub node_text : (t : Tree) (z : List ℕ) → Fits t → Closes z → Chained (shown t) z (tokens_of (notated t))
+  node_text (Uint p w n) z h close = let l = below w n h in number_text n (mark_for w n) z (omega arith) (is_mark w n h) close
+  node_text (Nint p w n) z h close = let l = below w n h in negative_text n (mark_for w n) z (omega arith) (is_mark w n h) close
+  node_text (ByteNode p w x) z h close = string_text OfBytes w x p z h.0 h.1 close
+  node_text (TextNode p w x) z h close = string_text OfText w x p z h.0 h.1 close
+  node_text (ByteChunks p cs) z h close = chunked_bytes cs z h close
+  node_text (TextChunks p cs) z h close = chunked_text cs z h close
+  node_text (Items p s ts) z h close =
+      let m = mark_for_size s (count ts) in
+      both (codes "[" ++ opened m) (shown_all ts ++ codes "]") z (token nowhere (ArrayOpen m) ∷ []) (tokens_of_content (notated_content ts) ++ token nowhere ArrayClose ∷ [])
+      (array_open m _ (is_size_mark s (count ts) h.0) (rw append_assoc (all_begin ts (93 ∷ z) h.1 refl)))
+      (both (shown_all ts) (codes "]") z (tokens_of_content (notated_content ts)) (token nowhere ArrayClose ∷ []) (all_text ts (93 ∷ z) h.1 (bracket_closes z)) (bracket_close z))
+  node_text (PairNode p s es) z h close =
+      let m = mark_for_size s (count_entries es) in
+      both (codes "{" ++ opened m) (shown_entries es ++ codes "}") z (token nowhere (MapOpen m) ∷ []) (tokens_of_fields (notated_fields es) ++ token nowhere MapClose ∷ [])
+      (map_open m _ (is_size_mark s (count_entries es) h.0) (rw append_assoc (entries_begin es (125 ∷ z) h.1 refl)))
+      (both (shown_entries es) (codes "}") z (tokens_of_fields (notated_fields es)) (token nowhere MapClose ∷ []) (entries_text es (125 ∷ z) h.1 (brace_closes z)) (brace_close z))
+  node_text (Tagged p w n t) z h close =
+      let l = below w n h.0 in
+      let m = mark_for w n in
+      tag_whole n m (shown t) z _
+      (both (decimal n ++ (indicator m ++ codes "(")) (shown t ++ codes ")") z (token nowhere (TagOpen n m) ∷ []) (tokens_of (notated t) ++ token nowhere ParenClose ∷ [])
+      (tag_text n m _ (omega arith) (is_mark w n h.0))
+      (both (shown t) (codes ")") z (tokens_of (notated t)) (token nowhere ParenClose ∷ []) (node_text t (41 ∷ z) h.1 (paren_closes z)) (paren_close z)))
+  node_text (Simple p n) z h close = simple_text n z (simple_below n h) close
+
+  all_text : (ts : Trees) (z : List ℕ) → FitsAll ts → Closes z → Chained (shown_all ts) z (tokens_of_content (notated_content ts))
+  all_text no_node z h close = no_text z
+  all_text (more t ts) z h close =
+      retell _ z _ _ (sym (row_tokens ts no_item (notated t)))
+      (both (shown t) (shown_more ts) z (tokens_of (notated t)) (more_tokens ts) (node_text t _ h.0 (more_close ts z close)) (more_text ts z h.1 close))
+
+  more_text : (ts : Trees) (z : List ℕ) → FitsAll ts → Closes z → Chained (shown_more ts) z (more_tokens ts)
+  more_text no_node z h close = no_text z
+  more_text (more t ts) z h close =
+      both (codes ", ") (shown t ++ shown_more ts) z (token nowhere Comma ∷ []) (tokens_of (notated t) ++ more_tokens ts) (comma_space _)
+      (both (shown t) (shown_more ts) z (tokens_of (notated t)) (more_tokens ts) (node_text t _ h.0 (more_close ts z close)) (more_text ts z h.1 close))
+
+  entries_text : (es : Entries) (z : List ℕ) → FitsEntries es → Closes z → Chained (shown_entries es) z (tokens_of_fields (notated_fields es))
+  entries_text no_entry z h close = no_text z
+  entries_text (entry k v es) z h close =
+      retell _ z _ _ (sym (pair_tokens es no_pair (notated k) (notated v))) (pair_text k v es z (node_text k _ h.0 (colon_closes _)) (node_text v _ h.1 (entries_close es z close)) (more_entries es z h.2 close))
+
+  more_entries : (es : Entries) (z : List ℕ) → FitsEntries es → Closes z → Chained (shown_more_entries es) z (more_pair_tokens es)
+  more_entries no_entry z h close = no_text z
+  more_entries (entry k v es) z h close =
+      both (codes ", ") _ z (token nowhere Comma ∷ []) (tokens_of (notated k) ++ (token nowhere Colon ∷ (tokens_of (notated v) ++ more_pair_tokens es))) (comma_space _) (pair_text k v es z (node_text k _ h.0 (colon_closes _)) (node_text v _ h.1 (entries_close es z close)) (more_entries es z h.2 close))
+
+-- A sequence.
+
+more_lines : (ts : Trees) (z : List ℕ) → FitsAll ts → Chained (shown_more_lines ts) z (more_tokens ts)
+more_lines no_node z h = line z
+more_lines (more t ts) z h =
+    both (codes ",\n") (shown t ++ shown_more_lines ts) z (token nowhere Comma ∷ []) (tokens_of (notated t) ++ more_tokens ts) (comma_line _)
+    (both (shown t) (shown_more_lines ts) z (tokens_of (notated t)) (more_tokens ts) (node_text t _ h.0 (lines_close ts z)) (more_lines ts z h.1))
+
+pub lines_text : (ts : Trees) (z : List ℕ) → FitsAll ts → Chained (shown_lines ts) z (tokens_of_input (notated_input ts))
+lines_text no_node z h = no_text z
+lines_text (more t ts) z h =
+    retell _ z _ _ (sym (row_tokens ts no_item (notated t)))
+    (both (shown t) (shown_more_lines ts) z (tokens_of (notated t)) (more_tokens ts) (node_text t _ h.0 (lines_close ts z)) (more_lines ts z h.1))

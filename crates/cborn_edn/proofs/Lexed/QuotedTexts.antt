@@ -1,0 +1,101 @@
+-- Text strings of the fixed notation, as pieces.
+use Rattle.std.proofs.Common.{◌≡◌, refl, sym, ap, ◌∙◌, ℕ, ◌/◌, ◌%◌, ◌<◌, List, [], ◌∷◌, ◌++◌, slice_index, map as list_map, Bool, true, ◌&&◌, eqb, ltb, cond, inl, arith}
+use Rattle.std.proofs.lemmas.Bool.{and_parts, and_from}
+use Rattle.std.proofs.lemmas.Slice.Eq.{bytes_eq-Decides}
+use Rattle.std.specs.Prelude.{codes, bytes_eq}
+use Rattle.std.specs.List.{list_all, flat_map}
+use Rattle.hex.specs.Hex.{encode_with, lower_digits}
+use Rattle.cborn_model.specs.Bytes.{AreBytes}
+use Rattle.cborn_lex.specs.declared.classes.Mark.{Mark}
+use Rattle.cborn_lex.specs.declared.classes.Mark.TheVariants.{Endless}
+use Rattle.cborn_lex.specs.declared.classes.Class.TheVariants.{Bytes, Text}
+use Rattle.cborn_lex.specs.Tokens.{marked}
+use Rattle.cborn_lex.specs.Strings.{is_content, IsText, nothing}
+use Rattle.cborn_lex.specs.Letters.{Letter, raw, escaped as behind_slash, unit, written, is_letter, meant}
+use Rattle.cborn_lex.proofs.Contents.Lettered as lettered
+use Rattle.cborn_lex.proofs.Contents.Ends.{content_then}
+use Rattle.cborn_edn.specs.Syntax.{token}
+use Rattle.cborn_edn.specs.ReadingBack.{nowhere}
+use Rattle.cborn_edn.specs.Shown.{indicator, escaped}
+use Rattle.cborn_edn.proofs.Lexed.Tables.{passes, passes-at}
+use Rattle.cborn_edn.proofs.Lexed.Chained.{Chained, one_token}
+use Rattle.cborn_lex.proofs.WholeTexts.Spelling.{IsMark}
+use Rattle.cborn_edn.proofs.Lexed.MarkTexts.{Closes, mark_is, indicates}
+
+-- the letter that a byte is written as
+abbrev letter_of : ℕ → Letter
+letter_of b =
+    cond (eqb b 34) (behind_slash 34)
+    (cond (eqb b 92) (behind_slash 92)
+    (cond (eqb b 8) (behind_slash 98)
+    (cond (eqb b 12) (behind_slash 102)
+    (cond (eqb b 10) (behind_slash 110)
+    (cond (eqb b 13) (behind_slash 114)
+    (cond (eqb b 9) (behind_slash 116)
+    (cond (ltb b 32) (unit 48 48 (slice_index lower_digits (b / 16)) (slice_index lower_digits (b % 16)))
+    (raw b))))))))
+
+-- what has to hold of it, as a test
+abbrev is_written : ℕ → Bool
+is_written b = bytes_eq (escaped b) (written (letter_of b)) && (is_letter 34 (letter_of b) && (bytes_eq (meant (letter_of b)) (b ∷ []) && is_content 34 (escaped b)))
+
+each_written : passes is_written 0 256 ≡ true
+unfolding encode_with lib.Utf8.encode
+each_written = refl
+
+record Written (b : ℕ) : Type 0 where
+  text : escaped b ≡ written (letter_of b)
+  allowed : is_letter 34 (letter_of b) ≡ true
+  value : meant (letter_of b) ≡ b ∷ []
+  inside : is_content 34 (escaped b) ≡ true
+
+same_bytes : (x y : List ℕ) → bytes_eq x y ≡ true → x ≡ y
+same_bytes x y h = (bytes_eq-Decides x y).0 h
+
+is_written_at : (b : ℕ) → b < 256 → Written b
+is_written_at b h =
+    let t = passes-at is_written 0 256 b each_written (omega arith) (omega arith) in
+    let first = and_parts _ _ t in
+    let second = and_parts _ _ first.1 in
+    let third = and_parts _ _ second.1 in
+    record { text = same_bytes _ _ first.0; allowed = second.0; value = same_bytes _ _ third.0; inside = third.1 }
+
+letters : (x : List ℕ) → AreBytes x → (flat_map escaped x ≡ flat_map written (list_map letter_of x)) × (list_all (is_letter 34) (list_map letter_of x) ≡ true) × (x ≡ flat_map meant (list_map letter_of x))
+letters [] h = (refl, refl, refl)
+letters (b ∷ x) h =
+    let w = is_written_at b h.0 in
+    let r = letters x h.1 in (
+      ap (λ y. y ++ flat_map escaped x) w.text ∙ ap (λ y. written (letter_of b) ++ y) r.0,
+      and_from _ _ w.allowed r.1,
+      ap (λ y. b ∷ y) r.2 ∙ ap (λ y. y ++ flat_map meant (list_map letter_of x)) (sym w.value),
+    )
+
+is_text : (x : List ℕ) → AreBytes x → IsText 34 (flat_map escaped x) x
+is_text x h = let r = letters x h in lettered.is_text 34 (flat_map escaped x) x (record { letters = list_map letter_of x; allowed = r.1; whole = r.0; value = r.2 })
+
+inside : (x : List ℕ) → AreBytes x → is_content 34 (flat_map escaped x) ≡ true
+inside [] h = refl
+inside (b ∷ x) h = content_then 34 (escaped b) (flat_map escaped x) (is_written_at b h.0).inside (inside x h.1)
+
+pub text_text : (x : List ℕ) (m : Mark) (z : List ℕ) → AreBytes x → IsMark m → Closes z → Chained (codes "\"" ++ (flat_map escaped x ++ (codes "\"" ++ indicator m))) z (token nowhere (Text x m) ∷ [])
+text_text x m z h k close =
+    one_token (Text x m) (34 ∷ (flat_map escaped x ++ (34 ∷ indicator m))) z (inl (
+      flat_map escaped x,
+      indicator m,
+      record { inside = inside x h; text = refl; indicator = indicates m z k close.no_word close.no_mark },
+      inl (x, is_text x h, ap (marked (Text x)) (sym (mark_is m k))),
+    ))
+
+-- empty strings in no chunks
+
+pub no_text_chunks : (z : List ℕ) → Closes z → Chained (codes "\"\"_") z (token nowhere (Text [] Endless) ∷ [])
+no_text_chunks z close = text_text [] Endless z tt tt close
+
+pub no_byte_chunks : (z : List ℕ) → Closes z → Chained (codes "''_") z (token nowhere (Bytes true [] Endless) ∷ [])
+no_byte_chunks z close =
+    one_token (Bytes true [] Endless) (codes "''_") z (inl (
+      [],
+      codes "_",
+      record { inside = refl; text = refl; indicator = indicates Endless z tt close.no_word close.no_mark },
+      inl ([], nothing, refl),
+    ))

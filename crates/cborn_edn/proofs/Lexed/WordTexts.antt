@@ -1,0 +1,81 @@
+-- Simple values of the fixed notation, as pieces.
+use Rattle.std.proofs.Common.{◌≡◌, refl, sym, ◌∙◌, subst, ℕ, ◌<◌, ◌≤◌, List, [], ◌∷◌, ◌++◌, Bool, true, false, eqb, cond, inl, inr, decimal, append-nil, arith}
+use Rattle.std.proofs.lemmas.Bool.{cond-true, cond-false, lt-ltb, le-ltb, eqb-true, eqb-false, cases_Bool, cases_lt}
+use Rattle.std.specs.Prelude.{codes}
+use Rattle.cborn_lex.specs.declared.classes.Mark.TheVariants.{Absent}
+use Rattle.cborn_lex.specs.declared.classes.Class.TheVariants.{Number, Word, SimpleOpen, ParenClose}
+use Rattle.cborn_lex.specs.Tokens.{begins}
+use Rattle.cborn_edn.specs.Syntax.{Item, simple, token, tokens_of}
+use Rattle.cborn_edn.specs.ReadingBack.{nowhere, simple_item}
+use Rattle.cborn_edn.specs.Shown.{shown_simple}
+use Rattle.cborn_edn.proofs.Lexed.Chained.{Chained, one_token, both}
+use Rattle.cborn_edn.proofs.Lexed.MarkTexts.{Closes, paren_closes, paren_close}
+use Rattle.cborn_edn.proofs.Lexed.DecimalTexts.{number_text}
+
+false_text : (z : List ℕ) → Closes z → Chained (codes "false") z (token nowhere (Word 20) ∷ [])
+false_text z h = one_token (Word 20) (codes "false") z (codes "alse", [], record { pass = refl; ends = h.no_word }, refl, (h.no_quote, refl, refl))
+
+true_text : (z : List ℕ) → Closes z → Chained (codes "true") z (token nowhere (Word 21) ∷ [])
+true_text z h = one_token (Word 21) (codes "true") z (codes "rue", [], record { pass = refl; ends = h.no_word }, refl, (h.no_quote, refl, refl))
+
+null_text : (z : List ℕ) → Closes z → Chained (codes "null") z (token nowhere (Word 22) ∷ [])
+null_text z h = one_token (Word 22) (codes "null") z (codes "ull", [], record { pass = refl; ends = h.no_word }, refl, (h.no_quote, refl, refl))
+
+undefined_text : (z : List ℕ) → Closes z → Chained (codes "undefined") z (token nowhere (Word 23) ∷ [])
+undefined_text z h = one_token (Word 23) (codes "undefined") z (codes "ndefined", [], record { pass = refl; ends = h.no_word }, refl, (h.no_quote, refl, refl))
+
+simple_open : (z : List ℕ) → Chained (codes "simple(") z (token nowhere SimpleOpen ∷ [])
+simple_open z = one_token SimpleOpen (codes "simple(") z (codes "imple", codes "(", record { pass = refl; ends = refl }, refl, inr (refl, refl, refl, refl))
+
+abbrev numbered : ℕ → Item
+numbered n = simple nowhere nowhere false n Absent nowhere
+
+numbered_text : (n : ℕ) (z : List ℕ) → n < 256 → Chained (codes "simple(" ++ (decimal n ++ codes ")")) z (tokens_of (numbered n))
+numbered_text n z h =
+    subst (λ (x : List ℕ). Chained (codes "simple(" ++ (x ++ codes ")")) z (tokens_of (numbered n))) (append-nil (decimal n))
+    (both (codes "simple(") ((decimal n ++ []) ++ codes ")") z (token nowhere SimpleOpen ∷ []) (token nowhere (Number false n Absent) ∷ token nowhere ParenClose ∷ []) (simple_open (((decimal n ++ []) ++ codes ")") ++ z))
+    (both (decimal n ++ []) (codes ")") z (token nowhere (Number false n Absent) ∷ []) (token nowhere ParenClose ∷ []) (number_text n Absent (41 ∷ z) (omega arith) tt (paren_closes z)) (paren_close z)))
+
+other_item : (n : ℕ) → eqb n 20 ≡ false → eqb n 21 ≡ false → eqb n 22 ≡ false → eqb n 23 ≡ false → simple_item n ≡ numbered n
+other_item n e f g h = elim (cases_lt n 20) [
+  | inl low ↦ cond-true _ _ _ (lt-ltb n 20 low)
+  | inr high ↦
+      let a = eqb-false n 20 e in
+      let b = eqb-false n 21 f in
+      let c = eqb-false n 22 g in
+      let d = eqb-false n 23 h in
+      let more : 24 ≤ n = omega arith in
+      cond-false _ _ _ (le-ltb n 20 high) ∙ cond-false _ _ _ (le-ltb n 24 more)
+]
+
+other_text : (n : ℕ) → eqb n 20 ≡ false → eqb n 21 ≡ false → eqb n 22 ≡ false → eqb n 23 ≡ false → shown_simple n ≡ codes "simple(" ++ (decimal n ++ codes ")")
+other_text n e f g h = cond-false _ _ _ e ∙ (cond-false _ _ _ f ∙ (cond-false _ _ _ g ∙ cond-false _ _ _ h))
+
+abbrev IsRead : List ℕ → ℕ → Type 0
+IsRead z n = Chained (shown_simple n) z (tokens_of (simple_item n))
+
+pub simple_text : (n : ℕ) (z : List ℕ) → n < 256 → Closes z → Chained (shown_simple n) z (tokens_of (simple_item n))
+simple_text n z l k = elim (cases_Bool (eqb n 20)) [
+  | inl e ↦ subst (IsRead z) (sym (eqb-true n 20 e)) (false_text z k)
+  | inr e ↦ elim (cases_Bool (eqb n 21)) [
+    | inl f ↦ subst (IsRead z) (sym (eqb-true n 21 f)) (true_text z k)
+    | inr f ↦ elim (cases_Bool (eqb n 22)) [
+      | inl g ↦ subst (IsRead z) (sym (eqb-true n 22 g)) (null_text z k)
+      | inr g ↦ elim (cases_Bool (eqb n 23)) [
+        | inl h ↦ subst (IsRead z) (sym (eqb-true n 23 h)) (undefined_text z k)
+        | inr h ↦ rw (other_text n e f g h, other_item n e f g h) (numbered_text n z l)
+      ]
+    ]
+  ]
+]
+
+-- it doesn't begin as an indicator does
+pub simple_begins : (n : ℕ) (z : List ℕ) → begins (λ c. eqb c 95) (shown_simple n ++ z) ≡ false
+simple_begins n z = go (eqb n 20) (eqb n 21) (eqb n 22) (eqb n 23)
+  where
+    go : (a b c d : Bool) → begins (λ c. eqb c 95) (cond a (codes "false") (cond b (codes "true") (cond c (codes "null") (cond d (codes "undefined") (codes "simple(" ++ (decimal n ++ codes ")"))))) ++ z) ≡ false
+    go true b c d = refl
+    go false true c d = refl
+    go false false true d = refl
+    go false false false true = refl
+    go false false false false = refl

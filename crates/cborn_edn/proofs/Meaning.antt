@@ -1,0 +1,7 @@
+-- A tree says nodes that fit, or has a first slip, and never both; of a short text always one of the two.
+pub mod Earliest
+pub mod Agree
+pub mod Fit
+pub mod NoSlip
+pub mod Counting
+pub mod ShortTexts

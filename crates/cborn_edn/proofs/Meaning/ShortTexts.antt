@@ -1,0 +1,71 @@
+-- A text of fewer than 2^56 bytes has one answer.
+use Rattle.std.proofs.Common.{◌≡◌, subst, ℕ, ◌^◌, ◌<◌, ◌≤◌, List, length, Option, Some, None, ◌⊎◌, inl, inr, arith}
+use Rattle.cborn_edn.specs.devices.Draft.{first_slip}
+use Rattle.cborn_model.specs.Bytes.{AreBytes}
+use Rattle.cborn_model.specs.Tree.{Trees, depth_all}
+use Rattle.cborn_model.specs.Spelled.{FitsAll}
+use Rattle.cborn_lex.specs.declared.classes.Profile.{Profile}
+use Rattle.cborn_lex.specs.declared.classes.Token.{Token}
+use Rattle.cborn_lex.specs.declared.faults.LexReason.{LexReason}
+use Rattle.cborn_lex.specs.Lex.{Lex, Stop}
+use Rattle.cborn_lex.proofs.WholeTexts.Chains.{one_list, some_answer}
+use Rattle.cborn_lex.proofs.WholeTexts.Weights.{as_test}
+use Rattle.cborn_edn.specs.declared.faults.EdnReason.{EdnReason}
+use Rattle.cborn_edn.specs.declared.slips.Slip.{Slip}
+use Rattle.cborn_edn.specs.Syntax.{Input, depth_of_input}
+use Rattle.cborn_edn.specs.Parse.{Parse, HasTree, Jam}
+use Rattle.cborn_edn.specs.Meaning.{FirstSlip, input_slips}
+use Rattle.cborn_edn.specs.Notates.{Notates, Slips, Jams}
+use Rattle.cborn_edn.proofs.Meaning.Agree.{says}
+use Rattle.cborn_edn.proofs.Meaning.Counting.{counted_text}
+use Rattle.cborn_edn.proofs.Meaning.Earliest.{Tells, tells, nothing_among}
+use Rattle.cborn_edn.proofs.Meaning.Fit.{said_fits}
+use Rattle.cborn_edn.proofs.Meaning.NoSlip.{no_slip}
+use Rattle.cborn_edn.proofs.Grammar.OneTree.{one_tree, answered}
+
+-- LAW: the nodes fit their widths and are within the limit
+pub notated_fits : (profile : Profile) (limit : ℕ) (text : List ℕ) (nodes : Trees) → AreBytes text → length text < 2 ^ 56 → Notates profile limit text nodes → FitsAll nodes × (depth_all nodes ≤ limit)
+notated_fits profile limit text nodes are short h =
+    let a = h.1 in
+    let shallow = a.shallow in
+    let f = said_fits h.0 nodes (counted_text profile text a.tokens h.0 are short a.lex a.parse) h.2 in
+    (f.0, omega (arith, f.1))
+
+-- LAW: never nodes and a slip, of whatever length the text is
+pub notated_or_slips : (profile : Profile) (limit most : ℕ) (text : List ℕ) (nodes : Trees) (p : ℕ) (r : EdnReason) → Notates profile limit text nodes → Slips profile most text p r → ⊥
+notated_or_slips profile limit most text nodes p r h k =
+    let a = h.1 in
+    let b = k.1 in
+    let e : b.tokens ≡ a.tokens = one_list profile text b.tokens a.tokens b.lex a.lex in
+    let parse : Parse profile a.tokens k.0 = subst (λ (ts : List Token). Parse profile ts k.0) e b.parse in
+    let same : k.0 ≡ h.0 = one_tree profile profile a.tokens k.0 h.0 parse a.parse in
+    let slip : FirstSlip h.0 p r = subst (λ (t : Input). FirstSlip t p r) same k.2 in
+    nothing_among (input_slips h.0) p r (no_slip h.0 nodes h.2) slip.is
+
+abbrev pub Answered : Profile → ℕ → List ℕ → Type 0
+Answered profile limit text =
+    ((nodes : Trees) × Notates profile limit text nodes)
+    ⊎ (((p : ℕ) × (r : LexReason) × Stop profile text p r)
+    ⊎ ((p : ℕ) × (r : EdnReason) × (Jams profile limit text p r ⊎ Slips profile limit text p r)))
+
+module _ (profile : Profile) (limit : ℕ) (text : List ℕ) (are : AreBytes text) (short : length text < 2 ^ 56) where
+  of_tree : (ts : List Token) (tree : Input) → Lex profile text ts → Parse profile ts tree → depth_of_input tree ≤ limit → Answered profile limit text
+  of_tree ts tree lex parse shallow = go (first_slip (input_slips tree)) (tells (input_slips tree))
+    where
+      go : (o : Option Slip) → Tells (input_slips tree) o → Answered profile limit text
+      go None e =
+          let s = says tree (counted_text profile text ts tree are short lex parse) e in
+          inl (s.0, (tree, record { tokens = ts; lex = lex; parse = parse; shallow = shallow }, s.1))
+      go (Some s) f = inr (inr (s.place, s.reason, inr (tree, record { tokens = ts; lex = lex; parse = parse; shallow = shallow }, f)))
+
+  of_tokens : (ts : List Token) → Lex profile text ts → HasTree profile limit ts ⊎ ((p : ℕ) × (r : EdnReason) × Jam profile limit (length text) ts p r) → Answered profile limit text
+  of_tokens ts lex (inl (tree, parse, shallow)) = of_tree ts tree lex parse shallow
+  of_tokens ts lex (inr (p, r, jam)) = inr (inr (p, r, inl (ts, lex, jam)))
+
+  of_text : ((ts : List Token) × Lex profile text ts) ⊎ ((p : ℕ) × (r : LexReason) × Stop profile text p r) → Answered profile limit text
+  of_text (inl (ts, lex)) = of_tokens ts lex (answered profile limit (length text) ts)
+  of_text (inr stop) = inr (inl stop)
+
+  -- LAW: there is an answer
+  pub short_answer : Answered profile limit text
+  short_answer = of_text (some_answer profile text (as_test text are))

@@ -1,0 +1,7 @@
+-- The fixed notation of nodes is UTF-8 exactly if their texts are, and is one text, places aside.
+pub mod Separated
+pub mod Escapes
+pub mod Lowests
+pub mod Characters
+pub mod Readable
+pub mod SameText

@@ -1,0 +1,208 @@
+-- The text of the fixed notation is UTF-8.
+use Rattle.std.proofs.Common.{◌≡◌, refl, sym, ap, ◌∙◌, subst, ℕ, suc, ◌+◌, ◌^◌, ◌<◌, ◌≤◌, List, [], ◌∷◌, ◌++◌, length, get_or, take, Bool, true, false, ◌&&◌, ltb, eqb, cond, inl, inr, decimal, append-nil, arith}
+use Rattle.std.proofs.lemmas.Bool.{and_parts, cond-false, le-ltb, ltb-true, ne_eqb, cases_lt}
+use Rattle.std.proofs.lemmas.List.{take_more, take_all}
+use Rattle.std.proofs.lemmas.Str.{IsUtf8-append, IsUtf8-nil, IsUtf8-encode, IsUtf8-from_ascii, IsUtf8-from_is_utf8, is_utf8-from_IsUtf8, inside_one, encode_ascii}
+use Rattle.std.proofs.lemmas.Str.Ascii.{IsAscii-nil, IsAscii-cons}
+use Rattle.std.proofs.lemmas.Fmt.{IsAscii-decimal_wide}
+use Rattle.std.proofs.lemmas.Grind.{flat_map-append}
+use Rattle.std.specs.Prelude.{codes, encode_utf8, encode_utf8_all}
+use Rattle.std.specs.List.{list_all, flat_map}
+use Rattle.std.specs.Str.{IsUtf8, IsAscii, is_utf8, all_scalars}
+use Rattle.std.specs.Char.{IsScalar}
+use Rattle.hex.specs.Hex.{encode_lower, encode_with, lower_digits}
+use Rattle.hex.proofs.HexLemmas.{IsAscii-encode_with}
+use Rattle.cborn_model.specs.declared.heads.Width.{Width}
+use Rattle.cborn_model.specs.declared.heads.Width.TheVariants.{Direct}
+use Rattle.cborn_model.specs.declared.nodes.Chunk.{Chunk}
+use Rattle.cborn_model.specs.Tree.{Tree, Uint, Nint, Bytes as ByteNode, Text as TextNode, ByteChunks, TextChunks, Items, Pairs as PairNode, Tagged, Simple, Trees, no_item as no_node, more, trees, Entries, no_entry, entry, count, count_entries}
+use Rattle.cborn_model.specs.Spelled.{Fits, FitsAll, FitsEntries}
+use Rattle.cborn_lex.specs.declared.classes.Mark.{Mark}
+use Rattle.cborn_lex.specs.declared.classes.Mark.TheVariants.{Wide}
+use Rattle.cborn_edn.specs.declared.strings.StringKind.{StringKind}
+use Rattle.cborn_edn.specs.declared.strings.StringKind.TheVariants.{Bytes as OfBytes, Text as OfText}
+use Rattle.cborn_edn.specs.Shown.{mark_for, mark_for_size, escaped, indicator, opened, shown_string, shown_chunks, shown_more_chunks, shown_simple, shown, shown_all, shown_more, shown_entries, shown_more_entries, shown_lines, shown_more_lines, Shown}
+use Rattle.cborn_edn.specs.devices.Texts.{AreTexts, IsShowable, EachShowable, ArePairsShowable}
+use Rattle.cborn_edn.proofs.RoundTrip.Back.{below, simple_below}
+use Rattle.cborn_edn.proofs.Lexed.Tables.{passes, passes-at}
+
+-- Text with its escapes.
+
+-- ASCII, as a test
+abbrev pub is_low : List ℕ → Bool
+is_low x = list_all (λ b. ltb b 128) x
+
+pub low_ascii : (x : List ℕ) → is_low x ≡ true → IsAscii x
+low_ascii [] h = IsAscii-nil
+low_ascii (b ∷ x) h = let hs = and_parts (ltb b 128) (is_low x) h in IsAscii-cons b x (ltb-true b 128 hs.0) (low_ascii x hs.1)
+
+each_low : passes (λ b. ltb 0 (length (escaped b)) && is_low (escaped b)) 0 128 ≡ true
+unfolding encode_with
+each_low = refl
+
+pub escaped_low : (b : ℕ) → b < 128 → IsAscii (escaped b) × (0 < length (escaped b))
+escaped_low b h =
+    let e = and_parts (ltb 0 (length (escaped b))) (is_low (escaped b)) (passes-at (λ b. ltb 0 (length (escaped b)) && is_low (escaped b)) 0 128 b each_low (omega arith) (omega arith)) in
+    (low_ascii (escaped b) e.1, ltb-true 0 (length (escaped b)) e.0)
+
+-- a byte that isn't ASCII stands for itself
+pub plain : (b : ℕ) → 128 ≤ b → escaped b ≡ b ∷ []
+plain b h =
+    cond-false _ _ _ (ne_eqb b 34 (λ e. omega (arith, e)))
+    ∙ (cond-false _ _ _ (ne_eqb b 92 (λ e. omega (arith, e)))
+    ∙ (cond-false _ _ _ (ne_eqb b 8 (λ e. omega (arith, e)))
+    ∙ (cond-false _ _ _ (ne_eqb b 12 (λ e. omega (arith, e)))
+    ∙ (cond-false _ _ _ (ne_eqb b 10 (λ e. omega (arith, e)))
+    ∙ (cond-false _ _ _ (ne_eqb b 13 (λ e. omega (arith, e)))
+    ∙ (cond-false _ _ _ (ne_eqb b 9 (λ e. omega (arith, e)))
+    ∙ cond-false _ _ _ (le-ltb b 32 (omega arith))))))))
+
+stays : (x : List ℕ) → ((k : ℕ) → k < length x → 128 ≤ get_or x k 0) → flat_map escaped x ≡ x
+stays [] h = refl
+stays (b ∷ x) h = ap (λ y. y ++ flat_map escaped x) (plain b (h 0 (omega arith))) ∙ ap (λ y. b ∷ y) (stays x (λ k l. h (suc k) (omega arith)))
+
+wide : (c : ℕ) → 128 ≤ c → (k : ℕ) → k < length (encode_utf8 c) → 128 ≤ get_or (encode_utf8 c) k 0
+wide c h k l = elim (cases_lt (get_or (encode_utf8 c) k 0) 128) [
+  | inl low ↦ absurd (omega (arith, inside_one c [] (encode_utf8 c) k (sym (append-nil (encode_utf8 c))) l low))
+  | inr high ↦ high
+]
+
+escaped_char : (c : ℕ) → IsScalar c → IsUtf8 (flat_map escaped (encode_utf8 c))
+escaped_char c h = elim (cases_lt c 128) [
+  | inl low ↦ subst (λ (x : List ℕ). IsUtf8 (flat_map escaped x)) (sym (encode_ascii c low)) (subst IsUtf8 (sym (append-nil (escaped c))) (IsUtf8-from_ascii (escaped c) (escaped_low c low).0))
+  | inr high ↦ subst IsUtf8 (sym (stays (encode_utf8 c) (wide c high))) (IsUtf8-encode c h)
+]
+
+escaped_chars : (cs : List ℕ) → all_scalars cs ≡ true → IsUtf8 (flat_map escaped (encode_utf8_all cs))
+escaped_chars [] h = IsUtf8-nil
+escaped_chars (c ∷ cs) h =
+    let hs = and_parts _ (all_scalars cs) h in
+    subst IsUtf8 (sym (flat_map-append escaped (encode_utf8 c) (encode_utf8_all cs))) (IsUtf8-append _ _ (escaped_char c hs.0) (escaped_chars cs hs.1))
+
+escaped_text : (x : List ℕ) → is_utf8 x ≡ true → IsUtf8 (flat_map escaped x)
+escaped_text x h = let u = IsUtf8-from_is_utf8 x h in subst (λ (y : List ℕ). IsUtf8 (flat_map escaped y)) u.1.1 (escaped_chars u.0 u.1.0)
+
+-- Nodes.
+
+ascii : (x : List ℕ) → is_low x ≡ true → IsUtf8 x
+ascii x h = IsUtf8-from_ascii x (low_ascii x h)
+
+pub indicator_low : (m : Mark) → is_low (indicator m) ≡ true
+indicator_low (Wide Direct) = refl
+indicator_low _ = refl
+
+pub opened_low : (m : Mark) → is_low (opened m) ≡ true
+opened_low (Wide Direct) = refl
+opened_low _ = refl
+
+indicator_text : (m : Mark) → IsUtf8 (indicator m)
+indicator_text m = ascii (indicator m) (indicator_low m)
+
+opened_text : (m : Mark) → IsUtf8 (opened m)
+opened_text m = ascii (opened m) (opened_low m)
+
+number_text : (n : ℕ) → n < 2 ^ 65 → IsUtf8 (decimal n)
+number_text n h = IsUtf8-from_ascii (decimal n) (IsAscii-decimal_wide n (omega arith))
+
+hex_text : (x : List ℕ) → IsUtf8 (encode_lower x)
+hex_text x = IsUtf8-from_ascii _ (IsAscii-encode_with lower_digits x (low_ascii lower_digits refl))
+
+-- a text is UTF-8 if its kind has to be
+abbrev IsSound : StringKind → List ℕ → Type 0
+IsSound OfBytes x = Unit {0}
+IsSound OfText x = is_utf8 x ≡ true
+
+string_text : (k : StringKind) (w : Width) (x : List ℕ) → IsSound k x → IsUtf8 (shown_string k w x)
+string_text OfBytes w x h = IsUtf8-append _ _ (ascii (codes "h'") refl) (IsUtf8-append _ _ (hex_text x) (IsUtf8-append _ _ (ascii (codes "'") refl) (indicator_text (mark_for w (length x)))))
+string_text OfText w x h = IsUtf8-append _ _ (ascii (codes "\"") refl) (IsUtf8-append _ _ (escaped_text x h) (IsUtf8-append _ _ (ascii (codes "\"") refl) (indicator_text (mark_for w (length x)))))
+
+abbrev AreSound : StringKind → List Chunk → Type 0
+AreSound k [] = Unit {0}
+AreSound k (c ∷ cs) = IsSound k c.bytes × AreSound k cs
+
+bytes_sound : (cs : List Chunk) → AreSound OfBytes cs
+bytes_sound [] = tt
+bytes_sound (c ∷ cs) = (tt, bytes_sound cs)
+
+texts_sound : (cs : List Chunk) → AreTexts cs → AreSound OfText cs
+texts_sound [] h = tt
+texts_sound (c ∷ cs) h = (h.0, texts_sound cs h.1)
+
+more_chunks : (k : StringKind) (cs : List Chunk) → AreSound k cs → IsUtf8 (shown_more_chunks k cs)
+more_chunks k [] h = IsUtf8-nil
+more_chunks k (c ∷ cs) h = IsUtf8-append _ _ (ascii (codes ", ") refl) (IsUtf8-append _ _ (string_text k c.width c.bytes h.0) (more_chunks k cs h.1))
+
+some_chunks : (k : StringKind) (c : Chunk) (cs : List Chunk) → AreSound k (c ∷ cs) → IsUtf8 (codes "(_ " ++ (shown_string k c.width c.bytes ++ (shown_more_chunks k cs ++ codes ")")))
+some_chunks k c cs h = IsUtf8-append _ _ (ascii (codes "(_ ") refl) (IsUtf8-append _ _ (string_text k c.width c.bytes h.0) (IsUtf8-append _ _ (more_chunks k cs h.1) (ascii (codes ")") refl)))
+
+chunks_text : (k : StringKind) (cs : List Chunk) → AreSound k cs → IsUtf8 (shown_chunks k cs)
+chunks_text OfBytes [] h = ascii _ refl
+chunks_text OfText [] h = ascii _ refl
+chunks_text OfBytes (c ∷ cs) h = some_chunks OfBytes c cs h
+chunks_text OfText (c ∷ cs) h = some_chunks OfText c cs h
+
+simple_text : (n : ℕ) → n < 256 → IsUtf8 (shown_simple n)
+simple_text n h = go (eqb n 20) (eqb n 21) (eqb n 22) (eqb n 23)
+  where
+    go : (a b c d : Bool) → IsUtf8 (cond a (codes "false") (cond b (codes "true") (cond c (codes "null") (cond d (codes "undefined") (codes "simple(" ++ (decimal n ++ codes ")"))))))
+    go true b c d = ascii _ refl
+    go false true c d = ascii _ refl
+    go false false true d = ascii _ refl
+    go false false false true = ascii _ refl
+    go false false false false = IsUtf8-append _ _ (ascii (codes "simple(") refl) (IsUtf8-append _ _ (number_text n (omega arith)) (ascii (codes ")") refl))
+
+mutual
+  node_text : (t : Tree) → Fits t → IsShowable t → IsUtf8 (shown t)
+  node_text (Uint p w n) h s = let l = below w n h in IsUtf8-append _ _ (number_text n (omega arith)) (indicator_text (mark_for w n))
+  node_text (Nint p w n) h s = let l = below w n h in IsUtf8-append _ _ (ascii (codes "-") refl) (IsUtf8-append _ _ (number_text (suc n) (omega arith)) (indicator_text (mark_for w n)))
+  node_text (ByteNode p w x) h s = string_text OfBytes w x tt
+  node_text (TextNode p w x) h s = string_text OfText w x s
+  node_text (ByteChunks p cs) h s = chunks_text OfBytes cs (bytes_sound cs)
+  node_text (TextChunks p cs) h s = chunks_text OfText cs (texts_sound cs s)
+  node_text (Items p z ts) h s = IsUtf8-append _ _ (ascii (codes "[") refl) (IsUtf8-append _ _ (opened_text (mark_for_size z (count ts))) (IsUtf8-append _ _ (all_text ts h.1 s) (ascii (codes "]") refl)))
+  node_text (PairNode p z es) h s = IsUtf8-append _ _ (ascii (codes "{") refl) (IsUtf8-append _ _ (opened_text (mark_for_size z (count_entries es))) (IsUtf8-append _ _ (entries_text es h.1 s) (ascii (codes "}") refl)))
+  node_text (Tagged p w n t) h s =
+      let l = below w n h.0 in
+      IsUtf8-append _ _ (number_text n (omega arith)) (IsUtf8-append _ _ (indicator_text (mark_for w n)) (IsUtf8-append _ _ (ascii (codes "(") refl) (IsUtf8-append _ _ (node_text t h.1 s) (ascii (codes ")") refl))))
+  node_text (Simple p n) h s = simple_text n (simple_below n h)
+
+  all_text : (ts : Trees) → FitsAll ts → EachShowable ts → IsUtf8 (shown_all ts)
+  all_text no_node h s = IsUtf8-nil
+  all_text (more t ts) h s = IsUtf8-append _ _ (node_text t h.0 s.0) (more_text ts h.1 s.1)
+
+  more_text : (ts : Trees) → FitsAll ts → EachShowable ts → IsUtf8 (shown_more ts)
+  more_text no_node h s = IsUtf8-nil
+  more_text (more t ts) h s = IsUtf8-append _ _ (ascii (codes ", ") refl) (IsUtf8-append _ _ (node_text t h.0 s.0) (more_text ts h.1 s.1))
+
+  entries_text : (es : Entries) → FitsEntries es → ArePairsShowable es → IsUtf8 (shown_entries es)
+  entries_text no_entry h s = IsUtf8-nil
+  entries_text (entry k v es) h s = IsUtf8-append _ _ (node_text k h.0 s.0) (IsUtf8-append _ _ (ascii (codes ": ") refl) (IsUtf8-append _ _ (node_text v h.1 s.1) (more_entries es h.2 s.2)))
+
+  more_entries : (es : Entries) → FitsEntries es → ArePairsShowable es → IsUtf8 (shown_more_entries es)
+  more_entries no_entry h s = IsUtf8-nil
+  more_entries (entry k v es) h s =
+      IsUtf8-append _ _ (ascii (codes ", ") refl) (IsUtf8-append _ _ (node_text k h.0 s.0) (IsUtf8-append _ _ (ascii (codes ": ") refl) (IsUtf8-append _ _ (node_text v h.1 s.1) (more_entries es h.2 s.2))))
+
+more_lines : (ts : Trees) → FitsAll ts → EachShowable ts → IsUtf8 (shown_more_lines ts)
+more_lines no_node h s = ascii _ refl
+more_lines (more t ts) h s = IsUtf8-append _ _ (ascii (codes ",\n") refl) (IsUtf8-append _ _ (node_text t h.0 s.0) (more_lines ts h.1 s.1))
+
+pub lines_text : (ts : Trees) → FitsAll ts → EachShowable ts → IsUtf8 (shown_lines ts)
+lines_text no_node h s = IsUtf8-nil
+lines_text (more t ts) h s = IsUtf8-append _ _ (node_text t h.0 s.0) (more_lines ts h.1 s.1)
+
+pub is_text : (nodes : Trees) (text : List ℕ) → FitsAll nodes → Shown nodes text → is_utf8 text ≡ true
+is_text nodes text fits shown = is_utf8-from_IsUtf8 text shown.0
+
+-- Nodes that fit, one after another.
+
+fits_last : (xs : List Tree) (x : Tree) → FitsAll (trees xs) → Fits x → FitsAll (trees (xs ++ x ∷ []))
+fits_last [] x h k = (k, tt)
+fits_last (y ∷ xs) x h k = (h.0, fits_last xs x h.1 k)
+
+pub fits_more : (xs : List Tree) (i : ℕ) (x : Tree) → i < length xs → x ≡ get_or xs i x → FitsAll (trees (take i xs)) → Fits x → FitsAll (trees (take (i + 1) xs))
+fits_more xs i x h is all fits =
+    subst (λ ys. FitsAll (trees ys)) (sym (take_more xs i x h ∙ ap (λ y. take i xs ++ y ∷ []) (sym is))) (fits_last (take i xs) x all fits)
+
+pub fits_whole : (xs : List Tree) (i : ℕ) → length xs ≤ i → FitsAll (trees (take i xs)) → FitsAll (trees xs)
+fits_whole xs i h all = subst (λ ys. FitsAll (trees ys)) (take_all i xs h) all

@@ -1,0 +1,10 @@
+-- What the calls answer: for an input that is refused, that holds items, or that wasn't read to its end.
+pub mod Told
+pub mod Unanswered
+pub mod Untold
+pub mod Unfailing
+pub mod Checked
+pub mod Whole
+pub mod Noted
+pub mod Telling
+pub mod AtHand

@@ -1,0 +1,59 @@
+-- A text that a pass takes holds what the bytes mean that it notates, and is shown as they are.
+use Rattle.std.proofs.Common.{◌≡◌, ◌≤◌, ◌^◌, ◌⊎◌, inl, inr, ℕ, List, length, sym, ◌∙◌, Ordering, arith}
+use Rattle.std.specs.Prelude.{IsUtf8}
+use Rattle.cborn_model.specs.Tree.{Tree, trees}
+use Rattle.cborn_model.specs.Spelled.{FitsAll}
+use Rattle.cborn_model.specs.Value.{values_of}
+use Rattle.cborn_lex.specs.declared.classes.Profile.{Profile}
+use Rattle.cborn_lex.specs.declared.classes.Profile.TheVariants as profile
+use Rattle.cborn_lex.proofs.WholeTexts.Weights.{utf8_bytes}
+use Rattle.cborn_edn.proofs.Shown.SameText.{same_notation}
+use Rattle.cborn_edn.proofs.Meaning.ShortTexts.{notated_fits}
+use Rattle.cborn_edn.proofs.RoundTrip.Unplaced.{same_meaning}
+use Rattle.cborn_show.specs.Passed.{IsShownText}
+use Rattle.cborn_spell.specs.Descent.{IsSpelling}
+use Rattle.cborn_transcode.specs.Transcoding.{IsTranscoded}
+use Rattle.cborn_transcode.proofs.Lists.{all_mean}
+use Rattle.cborn_engine.specs.declared.kinds.Kind.{Kind}
+use Rattle.cborn_engine.specs.declared.kinds.Kind.TheVariants as kind
+use Rattle.cborn_engine.specs.Encoding.{kind_of, IsEncoded}
+use Rattle.cborn_engine.specs.Holding.{IsNotation, Spells}
+use Rattle.cborn_engine.specs.Showing.{IsShown, IsSpelledAs}
+use Rattle.cborn_engine.proofs.Held.Meant.{zip_mean}
+use Rattle.cborn_engine.proofs.Held.SameNodes.{same_nodes}
+use Rattle.cborn_engine.proofs.Answers.Told.{notation}
+
+pub spells : (p : Profile) (limit : ℕ) (text : List ℕ) (nodes : List Tree) → IsNotation p limit text nodes → Spells (kind_of p) limit text nodes
+spells profile.One limit text nodes h = h
+spells profile.Two limit text nodes h = h
+
+module _ (p : Profile) (limit : ℕ) (text bytes : List ℕ) (u : IsUtf8 text) (s : IsSpelling p limit text bytes) where
+  notated : Spells (kind_of p) limit text s.nodes
+  notated = spells p limit text s.nodes (u, s.notated)
+
+  fits : length text ≤ 2 ^ 30 → FitsAll (trees s.nodes)
+  fits l = (notated_fits p limit text (trees s.nodes) (utf8_bytes text u) (omega (arith, l)) s.notated).0
+
+  pub encoded : (order : List ℕ → List ℕ → Ordering) (answer : List ℕ) → IsTranscoded order limit bytes answer → length text ≤ 2 ^ 30 → IsEncoded order (kind_of p) limit text answer
+  encoded order answer n l =
+      let same = same_nodes (trees n.nodes) (trees s.nodes) n.read.fit (fits l) (n.read.spells ∙ sym s.spells) in
+      record {
+        items = n.items;
+        held = record { nodes = s.nodes; spelled = notated; meant = zip_mean s.nodes n.items (same_meaning (trees n.nodes) (trees s.nodes) same (values_of n.items) (all_mean n.nodes n.items n.meant)) };
+        encoded = n.encoded;
+      }
+
+  -- the bytes are told
+  pub as_bytes : IsShown (kind_of p) kind.Wire limit text bytes
+  as_bytes = record { nodes = s.nodes; spelled = notated; shown = sym s.spells }
+
+  -- their text is told
+  pub as_text : (out : Kind) → (out ≡ kind.Wire → ⊥) → (answer : List ℕ) → IsShownText limit bytes answer → length text ≤ 2 ^ 30 → IsShown (kind_of p) out limit text answer
+  as_text out never answer t l =
+      let same = same_nodes (trees t.nodes) (trees s.nodes) t.read.fit (fits l) (t.read.spells ∙ sym s.spells) in
+      let shown = same_notation (trees t.nodes) (trees s.nodes) answer same t.shown in
+      record { nodes = s.nodes; spelled = notated; shown = notation out never (λ k. IsSpelledAs k s.nodes answer) shown shown }
+
+pub never_wire : (out : Kind) → (out ≡ kind.Notation) ⊎ (out ≡ kind.Notation2) → out ≡ kind.Wire → ⊥
+never_wire out (inl e) w = cc
+never_wire out (inr e) w = cc

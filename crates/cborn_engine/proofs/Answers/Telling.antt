@@ -1,0 +1,83 @@
+-- What is answered where an input is told in another form.
+use Rattle.std.proofs.Common.{◌≡◌, ◌≤◌, ℕ, List, [], length, refl, sym, ap, ◌∙◌, subst, Option, Result, Ok, Err, Vec, Global}
+use Rattle.std.specs.Prelude.{IfOk, IfErr}
+use Rattle.cborn_model.specs.Tree.{Tree, Trees, trees}
+use Rattle.cborn_model.specs.Spelled.{Wellformed, spelled_all}
+use Rattle.cborn_model.specs.Placed.{PlacedAll}
+use Rattle.cborn_wire.proofs.Spelled.TreeLists.{tree_list, trees-tree_list}
+use Rattle.cborn_edn.specs.declared.faults.ShowFault.TheVariants as unshown
+use Rattle.cborn_show.specs.Passed.{IsShownText}
+use Rattle.cborn_engine.specs.declared.faults.EngineFault.{EngineFault}
+use Rattle.cborn_engine.specs.declared.faults.EngineFault.TheVariants as fault
+use Rattle.cborn_engine.specs.declared.kinds.Kind.{Kind}
+use Rattle.cborn_engine.specs.declared.kinds.Kind.TheVariants as kind
+use Rattle.cborn_engine.specs.Holding.{IsFixedText, Spells}
+use Rattle.cborn_engine.specs.Loading.{IsNoFlaw}
+use Rattle.cborn_engine.specs.Pieces.{Reads}
+use Rattle.cborn_engine.specs.Refusing.{IsRefused, IsRead}
+use Rattle.cborn_engine.specs.Showing.{ShowAnswers, Shows, IsShown, IsSpelledAs, IsUnshownAs, IsUnspelledAs, TellAnswers}
+use Rattle.cborn_engine.specs.Sending.{Sends, WriteAnswers}
+use Rattle.cborn_engine.proofs.Answers.Told.{notation}
+use Rattle.cborn_engine.proofs.Answers.Unanswered.{nothing_written}
+
+-- a refusal is told as it is
+pub refused : (k out : Kind) (limit most : ℕ) (input : List ℕ) (why : EngineFault) → IsRefused k limit most input why × IsNoFlaw why → TellAnswers k out limit most input (Err why)
+refused k out limit most input (fault.Show w) r = absurd r.0
+refused k out limit most input _ r = r
+
+-- nodes that are spelled, or not
+pub nodes_told : (k out : Kind) (limit most : ℕ) (input : List ℕ) (nodes xs : List Tree) (r : Result (Vec ℕ Global) EngineFault) → length input ≤ most → Spells k limit input nodes → xs ≡ nodes → IfOk r (λ v. IsSpelledAs out xs v.items) → IfErr r (IsUnspelledAs out xs) → TellAnswers k out limit most input r
+nodes_told k out limit most input nodes xs (Ok v) l s e g b = (l, record { nodes = nodes; spelled = s; shown = subst (λ (ns : List Tree). IsSpelledAs out ns v.items) e g })
+nodes_told k out limit most input nodes xs (Err (fault.Show w)) l s e g b = (l, record { nodes = nodes; spelled = s; unshown = subst (λ (ns : List Tree). IsUnshownAs out ns w) e b })
+nodes_told k out limit most input nodes xs (Err fault.OutOfMemory) l s e g b = (l, tt)
+nodes_told k out limit most input nodes xs (Err _) l s e g b = absurd b
+
+-- ---- bytes
+
+pub as_text : (out : Kind) → (out ≡ kind.Wire → ⊥) → (limit : ℕ) (input text : List ℕ) → IsShownText limit input text → IsShown kind.Wire out limit input text
+as_text out never limit input text s = record { nodes = s.nodes; spelled = (s.read, s.placed); shown = notation out never (λ k. IsSpelledAs k s.nodes text) s.shown s.shown }
+
+pub as_fixed : (limit : ℕ) (input text : List ℕ) → IsShownText limit input text → IsFixedText input text
+as_fixed limit input text s = record { nodes = s.nodes; fit = s.read.fit; spelled = s.read.spells; shown = s.shown }
+
+-- well-formed bytes are what their nodes spell
+pub own_spelling : (limit : ℕ) (input : List ℕ) → (ts : Trees) × Wellformed limit ts input × PlacedAll 0 ts → IsShown kind.Wire kind.Wire limit input input
+own_spelling limit input (ts, w, p) =
+    let same : trees (tree_list ts) ≡ ts = trees-tree_list ts in
+    record {
+      nodes = tree_list ts;
+      spelled = (subst (λ (us : Trees). Wellformed limit us input) (sym same) w, subst (PlacedAll 0) (sym same) p);
+      shown = sym (ap spelled_all same ∙ w.spells);
+    }
+
+-- well-formed bytes that aren't told as this kind
+pub untold_text : (out : Kind) (limit most place : ℕ) (input : List ℕ) → length input ≤ most → (ts : Trees) × Wellformed limit ts input × PlacedAll 0 ts
+    → ((most : ℕ) (nodes : List Tree) → Wellformed most (trees nodes) input → PlacedAll 0 (trees nodes) → IsUnshownAs out nodes (unshown.NotUtf8 place))
+    → TellAnswers kind.Wire out limit most input (Err (fault.Show (unshown.NotUtf8 place)))
+untold_text out limit most place input l w f =
+    let own = own_spelling limit input w in
+    (l, record { nodes = own.nodes; spelled = own.spelled; unshown = f limit own.nodes own.spelled.0 own.spelled.1 })
+
+-- ---- and what went out
+
+pub not_told : (k out : Kind) (limit most : ℕ) (before after sent : Option (List ℕ)) (why : EngineFault) → Reads (TellAnswers k out limit most) before after (Err why) → Shows k out limit most before after sent sent (Err why)
+not_told k out limit most before after sent why h = record { input = h.input; output = []; taken = h.taken; given = nothing_written sent; answer = answer why h.answer; to_end = h.to_end }
+  where
+    answer : (why : EngineFault) → TellAnswers k out limit most h.input (Err why) → ShowAnswers k out limit most h.input [] (Err why)
+    answer fault.WriteFault r = absurd r.0
+    answer (fault.Invalid w) r = absurd r.1
+    answer _ r = (r.0, r.1, refl)
+
+pub told_out : (k out : Kind) (limit most : ℕ) (before after sent sent_after : Option (List ℕ)) (bytes : Vec ℕ Global) (ys : List ℕ) (r : Result Unit EngineFault) → Reads (TellAnswers k out limit most) before after (Ok bytes) → ys ≡ bytes.items → Sends sent sent_after ys r → Shows k out limit most before after sent sent_after r
+told_out k out limit most before after sent sent_after bytes ys r h e w =
+    record { input = h.input; output = w.output; taken = h.taken; given = w.written; answer = answer r w.answer (subst (IsShown k out limit h.input) (sym e) h.answer.1); to_end = at_end r w.answer }
+  where
+    answer : (r : Result Unit EngineFault) → WriteAnswers ys w.output r → IsShown k out limit h.input ys → ShowAnswers k out limit most h.input w.output r
+    answer (Ok u) a c = (h.answer.0, subst (IsShown k out limit h.input) (sym a) c)
+    answer (Err fault.WriteFault) a c = (h.answer.0, (ys, c, a))
+    answer (Err _) a c = absurd a
+
+    at_end : (r : Result Unit EngineFault) → WriteAnswers ys w.output r → IsRead r after
+    at_end (Ok u) a = h.to_end
+    at_end (Err fault.WriteFault) a = h.to_end
+    at_end (Err _) a = absurd a

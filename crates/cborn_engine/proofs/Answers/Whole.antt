@@ -1,0 +1,119 @@
+-- What is answered for an input that was read to its end, and of bytes that are held whole.
+use Rattle.std.proofs.Common.{◌≡◌, ◌<◌, ◌≤◌, ◌^◌, ℕ, List, length, refl, sym, ◌∙◌, subst, Option, None, Some, Result, Ok, Err, Vec, Global, Ordering, arith}
+use Rattle.std.specs.Io.KnownBytes.{IsAtEnd}
+use Rattle.std.specs.Prelude.{IfOk, IfErr}
+use Rattle.cborn_model.specs.Tree.{Tree, trees}
+use Rattle.cborn_model.specs.Spelled.{Wellformed}
+use Rattle.cborn_model.specs.Placed.{PlacedAll}
+use Rattle.cborn_model.specs.Orders.{IsKeyOrder}
+use Rattle.cborn_model.specs.Value.{Value, values_of}
+use Rattle.cborn_judge.specs.declared.defects.Defect.{Defect}
+use Rattle.cborn_wire.specs.declared.faults.WireFault.{WireFault}
+use Rattle.cborn_wire.specs.declared.faults.WireFault.TheVariants as wire
+use Rattle.cborn_wire.specs.declared.faults.WireReason.{WireReason}
+use Rattle.cborn_wire.specs.Faults.{Fault}
+use Rattle.cborn_transcode.specs.Transcoding.{IsTranscoded}
+use Rattle.cborn_transcode.proofs.Lists.{all_mean}
+use Rattle.cborn_transcode.proofs.Placing.{placements}
+use Rattle.cborn_engine.specs.declared.faults.EngineFault.{EngineFault}
+use Rattle.cborn_engine.specs.declared.faults.EngineFault.TheVariants as fault
+use Rattle.cborn_engine.specs.declared.kinds.Kind.{Kind}
+use Rattle.cborn_engine.specs.declared.kinds.Kind.TheVariants as kind
+use Rattle.cborn_engine.specs.Holding.{Holds, Spells}
+use Rattle.cborn_engine.specs.Loading.{IsNoFlaw, LoadAnswers, Loads}
+use Rattle.cborn_engine.specs.Refusing.{IsRefused, IsReadBefore, IsRead}
+use Rattle.cborn_engine.specs.Faults.{of_wire}
+use Rattle.cborn_engine.specs.Pieces.{Collects, CollectAnswers, Reads}
+use Rattle.cborn_engine.specs.Encoding.{IsEncoded}
+use Rattle.cborn_engine.specs.Checking.{CheckAnswers, Checks, Verdict}
+use Rattle.cborn_engine.specs.Defects.{Finds}
+use Rattle.cborn_search.specs.Searching.{IsFirstFlawOf, IsFirstDefectOf, DefectVerdict}
+use Rattle.cborn_engine.proofs.Held.Meant.{spells_once}
+use Rattle.cborn_engine.proofs.Answers.Checked.{mean_found, verdict, without_defect, with_defect}
+
+ended : (why : EngineFault) (rest : Option (List ℕ)) → IsAtEnd rest → IsReadBefore why rest
+ended fault.TooLong rest h = tt
+ended fault.ReadFault rest h = tt
+ended fault.OutOfMemory rest h = tt
+ended _ rest h = h
+
+-- ---- what was read
+
+-- the reader stopped
+stopped : (k : Kind) (limit most : ℕ) (input : List ℕ) (after : Option (List ℕ)) (why : EngineFault) → CollectAnswers most input after (Err why) → (IsRefused k limit most input why × IsNoFlaw why) × IsReadBefore why after
+stopped k limit most input after fault.TooLong h = ((h, tt), tt)
+stopped k limit most input after fault.ReadFault h = ((h, tt), tt)
+stopped k limit most input after fault.OutOfMemory h = ((h, tt), tt)
+stopped k limit most input after _ h = absurd h
+
+module _ {A : Type 0} (Answers : List ℕ → Result A EngineFault → Type 0) (most : ℕ) (before after : Option (List ℕ)) where
+  pub unread : (k : Kind) (limit : ℕ) (why : EngineFault) → ((input : List ℕ) → IsRefused k limit most input why × IsNoFlaw why → Answers input (Err why)) → Collects most before after (Err why) → Reads Answers before after (Err why)
+  unread k limit why f h = let r = stopped k limit most h.input after why h.answer in record { input = h.input; taken = h.taken; answer = f h.input r.0; to_end = r.1 }
+
+  -- it was read to its end
+  pub read_whole : (bytes : Vec ℕ Global) (now : List ℕ) → Collects most before after (Ok bytes) → now ≡ bytes.items → (r : Result A EngineFault) → (length now ≤ most → Answers now r) → Reads Answers before after r
+  read_whole bytes now h e r f =
+      let same : now ≡ h.input = e ∙ h.answer.0 in
+      let within : length now ≤ most = subst (λ (x : List ℕ). length x ≤ most) (sym same) h.answer.1 in
+      record { input = h.input; taken = h.taken; answer = subst (λ (x : List ℕ). Answers x r) same (f within); to_end = at_end r }
+    where
+      at_end : (r : Result A EngineFault) → IsRead r after
+      at_end (Ok a) = h.answer.2
+      at_end (Err why) = ended why after h.answer.2
+
+pub not_loaded : (k : Kind) (limit most : ℕ) (before after : Option (List ℕ)) (why : EngineFault) → Collects most before after (Err why) → Loads k limit most before after (Err why)
+not_loaded k limit most before after why h =
+    let r = stopped k limit most h.input after why h.answer in record { input = h.input; taken = h.taken; answer = r.0; to_end = r.1 }
+
+pub loaded : (k : Kind) (limit most : ℕ) (before after : Option (List ℕ)) (bytes : Vec ℕ Global) (now : List ℕ) → Collects most before after (Ok bytes) → now ≡ bytes.items → (r : Result (Vec Tree Global) EngineFault)
+    → IfOk r (λ nodes. Spells k limit now nodes.items) → IfErr r (λ why. (most : ℕ) → length now ≤ most → IsRefused k limit most now why × IsNoFlaw why) → Loads k limit most before after r
+loaded k limit most before after bytes now h e r good bad =
+    let w = read_whole (LoadAnswers k limit most) most before after bytes now h e r (λ l. answer r good bad l) in
+    record { input = w.input; taken = w.taken; answer = w.answer; to_end = w.to_end }
+  where
+    answer : (r : Result (Vec Tree Global) EngineFault) → IfOk r (λ nodes. Spells k limit now nodes.items) → IfErr r (λ why. (most : ℕ) → length now ≤ most → IsRefused k limit most now why × IsNoFlaw why) → length now ≤ most → LoadAnswers k limit most now r
+    answer (Ok nodes) good bad l = (l, good)
+    answer (Err why) good bad l = bad most l
+
+module _ (order : List ℕ → List ℕ → Ordering) (limit most : ℕ) (before after : Option (List ℕ)) where
+  pub not_checked : (why : EngineFault) → Collects most before after (Err why) → Checks order limit most before after (Err why)
+  not_checked why h = let r = stopped kind.Wire limit most h.input after why h.answer in record { input = h.input; taken = h.taken; answer = r.0.0; to_end = r.1 }
+
+  pub checked_whole : (bytes : Vec ℕ Global) (now : List ℕ) → Collects most before after (Ok bytes) → now ≡ bytes.items → (r : Result (Option Defect) EngineFault) → (length now ≤ most → CheckAnswers order limit most now r) → Checks order limit most before after r
+  checked_whole bytes now h e r f =
+      let w = read_whole (CheckAnswers order limit most) most before after bytes now h e r f in
+      record { input = w.input; taken = w.taken; answer = w.answer; to_end = w.to_end }
+
+-- ---- the bytes
+
+transcoded_held : (order : List ℕ → List ℕ → Ordering) (limit : ℕ) (input output : List ℕ) (n : IsTranscoded order limit input output) → Holds kind.Wire limit input n.items
+transcoded_held order limit input output n = let p = placements order limit input output n in record { nodes = p.nodes; spelled = (p.read, p.placed); meant = p.meant }
+
+pub transcoded : (order : List ℕ → List ℕ → Ordering) (limit : ℕ) (input output : List ℕ) → IsTranscoded order limit input output → IsEncoded order kind.Wire limit input output
+transcoded order limit input output n = record { items = n.items; held = transcoded_held order limit input output n; encoded = n.encoded }
+
+module _ (limit most : ℕ) (input : List ℕ) (within : length input ≤ most) where
+  -- they are not well-formed
+  pub unspelled : (why : WireFault) → ((p : ℕ) (r : WireReason) → why ≡ wire.Refused p r → Fault limit input p r) → IsRefused kind.Wire limit most input (of_wire why)
+  unspelled (wire.Refused p r) f = (within, f p r refl)
+  unspelled wire.OutOfMemory f = within
+
+  pub deterministic : (order : List ℕ → List ℕ → Ordering) → IsTranscoded order limit input input → CheckAnswers order limit most input (Ok None)
+  deterministic order n = (within, record { items = n.items; held = transcoded_held order limit input input n; verdict = n.encoded })
+
+  pub checked_searched : (order : List ℕ → List ℕ → Ordering) → IsKeyOrder order → most ≤ 2 ^ 30 → (o : Option Defect) → IsFirstFlawOf limit input None → IsFirstDefectOf order limit input o → CheckAnswers order limit most input (Ok o)
+  checked_searched order laws bounded o f d =
+      let held : Holds kind.Wire limit input f.verdict.0 = record { nodes = f.nodes; spelled = (f.read, f.placed); meant = f.verdict.1 } in
+      let found : DefectVerdict order f.nodes o = subst (λ (ns : List Tree). DefectVerdict order ns o) (spells_once kind.Wire limit input d.nodes f.nodes (d.read, d.placed) (f.read, f.placed)) d.verdict in
+      (within, record { items = f.verdict.0; held = held; verdict = verdict_searched order laws f.verdict.0 held o (omega (arith, within, bounded)) found })
+    where
+      verdict_searched : (order : List ℕ → List ℕ → Ordering) → IsKeyOrder order → (items : List Value) (held : Holds kind.Wire limit input items) (o : Option Defect) → length input < 2 ^ 64 → DefectVerdict order held.nodes o → Verdict order limit input items held o
+      verdict_searched order laws items held None l none = without_defect order laws limit input items held none
+      verdict_searched order laws items held (Some d) l first = with_defect order laws limit input items held d l (first (values_of items) (all_mean held.nodes items held.meant))
+
+  pub checked_trees : (order : List ℕ → List ℕ → Ordering) → IsKeyOrder order → most ≤ 2 ^ 30 → (nodes xs : List Tree) (o : Option Defect) → Wellformed limit (trees nodes) input × PlacedAll 0 (trees nodes) → xs ≡ nodes → Finds order xs o → CheckAnswers order limit most input (Ok o)
+  checked_trees order laws bounded nodes xs o s e f =
+      let found : Finds order nodes o = subst (λ (ns : List Tree). Finds order ns o) e f in
+      let meant = mean_found order nodes o found in
+      let held : Holds kind.Wire limit input meant.0 = record { nodes = nodes; spelled = s; meant = meant.1 } in
+      (within, record { items = meant.0; held = held; verdict = verdict order laws limit input meant.0 held o (omega (arith, within, bounded)) found })

@@ -1,0 +1,57 @@
+-- What follows where the outputs are canonical forms.
+use Rattle.std.proofs.Common.{◌≡◌, ◌≤◌, ◌^◌, ◌↔◌, ℕ, List, [], ◌++◌, length, Err, sym, subst, ap, Ordering}
+use Rattle.std.specs.List.{AllZip}
+use Rattle.cborn_model.specs.Orders.{IsKeyOrder}
+use Rattle.cborn_model.specs.Value.{Value, Same}
+use Rattle.cborn_engine.specs.declared.faults.EngineFault.{EngineFault}
+use Rattle.cborn_engine.specs.declared.faults.EngineFault.TheVariants as fault
+use Rattle.cborn_engine.specs.declared.kinds.Kind.{Kind}
+use Rattle.cborn_engine.specs.Holding.{Canon}
+use Rattle.cborn_engine.specs.Refusing.{IsRefused, IsNoRefusal, IsTrouble}
+use Rattle.cborn_engine.specs.Writing.{IsFront}
+use Rattle.cborn_engine.specs.Canonical.{IsCanonical, NormaliseAnswers}
+use Rattle.cborn_engine.specs.Comparing.{HoldSameItems}
+use Rattle.cborn_engine.proofs.Canonical.Canonicity.{valid, reads_back, alone, one_for_same, again}
+use Rattle.cborn_engine.proofs.Held.Known.{input_read}
+use Rattle.cborn_engine.proofs.Held.Meant.{holds_once, all_turned}
+
+module _ (order : List ℕ → List ℕ → Ordering) (laws : IsKeyOrder order) where
+  -- two outputs are one exactly if the items are the same
+  pub one_output : (k l out : Kind) (limit : ℕ) (x y v w : List ℕ) → length x ≤ 2 ^ 30 → length y ≤ 2 ^ 30 → (a : IsCanonical order k out limit x v) (b : IsCanonical order l out limit y w) → (v ≡ w) ↔ AllZip Same a.items b.items
+  one_output k l out limit x y v w p q a b =
+      let same = one_for_same order laws k out limit x v p a b.items (valid order laws l out limit y w q b) in (
+        λ e. same.0 (subst (Canon order out b.items) (sym e) b.written),
+        λ s. alone order laws l out limit y w q b v (same.1 s),
+      )
+
+  pub alike : (k l out : Kind) (limit : ℕ) (x y v w : List ℕ) → length x ≤ 2 ^ 30 → length y ≤ 2 ^ 30 → IsCanonical order k out limit x v → IsCanonical order l out limit y w → (v ≡ w) ↔ HoldSameItems k l limit x y
+  alike k l out limit x y v w p q a b =
+      let same = one_output k l out limit x y v w p q a b in (
+        λ e. record { ours = a.items; theirs = b.items; held = a.held; held2 = b.held; difference = same.0 e },
+        λ h. same.1
+            (subst (λ (vs : List Value). AllZip Same vs b.items) (holds_once k limit x h.ours a.items h.held a.held)
+            (subst (AllZip Same h.ours) (holds_once l limit y h.theirs b.items h.held2 b.held) h.difference)),
+      )
+
+  -- an output holds the items of its input
+  pub same_held : (k out : Kind) (limit : ℕ) (x v : List ℕ) → length x ≤ 2 ^ 30 → IsCanonical order k out limit x v → HoldSameItems k out limit x v
+  same_held k out limit x v p a =
+      let back = reads_back order laws k out limit x v p a in
+      record { ours = a.items; theirs = back.0; held = a.held; held2 = back.1; difference = all_turned back.0 a.items back.2 }
+
+  -- an output is refused only in trouble, and a front of it goes out
+  pub refused_again : (k out : Kind) (limit most : ℕ) (x v w : List ℕ) (why : EngineFault) → length x ≤ 2 ^ 30 → length v ≤ most → IsCanonical order k out limit x v → NormaliseAnswers order out out limit most v w (Err why) → IsTrouble why × IsFront w v
+  refused_again k out limit most x v w why short room a = go why
+    where
+      nothing : w ≡ [] → IsFront w v
+      nothing e = (v, ap (λ (u : List ℕ). u ++ v) e)
+
+      unrefused : (why : EngineFault) → IsRefused out limit most v why → IsNoRefusal why
+      unrefused why r = let back = reads_back order laws k out limit x v short a in input_read out limit most v back.0 why room back.1 r
+
+      go : (why : EngineFault) → NormaliseAnswers order out out limit most v w (Err why) → IsTrouble why × IsFront w v
+      go fault.ReadFault b = (tt, nothing b.1)
+      go fault.OutOfMemory b = (tt, nothing b.1)
+      go fault.WriteFault b = (tt, subst (IsFront w) (again order laws k out limit x v short a b.1.0 b.1.1) b.1.2)
+      go (fault.Show f) b = absurd b.0
+      go why b = absurd (unrefused why b.0)

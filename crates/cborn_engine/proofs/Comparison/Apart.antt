@@ -1,0 +1,221 @@
+-- What is known of two deterministic encodings that are walked side by side.
+use Rattle.std.proofs.Common.{◌≡◌, ◌<◌, ◌+◌, ℕ, zero, suc, ◌⊎◌, inl, inr, List, [], ◌∷◌, ◌++◌, length, Option, None, Some, Ordering, refl, sym, ◌∙◌, ap, subst, arith}
+use Rattle.std.specs.Prelude.{IfSome}
+use Rattle.std.specs.List.{AllZip, AllByRecursion}
+use Rattle.cborn_model.specs.Orders.{IsKeyOrder}
+use Rattle.cborn_model.specs.Valid.{IsProper}
+use Rattle.cborn_model.specs.Value.{Value, Same}
+use Rattle.cborn_model.proofs.SameItems.Sameness.{same_chained, same_turned}
+use Rattle.cborn_det.specs.Det.{Det, DetSeq}
+use Rattle.cborn_det.proofs.Reading.{reads}
+use Rattle.cborn_det.proofs.Canon.{same_of_one, one_of_same, seq_of_one}
+use Rattle.cborn_transcode.specs.Transcoding.{ItemTranscoded}
+use Rattle.cborn_engine.specs.declared.kinds.Kind.TheVariants as kind
+use Rattle.cborn_engine.specs.Comparing.{AreAlikeAt, IsFirstDifference, Difference, AreCompared}
+use Rattle.cborn_engine.specs.Encoding.{IsEncoded}
+use Rattle.cborn_engine.specs.Holding.{Holds}
+use Rattle.cborn_engine.proofs.Comparison.Differing.{unwrapped}
+use Rattle.cborn_engine.proofs.Held.Meant.{all_turned}
+use Rattle.cborn_engine.proofs.Canonical.Proper.{sequence_proper}
+
+nothing : (x : List ℕ) → length x ≡ 0 → x ≡ []
+nothing [] e = refl
+nothing (c ∷ x) e = absurd (omega (arith, e))
+
+-- ---- where items differ
+
+ours_longer : (v : Value) (vs : List Value) → IsFirstDifference (v ∷ vs) [] 0
+ours_longer v vs = record { alike = λ k l. absurd (omega (arith, l)); differs = λ h. let never = h.there in cc; within = omega arith }
+
+theirs_longer : (w : Value) (ws : List Value) → IsFirstDifference [] (w ∷ ws) 0
+theirs_longer w ws = record { alike = λ k l. absurd (omega (arith, l)); differs = λ h. let never = h.here in cc; within = omega arith }
+
+differ_here : (v w : Value) (vs ws : List Value) → (Same v w → ⊥) → IsFirstDifference (v ∷ vs) (w ∷ ws) 0
+differ_here v w vs ws never = record {
+  alike = λ k l. absurd (omega (arith, l));
+  differs = λ h. never (subst (λ (z : Value). Same z w) (sym (unwrapped h.here)) (subst (Same h.ours) (sym (unwrapped h.there)) h.same));
+  within = omega arith;
+}
+
+alike_before : (v w : Value) (vs ws : List Value) (j : ℕ) → Same v w → ((k : ℕ) → k < j → AreAlikeAt vs ws k) → (k : ℕ) → k < suc j → AreAlikeAt (v ∷ vs) (w ∷ ws) k
+alike_before v w vs ws j same h zero l = record { ours = v; theirs = w; here = refl; there = refl; same = same }
+alike_before v w vs ws j same h (suc k) l = let r = h k (omega (arith, l)) in record { ours = r.ours; theirs = r.theirs; here = r.here; there = r.there; same = r.same }
+
+differ_behind : (v w : Value) (vs ws : List Value) (j : ℕ) → Same v w → IsFirstDifference vs ws j → IsFirstDifference (v ∷ vs) (w ∷ ws) (suc j)
+differ_behind v w vs ws j same d = record {
+  alike = alike_before v w vs ws j same d.alike;
+  differs = λ h. d.differs (record { ours = h.ours; theirs = h.theirs; here = h.here; there = h.there; same = h.same });
+  within = omega (arith, d.within);
+}
+
+-- ---- what is left of two encodings
+
+module _ (order : List ℕ → List ℕ → Ordering) where
+  -- the items to come on both sides, and their encodings, which aren't equal
+  record Ahead (vs ws : List Value) (left right : List ℕ) : Type 0 where
+    proper : AllByRecursion IsProper vs
+    proper2 : AllByRecursion IsProper ws
+    det : DetSeq order vs left
+    det2 : DetSeq order ws right
+    apart : left ≡ right → ⊥
+
+  -- the items to come behind the first ones, which are the same
+  record Further (vs ws : List Value) (left right : List ℕ) : Type 0 where
+    others : List Value
+    others2 : List Value
+    ahead : Ahead others others2 left right
+    lift : (j : ℕ) → IsFirstDifference others others2 j → IsFirstDifference vs ws (suc j)
+
+  -- a walk that has passed k items on both sides
+  pub record SoFar (limit : ℕ) (ours theirs left right : List ℕ) (k : ℕ) : Type 0 where
+    a : List Value
+    b : List Value
+    held : Holds kind.Wire limit ours a
+    held2 : Holds kind.Wire limit theirs b
+    vs : List Value
+    ws : List Value
+    ahead : Ahead vs ws left right
+    lift : (j : ℕ) → IsFirstDifference vs ws j → IsFirstDifference a b (j + k)
+
+module _ (order : List ℕ → List ℕ → Ordering) (laws : IsKeyOrder order) where
+  -- one side has ended
+  ended : (vs ws : List Value) (left right : List ℕ) → Ahead order vs ws left right → (left ≡ []) ⊎ (right ≡ []) → IsFirstDifference vs ws 0
+  ended [] [] left right h e = absurd (h.apart (h.det ∙ sym h.det2))
+  ended (v ∷ vs) [] left right h e = ours_longer v vs
+  ended [] (w ∷ ws) left right h e = theirs_longer w ws
+  ended (v ∷ vs) (w ∷ ws) left right h (inl e) = absurd (seq_of_one order laws (v ∷ vs) [] left h.proper tt h.det e)
+  ended (v ∷ vs) (w ∷ ws) left right h (inr e) = absurd (seq_of_one order laws (w ∷ ws) [] right h.proper2 tt h.det2 e)
+
+  -- the one begins with an item's encoding, and the other doesn't
+  differing : (vs ws : List Value) (left right x l : List ℕ) (u : Value) → Ahead order vs ws left right → Det order u x → left ≡ x ++ l → ((r : List ℕ) → right ≡ x ++ r → ⊥) → IsFirstDifference vs ws 0
+  differing [] [] left right x l u h d e never = absurd (h.apart (h.det ∙ sym h.det2))
+  differing (v ∷ vs) [] left right x l u h d e never = ours_longer v vs
+  differing [] (w ∷ ws) left right x l u h d e never = theirs_longer w ws
+  differing (v ∷ vs) (w ∷ ws) left right x l u h d e never =
+      let a = h.det in
+      let b = h.det2 in
+      let first : x ≡ a.0 = (reads order u x d v a.0 l a.1 a.2 (sym e ∙ a.4)).0 in
+      differ_here v w vs ws (λ same.
+      let one : a.0 ≡ b.0 = one_of_same order laws v w a.0 b.0 h.proper.0 h.proper2.0 same a.2 b.2 in
+      never b.1 (b.4 ∙ ap (λ (z : List ℕ). z ++ b.1) (sym (first ∙ one))))
+
+  -- both begin with it
+  further : (vs ws : List Value) (left right x l r : List ℕ) (u : Value) → Ahead order vs ws left right → Det order u x → left ≡ x ++ l → right ≡ x ++ r → (left ≡ [] → ⊥) → (right ≡ [] → ⊥) → Further order vs ws l r
+  further [] ws left right x l r u h d e f some some2 = absurd (some h.det)
+  further (v ∷ vs) [] left right x l r u h d e f some some2 = absurd (some2 h.det2)
+  further (v ∷ vs) (w ∷ ws) left right x l r u h d e f some some2 =
+      let a = h.det in
+      let b = h.det2 in
+      let one = reads order u x d v a.0 l a.1 a.2 (sym e ∙ a.4) in
+      let two = reads order u x d w b.0 r b.1 b.2 (sym f ∙ b.4) in
+      let same : Same v w = same_of_one order v w x h.proper.0 h.proper2.0 (subst (Det order v) (sym one.0) a.2) (subst (Det order w) (sym two.0) b.2) in
+      record {
+        others = vs;
+        others2 = ws;
+        ahead = record {
+          proper = h.proper.1;
+          proper2 = h.proper2.1;
+          det = subst (DetSeq order vs) (sym one.1) a.3;
+          det2 = subst (DetSeq order ws) (sym two.1) b.3;
+          apart = λ p. h.apart (e ∙ ap (λ (z : List ℕ). x ++ z) p ∙ sym f);
+        };
+        lift = λ j. differ_behind v w vs ws j same;
+      }
+
+  module _ (limit : ℕ) (ours theirs : List ℕ) where
+    proper : (x : List ℕ) (h : IsEncoded order kind.Wire limit x x) → AllByRecursion IsProper h.items
+    proper x h = sequence_proper order h.held.nodes h.items x h.held.spelled.0.fit h.held.meant h.encoded
+
+    pub at_first : IsEncoded order kind.Wire limit ours ours → IsEncoded order kind.Wire limit theirs theirs → (ours ≡ theirs → ⊥) → SoFar order limit ours theirs ours theirs 0
+    at_first h k never = record {
+      a = h.items;
+      b = k.items;
+      held = h.held;
+      held2 = k.held;
+      vs = h.items;
+      ws = k.items;
+      ahead = record { proper = proper ours h; proper2 = proper theirs k; det = h.encoded; det2 = k.encoded; apart = never };
+      lift = λ j d. let e : j ≡ j + 0 = omega arith in subst (IsFirstDifference h.items k.items) e d;
+    }
+
+    pub equal : IsEncoded order kind.Wire limit ours ours → IsEncoded order kind.Wire limit theirs theirs → ours ≡ theirs → AreCompared kind.Wire kind.Wire limit ours theirs None
+    equal h k e = record {
+      ours = h.items;
+      theirs = k.items;
+      held = h.held;
+      held2 = k.held;
+      difference = seq_of_one order laws h.items k.items ours (proper ours h) (proper theirs k) h.encoded (subst (DetSeq order k.items) (sym e) k.encoded);
+    }
+
+    found : (left right : List ℕ) (k : ℕ) (s : SoFar order limit ours theirs left right k) → IsFirstDifference s.vs s.ws 0 → AreCompared kind.Wire kind.Wire limit ours theirs (Some k)
+    found left right k s d =
+        let e : 0 + k ≡ k = omega arith in
+        record { ours = s.a; theirs = s.b; held = s.held; held2 = s.held2; difference = subst (IsFirstDifference s.a s.b) e (s.lift 0 d) }
+
+    pub ours_ended : (left right : List ℕ) (k : ℕ) → SoFar order limit ours theirs left right k → length left ≡ 0 → AreCompared kind.Wire kind.Wire limit ours theirs (Some k)
+    ours_ended left right k s e = found left right k s (ended s.vs s.ws left right s.ahead (inl (nothing left e)))
+
+    pub theirs_ended : (left right : List ℕ) (k : ℕ) → SoFar order limit ours theirs left right k → length right ≡ 0 → AreCompared kind.Wire kind.Wire limit ours theirs (Some k)
+    theirs_ended left right k s e = found left right k s (ended s.vs s.ws left right s.ahead (inr (nothing right e)))
+
+    pub apart_here : (left right x l : List ℕ) (k : ℕ) → SoFar order limit ours theirs left right k → (u : Value) × Det order u x → left ≡ x ++ l → ((r : List ℕ) → right ≡ x ++ r → ⊥) → AreCompared kind.Wire kind.Wire limit ours theirs (Some k)
+    apart_here left right x l k s d e never = found left right k s (differing s.vs s.ws left right x l d.0 s.ahead d.1 e never)
+
+    pub passed : (left right x l r : List ℕ) (k : ℕ) → SoFar order limit ours theirs left right k → (u : Value) × Det order u x → left ≡ x ++ l → right ≡ x ++ r → 0 < length left → 0 < length right → SoFar order limit ours theirs l r (k + 1)
+    passed left right x l r k s d e f some some2 =
+        let t = further s.vs s.ws left right x l r d.0 s.ahead d.1 e f (λ q. absurd (omega (arith, some, ap length q))) (λ q. absurd (omega (arith, some2, ap length q))) in
+        record {
+          a = s.a;
+          b = s.b;
+          held = s.held;
+          held2 = s.held2;
+          vs = t.others;
+          ws = t.others2;
+          ahead = t.ahead;
+          lift = λ j q. let same : suc j + k ≡ j + (k + 1) = omega arith in subst (IsFirstDifference s.a s.b) same (s.lift (suc j) (t.lift j q));
+        }
+
+-- ---- an encoding that was put into an empty buffer
+
+pub whatever : {A P : Type 0} (r : Option A) → P → IfSome r (λ _. P)
+whatever None p = tt
+whatever (Some x) p = p
+
+pub encoding_taken : (order : List ℕ → List ℕ → Ordering) (limit : ℕ) (bytes rest old new : List ℕ) → old ≡ [] → ItemTranscoded order limit bytes rest old new → (v : Value) × Det order v new
+encoding_taken order limit bytes rest old new e t = (t.item, subst (Det order t.item) (sym (t.written.2 ∙ ap (λ (z : List ℕ). z ++ t.written.0) e)) t.written.1)
+
+-- ---- items that are the same as those that were compared
+
+alike_too : (a b c d : List Value) (k : ℕ) → AllZip Same a c → AllZip Same b d → AreAlikeAt a b k → AreAlikeAt c d k
+alike_too [] b c d k p q h = let never = h.here in absurd cc
+alike_too (v ∷ a) [] c d k p q h = let never = h.there in absurd cc
+alike_too (v ∷ a) (w ∷ b) [] d k p q h = absurd p
+alike_too (v ∷ a) (w ∷ b) (x ∷ c) [] k p q h = absurd q
+alike_too (v ∷ a) (w ∷ b) (x ∷ c) (y ∷ d) zero p q h =
+    let same : Same v w = subst (λ (z : Value). Same z w) (sym (unwrapped h.here)) (subst (Same h.ours) (sym (unwrapped h.there)) h.same) in
+    record { ours = x; theirs = y; here = refl; there = refl; same = same_chained x v y (same_turned v x p.0) (same_chained v w y same q.0) }
+alike_too (v ∷ a) (w ∷ b) (x ∷ c) (y ∷ d) (suc k) p q h =
+    let r = alike_too a b c d k p.1 q.1 (record { ours = h.ours; theirs = h.theirs; here = h.here; there = h.there; same = h.same }) in
+    record { ours = r.ours; theirs = r.theirs; here = r.here; there = r.there; same = r.same }
+
+chained : (a b c : List Value) → AllZip Same a b → AllZip Same b c → AllZip Same a c
+chained [] [] [] h k = tt
+chained [] [] (x ∷ c) h k = absurd k
+chained [] (w ∷ b) c h k = absurd h
+chained (v ∷ a) [] c h k = absurd h
+chained (v ∷ a) (w ∷ b) [] h k = absurd k
+chained (v ∷ a) (w ∷ b) (x ∷ c) h k = (same_chained v w x h.0 k.0, chained a b c h.1 k.1)
+
+same_length : (a b : List Value) → AllZip Same a b → length a ≡ length b
+same_length [] [] h = refl
+same_length [] (w ∷ b) h = absurd h
+same_length (v ∷ a) [] h = absurd h
+same_length (v ∷ a) (w ∷ b) h = ap suc (same_length a b h.1)
+
+pub difference_too : (a b c d : List Value) (answer : Option ℕ) → AllZip Same a c → AllZip Same b d → Difference a b answer → Difference c d answer
+difference_too a b c d None p q h = chained c a d (all_turned a c p) (chained a b d h q)
+difference_too a b c d (Some i) p q h = record {
+  alike = λ k l. alike_too a b c d k p q (h.alike k l);
+  differs = λ k. h.differs (alike_too c d a b i (all_turned a c p) (all_turned b d q) k);
+  within = omega (arith, h.within, same_length a c p, same_length b d q);
+}

@@ -1,0 +1,81 @@
+-- What an input holds is one, valid, and no deeper than the limit.
+use Rattle.std.proofs.Common.{◌≡◌, ◌≤◌, ◌<◌, ◌^◌, ℕ, List, [], ◌∷◌, length, sym, subst, arith}
+use Rattle.std.specs.List.{AllZip, AllByRecursion}
+use Rattle.cborn_model.specs.Tree.{Tree, trees, depth_all}
+use Rattle.cborn_model.specs.Spelled.{spelled_all, spelled, FitsAll}
+use Rattle.cborn_model.specs.Value.{Value, values_of, Same}
+use Rattle.cborn_model.specs.Valid.{IsProper}
+use Rattle.cborn_model.specs.Meaning.{Means, AllMean}
+use Rattle.cborn_model.proofs.Listed.Trees.{trees-injective}
+use Rattle.cborn_model.proofs.SameItems.Sameness.{same_itself, same_turned}
+use Rattle.cborn_wire.proofs.Spelled.OneReading.{one_placed_reading}
+use Rattle.cborn_lex.specs.declared.classes.Profile.{Profile}
+use Rattle.cborn_lex.specs.declared.classes.Profile.TheVariants as profile
+use Rattle.cborn_edn.proofs.RoundTrip.ReadBack.{one_notation}
+use Rattle.cborn_judge.proofs.Meaning.Meanings.{means_once, meaning_valid, meaning_shallow, left, right}
+use Rattle.cborn_engine.specs.declared.kinds.Kind.{Kind}
+use Rattle.cborn_engine.specs.declared.kinds.Kind.TheVariants as kind
+use Rattle.cborn_engine.specs.Holding.{Spells, Holds, IsNotation}
+use Rattle.cborn_engine.proofs.Held.ReadsBack.{AreShallow}
+
+-- a text notates one list of nodes
+notates_once : (p : Profile) (limit : ℕ) (input : List ℕ) (ns ms : List Tree) → IsNotation p limit input ns → IsNotation p limit input ms → ns ≡ ms
+notates_once p limit input ns ms h g = trees-injective ns ms (one_notation p limit limit input (trees ns) (trees ms) h.1 g.1)
+
+-- an input spells one list of nodes
+pub spells_once : (k : Kind) (limit : ℕ) (input : List ℕ) (ns ms : List Tree) → Spells k limit input ns → Spells k limit input ms → ns ≡ ms
+spells_once kind.Wire limit input ns ms h g = trees-injective ns ms (one_placed_reading limit 0 (trees ns) (trees ms) input h.0 g.0 h.1 g.1)
+spells_once kind.Notation limit input ns ms h g = notates_once profile.One limit input ns ms h g
+spells_once kind.Notation2 limit input ns ms h g = notates_once profile.Two limit input ns ms h g
+
+all_mean_once : (ns : List Tree) (vs ws : List Value) → AllZip Means ns vs → AllZip Means ns ws → vs ≡ ws
+all_mean_once [] [] [] h g = cc
+all_mean_once [] [] (w ∷ ws) h g = absurd g
+all_mean_once [] (v ∷ vs) ws h g = absurd h
+all_mean_once (n ∷ ns) [] ws h g = absurd h
+all_mean_once (n ∷ ns) (v ∷ vs) [] h g = absurd g
+all_mean_once (n ∷ ns) (v ∷ vs) (w ∷ ws) h g = λ i. means_once n v w h.0 g.0 i ∷ all_mean_once ns vs ws h.1 g.1 i
+
+-- an input holds one list of items
+pub holds_once : (k : Kind) (limit : ℕ) (input : List ℕ) (vs ws : List Value) → Holds k limit input vs → Holds k limit input ws → vs ≡ ws
+holds_once k limit input vs ws h g =
+    all_mean_once h.nodes vs ws h.meant (subst (λ (ns : List Tree). AllZip Means ns ws) (sym (spells_once k limit input h.nodes g.nodes h.spelled g.spelled)) g.meant)
+
+-- what nodes of a sequence mean is what they mean one by one
+pub zip_mean : (ns : List Tree) (vs : List Value) → AllMean (trees ns) (values_of vs) → AllZip Means ns vs
+zip_mean [] [] h = tt
+zip_mean [] (v ∷ vs) h = absurd h
+zip_mean (n ∷ ns) [] h = absurd h
+zip_mean (n ∷ ns) (v ∷ vs) h = (h.0, zip_mean ns vs h.1)
+
+-- what fits, is short and shallow means valid items that are shallow
+pub record AreSound (limit : ℕ) (vs : List Value) : Type 0 where
+  pub proper : AllByRecursion IsProper vs
+  pub shallow : AreShallow limit vs
+
+pub nodes_sound : (limit : ℕ) (ns : List Tree) (vs : List Value) → FitsAll (trees ns) → depth_all (trees ns) ≤ limit → length (spelled_all (trees ns)) < 2 ^ 64 → AllZip Means ns vs → AreSound limit vs
+nodes_sound limit [] [] f d l h = record { proper = tt; shallow = tt }
+nodes_sound limit [] (v ∷ vs) f d l h = absurd h
+nodes_sound limit (n ∷ ns) [] f d l h = absurd h
+nodes_sound limit (n ∷ ns) (v ∷ vs) f d l h =
+    let rest = nodes_sound limit ns vs f.1 (omega (arith, d)) (right (spelled n) (spelled_all (trees ns)) l) h.1 in
+    record {
+      proper = (meaning_valid n v f.0 (left (spelled n) (spelled_all (trees ns)) l) h.0, rest.proper);
+      shallow = (omega (arith, meaning_shallow n v f.0 h.0, d), rest.shallow);
+    }
+
+pub held_is_sound : (limit : ℕ) (input : List ℕ) (vs : List Value) → length input < 2 ^ 64 → Holds kind.Wire limit input vs → AreSound limit vs
+held_is_sound limit input vs l h =
+    nodes_sound limit h.nodes vs h.spelled.0.fit h.spelled.0.shallow (subst (λ (x : List ℕ). length x < 2 ^ 64) (sym h.spelled.0.spells) l) h.meant
+
+-- ---- sequences that are the same
+
+pub all_same : (vs : List Value) → AllZip Same vs vs
+all_same [] = tt
+all_same (v ∷ vs) = (same_itself v, all_same vs)
+
+pub all_turned : (vs ws : List Value) → AllZip Same vs ws → AllZip Same ws vs
+all_turned [] [] h = tt
+all_turned [] (w ∷ ws) h = h
+all_turned (v ∷ vs) [] h = h
+all_turned (v ∷ vs) (w ∷ ws) h = (same_turned v w h.0, all_turned vs ws h.1)

@@ -1,0 +1,3 @@
+-- What loops know that read an input by pieces, or write an answer.
+pub mod Collecting
+pub mod Written

@@ -1,0 +1,407 @@
+-- A tidy node spells the encoding of what it means, and what spells an encoding is tidy.
+use Rattle.std.proofs.Common.{◌≡◌, ◌≢◌, ℕ, suc, ◌+◌, ◌*◌, ◌<◌, ◌≤◌, ◌^◌, ◌⊎◌, inl, inr, List, [], ◌∷◌, ◌++◌, length, refl, sym, ap, ◌∙◌, subst, arith, true, false, Bool, append_assoc, append-nil, Ordering, cond, lt-ltb, ltb}
+use Rattle.std.specs.List.{AllByRecursion}
+use Rattle.std.proofs.lemmas.Bool.{cases_lt, le-ltb}
+use Rattle.std.proofs.lemmas.List.Sorted.{length_permutation, IsPermutation-refl}
+use Rattle.cborn_judge.specs.Defects.{IsLoose}
+use Rattle.cborn_judge.proofs.Encoded.Tidy.{spelled_pairs, SizeIsTidy, IsTidy, AllTidy, EntriesTidy}
+use Rattle.cborn_model.proofs.Numbers.OneHead.{one_head, append_same}
+use Rattle.cborn_model.proofs.SameItems.Rearranging.{All_moved}
+use Rattle.cborn_det.proofs.Canon.{string_one}
+use Rattle.cborn_det.proofs.Reading.{small}
+use Rattle.cborn_model.proofs.Numbers.OneMagnitude.{one_magnitude, large, fits_in, below_power}
+use Rattle.cborn_judge.proofs.Meaning.Meanings.{holds_below, same_count, same_count_entries, number_valid, bignum_below}
+use Rattle.cborn_model.specs.Value.{Value, Values, Couples, integer, bytes, text, array, dict, tagged, simple, no_values, value, no_pairs, pair, value_count, pair_count}
+use Rattle.cborn_model.specs.Bytes.{big_endian, AreBytes, IsShortest}
+use Rattle.cborn_model.specs.Valid.{IsProper, AreProper, HasProperPairs}
+use Rattle.cborn_model.specs.declared.heads.Width.{Width}
+use Rattle.cborn_model.specs.declared.heads.Width.TheVariants.{Direct, One, Two, Four, Eight}
+use Rattle.cborn_model.specs.declared.heads.Major.{Major}
+use Rattle.cborn_model.specs.declared.heads.Major.TheVariants.{Unsigned, Negative, ByteString, TextString, Array, Map, Tag, Other}
+use Rattle.cborn_model.specs.Heads.{WidthFits, information, following, least, IsHead, IsLeastHead, Given, Unbounded, code, head}
+use Rattle.cborn_det.specs.Det.{IsString, IsInteger, IsSimple, Det, DetValues, DetPairs, Entry, keys, joined, major_of, bignum_tag}
+use Rattle.cborn_model.specs.Orders.{Rising}
+use Rattle.cborn_model.specs.declared.nodes.Chunk.{Chunk}
+use Rattle.cborn_model.specs.Tree.{Tree, Uint, Nint, Bytes, Text, ByteChunks, TextChunks, Items, Pairs, Tagged, Simple, Trees, no_item, more, Entries, no_entry, entry, count, count_entries}
+use Rattle.cborn_model.specs.declared.heads.Size.{Size}
+use Rattle.cborn_model.specs.declared.heads.Size.TheVariants.{Fixed, Endless}
+use Rattle.cborn_model.specs.Heads.{SizeFits}
+use Rattle.cborn_model.specs.Spelled.{ending, simple_width, chunks, spelled, spelled_all, spelled_entries, Fits, FitsAll, FitsEntries}
+use Rattle.cborn_model.specs.Meaning.{IsNumber, IsByteString, IsBignum, Means, AllMean, EntriesMean}
+
+pub joined_spelled : (es : Entries) → spelled_entries es ≡ joined (spelled_pairs es)
+joined_spelled no_entry = refl
+joined_spelled (entry k v es) = ap (λ l. spelled k ++ spelled v ++ l) (joined_spelled es)
+
+-- ---- from tidy to the encoding
+
+is_least_head : (m : Major) (w : Width) (n k : ℕ) → WidthFits w n → w ≡ least n → k ≡ n → IsLeastHead (code m) k (head m (Given w n))
+is_least_head m w n k h e i =
+    let a : IsHead (code m) (least n) n (head m (Given w n)) = subst (λ v. IsHead (code m) v n (head m (Given w n))) e (h, refl) in
+    subst (λ z. IsHead (code m) (least z) z (head m (Given w n))) (sym i) a
+
+-- what isn't loose is a magnitude above 64 bits
+record Wide (b : List ℕ) : Type 0 where
+  shortest : IsShortest b
+  large : 2 ^ 64 ≤ big_endian b
+
+not_loose : (b : List ℕ) → (IsLoose b → ⊥) → Wide b
+not_loose [] h = absurd (h tt)
+not_loose (c ∷ bs) h =
+    let s : 0 < c = elim (cases_lt 0 c) [ inl k ↦ k | inr k ↦ absurd (h (inl (omega arith))) ] in
+    let l : 8 < length (c ∷ bs) = elim (cases_lt 8 (length (c ∷ bs))) [ inl k ↦ k | inr k ↦ absurd (h (inr k)) ] in
+    record { shortest = s; large = large (c ∷ bs) s l }
+
+module _ (order : List ℕ → List ℕ → Ordering) where
+  string_det : (m : Major) (w : Width) (b : List ℕ) → WidthFits w (length b) → w ≡ least (length b) → IsString (code m) b (head m (Given w (length b)) ++ b)
+  string_det m w b h e = (head m (Given w (length b)), is_least_head m w (length b) (length b) h e refl, refl)
+
+  number_det : (s : Bool) (m : Major) (w : Width) (n : ℕ) (v : Value) → code m ≡ major_of s → IsNumber s n v → WidthFits w n → w ≡ least n → Det order v (head m (Given w n))
+  number_det s m w n v c h f e =
+      let l : n < 2 ^ 64 = holds_below w n f in
+      let k : IsLeastHead (code m) (big_endian h.0) (head m (Given w n)) = is_least_head m w n (big_endian h.0) f e h.3 in
+      let k' : IsLeastHead (major_of s) (big_endian h.0) (head m (Given w n)) = subst (λ j. IsLeastHead j (big_endian h.0) (head m (Given w n))) c k in
+      subst (λ z. Det order z (head m (Given w n))) (sym h.4) (inl (omega (arith, h.3), k'))
+
+  bignum_det : (s : Bool) (w : Width) (n : ℕ) (t : Tree) (v : Value) → n ≡ bignum_tag s → IsBignum s t v → WidthFits w n → w ≡ least n → Fits t → IsTidy order t → ((b : List ℕ) → IsByteString t b → IsLoose b → ⊥) → Det order v (head Tag (Given w n) ++ spelled t)
+  bignum_det s w n (Bytes q u b) v i h f e g d l =
+      let wide = not_loose b (l b refl) in
+      let k = h.2 in
+      let m : k.0 ≡ b = one_magnitude k.0 b k.1 g.1 k.2 wide.shortest (k.3 ∙ ap big_endian h.1) in
+      let x = head Tag (Given w n) ++ spelled (Bytes q u b) in
+      let tag : IsLeastHead 6 (bignum_tag s) (head Tag (Given w n)) = is_least_head Tag w n (bignum_tag s) f e (sym i) in
+      let det : IsInteger s b x = inr (wide.large, head Tag (Given w n), spelled (Bytes q u b), tag, string_det ByteString u b g.0 d, refl) in
+      subst (λ z. Det order z x) (sym k.4) (subst (λ z. IsInteger s z x) (sym m) det)
+  bignum_det s w n (ByteChunks q cs) v i h f e g d l = absurd d
+  bignum_det s w n _ v i h f e g d l = absurd h.1
+
+  mutual
+    pub tidy_det : (t : Tree) (v : Value) → Fits t → Means t v → IsTidy order t → Det order v (spelled t)
+    tidy_det (Uint p w n) v f h d = number_det false Unsigned w n v refl h f d
+    tidy_det (Nint p w n) v f h d = number_det true Negative w n v refl h f d
+    tidy_det (Bytes p w b) v f h d = subst (λ z. Det order z (spelled (Bytes p w b))) (sym h) (string_det ByteString w b f.0 d)
+    tidy_det (Text p w b) v f h d = subst (λ z. Det order z (spelled (Text p w b))) (sym h.1) (string_det TextString w b f.0 d)
+    tidy_det (ByteChunks p cs) v f h d = absurd d
+    tidy_det (TextChunks p cs) v f h d = absurd d
+    tidy_det (Items p (Fixed w) ts) v f h d =
+        let k = head Array (Given w (count ts)) in
+        subst (λ z. Det order z (spelled (Items p (Fixed w) ts))) (sym h.2)
+        (k, spelled_all ts, is_least_head Array w (count ts) (value_count h.0) f.0 d.0 (same_count ts h.0 h.1), all_det ts h.0 f.1 h.1 d.1, append-nil (k ++ spelled_all ts))
+    tidy_det (Items p Endless ts) v f h d = absurd d.0
+    tidy_det (Pairs p (Fixed w) es) v f h d =
+        let k = head Map (Given w (count_entries es)) in
+        subst (λ z. Det order z (spelled (Pairs p (Fixed w) es))) (sym h.3)
+        (k, spelled_pairs es, spelled_pairs es, is_least_head Map w (count_entries es) (pair_count h.0) f.0 d.0 (same_count_entries es h.0 h.1), entries_det es h.0 f.1 h.1 d.1, IsPermutation-refl (spelled_pairs es), d.2, append-nil (k ++ spelled_entries es) ∙ ap (λ l. k ++ l) (joined_spelled es))
+    tidy_det (Pairs p Endless es) v f h d = absurd d.0
+    tidy_det (Tagged p w n t) v f (inl h) d = bignum_det false w n t v h.0 h.1 f.0 d.0 f.1 d.1 (λ b i l. d.2 b (inl h.0) i l)
+    tidy_det (Tagged p w n t) v f (inr (inl h)) d = bignum_det true w n t v h.0 h.1 f.0 d.0 f.1 d.1 (λ b i l. d.2 b (inr h.0) i l)
+    tidy_det (Tagged p w n t) v f (inr (inr h)) d =
+        subst (λ z. Det order z (spelled (Tagged p w n t))) (sym h.4)
+        (head Tag (Given w n), spelled t, is_least_head Tag w n n f.0 d.0 refl, tidy_det t h.2 f.1 h.3 d.1, refl)
+    tidy_det (Simple p n) v f h d =
+        subst (λ z. Det order z (spelled (Simple p n))) (sym h) (simple_det n f)
+      where
+        width_at : (b : Bool) (n : ℕ) → ltb n 24 ≡ b → head Other (Given (simple_width n) n) ≡ head Other (Given (cond b Direct One) n)
+        width_at b n e = ap (λ c. head Other (Given (cond c Direct One) n)) e
+
+        simple_det : (n : ℕ) → (n < 24) ⊎ ((32 ≤ n) × (n < 256)) → IsSimple n (head Other (Given (simple_width n) n))
+        simple_det n (inl l) = inl (l, (l, width_at true n (lt-ltb n 24 l)))
+        simple_det n (inr k) = inr (k.0, k.1, (k.1, width_at false n (le-ltb n 24 (omega arith))))
+
+    pub all_det : (ts : Trees) (vs : Values) → FitsAll ts → AllMean ts vs → AllTidy order ts → DetValues order vs (spelled_all ts)
+    all_det no_item no_values f h d = refl
+    all_det no_item (value v vs) f h d = absurd h
+    all_det (more t ts) no_values f h d = absurd h
+    all_det (more t ts) (value v vs) f h d = (spelled t, spelled_all ts, tidy_det t v f.0 h.0 d.0, all_det ts vs f.1 h.1 d.1, refl)
+
+    entries_det : (es : Entries) (ps : Couples) → FitsEntries es → EntriesMean es ps → EntriesTidy order es → DetPairs order ps (spelled_pairs es)
+    entries_det no_entry no_pairs f h d = tt
+    entries_det no_entry (pair a b ps) f h d = absurd h
+    entries_det (entry k v es) no_pairs f h d = absurd h
+    entries_det (entry k v es) (pair a b ps) f h d = (tidy_det k a f.0 h.0 d.0, tidy_det v b f.1 h.1 d.1, entries_det es ps f.2 h.2 d.2)
+
+-- ---- from the encoding to tidy
+
+same_width : (w v : Width) (n k : ℕ) → WidthFits w n → WidthFits v k → information w n ≡ information v k → w ≡ v
+same_width Direct Direct n k h g e = refl
+same_width One One n k h g e = refl
+same_width Two Two n k h g e = refl
+same_width Four Four n k h g e = refl
+same_width Eight Eight n k h g e = refl
+same_width _ _ n k h g e = absurd (omega arith)
+
+bits_low : (w : Width) (n : ℕ) → WidthFits w n → information w n < 31
+bits_low Direct n h = omega arith
+bits_low _ n h = omega arith
+
+least_direct : (n : ℕ) → n < 24 → least n ≡ Direct
+least_direct n h = ap (λ c. cond c Direct (cond (ltb n 256) One (cond (ltb n (2 ^ 16)) Two (cond (ltb n (2 ^ 32)) Four Eight)))) (lt-ltb n 24 h)
+
+least_one : (n : ℕ) → 24 ≤ n → n < 256 → least n ≡ One
+least_one n h k =
+    ap (λ c. cond c Direct (cond (ltb n 256) One (cond (ltb n (2 ^ 16)) Two (cond (ltb n (2 ^ 32)) Four Eight)))) (le-ltb n 24 h)
+    ∙ ap (λ c. cond c One (cond (ltb n (2 ^ 16)) Two (cond (ltb n (2 ^ 32)) Four Eight))) (lt-ltb n 256 k)
+
+module _ (order : List ℕ → List ℕ → Ordering) where
+  -- the entry is what some valid pair encodes to
+  IsEntry : Entry → Type 0
+  IsEntry e = (k : Value) × (v : Value) × IsProper k × IsProper v × Det order k e.0 × Det order v e.1
+
+  are_entries : (ps : Couples) (es : List Entry) → HasProperPairs ps → DetPairs order ps es → AllByRecursion IsEntry es × (length es ≡ pair_count ps)
+  unfolding IsEntry
+  are_entries no_pairs [] p d = (tt, refl)
+  are_entries no_pairs (e ∷ es) p d = absurd d
+  are_entries (pair k v ps) [] p d = absurd d
+  are_entries (pair k v ps) (e ∷ es) p d = let t = are_entries ps es p.2 d.2 in (((k, v, p.0, p.1, d.0, d.1), t.0), ap suc t.1)
+
+  -- what follows a head of the major type m with the argument n, in an encoding
+  data Content (m n : ℕ) (c : List ℕ) : Type 0 where
+    bare : (m < 2) ⊎ (m ≡ 7) → c ≡ [] → Content m n c
+    string : (m ≡ 2) ⊎ (m ≡ 3) → length c ≡ n → Content m n c
+    items : m ≡ 4 → (vs : Values) → value_count vs ≡ n → AreProper vs → DetValues order vs c → Content m n c
+    entries : m ≡ 5 → (fs : List Entry) → length fs ≡ n → AllByRecursion IsEntry fs → Rising order (keys fs) → c ≡ joined fs → Content m n c
+    bignum : m ≡ 6 → (b : List ℕ) → IsProper (bytes b) → IsShortest b → 2 ^ 64 ≤ big_endian b → IsString 2 b c → Content m n c
+    inner : m ≡ 6 → n ≢ 2 → n ≢ 3 → (v : Value) → IsProper v → Det order v c → Content m n c
+
+  record Seen (x : List ℕ) : Type 0 where
+    major : ℕ
+    argument : ℕ
+    front : List ℕ
+    content : List ℕ
+    is_head : IsLeastHead major argument front
+    follows : Content major argument content
+    is : x ≡ front ++ content
+
+  seen : (v : Value) (x : List ℕ) → IsProper v → Det order v x → Seen x
+  seen (integer s m) x p d =
+      elim d [
+        | inl h ↦ record { major = major_of s; argument = big_endian m; front = x; content = []; is_head = h.1; follows = bare (inl (small s)) refl; is = sym (append-nil x) }
+        | inr h ↦ record { major = 6; argument = bignum_tag s; front = h.1; content = h.2; is_head = h.3; follows = bignum refl m (p.0, p.2) p.1 h.0 h.4; is = h.5 }
+      ]
+  seen (bytes b) x p d = record { major = 2; argument = length b; front = d.0; content = b; is_head = d.1; follows = string (inl refl) refl; is = d.2 }
+  seen (text b) x p d = record { major = 3; argument = length b; front = d.0; content = b; is_head = d.1; follows = string (inr refl) refl; is = d.2 }
+  seen (array vs) x p d = record { major = 4; argument = value_count vs; front = d.0; content = d.1; is_head = d.2; follows = items refl vs refl p.0 d.3; is = d.4 }
+  seen (dict ps) x p d =
+      let t = are_entries ps d.1 p.0 d.4 in
+      let n : length d.2 ≡ pair_count ps = length_permutation d.1 d.2 d.5 ∙ t.1 in
+      record { major = 5; argument = pair_count ps; front = d.0; content = joined d.2; is_head = d.3; follows = entries refl d.2 n (All_moved IsEntry d.1 d.2 d.5 t.0) d.6 refl; is = d.7 }
+  seen (tagged t v) x p d = record { major = 6; argument = t; front = d.0; content = d.1; is_head = d.2; follows = inner refl p.0 p.1 v p.3 d.3; is = d.4 }
+  seen (simple n) x p d =
+      elim d [
+        | inl h ↦ record { major = 7; argument = n; front = x; content = []; is_head = subst (λ w. IsHead 7 w n x) (sym (least_direct n h.0)) h.1; follows = bare (inr refl) refl; is = sym (append-nil x) }
+        | inr h ↦ record { major = 7; argument = n; front = x; content = []; is_head = subst (λ w. IsHead 7 w n x) (sym (least_one n (omega arith) h.1)) h.2; follows = bare (inr refl) refl; is = sym (append-nil x) }
+      ]
+
+  -- a head and what follows it, where an encoding stands
+  record Meets (m : Major) (w : Width) (n : ℕ) (c r x s : List ℕ) : Type 0 where
+    least_width : w ≡ least n
+    content : List ℕ
+    follows : Content (code m) n content
+    rest : c ++ r ≡ content ++ s
+    is : x ≡ head m (Given w n) ++ content
+
+  meets : (m : Major) (w : Width) (n : ℕ) (c r x s : List ℕ) → WidthFits w n → Seen x → (head m (Given w n) ++ c) ++ r ≡ x ++ s → Meets m w n c r x s
+  meets m w n c r x s h z e =
+      let a : head m (Given w n) ++ (c ++ r) ≡ z.front ++ (z.content ++ s) = sym (append_assoc (head m (Given w n)) c r) ∙ e ∙ ap (λ l. l ++ s) z.is ∙ append_assoc z.front z.content s in
+      let o = one_head w (least z.argument) (c ++ r) (z.content ++ s) (h, refl) z.is_head a in
+      let first : head m (Given w n) ≡ (32 * z.major + information (least z.argument) z.argument) ∷ following (least z.argument) z.argument = o.head ∙ z.is_head.1 in
+      let byte : 32 * code m + information w n ≡ 32 * z.major + information (least z.argument) z.argument = cc in
+      let low : information w n ≡ information (least z.argument) z.argument = omega (arith, o.major) in
+      let width : w ≡ least z.argument = same_width w (least z.argument) n z.argument h z.is_head.0 low in
+      record {
+        least_width = width ∙ ap least (sym o.argument);
+        content = z.content;
+        follows = subst (λ k. Content (code m) k z.content) (sym o.argument) (subst (λ j. Content j z.argument z.content) (sym o.major) z.follows);
+        rest = o.rest;
+        is = z.is ∙ ap (λ l. l ++ z.content) (sym o.head);
+      }
+
+  -- an indefinite length begins no encoding
+  not_endless : (m : Major) (c x s : List ℕ) → Seen x → head m Unbounded ++ c ≡ x ++ s → ⊥
+  not_endless m c x s z e =
+      let a : head m Unbounded ++ c ≡ ((32 * z.major + information (least z.argument) z.argument) ∷ following (least z.argument) z.argument) ++ (z.content ++ s) = e ∙ ap (λ l. l ++ s) z.is ∙ append_assoc z.front z.content s ∙ ap (λ l. l ++ (z.content ++ s)) z.is_head.1 in
+      let byte : 32 * code m + 31 ≡ 32 * z.major + information (least z.argument) z.argument = cc in
+      omega (arith, bits_low (least z.argument) z.argument z.is_head.0)
+
+  abbrev Spelt : List ℕ → List ℕ → List ℕ → List ℕ → Type 0 → Type 0
+  Spelt a r x s T = (a ≡ x) × (r ≡ s) × T
+
+  -- a head alone
+  bare_spelt : (m : Major) (w : Width) (n : ℕ) (r x s : List ℕ) → (code m < 2) ⊎ (code m ≡ 7) → Meets m w n [] r x s → Spelt (head m (Given w n)) r x s (w ≡ least n)
+  bare_spelt m w n r x s h z = by z.follows
+    where
+      by : Content (code m) n z.content → Spelt (head m (Given w n)) r x s (w ≡ least n)
+      by (bare i e) = (sym (append-nil (head m (Given w n))) ∙ ap (λ l. head m (Given w n) ++ l) (sym e) ∙ sym z.is, z.rest ∙ ap (λ l. l ++ s) e, z.least_width)
+      by (string i e) = absurd (omega arith)
+      by (items i vs k p d) = absurd (omega arith)
+      by (entries i fs k p u e) = absurd (omega arith)
+      by (bignum i b p u l d) = absurd (omega arith)
+      by (inner i e f v p d) = absurd (omega arith)
+
+  string_spelt : (m : Major) (w : Width) (b r x s : List ℕ) → (code m ≡ 2) ⊎ (code m ≡ 3) → Meets m w (length b) b r x s → Spelt (head m (Given w (length b)) ++ b) r x s (w ≡ least (length b))
+  string_spelt m w b r x s h z = by z.follows
+    where
+      by : Content (code m) (length b) z.content → Spelt (head m (Given w (length b)) ++ b) r x s (w ≡ least (length b))
+      by (string i e) = let t = append_same b z.content r s (sym e) z.rest in (ap (λ l. head m (Given w (length b)) ++ l) t.0 ∙ sym z.is, t.1, z.least_width)
+      by (bare i e) = absurd (omega arith)
+      by (items i vs k p d) = absurd (omega arith)
+      by (entries i fs k p u e) = absurd (omega arith)
+      by (bignum i c p u l d) = absurd (omega arith)
+      by (inner i e f v p d) = absurd (omega arith)
+
+  -- no chunked string stands where an encoding stands
+  not_chunked : (m : Major) (cs : List Chunk) (r x s : List ℕ) → Seen x → (chunks m cs ++ ending Endless) ++ r ≡ x ++ s → ⊥
+  not_chunked m cs r x s z e = not_endless m _ x s z e
+
+  loose_or_wide : (b : List ℕ) → AreBytes b → IsShortest b → 2 ^ 64 ≤ big_endian b → IsLoose b → ⊥
+  loose_or_wide [] a h l k = omega arith
+  loose_or_wide (c ∷ bs) a h l (inl k) = omega arith
+  loose_or_wide (c ∷ bs) a h l (inr k) = let t = fits_in (big_endian (c ∷ bs)) (length (c ∷ bs)) (below_power (c ∷ bs) a) k in omega arith
+
+  -- a tidy byte string's content is what its encoding says
+  content_one : (t : Tree) (b c : List ℕ) → Fits t → IsTidy order t → IsByteString t b → IsString 2 c (spelled t) → b ≡ c
+  content_one (Bytes p w d) b c f g i h = i ∙ string_one 2 d c (spelled (Bytes p w d)) (string_det order ByteString w d f.0 g) h
+  content_one (ByteChunks p cs) b c f g i h = absurd g
+  content_one _ b c f g i h = absurd i
+
+  abbrev TreeSpelt : Tree → Type 0
+  TreeSpelt t = (v : Value) (r x s : List ℕ) → IsProper v → Det order v x → spelled t ++ r ≡ x ++ s → Spelt (spelled t) r x s (IsTidy order t)
+
+  abbrev ItemsSpelt : Trees → Type 0
+  ItemsSpelt ts = (vs : Values) (c r s : List ℕ) → value_count vs ≡ count ts → AreProper vs → DetValues order vs c → spelled_all ts ++ r ≡ c ++ s → Spelt (spelled_all ts) r c s (AllTidy order ts)
+
+  abbrev EntriesSpelt : Entries → Type 0
+  EntriesSpelt es = (fs : List Entry) (r s : List ℕ) → length fs ≡ count_entries es → AllByRecursion IsEntry fs → spelled_entries es ++ r ≡ joined fs ++ s → (spelled_pairs es ≡ fs) × (r ≡ s) × EntriesTidy order es
+
+  items_tidy : (ts : Trees) (n : ℕ) (c r s : List ℕ) → n ≡ count ts → ItemsSpelt ts → Content 4 n c → spelled_all ts ++ r ≡ c ++ s → Spelt (spelled_all ts) r c s (AllTidy order ts)
+  items_tidy ts n c r s m f (items i vs k p d) e = f vs c r s (k ∙ m) p d e
+  items_tidy ts n c r s m f (bare i k) e = absurd (omega arith)
+  items_tidy ts n c r s m f (string i k) e = absurd (omega arith)
+  items_tidy ts n c r s m f (entries i fs k p u q) e = absurd (omega arith)
+  items_tidy ts n c r s m f (bignum i b p u l d) e = absurd (omega arith)
+  items_tidy ts n c r s m f (inner i k j v p d) e = absurd (omega arith)
+
+  pairs_tidy : (es : Entries) (n : ℕ) (c r s : List ℕ) → n ≡ count_entries es → EntriesSpelt es → Content 5 n c → spelled_entries es ++ r ≡ c ++ s → (spelled_entries es ≡ c) × (r ≡ s) × EntriesTidy order es × Rising order (keys (spelled_pairs es))
+  pairs_tidy es n c r s m f (entries i fs k p u q) e =
+      let t = f fs r s (k ∙ m) p (e ∙ ap (λ l. l ++ s) q) in
+      (joined_spelled es ∙ ap joined t.0 ∙ sym q, t.1, t.2, subst (λ z. Rising order (keys z)) (sym t.0) u)
+  pairs_tidy es n c r s m f (bare i k) e = absurd (omega arith)
+  pairs_tidy es n c r s m f (string i k) e = absurd (omega arith)
+  pairs_tidy es n c r s m f (items i vs k p d) e = absurd (omega arith)
+  pairs_tidy es n c r s m f (bignum i b p u l d) e = absurd (omega arith)
+  pairs_tidy es n c r s m f (inner i k j v p d) e = absurd (omega arith)
+
+  inner_tidy : (t : Tree) (n : ℕ) (c r s : List ℕ) → Fits t → TreeSpelt t → Content 6 n c → spelled t ++ r ≡ c ++ s → (spelled t ≡ c) × (r ≡ s) × IsTidy order t × ((b : List ℕ) → (n ≡ 2) ⊎ (n ≡ 3) → IsByteString t b → IsLoose b → ⊥)
+  inner_tidy t n c r s f g (bignum i b p u l d) e =
+      let a = g (bytes b) r c s p d e in
+      (a.0, a.1, a.2, λ b' tag is k. let same : b' ≡ b = content_one t b' b f a.2 is (subst (IsString 2 b) (sym a.0) d) in loose_or_wide b p.0 u l (subst IsLoose same k))
+  inner_tidy t n c r s f g (inner i j k v p d) e =
+      let a = g v r c s p d e in
+      (a.0, a.1, a.2, λ b tag is l. elim tag [ inl q ↦ j q | inr q ↦ k q ])
+  inner_tidy t n c r s f g (bare i k) e = absurd (omega arith)
+  inner_tidy t n c r s f g (string i k) e = absurd (omega arith)
+  inner_tidy t n c r s f g (items i vs k p d) e = absurd (omega arith)
+  inner_tidy t n c r s f g (entries i fs k p u q) e = absurd (omega arith)
+
+  mutual
+    unfolding IsEntry
+
+    pub det_tidy : (t : Tree) (v : Value) (r x s : List ℕ) → Fits t → IsProper v → Det order v x → spelled t ++ r ≡ x ++ s → Spelt (spelled t) r x s (IsTidy order t)
+    det_tidy (Uint p w n) v r x s f g d e = bare_spelt Unsigned w n r x s (inl (omega arith)) (meets Unsigned w n [] r x s f (seen v x g d) (ap (λ l. l ++ r) (append-nil (head Unsigned (Given w n))) ∙ e))
+    det_tidy (Nint p w n) v r x s f g d e = bare_spelt Negative w n r x s (inl (omega arith)) (meets Negative w n [] r x s f (seen v x g d) (ap (λ l. l ++ r) (append-nil (head Negative (Given w n))) ∙ e))
+    det_tidy (Bytes p w b) v r x s f g d e = string_spelt ByteString w b r x s (inl refl) (meets ByteString w (length b) b r x s f.0 (seen v x g d) e)
+    det_tidy (Text p w b) v r x s f g d e = string_spelt TextString w b r x s (inr refl) (meets TextString w (length b) b r x s f.0 (seen v x g d) e)
+    det_tidy (ByteChunks p cs) v r x s f g d e = absurd (not_chunked ByteString cs r x s (seen v x g d) e)
+    det_tidy (TextChunks p cs) v r x s f g d e = absurd (not_chunked TextString cs r x s (seen v x g d) e)
+    det_tidy (Items p (Fixed w) ts) v r x s f g d e =
+        let whole : (head Array (Given w (count ts)) ++ spelled_all ts) ++ r ≡ x ++ s = ap (λ l. l ++ r) (sym (append-nil (head Array (Given w (count ts)) ++ spelled_all ts))) ∙ e in
+        let z = meets Array w (count ts) (spelled_all ts) r x s f.0 (seen v x g d) whole in
+        let t = items_tidy ts (count ts) z.content r s refl (λ vs c r s k p d e. all_tidy ts vs c r s k f.1 p d e) z.follows z.rest in
+        (append-nil (head Array (Given w (count ts)) ++ spelled_all ts) ∙ ap (λ l. head Array (Given w (count ts)) ++ l) t.0 ∙ sym z.is, t.1, (z.least_width, t.2))
+    det_tidy (Items p Endless ts) v r x s f g d e = absurd (not_endless Array _ x s (seen v x g d) e)
+    det_tidy (Pairs p (Fixed w) es) v r x s f g d e =
+        let h = head Map (Given w (count_entries es)) in
+        let whole : (h ++ spelled_entries es) ++ r ≡ x ++ s = ap (λ l. l ++ r) (sym (append-nil (h ++ spelled_entries es))) ∙ e in
+        let z = meets Map w (count_entries es) (spelled_entries es) r x s f.0 (seen v x g d) whole in
+        let t = pairs_tidy es (count_entries es) z.content r s refl (λ fs r s k p e. entries_tidy es fs r s k f.1 p e) z.follows z.rest in
+        (append-nil (h ++ spelled_entries es) ∙ ap (λ l. h ++ l) t.0 ∙ sym z.is, t.1, (z.least_width, t.2, t.3))
+    det_tidy (Pairs p Endless es) v r x s f g d e = absurd (not_endless Map _ x s (seen v x g d) e)
+    det_tidy (Tagged p w n t) v r x s f g d e =
+        let z = meets Tag w n (spelled t) r x s f.0 (seen v x g d) e in
+        let u = inner_tidy t n z.content r s f.1 (λ v r x s p d e. det_tidy t v r x s f.1 p d e) z.follows z.rest in
+        (ap (λ l. head Tag (Given w n) ++ l) u.0 ∙ sym z.is, u.1, (z.least_width, u.2, u.3))
+    det_tidy (Simple p n) v r x s f g d e =
+        let z = meets Other (simple_width n) n [] r x s (simple_holds n f) (seen v x g d) (ap (λ l. l ++ r) (append-nil (head Other (Given (simple_width n) n))) ∙ e) in
+        let t = bare_spelt Other (simple_width n) n r x s (inr refl) z in
+        (t.0, t.1, tt)
+      where
+        simple_holds : (n : ℕ) → (n < 24) ⊎ ((32 ≤ n) × (n < 256)) → WidthFits (simple_width n) n
+        simple_holds n (inl l) = subst (λ c. WidthFits (cond c Direct One) n) (sym (lt-ltb n 24 l)) l
+        simple_holds n (inr k) = subst (λ c. WidthFits (cond c Direct One) n) (sym (le-ltb n 24 (omega arith))) k.1
+
+    pub all_tidy : (ts : Trees) (vs : Values) (c r s : List ℕ) → value_count vs ≡ count ts → FitsAll ts → AreProper vs → DetValues order vs c → spelled_all ts ++ r ≡ c ++ s → Spelt (spelled_all ts) r c s (AllTidy order ts)
+    all_tidy no_item no_values c r s n f p d e = (sym d, e ∙ ap (λ l. l ++ s) d, tt)
+    all_tidy no_item (value v vs) c r s n f p d e = absurd (omega arith)
+    all_tidy (more t ts) no_values c r s n f p d e = absurd (omega arith)
+    all_tidy (more t ts) (value v vs) c r s n f p d e =
+        let a = det_tidy t v (spelled_all ts ++ r) d.0 (d.1 ++ s) f.0 p.0 d.2 (sym (append_assoc (spelled t) (spelled_all ts) r) ∙ e ∙ ap (λ l. l ++ s) d.4 ∙ append_assoc d.0 d.1 s) in
+        let b = all_tidy ts vs d.1 r s (omega arith) f.1 p.1 d.3 a.1 in
+        ((λ i. a.0 i ++ b.0 i) ∙ sym d.4, b.1, (a.2, b.2))
+
+    entries_tidy : (es : Entries) (fs : List Entry) (r s : List ℕ) → length fs ≡ count_entries es → FitsEntries es → AllByRecursion IsEntry fs → spelled_entries es ++ r ≡ joined fs ++ s → (spelled_pairs es ≡ fs) × (r ≡ s) × EntriesTidy order es
+    entries_tidy no_entry [] r s n f p e = (refl, e, tt)
+    entries_tidy no_entry (g ∷ fs) r s n f p e = absurd (omega arith)
+    entries_tidy (entry k v es) [] r s n f p e = absurd (omega arith)
+    entries_tidy (entry k v es) (g ∷ fs) r s n f p e =
+        let q = p.0 in
+        let whole : spelled k ++ (spelled v ++ (spelled_entries es ++ r)) ≡ g.0 ++ (g.1 ++ (joined fs ++ s)) =
+        sym (append_assoc (spelled k) (spelled v) (spelled_entries es ++ r)) ∙ sym (append_assoc (spelled k ++ spelled v) (spelled_entries es) r) ∙ e ∙ append_assoc (g.0 ++ g.1) (joined fs) s ∙ append_assoc g.0 g.1 (joined fs ++ s) in
+        let a = det_tidy k q.0 (spelled v ++ (spelled_entries es ++ r)) g.0 (g.1 ++ (joined fs ++ s)) f.0 q.2 q.4 whole in
+        let b = det_tidy v q.1 (spelled_entries es ++ r) g.1 (joined fs ++ s) f.1 q.3 q.5 a.1 in
+        let c = entries_tidy es fs r s (omega arith) f.2 p.1 b.1 in
+        ((λ i. (a.0 i, b.0 i) ∷ c.0 i), c.1, (a.2, b.2, c.2))
+
+-- ---- what a tidy node means is proper: each length has room in a head
+
+count_fits : (s : Size) (n k : ℕ) → SizeIsTidy s n → SizeFits s n → k ≡ n → k < 2 ^ 64
+count_fits (Fixed w) n k h f e = let l : n < 2 ^ 64 = holds_below w n f in omega arith
+count_fits Endless n k h f e = absurd h
+
+tidy_bignum : (order : List ℕ → List ℕ → Ordering) (s : Bool) (t : Tree) (v : Value) → Fits t → IsTidy order t → IsBignum s t v → IsProper v
+tidy_bignum order s (Bytes p w c) v f y (b, h, (m, k, l, e, i)) =
+    let below : length m ≤ length b = bignum_below m b (subst AreBytes (sym h) f.1) l e in
+    let short : length c < 2 ^ 64 = holds_below w (length c) f.0 in
+    let same = ap length h in
+    subst IsProper (sym i) (k, l, omega arith)
+tidy_bignum order s (ByteChunks p cs) v f y b = absurd y
+tidy_bignum order s _ v f y b = absurd b.1
+
+mutual
+  pub tidy_proper : (order : List ℕ → List ℕ → Ordering) (t : Tree) (v : Value) → Fits t → IsTidy order t → Means t v → IsProper v
+  tidy_proper order (Uint p w n) v f y h = number_valid false n v h (holds_below w n f)
+  tidy_proper order (Nint p w n) v f y h = number_valid true n v h (holds_below w n f)
+  tidy_proper order (Bytes p w b) v f y h = subst IsProper (sym h) (f.1, holds_below w (length b) f.0)
+  tidy_proper order (Text p w b) v f y h = subst IsProper (sym h.1) (h.0, holds_below w (length b) f.0)
+  tidy_proper order (ByteChunks p cs) v f y h = absurd y
+  tidy_proper order (TextChunks p cs) v f y h = absurd y
+  tidy_proper order (Items p s ts) v f y h =
+      subst IsProper (sym h.2) (all_proper order ts h.0 f.1 y.1 h.1, count_fits s (count ts) (value_count h.0) y.0 f.0 (same_count ts h.0 h.1))
+  tidy_proper order (Pairs p s es) v f y h =
+      subst IsProper (sym h.3) (entries_proper order es h.0 f.1 y.1 h.1, h.2, count_fits s (count_entries es) (pair_count h.0) y.0 f.0 (same_count_entries es h.0 h.1))
+  tidy_proper order (Tagged p w n t) v f y (inl h) = tidy_bignum order false t v f.1 y.1 h.1
+  tidy_proper order (Tagged p w n t) v f y (inr (inl h)) = tidy_bignum order true t v f.1 y.1 h.1
+  tidy_proper order (Tagged p w n t) v f y (inr (inr h)) = subst IsProper (sym h.4) (h.0, h.1, holds_below w n f.0, tidy_proper order t h.2 f.1 y.1 h.3)
+  tidy_proper order (Simple p n) v f y h = subst IsProper (sym h) f
+
+  all_proper : (order : List ℕ → List ℕ → Ordering) (ts : Trees) (vs : Values) → FitsAll ts → AllTidy order ts → AllMean ts vs → AreProper vs
+  all_proper order no_item no_values f y h = tt
+  all_proper order no_item (value v vs) f y h = absurd h
+  all_proper order (more t ts) no_values f y h = absurd h
+  all_proper order (more t ts) (value v vs) f y h = (tidy_proper order t v f.0 y.0 h.0, all_proper order ts vs f.1 y.1 h.1)
+
+  entries_proper : (order : List ℕ → List ℕ → Ordering) (es : Entries) (ps : Couples) → FitsEntries es → EntriesTidy order es → EntriesMean es ps → HasProperPairs ps
+  entries_proper order no_entry no_pairs f y h = tt
+  entries_proper order no_entry (pair a b ps) f y h = absurd h
+  entries_proper order (entry k v es) no_pairs f y h = absurd h
+  entries_proper order (entry k v es) (pair a b ps) f y h =
+      (tidy_proper order k a f.0 y.0 h.0, tidy_proper order v b f.1 y.1 h.1, entries_proper order es ps f.2 y.2 h.2)

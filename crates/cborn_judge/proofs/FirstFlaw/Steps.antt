@@ -1,0 +1,51 @@
+-- The flaws of a node, one level at a time.
+use Rattle.std.proofs.Common.{◌≡◌, ℕ, ◌⊎◌, inl, inr, List, get_or, refl, subst}
+use Rattle.std.specs.Prelude.{◌↔◌}
+use Rattle.cborn_judge.specs.Flaws.{Within, HasRepeat, FlawAt, Flaw}
+use Rattle.cborn_judge.specs.declared.faults.InvalidReason.{InvalidReason}
+use Rattle.cborn_judge.specs.declared.faults.InvalidReason.TheVariants.{DuplicateKey}
+use Rattle.cborn_judge.specs.Judged.{FlawIn, FlawAmong, RepeatFlaw}
+use Rattle.cborn_judge.specs.Repeats.{AreKeys}
+use Rattle.cborn_judge.specs.Places.{Key, key_bytes, key_position, RepeatAt}
+use Rattle.cborn_judge.proofs.SameKeys.Repeating.{repeat_again, again_repeat}
+use Rattle.cborn_model.specs.declared.heads.Size.{Size}
+use Rattle.cborn_model.specs.Tree.{Tree, Items, Pairs, Tagged, Trees, Entries}
+use Rattle.cborn_model.specs.declared.heads.Width.{Width}
+
+-- ---- flaws, level by level
+
+pub flaw_items : (p : ℕ) (s : Size) (ts : Trees) (q : ℕ) (r : InvalidReason) → Flaw (Items p s ts) q r ↔ FlawIn ts q r
+flaw_items p s ts q r = ((λ f. to f.0 f.1 f.2), (λ f. (f.0, inr f.1, f.2)))
+  where
+    to : (u : Tree) → Within u (Items p s ts) → FlawAt u q r → FlawIn ts q r
+    to u (inl e) f = absurd (subst (λ z. FlawAt z q r) e f)
+    to u (inr i) f = (u, i, f)
+
+pub flaw_pairs : (p : ℕ) (s : Size) (es : Entries) (q : ℕ) (r : InvalidReason) → Flaw (Pairs p s es) q r ↔ (FlawAmong es q r ⊎ ((r ≡ DuplicateKey) × HasRepeat es q))
+flaw_pairs p s es q r = ((λ f. to f.0 f.1 f.2), from)
+  where
+    to : (u : Tree) → Within u (Pairs p s es) → FlawAt u q r → FlawAmong es q r ⊎ ((r ≡ DuplicateKey) × HasRepeat es q)
+    to u (inl e) f = inr (subst (λ z. FlawAt z q r) e f)
+    to u (inr i) f = inl (u, i, f)
+
+    from : FlawAmong es q r ⊎ ((r ≡ DuplicateKey) × HasRepeat es q) → Flaw (Pairs p s es) q r
+    from (inl f) = (f.0, inr f.1, f.2)
+    from (inr f) = (Pairs p s es, inl refl, f)
+
+pub flaw_tagged : (p : ℕ) (w : Width) (n : ℕ) (t : Tree) (q : ℕ) (r : InvalidReason) → Flaw (Tagged p w n t) q r ↔ (FlawAt (Tagged p w n t) q r ⊎ Flaw t q r)
+flaw_tagged p w n t q r = ((λ f. to f.0 f.1 f.2), from)
+  where
+    to : (u : Tree) → Within u (Tagged p w n t) → FlawAt u q r → FlawAt (Tagged p w n t) q r ⊎ Flaw t q r
+    to u (inl e) f = inl (subst (λ z. FlawAt z q r) e f)
+    to u (inr i) f = inr (u, i, f)
+
+    from : FlawAt (Tagged p w n t) q r ⊎ Flaw t q r → Flaw (Tagged p w n t) q r
+    from (inl f) = (Tagged p w n t, inl refl, f)
+    from (inr f) = (f.0, inr f.1, f.2)
+
+-- the keys that are kept are repeated where those of the pairs are
+pub repeats_alike : (es : Entries) (ks : List Key) (places : List ℕ) (p : ℕ) (r : InvalidReason) → AreKeys key_bytes key_position (λ k. get_or places k.1 0) es 0 ks → RepeatAt ks places p r ↔ RepeatFlaw es p r
+repeats_alike es ks places p r h = (
+  (λ a. (a.0, subst (HasRepeat es) a.3 (again_repeat key_bytes key_position (λ k. get_or places k.1 0) es 0 ks a.1 h a.2))),
+  (λ a. let u = repeat_again key_bytes key_position (λ k. get_or places k.1 0) es 0 ks p h a.1 in (a.0, u.0, u.1, u.2)),
+)

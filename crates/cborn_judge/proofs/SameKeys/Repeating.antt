@@ -1,0 +1,243 @@
+-- Keys are the same exactly if their encodings are equal; so after a sort the repeats are those that tie with their neighbour.
+use Rattle.std.proofs.Common.{◌≡◌, ◌≢◌, ℕ, suc, ◌<◌, ◌≤◌, ◌⊎◌, inl, inr, List, [], ◌∷◌, refl, sym, ap, ◌∙◌, subst, arith, true, false, Bool, true≢false, add-one, IsPermutation, Ordering, Less, Equal, Greater, is_lt, nat_cmp, eqb}
+use Rattle.std.specs.Prelude.{⊤, ◌↔◌}
+use Rattle.std.specs.Ordering.{nat_cmp, ordering_then, ordering_reverse}
+use Rattle.std.specs.List.{AllByRecursion, IsDistinct}
+use Rattle.std.specs.List.Sorted.{IsSortedBy}
+use Rattle.std.proofs.lemmas.List.Sorted.{IsPermutation-sym}
+use Rattle.std.proofs.lemmas.Map.Keys.{IsDistinct-IsPermutation, ge_from_not_lt}
+use Rattle.std.proofs.lemmas.Bool.{eqb-true, eq-eqb, cases_eq}
+use Rattle.cborn_judge.specs.Flaws.{IsRepeated, HasRepeat}
+use Rattle.cborn_judge.specs.Repeats.{IsOneOf, PositionsRise, IsAgain, IsTied, AreKeys}
+use Rattle.cborn_model.proofs.SameItems.Rearranging.{All_moved, weaker, at_member}
+use Rattle.cborn_model.specs.OrderLaws.{bytewise_order}
+use Rattle.cborn_det.proofs.Canon.{same_of_one, one_of_same}
+use Rattle.cborn_judge.proofs.Meaning.Meanings.{means_once}
+use Rattle.cborn_model.specs.Value.{Value, Same}
+use Rattle.cborn_model.specs.Valid.{IsProper}
+use Rattle.cborn_model.specs.Orders.{bytewise}
+use Rattle.cborn_det.specs.Det.{Det}
+use Rattle.cborn_model.specs.Tree.{Tree, Entries, no_entry, entry}
+use Rattle.cborn_model.specs.Meaning.{Means}
+
+module _ {X : Type 0} (bytes : X → List ℕ) (position : X → ℕ) where
+  -- by the encoding, and at equal encodings by the position
+  abbrev pub key_order : X → X → Ordering
+  key_order x y = ordering_then (bytewise (bytes x) (bytes y)) (nat_cmp (position x) (position y))
+
+-- ---- the same keys have one encoding
+
+module _ {X : Type 0} (bytes : X → List ℕ) (position place_of : X → ℕ) where
+  -- a key that means the same as k, among the keys
+  repeated_there : (k : Tree) (a : Value) (x : List ℕ) (es : Entries) (n : ℕ) (ks : List X) (p : ℕ) → IsProper a → Means k a → Det bytewise a x → AreKeys bytes position place_of es n ks → IsRepeated k es p
+      → (z : X) × IsOneOf z ks × (x ≡ bytes z) × (place_of z ≡ p)
+  repeated_there k a x no_entry n ks p g m d h r = absurd r
+  repeated_there k a x (entry l v es) n ks p g m d (inl (z, zs, e, i, j, b, q, o, f, t)) (inl r) =
+      let s = r.1 in
+      let same : Same a b = subst (λ c. Same c b) (means_once k s.0 a s.2 m) (subst (Same s.0) (means_once l s.1 b s.3 o) s.4) in
+      (z, subst (IsOneOf z) (sym e) (inl refl), one_of_same bytewise bytewise_order a b x (bytes z) g q same d f, j ∙ sym r.0)
+  repeated_there k a x (entry l v es) n ks p g m d (inl (z, zs, e, i, j, b, q, o, f, t)) (inr r) =
+      let u = repeated_there k a x es (suc n) zs p g m d t r in
+      (u.0, subst (IsOneOf u.0) (sym e) (inr u.1), u.2, u.3)
+  repeated_there k a x (entry l v es) n ks p g m d (inr h) (inl r) = absurd (h.0 r.1.1 r.1.3)
+  repeated_there k a x (entry l v es) n ks p g m d (inr h) (inr r) = repeated_there k a x es (suc n) ks p g m d h.1 r
+
+  there_repeated : (k : Tree) (a : Value) (x : List ℕ) (es : Entries) (n : ℕ) (ks : List X) (z : X) → IsProper a → Means k a → Det bytewise a x → AreKeys bytes position place_of es n ks → IsOneOf z ks → x ≡ bytes z → IsRepeated k es (place_of z)
+  there_repeated k a x no_entry n ks z g m d h i s = absurd (subst (IsOneOf z) h i)
+  there_repeated k a x (entry l v es) n ks z g m d (inl (y, ys, e, i, j, b, q, o, f, t)) w s = by (subst (IsOneOf z) e w) (λ c. there_repeated k a x es (suc n) ys z g m d t c s)
+    where
+      by : IsOneOf z (y ∷ ys) → (IsOneOf z ys → IsRepeated k es (place_of z)) → IsRepeated k (entry l v es) (place_of z)
+      by (inl c) rec = inl (ap place_of c ∙ j, (a, b, m, o, same_of_one bytewise a b x g q d (subst (Det bytewise b) (ap bytes (sym c) ∙ sym s) f)))
+      by (inr c) rec = inr (rec c)
+  there_repeated k a x (entry l v es) n ks z g m d (inr h) w s = inr (there_repeated k a x es (suc n) ks z g m d h.1 w s)
+
+  pub repeat_again : (es : Entries) (n : ℕ) (ks : List X) (p : ℕ) → AreKeys bytes position place_of es n ks → HasRepeat es p → (z : X) × IsAgain bytes ks z × (place_of z ≡ p)
+  repeat_again no_entry n ks p h r = absurd r
+  repeat_again (entry k v es) n ks p (inl (y, ys, e, i, j, b, q, o, f, t)) (inl r) =
+      let u = repeated_there k b (bytes y) es (suc n) ys p q o f t r in
+      (u.0, subst (λ l. IsAgain bytes l u.0) (sym e) (inl (u.1, u.2)), u.3)
+  repeat_again (entry k v es) n ks p (inl (y, ys, e, i, j, b, q, o, f, t)) (inr r) =
+      let u = repeat_again es (suc n) ys p t r in
+      (u.0, subst (λ l. IsAgain bytes l u.0) (sym e) (inr u.1), u.2)
+  repeat_again (entry k v es) n ks p (inr h) (inl r) = absurd (nothing_repeated k es p h.0 r)
+    where
+      nothing_repeated : (k : Tree) (es : Entries) (p : ℕ) → ((a : Value) → Means k a → ⊥) → IsRepeated k es p → ⊥
+      nothing_repeated k no_entry p h r = r
+      nothing_repeated k (entry l v es) p h (inl r) = h r.1.0 r.1.2
+      nothing_repeated k (entry l v es) p h (inr r) = nothing_repeated k es p h r
+  repeat_again (entry k v es) n ks p (inr h) (inr r) = repeat_again es (suc n) ks p h.1 r
+
+  pub again_repeat : (es : Entries) (n : ℕ) (ks : List X) (z : X) → AreKeys bytes position place_of es n ks → IsAgain bytes ks z → HasRepeat es (place_of z)
+  again_repeat no_entry n ks z h r = absurd (subst (λ l. IsAgain bytes l z) h r)
+  again_repeat (entry k v es) n ks z (inl (y, ys, e, i, j, b, q, o, f, t)) r = by (subst (λ l. IsAgain bytes l z) e r) (λ c. again_repeat es (suc n) ys z t c)
+    where
+      by : IsAgain bytes (y ∷ ys) z → (IsAgain bytes ys z → HasRepeat es (place_of z)) → HasRepeat (entry k v es) (place_of z)
+      by (inl c) rec = inl (there_repeated k b (bytes y) es (suc n) ys z q o f t c.0 c.1)
+      by (inr c) rec = inr (rec c)
+  again_repeat (entry k v es) n ks z (inr h) r = inr (again_repeat es (suc n) ks z h.1 r)
+
+  pub keys_rise : (es : Entries) (n m : ℕ) (ks : List X) → m ≤ n → AreKeys bytes position place_of es n ks → PositionsRise bytes position m ks
+  keys_rise no_entry n m ks l h = subst (PositionsRise bytes position m) (sym h) tt
+  keys_rise (entry k v es) n m ks l (inl (y, ys, e, i, j, b, q, o, f, t)) =
+      subst (PositionsRise bytes position m) (sym e) ((omega arith), keys_rise es (suc n) (suc (position y)) ys (omega arith) t)
+  keys_rise (entry k v es) n m ks l (inr h) = keys_rise es (suc n) m ks (omega arith) h.1
+
+-- ---- after a sort
+
+module _ {X : Type 0} (bytes : X → List ℕ) (position : X → ℕ) where
+  -- z has the bytes of one at a lower position
+  abbrev HasEarlier : List X → X → Type 0
+  HasEarlier xs z = (w : X) × IsOneOf w xs × IsOneOf z xs × (bytes w ≡ bytes z) × (position w < position z)
+
+  above_all : (n : ℕ) (xs : List X) (z : X) → PositionsRise bytes position n xs → IsOneOf z xs → n ≤ position z
+  above_all n [] z h i = absurd i
+  above_all n (x ∷ xs) z h (inl e) = let f : position z ≡ position x = ap position e in omega arith
+  above_all n (x ∷ xs) z h (inr i) = let k = above_all (suc (position x)) xs z h.1 i in omega arith
+
+  again_earlier : (n : ℕ) (xs : List X) (z : X) → PositionsRise bytes position n xs → IsAgain bytes xs z → HasEarlier xs z
+  again_earlier n [] z h r = absurd r
+  again_earlier n (x ∷ xs) z h (inl r) = (x, inl refl, inr r.0, r.1, (let k = above_all (suc (position x)) xs z h.1 r.0 in omega arith))
+  again_earlier n (x ∷ xs) z h (inr r) = let u = again_earlier (suc (position x)) xs z h.1 r in (u.0, inr u.1, inr u.2, u.3, u.4)
+
+  earlier_again : (n : ℕ) (xs : List X) (w z : X) → PositionsRise bytes position n xs → IsOneOf w xs → IsOneOf z xs → bytes w ≡ bytes z → position w < position z → IsAgain bytes xs z
+  earlier_again n [] w z h i j e l = absurd i
+  earlier_again n (x ∷ xs) w z h (inl i) (inl j) e l = let f : position w ≡ position z = ap position (i ∙ sym j) in absurd (omega arith)
+  earlier_again n (x ∷ xs) w z h (inl i) (inr j) e l = inl (j, ap bytes (sym i) ∙ e)
+  earlier_again n (x ∷ xs) w z h (inr i) (inl j) e l =
+      let k = above_all (suc (position x)) xs w h.1 i in
+      let f : position z ≡ position x = ap position j in absurd (omega arith)
+  earlier_again n (x ∷ xs) w z h (inr i) (inr j) e l = inr (earlier_again (suc (position x)) xs w z h.1 i j e l)
+
+  -- x comes before y in strict order
+  abbrev Comes : X → X → Type 0
+  Comes x y = (bytewise (bytes x) (bytes y) ≡ Less) ⊎ ((bytes x ≡ bytes y) × (position x < position y))
+
+  abbrev pub InOrder : List X → Type 0
+  InOrder [] = ⊤
+  InOrder (x ∷ []) = ⊤
+  InOrder (x ∷ y ∷ ys) = Comes x y × InOrder (y ∷ ys)
+
+  not_less_itself : (a b : List ℕ) → a ≡ b → bytewise a b ≡ Less → ⊥
+  not_less_itself a b e l = let f : bytewise a a ≡ Equal = bytewise_order.itself a in let g : bytewise a a ≡ Less = subst (λ c. bytewise a c ≡ Less) (sym e) l in cc
+
+  less_turned : (a b : List ℕ) → bytewise a b ≡ Less → bytewise b a ≡ Less → ⊥
+  less_turned a b l m = let f : bytewise b a ≡ Greater = bytewise_order.turned a b ∙ ap ordering_reverse l in cc
+
+  comes_on : (x y z : X) → Comes x y → Comes y z → Comes x z
+  comes_on x y z (inl h) (inl k) = inl (bytewise_order.along (bytes x) (bytes y) (bytes z) h k)
+  comes_on x y z (inl h) (inr k) = inl (subst (λ c. bytewise (bytes x) c ≡ Less) k.0 h)
+  comes_on x y z (inr h) (inl k) = inl (subst (λ c. bytewise c (bytes z) ≡ Less) (sym h.0) k)
+  comes_on x y z (inr h) (inr k) = inr (h.0 ∙ k.0, (omega arith))
+
+  first_comes : (x : X) (xs : List X) (z : X) → InOrder (x ∷ xs) → IsOneOf z xs → Comes x z
+  first_comes x [] z o i = absurd i
+  first_comes x (y ∷ ys) z o (inl e) = subst (Comes x) (sym e) o.0
+  first_comes x (y ∷ ys) z o (inr i) = comes_on x y z o.0 (first_comes y ys z o.1 i)
+
+  -- between two with equal bytes stand none with others
+  between : (x y z : X) → Comes x y → Comes y z → bytes x ≡ bytes z → (bytes x ≡ bytes y) × (position y < position z)
+  between x y z (inl h) (inl k) e = absurd (less_turned (bytes x) (bytes y) h (subst (λ c. bytewise (bytes y) c ≡ Less) (sym e) k))
+  between x y z (inl h) (inr k) e = absurd (not_less_itself (bytes x) (bytes y) (e ∙ sym k.0) h)
+  between x y z (inr h) (inl k) e = absurd (not_less_itself (bytes y) (bytes z) (sym h.0 ∙ e) k)
+  between x y z (inr h) (inr k) e = (h.0, k.1)
+
+  tied_earlier : (xs : List X) (z : X) → InOrder xs → IsTied bytes xs z → HasEarlier xs z
+  tied_earlier [] z o t = absurd t
+  tied_earlier (x ∷ []) z o t = absurd t
+  tied_earlier (x ∷ y ∷ ys) z o (inl t) =
+      elim o.0 [
+        | inl l ↦ absurd (not_less_itself (bytes x) (bytes y) t.1 l)
+        | inr l ↦ (x, inl refl, inr (inl (sym t.0)), t.1 ∙ ap bytes t.0, (let f : position y ≡ position z = ap position t.0 in omega arith))
+      ]
+  tied_earlier (x ∷ y ∷ ys) z o (inr t) = let u = tied_earlier (y ∷ ys) z o.1 t in (u.0, inr u.1, inr u.2, u.3, u.4)
+
+  earlier_tied : (xs : List X) (w z : X) → InOrder xs → IsOneOf w xs → IsOneOf z xs → bytes w ≡ bytes z → position w < position z → IsTied bytes xs z
+  earlier_tied [] w z o i j e l = absurd i
+  earlier_tied (x ∷ xs) w z o (inl i) (inl j) e l = let f : position w ≡ position z = ap position (i ∙ sym j) in absurd (omega arith)
+  earlier_tied (x ∷ []) w z o (inl i) (inr j) e l = absurd j
+  earlier_tied (x ∷ []) w z o (inr i) j e l = absurd i
+  earlier_tied (x ∷ y ∷ ys) w z o (inl i) (inr (inl j)) e l = inl (sym j, ap bytes (sym i) ∙ e ∙ ap bytes j)
+  earlier_tied (x ∷ y ∷ ys) w z o (inl i) (inr (inr j)) e l =
+      let b = between x y z o.0 (first_comes y ys z o.1 j) (ap bytes (sym i) ∙ e) in
+      inr (earlier_tied (y ∷ ys) y z o.1 (inl refl) (inr j) (sym b.0 ∙ ap bytes (sym i) ∙ e) b.1)
+  earlier_tied (x ∷ y ∷ ys) w z o (inr i) (inl j) e l =
+      elim (first_comes x (y ∷ ys) w o i) [
+        | inl k ↦ absurd (not_less_itself (bytes x) (bytes w) (ap bytes (sym j) ∙ sym e) k)
+        | inr k ↦ let f : position z ≡ position x = ap position j in absurd (omega arith)
+      ]
+  earlier_tied (x ∷ y ∷ ys) w z o (inr i) (inr j) e l = inr (earlier_tied (y ∷ ys) w z o.1 i j e l)
+
+  one_of_moved : (xs ys : List X) (z : X) → IsPermutation xs ys → IsOneOf z xs → IsOneOf z ys
+  one_of_moved xs ys z p i = at_member (λ x. IsOneOf x ys) z xs i (All_moved (λ x. IsOneOf x ys) ys xs (IsPermutation-sym xs ys p) (all_in ys))
+    where
+      all_in : (l : List X) → AllByRecursion (λ x. IsOneOf x l) l
+      all_in [] = tt
+      all_in (x ∷ xs) = (inl refl, weaker (λ z. IsOneOf z xs) (λ z. IsOneOf z (x ∷ xs)) (λ z h. inr h) xs (all_in xs))
+
+  -- of keys in the order of their positions, the repeats are those that tie once the keys are sorted
+  pub again_tied : (n : ℕ) (xs ys : List X) (z : X) → PositionsRise bytes position n xs → IsPermutation xs ys → InOrder ys → IsAgain bytes xs z ↔ IsTied bytes ys z
+  again_tied n xs ys z h p o = (
+    (λ r. let u = again_earlier n xs z h r in earlier_tied ys u.0 z o (one_of_moved xs ys u.0 p u.1) (one_of_moved xs ys z p u.2) u.3 u.4),
+    (λ t. let u = tied_earlier ys z o t in
+        let q = IsPermutation-sym xs ys p in
+        earlier_again n xs u.0 z h (one_of_moved ys xs u.0 q u.1) (one_of_moved ys xs z q u.2) u.3 u.4),
+  )
+
+  abbrev AtOnePlace : X → X → Bool
+  AtOnePlace x y = eqb (position x) (position y)
+
+  at_one_turned : (x y : X) → AtOnePlace x y ≡ AtOnePlace y x
+  at_one_turned x y = by (position x) (position y) (cases_eq (position x) (position y))
+    where
+      by : (m n : ℕ) → (m ≡ n) ⊎ (m ≡ n → ⊥) → eqb m n ≡ eqb n m
+      by m n (inl e) = eq-eqb m n e ∙ sym (eq-eqb n m (sym e))
+      by m n (inr e) = not_eq m n e ∙ sym (not_eq n m (λ f. e (sym f)))
+        where
+          not_eq : (m n : ℕ) → (m ≡ n → ⊥) → eqb m n ≡ false
+          not_eq m n e = go (eqb m n) refl
+            where
+              go : (b : Bool) → eqb m n ≡ b → eqb m n ≡ false
+              go true f = absurd (e (eqb-true m n f))
+              go false f = f
+
+  positions_apart : (n : ℕ) (xs : List X) → PositionsRise bytes position n xs → IsDistinct AtOnePlace xs
+  unfolding IsDistinct
+  positions_apart n [] h = tt
+  positions_apart n (x ∷ xs) h = (apart_from x xs (λ z i. above_all (suc (position x)) xs z h.1 i), positions_apart (suc (position x)) xs h.1)
+    where
+      apart : (x z : X) → suc (position x) ≤ position z → AtOnePlace x z ≡ false
+      apart x z l = go (AtOnePlace x z) refl
+        where
+          go : (b : Bool) → AtOnePlace x z ≡ b → AtOnePlace x z ≡ false
+          go true f = absurd (let e = eqb-true (position x) (position z) f in omega arith)
+          go false f = f
+
+      apart_from : (x : X) (xs : List X) → ((z : X) → IsOneOf z xs → suc (position x) ≤ position z) → AllByRecursion (λ z. AtOnePlace x z ≡ false) xs
+      apart_from x [] h = tt
+      apart_from x (y ∷ ys) h = (apart x y (h y (inl refl)), apart_from x ys (λ z i. h z (inr i)))
+
+  comes_from : (x y : X) → is_lt (key_order bytes position y x) ≡ false → AtOnePlace x y ≡ false → Comes x y
+  comes_from x y h k = by (bytewise (bytes y) (bytes x)) refl h
+    where
+      by : (o : Ordering) → bytewise (bytes y) (bytes x) ≡ o → is_lt (ordering_then o (nat_cmp (position y) (position x))) ≡ false → Comes x y
+      by Less q l = absurd (true≢false l)
+      by Equal q l =
+          let at_least : position x ≤ position y = ge_from_not_lt (position y) (position x) l in
+          elim (cases_eq (position x) (position y)) [
+            | inl e ↦ absurd (true≢false (sym (eq-eqb (position x) (position y) e) ∙ k))
+            | inr e ↦ inr (sym (bytewise_order.exact (bytes y) (bytes x) q), (let ne : position x ≢ position y = e in omega arith))
+          ]
+      by Greater q l = inl (bytewise_order.turned (bytes y) (bytes x) ∙ ap ordering_reverse q)
+
+  in_order_sorted : (ys : List X) → IsSortedBy (λ x y. is_lt (key_order bytes position x y)) ys → IsDistinct AtOnePlace ys → InOrder ys
+  unfolding IsDistinct
+  in_order_sorted [] s d = tt
+  in_order_sorted (x ∷ []) s d = tt
+  in_order_sorted (x ∷ y ∷ ys) s d = (
+    comes_from x y (s 0 x (omega arith) (omega arith)) d.0.0,
+    in_order_sorted (y ∷ ys) (λ k e low l. rw add-one (rw add-one at (s (suc k) e (omega arith) (omega arith)))) d.1,
+  )
+
+  -- keys in the order of their positions, once sorted
+  pub sorted_in_order : (n : ℕ) (xs ys : List X) → PositionsRise bytes position n xs → IsPermutation xs ys → IsSortedBy (λ x y. is_lt (key_order bytes position x y)) ys → InOrder ys
+  sorted_in_order n xs ys h p s = in_order_sorted ys s (IsDistinct-IsPermutation AtOnePlace at_one_turned xs ys p (positions_apart n xs h))

@@ -1,0 +1,8 @@
+-- What the contents of strings stand for: at most one text or list of bytes, and how the code finds it.
+pub mod Lettered
+pub mod Texts
+pub mod Letters
+pub mod Ends
+pub mod Hexes
+pub mod Decoded
+pub mod Base64s

@@ -1,0 +1,147 @@
+-- A content of h'..' stands for some bytes or for none.
+use Rattle.std.proofs.Common.{◌≡◌, refl, sym, ap, ◌∙◌, subst, ℕ, ◌+◌, ◌<◌, List, [], ◌∷◌, ◌++◌, length, drop, get_or, Bool, true, false, not, cond, eqb, ◌⊎◌, inl, inr, Option, Some, None, Result, Ok, Err, append_assoc}
+use Rattle.std.proofs.lemmas.List.{drop_more}
+use Rattle.std.proofs.lemmas.Bool.{cond-true, cond-false, and_parts, and_from, eq-eqb, eqb-true, not-true, or_cases, ne_eqb}
+use Rattle.std.specs.List.{list_all}
+use Rattle.std.specs.Char.{is_digit}
+use Rattle.hex.specs.Hex.{decode_of}
+use Rattle.hex.specs.declared.error.FromHexError.{FromHexError}
+use Rattle.cborn_lex.specs.Tokens.{is_not, is_white}
+use Rattle.cborn_lex.specs.Scan.{onto, strip, behind}
+use Rattle.cborn_lex.specs.Strings.{HasDigits, nothing, digit, space, comment, IsHex}
+
+at_char : (c k : ℕ) → is_digit k 16 ≡ false → eqb c k ≡ true → is_digit c 16 ≡ false
+at_char c k h e = ap (λ d. is_digit d 16) (eqb-true c k e) ∙ h
+
+white_no_digit : (c : ℕ) → is_white c ≡ true → is_digit c 16 ≡ false
+white_no_digit c h = elim (or_cases _ _ h) [
+  | inl h ↦ elim (or_cases _ _ h) [ inl e ↦ at_char c 32 refl e | inr e ↦ at_char c 9 refl e ]
+  | inr h ↦ elim (or_cases _ _ h) [ inl e ↦ at_char c 10 refl e | inr e ↦ at_char c 13 refl e ]
+]
+
+strip_comment : (body x : List ℕ) → list_all (is_not 47) body ≡ true → strip true (body ++ 47 ∷ x) ≡ strip false x
+strip_comment [] x h = refl
+strip_comment (c ∷ body) x h = let hs = and_parts (is_not 47 c) (list_all (is_not 47) body) h in cond-false (eqb c 47) _ _ (not-true _ hs.0) ∙ strip_comment body x hs.1
+
+pub strip_is : {x ds : List ℕ} → HasDigits x ds → strip false x ≡ Some ds
+strip_is nothing = refl
+strip_is (digit c x ds h k) = cond-true (is_digit c 16) _ _ h ∙ ap (onto c) (strip_is k)
+strip_is (space c x ds h k) = cond-false (is_digit c 16) _ _ (white_no_digit c h) ∙ (cond-true (is_white c) _ _ h ∙ strip_is k)
+strip_is (comment body x ds h k) = strip_comment body x h ∙ strip_is k
+
+-- what a strip says of what follows a slash
+pub record Inside (x ds : List ℕ) : Type 0 where
+  pub body : List ℕ
+  pub none : list_all (is_not 47) body ≡ true
+  pub after : List ℕ
+  pub whole : x ≡ body ++ 47 ∷ after
+  pub digits : HasDigits after ds
+
+abbrev pub Stripped : Bool → List ℕ → Option (List ℕ) → Type 0
+Stripped b x None = Unit {0}
+Stripped false x (Some ds) = HasDigits x ds
+Stripped true x (Some ds) = Inside x ds
+
+chosen : (i : Bool) (x : List ℕ) (b : Bool) (r s : Option (List ℕ)) → (b ≡ true → Stripped i x r) → (b ≡ false → Stripped i x s) → Stripped i x (cond b r s)
+chosen i x true r s f g = f refl
+chosen i x false r s f g = g refl
+
+digit_more : (c : ℕ) (x : List ℕ) (o : Option (List ℕ)) → is_digit c 16 ≡ true → Stripped false x o → Stripped false (c ∷ x) (onto c o)
+digit_more c x None h k = tt
+digit_more c x (Some ds) h k = digit c x ds h k
+
+space_more : (c : ℕ) (x : List ℕ) (o : Option (List ℕ)) → is_white c ≡ true → Stripped false x o → Stripped false (c ∷ x) o
+space_more c x None h k = tt
+space_more c x (Some ds) h k = space c x ds h k
+
+comment_begins : (c : ℕ) (x : List ℕ) (o : Option (List ℕ)) → eqb c 47 ≡ true → Stripped true x o → Stripped false (c ∷ x) o
+comment_begins c x None h k = tt
+comment_begins c x (Some ds) h k =
+    subst (λ (y : List ℕ). HasDigits y ds) (sym (ap (λ d. d ∷ x) (eqb-true c 47 h) ∙ ap (λ y. 47 ∷ y) k.whole)) (comment k.body k.after ds k.none k.digits)
+
+comment_ends : (c : ℕ) (x : List ℕ) (o : Option (List ℕ)) → eqb c 47 ≡ true → Stripped false x o → Stripped true (c ∷ x) o
+comment_ends c x None h k = tt
+comment_ends c x (Some ds) h k = record { body = []; none = refl; after = x; whole = ap (λ d. d ∷ x) (eqb-true c 47 h); digits = k }
+
+comment_more : (c : ℕ) (x : List ℕ) (o : Option (List ℕ)) → eqb c 47 ≡ false → Stripped true x o → Stripped true (c ∷ x) o
+comment_more c x None h k = tt
+comment_more c x (Some ds) h k = record { body = c ∷ k.body; none = and_from _ _ (ap not h) k.none; after = k.after; whole = ap (λ y. c ∷ y) k.whole; digits = k.digits }
+
+pub strips : (i : Bool) (x : List ℕ) → Stripped i x (strip i x)
+strips false [] = nothing
+strips true [] = tt
+strips true (c ∷ x) = chosen true _ (eqb c 47) _ _ (λ h. comment_ends c x _ h (strips false x)) (λ h. comment_more c x _ h (strips true x))
+strips false (c ∷ x) =
+    chosen false _ (is_digit c 16) _ _ (λ h. digit_more c x _ h (strips false x))
+    (λ h. chosen false _ (is_white c) _ _ (λ k. space_more c x _ k (strips false x))
+    (λ k. chosen false _ (eqb c 47) _ _ (λ l. comment_begins c x _ l (strips true x)) (λ l. tt)))
+
+pub hex_one : (x b d : List ℕ) → IsHex x b → IsHex x d → b ≡ d
+hex_one x b d h k =
+    let l = strip_is h.1 in
+    let r = strip_is k.1 in
+    let e : h.0 ≡ k.0 = cc in
+    let f = ap decode_of e in
+    let m = h.2 in
+    let n = k.2 in
+    cc
+
+hex_none : (x : List ℕ) → strip false x ≡ None → (bytes : List ℕ) → IsHex x bytes → ⊥
+hex_none x e bytes h = let l = strip_is h.1 in cc
+
+pub hex_err : (x ds : List ℕ) (f : FromHexError) → strip false x ≡ Some ds → decode_of ds ≡ Err f → (bytes : List ℕ) → IsHex x bytes → ⊥
+hex_err x ds f e h bytes t =
+    let l = strip_is t.1 in
+    let same : t.0 ≡ ds = cc in
+    let m = ap decode_of same in
+    let n = t.2 in
+    cc
+
+hex_decoded : (x ds : List ℕ) (r : Result (List ℕ) FromHexError) → strip false x ≡ Some ds → HasDigits x ds → decode_of ds ≡ r → ((bytes : List ℕ) × IsHex x bytes) ⊎ ((bytes : List ℕ) → IsHex x bytes → ⊥)
+hex_decoded x ds (Ok bytes) e k h = inl (bytes, (ds, k, h))
+hex_decoded x ds (Err f) e k h = inr (hex_err x ds f e h)
+
+hex_from : (x : List ℕ) (o : Option (List ℕ)) → strip false x ≡ o → Stripped false x o → ((bytes : List ℕ) × IsHex x bytes) ⊎ ((bytes : List ℕ) → IsHex x bytes → ⊥)
+hex_from x None e k = inr (hex_none x e)
+hex_from x (Some ds) e k = hex_decoded x ds (decode_of ds) e k refl
+
+pub hex_cases : (x : List ℕ) → ((bytes : List ℕ) × IsHex x bytes) ⊎ ((bytes : List ℕ) → IsHex x bytes → ⊥)
+hex_cases x = hex_from x (strip false x) refl (strips false x)
+
+-- For the code.
+
+pub hex_no_digits : (x : List ℕ) → strip false x ≡ None → (bytes : List ℕ) → IsHex x bytes → ⊥
+hex_no_digits x e = hex_none x e
+
+from_option : (x ds : List ℕ) (o : Option (List ℕ)) → o ≡ Some ds → Stripped false x o → HasDigits x ds
+from_option x ds None e k = cc
+from_option x ds (Some d) e k = let same : d ≡ ds = cc in subst (HasDigits x) same k
+
+pub hex_ok : (x ds bytes : List ℕ) → strip false x ≡ Some ds → decode_of ds ≡ Ok bytes → IsHex x bytes
+hex_ok x ds bytes e h = (ds, from_option x ds (strip false x) e (strips false x), h)
+
+-- One step of the loop.
+
+behind_onto : (ds : List ℕ) (c : ℕ) (o : Option (List ℕ)) → behind ds (onto c o) ≡ behind (ds ++ c ∷ []) o
+behind_onto ds c None = refl
+behind_onto ds c (Some x) = ap Some (sym (append_assoc ds (c ∷ []) x))
+
+pub at_close : (ds x : List ℕ) (c : ℕ) → c ≡ 47 → behind ds (strip true (c ∷ x)) ≡ behind ds (strip false x)
+at_close ds x c h = ap (behind ds) (cond-true (eqb c 47) _ _ (eq-eqb c 47 h))
+
+pub at_stay : (ds x : List ℕ) (c : ℕ) → (c ≡ 47 → ⊥) → behind ds (strip true (c ∷ x)) ≡ behind ds (strip true x)
+at_stay ds x c h = ap (behind ds) (cond-false (eqb c 47) _ _ (ne_eqb c 47 h))
+
+pub at_digit : (ds x : List ℕ) (c : ℕ) → is_digit c 16 ≡ true → behind ds (strip false (c ∷ x)) ≡ behind (ds ++ c ∷ []) (strip false x)
+at_digit ds x c h = ap (behind ds) (cond-true (is_digit c 16) _ _ h) ∙ behind_onto ds c (strip false x)
+
+pub at_space : (ds x : List ℕ) (c : ℕ) → is_digit c 16 ≡ false → is_white c ≡ true → behind ds (strip false (c ∷ x)) ≡ behind ds (strip false x)
+at_space ds x c h k = ap (behind ds) (cond-false (is_digit c 16) _ _ h ∙ cond-true (is_white c) _ _ k)
+
+pub at_open : (ds x : List ℕ) (c : ℕ) → is_digit c 16 ≡ false → is_white c ≡ false → c ≡ 47 → behind ds (strip false (c ∷ x)) ≡ behind ds (strip true x)
+at_open ds x c h k e = ap (behind ds) (cond-false (is_digit c 16) _ _ h ∙ (cond-false (is_white c) _ _ k ∙ cond-true (eqb c 47) _ _ (eq-eqb c 47 e)))
+
+pub moved : (content ds es : List ℕ) (at : ℕ) (i j : Bool) (i' j' : Bool) → at < length content → i ≡ i' → j ≡ j' → behind ds (strip i' (get_or content at 0 ∷ drop (at + 1) content)) ≡ behind es (strip j' (drop (at + 1) content)) → behind ds (strip i (drop at content)) ≡ strip false content
+    → behind es (strip j (drop (at + 1) content)) ≡ strip false content
+moved content ds es at i j i' j' h e f step inv =
+    ap (λ b. behind es (strip b (drop (at + 1) content))) f ∙ (sym step ∙ (ap (λ x. behind ds (strip i' x)) (sym (drop_more content at 0 h)) ∙ (ap (λ b. behind ds (strip b (drop at content))) (sym e) ∙ inv)))

@@ -1,0 +1,4 @@
+-- Numbers, words and strings, as slices that the code cuts out of a text.
+pub mod Pieces
+pub mod Values
+pub mod Words

@@ -1,0 +1,83 @@
+-- A word and what follows it, and a string after its quote, as slices.
+use Rattle.std.proofs.Common.{◌≡◌, refl, sym, ap, ◌∙◌, subst, ℕ, ◌+◌, ◌<◌, ◌≤◌, List, [], ◌∷◌, ◌++◌, length, take, drop, get_or, Bool, true, eqb, arith, append_assoc, add-one, inl, inr}
+use Rattle.std.proofs.Common.{Option}
+use Rattle.std.proofs.lemmas.List.{take-append-drop, length-append, length-take-le, length-drop, drop_more}
+use Rattle.cborn_lex.specs.declared.classes.Mark.{Mark}
+use Rattle.cborn_lex.specs.declared.faults.LexReason.{LexReason}
+use Rattle.cborn_lex.specs.declared.classes.Class.{Class}
+use Rattle.cborn_lex.specs.Tokens.{Front, is_word, begins, Bad, mark_of, marked}
+use Rattle.cborn_lex.specs.Forms.{IsRun, IsIndicator, IsAfterWord, ReadsWord, IsPrefixed, prefix_of, Closed, IsString}
+use Rattle.std.proofs.lemmas.Bool.{eqb-true}
+use Rattle.cborn_lex.specs.declared.classes.Class.TheVariants.{EmbedClose}
+use Rattle.cborn_lex.proofs.Sliced.Pieces.{front_is}
+
+pub word_text : (text tail : List ℕ) (n : ℕ) → 0 < length text → tail ≡ drop 1 text → take (n + 1) text ≡ get_or text 0 0 ∷ take n tail
+word_text [] tail n h e = absurd (omega arith)
+word_text (c ∷ x) tail n h e = let same : tail ≡ x = e in rw (add-one, same) refl
+
+pub word_made : (c n m : ℕ) (word tail after : List ℕ) (a : Front) → word ≡ c ∷ take n tail → after ≡ drop n tail → n ≤ length tail → IsRun is_word (take n tail) (drop n tail) → m ≤ length after → IsAfterWord word (take m after) (drop m after) a
+    → (n + m ≤ length tail) × ReadsWord c (take (n + m) tail) (drop (n + m) tail) a
+word_made c n m word tail after a e f h run k is =
+    let parts : tail ≡ (take n tail ++ take m (drop n tail)) ++ drop m (drop n tail) = sym (take-append-drop n tail) ∙ (ap (λ x. take n tail ++ x) (sym (take-append-drop m (drop n tail))) ∙ sym (append_assoc (take n tail) (take m (drop n tail)) (drop m (drop n tail)))) in
+    let fits : m ≤ length (drop n tail) = omega (arith, ap length f) in
+    let s = front_is (n + m) tail (take n tail ++ take m (drop n tail)) (drop m (drop n tail)) parts (omega (arith, length-append (take n tail) (take m (drop n tail)), length-take-le n tail h, length-take-le m (drop n tail) fits)) in (
+      omega (arith, length-drop n tail),
+      (
+        take n tail,
+        take m (drop n tail),
+        rw s.1 (subst (λ (x : List ℕ). IsRun is_word (take n tail) x) (sym (take-append-drop m (drop n tail))) run),
+        s.0,
+        rw s.1 (subst (λ (w : List ℕ). IsAfterWord w (take m (drop n tail)) (drop m (drop n tail)) a) e (subst (λ (x : List ℕ). IsAfterWord word (take m x) (drop m x) a) f is)),
+      ),
+    )
+
+-- one character, and then what holds of the rest
+pub prefix_made : (word after tail : List ℕ) (n : ℕ) (a : Front) → begins (λ c. eqb c 39) after ≡ true → tail ≡ drop 1 after → n ≤ length tail → IsPrefixed (prefix_of word) (take n tail) (drop n tail) a
+    → (n + 1 ≤ length after) × IsAfterWord word (take (n + 1) after) (drop (n + 1) after) a
+prefix_made word [] tail n a h e k is = cc
+prefix_made word (c ∷ x) tail n a h e k is =
+    let same : tail ≡ x = e in
+    (omega (arith, ap length same), rw add-one (inl (h, subst (λ (y : List ℕ). IsPrefixed (prefix_of word) (take n y) (drop n y) a) same is)))
+
+-- a content, a quote and an indicator
+pub record IsClosedAt (whole : List ℕ → Bool) (q i m : ℕ) (tail content after : List ℕ) : Type 0 where
+  pub inside : whole (take i tail) ≡ true
+  pub fits : i < length tail
+  pub quote : get_or tail i 0 ≡ q
+  pub content_is : content ≡ take i tail
+  pub after_is : after ≡ drop (i + 1) tail
+  pub mark_fits : m ≤ length after
+  pub indicator : IsIndicator (take m after) (drop m after)
+
+closed : (whole : List ℕ → Bool) (q i m : ℕ) (tail content after : List ℕ) → IsClosedAt whole q i m tail content after → (i + 1 + m ≤ length tail) × Closed whole q content (take m after) (take (i + 1 + m) tail) (drop (i + 1 + m) tail)
+closed whole q i m tail content after h =
+    let k = h.fits in
+    let e = h.after_is in
+    let fits = h.mark_fits in
+    let fit : m ≤ length (drop (i + 1) tail) = omega (arith, ap length e) in
+    let behind : drop i tail ≡ q ∷ drop (i + 1) tail = drop_more tail i 0 k ∙ ap (λ c. c ∷ drop (i + 1) tail) h.quote in
+    let parts : tail ≡ (take i tail ++ q ∷ take m after) ++ drop m after =
+    sym (take-append-drop i tail) ∙ (ap (λ x. take i tail ++ x) (behind ∙ ap (λ x. q ∷ x) (sym e ∙ sym (take-append-drop m after))) ∙ sym (append_assoc (take i tail) (q ∷ take m after) (drop m after))) in
+    let short : i ≤ length tail = omega arith in
+    let s = front_is (i + 1 + m) tail (take i tail ++ q ∷ take m after) (drop m after) parts (omega (arith, length-append (take i tail) (q ∷ take m after), length-take-le i tail short, length-take-le m after fits)) in
+    (omega (arith, length-drop (i + 1) tail), rw h.content_is (record { inside = h.inside; text = s.0; indicator = rw s.1 h.indicator }))
+
+module _ (whole unclosed : List ℕ → Bool) (q : ℕ) (Is : List ℕ → List ℕ → Type 0) (r : LexReason) (k : List ℕ → Mark → Class) where
+  pub string_ok : (i m : ℕ) (tail content after bytes : List ℕ) (a : Front) (mark : Option Mark) → IsClosedAt whole q i m tail content after → Is content bytes → a ≡ marked (k bytes) mark → mark ≡ mark_of (take m after) → (i + 1 + m ≤ length tail) × IsString whole unclosed q Is r k (take (i + 1 + m) tail) (drop (i + 1 + m) tail) a
+  string_ok i m tail content after bytes a mark h is e f =
+      let c = closed whole q i m tail content after h in
+      (c.0, inl (content, take m after, c.1, inl (bytes, is, e ∙ ap (marked (k bytes)) f)))
+
+  pub string_bad : (i m : ℕ) (tail content after : List ℕ) (a : Front) → IsClosedAt whole q i m tail content after → ((bytes : List ℕ) → Is content bytes → ⊥) → a ≡ Bad r → (i + 1 + m ≤ length tail) × IsString whole unclosed q Is r k (take (i + 1 + m) tail) (drop (i + 1 + m) tail) a
+  string_bad i m tail content after a h f e =
+      let c = closed whole q i m tail content after h in
+      (c.0, inl (content, take m after, c.1, inr (f, e)))
+
+-- `>>` and its indicator
+pub close_made : (tail after : List ℕ) (n : ℕ) (a : Front) → begins (λ c. eqb c 62) tail ≡ true → after ≡ drop 1 tail → IsIndicator (take n after) (drop n after) → a ≡ marked EmbedClose (mark_of (take n after))
+    → (mark : List ℕ) × (take (n + 1) tail ≡ 62 ∷ mark) × IsIndicator mark (drop (n + 1) tail) × (a ≡ marked EmbedClose (mark_of mark))
+close_made [] after n a h e k f = cc
+close_made (c ∷ x) after n a h e k f =
+    let same : after ≡ x = e in
+    let front : c ≡ 62 = eqb-true c 62 h in
+    (take n x, rw add-one (ap (λ d. d ∷ take n x) front), rw add-one (subst (λ (y : List ℕ). IsIndicator (take n y) (drop n y)) same k), subst (λ (y : List ℕ). a ≡ marked EmbedClose (mark_of (take n y))) same f)

@@ -1,0 +1,201 @@
+-- The laws of whole texts.
+use Rattle.std.proofs.Common.{◌≡◌, refl, sym, ap, ◌∙◌, subst, ℕ, zero, suc, ◌<◌, List, [], ◌∷◌, ◌++◌, length, true, ◌⊎◌, inl, inr, append_assoc, append-nil, arith, length-append}
+use Rattle.std.proofs.lemmas.Bool.{and_parts}
+use Rattle.std.proofs.lemmas.List.Folds.{list_all-append}
+use Rattle.cborn_lex.specs.declared.classes.Profile.{Profile}
+use Rattle.cborn_lex.specs.declared.classes.Profile.TheVariants.{One, Two}
+use Rattle.cborn_lex.specs.declared.faults.LexReason.{LexReason}
+use Rattle.cborn_lex.specs.declared.classes.Token.{Token}
+use Rattle.cborn_lex.specs.Tokens.{Front, Blank, Read, Bad}
+use Rattle.cborn_lex.specs.Forms.{Start, white, slash, hash, less, greater, paren, letter, minus, digit, other, single, opening, double, simple, start_of, ReadsFrom, Reads}
+use Rattle.cborn_lex.specs.Lex.{Lex, HasNoPiece, Stop, SpansRise}
+use Rattle.cborn_lex.specs.Pieces.{Lexeme, gap, token, slice, front_of, spelled, AreRead, tokens, BeginsNoPiece}
+use Rattle.cborn_lex.proofs.WholeTexts.Parts.{lex_parted, parted_lex, stop_parted, parted_stop, has_no_piece}
+use Rattle.std.proofs.Common.{drop, ◌≤◌, ◌+◌}
+use Rattle.cborn_lex.proofs.Sliced.Pieces.{front_is}
+use Rattle.cborn_lex.proofs.OneFront.Runs.{rest}
+use Rattle.cborn_lex.proofs.OneFront.Alone.{one_front}
+use Rattle.cborn_lex.proofs.OneFront.Found.{some_front}
+use Rattle.cborn_lex.proofs.Contents.Decoded.{are_bytes, is_byte}
+
+-- a front has a first character
+no_front : (profile : Profile) (s z : List ℕ) (a : Front) → Reads profile s z a → s ++ z ≡ [] → ⊥
+no_front profile [] z a h e = h
+no_front profile (c ∷ s) z a h e = cc
+
+-- a piece is its slice and what it is
+one_piece : (p q : Lexeme) → slice p ≡ slice q → front_of p ≡ front_of q → p ≡ q
+one_piece (gap s) (gap t) e h = ap gap e
+one_piece (gap s) (token k t) e h = cc
+one_piece (token k s) (gap t) e h = cc
+one_piece (token k s) (token l t) e h = cc
+
+not_bad : (p : Lexeme) (r : LexReason) → front_of p ≡ Bad r → ⊥
+not_bad (gap s) r e = cc
+not_bad (token k s) r e = cc
+
+-- two readings: the fronts of one text are the same
+first : (profile : Profile) (p q : Lexeme) (x y : List ℕ) → Reads profile (slice p) x (front_of p) → Reads profile (slice q) y (front_of q) → slice p ++ x ≡ slice q ++ y → (p ≡ q) × (x ≡ y)
+first profile p q x y h k e =
+    let r = one_front profile (slice p) x (slice q) y (front_of p) (front_of q) h k e in
+    (one_piece p q r.0 r.1, rest (slice p) (slice q) x y r.0 e)
+
+split : (p : Lexeme) (ps : List Lexeme) (z : List ℕ) → (slice p ++ spelled ps) ++ z ≡ slice p ++ (spelled ps ++ z)
+split p ps z = append_assoc (slice p) (spelled ps) z
+
+one_chain : (profile : Profile) (ps qs : List Lexeme) (z w : List ℕ) → AreRead profile ps z → AreRead profile qs w → BeginsNoPiece profile z → BeginsNoPiece profile w → spelled ps ++ z ≡ spelled qs ++ w → (ps ≡ qs) × (z ≡ w)
+one_chain profile [] [] z w h k f g e = (refl, e)
+one_chain profile [] (q ∷ qs) z w h k f g e = absurd (f q (spelled qs ++ w) k.0 (e ∙ split q qs w))
+one_chain profile (p ∷ ps) [] z w h k f g e = absurd (g p (spelled ps ++ z) h.0 (sym e ∙ split p ps z))
+one_chain profile (p ∷ ps) (q ∷ qs) z w h k f g e =
+    let r = first profile p q (spelled ps ++ z) (spelled qs ++ w) h.0 k.0 (sym (split p ps z) ∙ (e ∙ split q qs w)) in
+    let t = one_chain profile ps qs z w h.1 k.1 f g r.1 in
+    (ap (λ x. x ∷ ps) r.0 ∙ ap (λ xs. q ∷ xs) t.0, t.1)
+
+end_ends : (profile : Profile) → BeginsNoPiece profile []
+end_ends profile p x h e = no_front profile (slice p) x (front_of p) h (sym e)
+
+pub bad_ends : (profile : Profile) (s z : List ℕ) (r : LexReason) → Reads profile s z (Bad r) → BeginsNoPiece profile (s ++ z)
+bad_ends profile s z r h p x k e = not_bad p r (sym (one_front profile s z (slice p) x (Bad r) (front_of p) h k e).1)
+
+-- a whole text
+whole_text : (text : List ℕ) (ps : List Lexeme) → text ≡ spelled ps → text ≡ spelled ps ++ []
+whole_text text ps e = e ∙ sym (append-nil (spelled ps))
+
+pub one_list : (profile : Profile) (text : List ℕ) (ts us : List Token) → Lex profile text ts → Lex profile text us → ts ≡ us
+one_list profile text ts us a b =
+    let h = lex_parted profile text ts a in
+    let k = lex_parted profile text us b in
+    let r = one_chain profile h.pieces k.pieces [] [] h.read k.read (end_ends profile) (end_ends profile) (sym (whole_text text h.pieces h.whole) ∙ whole_text text k.pieces k.whole) in
+    h.placed ∙ (ap (tokens 0) r.0 ∙ sym k.placed)
+
+pub not_both : (profile : Profile) (text : List ℕ) (ts : List Token) (p : ℕ) (r : LexReason) → Lex profile text ts → Stop profile text p r → ⊥
+not_both profile text ts p r a b =
+    let h = lex_parted profile text ts a in
+    let k = stop_parted profile text p r b in
+    let t = one_chain profile h.pieces k.pieces [] (k.front ++ k.rest) h.read k.read (end_ends profile) (bad_ends profile k.front k.rest r k.bad) (sym (whole_text text h.pieces h.whole) ∙ k.whole) in
+    no_front profile k.front k.rest (Bad r) k.bad (sym t.1)
+
+bad_reason : (r s : LexReason) → Bad r ≡ Bad s → r ≡ s
+bad_reason r s e = cc
+
+pub one_stop : (profile : Profile) (text : List ℕ) (p q : ℕ) (r s : LexReason) → Stop profile text p r → Stop profile text q s → (p ≡ q) × (r ≡ s)
+one_stop profile text p q r s a b =
+    let h = stop_parted profile text p r a in
+    let k = stop_parted profile text q s b in
+    let t = one_chain profile h.pieces k.pieces (h.front ++ h.rest) (k.front ++ k.rest) h.read k.read (bad_ends profile h.front h.rest r h.bad) (bad_ends profile k.front k.rest s k.bad) (sym h.whole ∙ k.whole) in (
+      h.place ∙ (ap (λ ps. length (spelled ps)) t.0 ∙ sym k.place),
+      bad_reason r s (one_front profile h.front h.rest k.front k.rest (Bad r) (Bad s) h.bad k.bad t.1).1,
+    )
+
+shorter : (profile : Profile) (s z text : List ℕ) (a : Front) → Reads profile s z a → text ≡ s ++ z → length z < length text
+shorter profile [] z text a h e = absurd h
+shorter profile (c ∷ s) z text a h e = omega (arith, ap length e, length-append s z)
+
+pub stop_inside : (profile : Profile) (text : List ℕ) (p : ℕ) (r : LexReason) → Stop profile text p r → p < length text
+stop_inside profile text p r a =
+    let h = stop_parted profile text p r a in
+    let some = shorter profile h.front h.rest (h.front ++ h.rest) (Bad r) h.bad refl in
+    omega (arith, ap length h.whole, h.place, length-append (spelled h.pieces) (h.front ++ h.rest))
+
+pub stop_no_piece : (profile : Profile) (text : List ℕ) (p : ℕ) (r : LexReason) → Stop profile text p r → HasNoPiece profile (drop p text)
+stop_no_piece profile text p r a =
+    let h = stop_parted profile text p r a in
+    let rest : drop p text ≡ h.front ++ h.rest = (front_is p text (spelled h.pieces) (h.front ++ h.rest) h.whole (sym h.place)).1 in
+    subst (HasNoPiece profile) (sym rest) (has_no_piece profile (h.front ++ h.rest) (bad_ends profile h.front h.rest r h.bad))
+
+-- Spans.
+
+lower : (m n end : ℕ) (ts : List Token) → m ≤ n → SpansRise n ts end → SpansRise m ts end
+lower m n end [] h k = omega arith
+lower m n end (t ∷ ts) h k = let i = k.0 in (omega arith, k.1, k.2)
+
+pub some_long : (profile : Profile) (s z : List ℕ) (a : Front) → Reads profile s z a → 0 < length s
+some_long profile [] z a h = absurd h
+some_long profile (c ∷ s) z a h = omega arith
+
+spans : (profile : Profile) (ps : List Lexeme) (n : ℕ) (z : List ℕ) → AreRead profile ps z → SpansRise n (tokens n ps) (n + length (spelled ps))
+spans profile [] n z h = omega arith
+spans profile (gap s ∷ ps) n z h =
+    let size : n + length s + length (spelled ps) ≡ n + length (s ++ spelled ps) = omega (arith, length-append s (spelled ps)) in
+    lower n (n + length s) (n + length (s ++ spelled ps)) (tokens (n + length s) ps) (omega arith) (subst (λ (end : ℕ). SpansRise (n + length s) (tokens (n + length s) ps) end) size (spans profile ps (n + length s) z h.1))
+spans profile (token k s ∷ ps) n z h =
+    let size : n + length s + length (spelled ps) ≡ n + length (s ++ spelled ps) = omega (arith, length-append s (spelled ps)) in
+    let long = some_long profile s (spelled ps ++ z) (Read k) h.0 in
+    (omega arith, omega arith, subst (λ (end : ℕ). SpansRise (n + length s) (tokens (n + length s) ps) end) size (spans profile ps (n + length s) z h.1))
+
+pub spans_rise : (profile : Profile) (text : List ℕ) (ts : List Token) → Lex profile text ts → SpansRise 0 ts (length text)
+spans_rise profile text ts a =
+    let h = lex_parted profile text ts a in
+    let size : 0 + length (spelled h.pieces) ≡ length text = omega (arith, ap length h.whole) in
+    rw h.placed (subst (λ (end : ℕ). SpansRise 0 (tokens 0 h.pieces) end) size (spans profile h.pieces 0 [] h.read))
+
+-- Existence.
+
+pub record Chain (profile : Profile) (text : List ℕ) : Type 0 where
+  pub pieces : List Lexeme
+  pub read : AreRead profile pieces []
+  pub whole : text ≡ spelled pieces
+
+pub record Broken (profile : Profile) (text : List ℕ) : Type 0 where
+  pub pieces : List Lexeme
+  pub front : List ℕ
+  pub rest : List ℕ
+  pub reason : LexReason
+  pub read : AreRead profile pieces (front ++ rest)
+  pub bad : Reads profile front rest (Bad reason)
+  pub whole : text ≡ spelled pieces ++ (front ++ rest)
+
+onto : (profile : Profile) (p : Lexeme) (z text : List ℕ) → Reads profile (slice p) z (front_of p) → text ≡ slice p ++ z → Chain profile z ⊎ Broken profile z → Chain profile text ⊎ Broken profile text
+onto profile p z text h e (inl r) =
+    inl (record { pieces = p ∷ r.pieces; read = (subst (λ (x : List ℕ). Reads profile (slice p) x (front_of p)) (whole_text z r.pieces r.whole) h, r.read); whole = e ∙ ap (λ x. slice p ++ x) r.whole })
+onto profile p z text h e (inr r) =
+    inr (record {
+      pieces = p ∷ r.pieces;
+      front = r.front;
+      rest = r.rest;
+      reason = r.reason;
+      read = (subst (λ (x : List ℕ). Reads profile (slice p) x (front_of p)) r.whole h, r.read);
+      bad = r.bad;
+      whole = e ∙ (ap (λ x. slice p ++ x) r.whole ∙ sym (split p r.pieces (r.front ++ r.rest)));
+    })
+
+step : (profile : Profile) (s z text : List ℕ) (a : Front) → Reads profile s z a → text ≡ s ++ z → (Chain profile z ⊎ Broken profile z) → Chain profile text ⊎ Broken profile text
+step profile s z text Blank h e r = onto profile (gap s) z text h e r
+step profile s z text (Read k) h e r = onto profile (token k s) z text h e r
+step profile s z text (Bad b) h e r = inr (record { pieces = []; front = s; rest = z; reason = b; read = tt; bad = h; whole = e })
+
+bytes_after : (s z text : List ℕ) → are_bytes text ≡ true → text ≡ s ++ z → are_bytes z ≡ true
+bytes_after s z text h e = (and_parts _ _ (sym (list_all-append is_byte s z) ∙ (ap are_bytes (sym e) ∙ h))).1
+
+chain_below : (profile : Profile) (n : ℕ) (text : List ℕ) → length text < n → are_bytes text ≡ true → Chain profile text ⊎ Broken profile text
+chain_below profile zero text k h = absurd (omega arith)
+chain_below profile (suc n) [] k h = inl (record { pieces = []; read = tt; whole = refl })
+chain_below profile (suc n) (c ∷ y) k h =
+    let r = some_front profile c y h in
+    let l = shorter profile r.s r.z (c ∷ y) r.a r.reads r.whole in
+    step profile r.s r.z (c ∷ y) r.a r.reads r.whole (chain_below profile n r.z (omega arith) (bytes_after r.s r.z (c ∷ y) h r.whole))
+
+answered : (profile : Profile) (text : List ℕ) → Chain profile text ⊎ Broken profile text → ((ts : List Token) × Lex profile text ts) ⊎ ((p : ℕ) × (r : LexReason) × Stop profile text p r)
+answered profile text (inl r) = inl (tokens 0 r.pieces, parted_lex profile text (tokens 0 r.pieces) (record { pieces = r.pieces; read = r.read; whole = r.whole; placed = refl }))
+answered profile text (inr r) = inr (length (spelled r.pieces), r.reason, parted_stop profile text (length (spelled r.pieces)) r.reason (record { pieces = r.pieces; front = r.front; rest = r.rest; read = r.read; bad = r.bad; whole = r.whole; place = refl }))
+
+pub some_answer : (profile : Profile) (text : List ℕ) → are_bytes text ≡ true → ((ts : List Token) × Lex profile text ts) ⊎ ((p : ℕ) × (r : LexReason) × Stop profile text p r)
+some_answer profile text h = answered profile text (chain_below profile (suc (length text)) text (omega arith) h)
+
+-- Profiles.
+
+two_from : (k : Start) (c : ℕ) (s z : List ℕ) (p : Lexeme) → ReadsFrom k One c s z (front_of p) → ReadsFrom k Two c s z (front_of p)
+two_from hash c s z p h = absurd (not_bad p _ h.1)
+two_from _ c s z p h = h
+
+two_reads : (s z : List ℕ) (p : Lexeme) → Reads One s z (front_of p) → Reads Two s z (front_of p)
+two_reads [] z p h = h
+two_reads (c ∷ s) z p h = two_from (start_of c) c s z p h
+
+two_chain : (ps : List Lexeme) (z : List ℕ) → AreRead One ps z → AreRead Two ps z
+two_chain [] z h = h
+two_chain (p ∷ ps) z h = (two_reads (slice p) (spelled ps ++ z) p h.0, two_chain ps z h.1)
+
+pub both_profiles : (text : List ℕ) (ts : List Token) → Lex One text ts → Lex Two text ts
+both_profiles text ts a = let h = lex_parted One text ts a in parted_lex Two text ts (record { pieces = h.pieces; read = two_chain h.pieces [] h.read; whole = h.whole; placed = h.placed })

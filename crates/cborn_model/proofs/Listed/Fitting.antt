@@ -1,0 +1,70 @@
+-- When nodes fit, in std's words: each of them does.
+use Rattle.std.proofs.Common.{ℕ, zero, suc, ◌≡◌, ◌<◌, List, [], ◌∷◌, length, get_or, arith, true, false, Bool, IsTrue, ◌↔◌, sym, subst, ◌∙◌}
+use Rattle.cborn_model.specs.declared.nodes.Chunk.{Chunk}
+use Rattle.cborn_model.specs.Tree.{Tree, Items, Pairs, trees, entries}
+use Rattle.cborn_model.specs.declared.heads.Size.{Size}
+use Rattle.cborn_model.proofs.Listed.Trees.{count-trees, count_entries-entries}
+use Rattle.cborn_model.specs.Heads.{WidthFits, SizeFits}
+use Rattle.cborn_model.specs.Bytes.{AreBytes}
+use Rattle.cborn_model.specs.Spelled.{Fits, FitsAll, FitsEntries, ChunksFit}
+
+abbrev pub PairFits : Tree × Tree → Type 0
+PairFits p = Fits p.0 × Fits p.1
+
+abbrev pub ChunkFits : Chunk → Type 0
+ChunkFits c = WidthFits c.width (length c.bytes) × AreBytes c.bytes
+
+-- P holds of the first n
+abbrev pub Front : {A : Type 0} → (A → Type 0) → List A → ℕ → Type 0
+Front {A} P xs n = (k : ℕ) (d : A) → k < n → P (get_or xs k d)
+
+pub all_fit : (xs : List Tree) → Front Fits xs (length xs) → FitsAll (trees xs)
+all_fit [] h = tt
+all_fit (x ∷ xs) h = (h 0 x (omega arith), all_fit xs (λ k d l. h (suc k) d (omega arith)))
+
+item_fits : (xs : List Tree) (i : ℕ) (x : Tree) → i < length xs → FitsAll (trees xs) → Fits (get_or xs i x)
+item_fits [] i x l h = absurd (omega arith)
+item_fits (y ∷ xs) zero x l h = h.0
+item_fits (y ∷ xs) (suc i) x l h = item_fits xs i x (omega arith) h.1
+
+pub fits_at : (xs : List Tree) (i : ℕ) (x : Tree) → i < length xs → x ≡ get_or xs i x → FitsAll (trees xs) → Fits x
+fits_at xs i x l e h = subst Fits (sym e) (item_fits xs i x l h)
+
+pub pairs_fit : (xs : List (Tree × Tree)) → Front PairFits xs (length xs) → FitsEntries (entries xs)
+pairs_fit [] h = tt
+pairs_fit (x ∷ xs) h = let p = h 0 x (omega arith) in (p.0, p.1, pairs_fit xs (λ k d l. h (suc k) d (omega arith)))
+
+pair_fits : (xs : List (Tree × Tree)) (i : ℕ) (x : Tree × Tree) → i < length xs → FitsEntries (entries xs) → PairFits (get_or xs i x)
+pair_fits [] i x l h = absurd (omega arith)
+pair_fits (y ∷ xs) zero x l h = (h.0, h.1)
+pair_fits (y ∷ xs) (suc i) x l h = pair_fits xs i x (omega arith) h.2
+
+pub pair_fits_at : (xs : List (Tree × Tree)) (i : ℕ) (x : Tree × Tree) → i < length xs → x ≡ get_or xs i x → FitsEntries (entries xs) → PairFits x
+pair_fits_at xs i x l e h = subst PairFits (sym e) (pair_fits xs i x l h)
+
+pub chunks_fit : (xs : List Chunk) → Front ChunkFits xs (length xs) → ChunksFit xs
+chunks_fit [] h = tt
+chunks_fit (x ∷ xs) h = (h 0 x (omega arith), chunks_fit xs (λ k d l. h (suc k) d (omega arith)))
+
+chunk_fits : (xs : List Chunk) (i : ℕ) (x : Chunk) → i < length xs → ChunksFit xs → ChunkFits (get_or xs i x)
+chunk_fits [] i x l h = absurd (omega arith)
+chunk_fits (y ∷ xs) zero x l h = h.0
+chunk_fits (y ∷ xs) (suc i) x l h = chunk_fits xs i x (omega arith) h.1
+
+pub chunk_fits_at : (xs : List Chunk) (i : ℕ) (x : Chunk) → i < length xs → x ≡ get_or xs i x → ChunksFit xs → ChunkFits x
+chunk_fits_at xs i x l e h = subst ChunkFits (sym e) (chunk_fits xs i x l h)
+
+-- a test of the size, and then one of what it holds
+pub items_and_size : (p : ℕ) (s : Size) (n : ℕ) (xs : List Tree) (r : Bool) → n ≡ length xs → SizeFits s n → (IsTrue r ↔ FitsAll (trees xs)) → (IsTrue r ↔ Fits (Items p s (trees xs)))
+items_and_size p s n xs r e h f = (λ y. (subst (SizeFits s) (e ∙ sym (count-trees xs)) h, f.0 y), λ y. f.1 y.1)
+
+pub entries_and_size : (p : ℕ) (s : Size) (n : ℕ) (xs : List (Tree × Tree)) (r : Bool) → n ≡ length xs → SizeFits s n → (IsTrue r ↔ FitsEntries (entries xs)) → (IsTrue r ↔ Fits (Pairs p s (entries xs)))
+entries_and_size p s n xs r e h f = (λ y. (subst (SizeFits s) (e ∙ sym (count_entries-entries xs)) h, f.0 y), λ y. f.1 y.1)
+
+pub items_without_size : (p : ℕ) (s : Size) (n : ℕ) (xs : List Tree) (r : Bool) → n ≡ length xs → r ≡ false → (IsTrue r ↔ SizeFits s n) → (IsTrue r ↔ Fits (Items p s (trees xs)))
+items_without_size p s n xs r e b f =
+    (λ y. absurd (let z : true ≡ false = sym y ∙ b in cc), λ y. f.1 (subst (SizeFits s) (sym (e ∙ sym (count-trees xs))) y.0))
+
+pub entries_without_size : (p : ℕ) (s : Size) (n : ℕ) (xs : List (Tree × Tree)) (r : Bool) → n ≡ length xs → r ≡ false → (IsTrue r ↔ SizeFits s n) → (IsTrue r ↔ Fits (Pairs p s (entries xs)))
+entries_without_size p s n xs r e b f =
+    (λ y. absurd (let z : true ≡ false = sym y ∙ b in cc), λ y. f.1 (subst (SizeFits s) (sym (e ∙ sym (count_entries-entries xs))) y.0))

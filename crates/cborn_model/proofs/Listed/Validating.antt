@@ -1,0 +1,63 @@
+-- Items of a slice, one by one: what is valid, and how deep.
+use Rattle.std.proofs.Common.{◌≡◌, ℕ, zero, suc, ◌+◌, ◌<◌, ◌^◌, max, List, [], ◌∷◌, map, length, take, drop, get_or, refl, sym, ap, subst, ◌∙◌, arith, Bool, IsTrue, ◌↔◌, inl, inr}
+use Rattle.std.proofs.lemmas.List.{length-map, take_more}
+use Rattle.std.proofs.lemmas.List.Recursion.{max_push}
+use Rattle.cborn_model.specs.declared.items.Item.{Item}
+use Rattle.cborn_model.specs.ItemView.{item_value, pair_value}
+use Rattle.cborn_model.specs.Value.{Value, array, dict, values_of, pairs_of}
+use Rattle.cborn_model.specs.Valid.{IsNew, HasNewKeys, IsProper, AreProper, HasProperPairs, value_depth, values_depth, pairs_depth}
+use Rattle.cborn_model.specs.Pairs.{Gives}
+use Rattle.cborn_model.proofs.Listed.Values.{value_count-values_of, pair_count-pairs_of}
+use Rattle.cborn_model.proofs.SameItems.Comparing.{values, pairs, IsProperItem, IsProperPair}
+
+pub are_proper_by_item : (is : List Item) → ((k : ℕ) (d : Item) → k < length is → IsProperItem (get_or is k d)) → AreProper (values_of (values is))
+are_proper_by_item [] h = tt
+are_proper_by_item (i ∷ is) h = (h 0 i (omega arith), are_proper_by_item is (λ k d l. h (suc k) d (omega arith)))
+
+pub are_proper_by_pair : (ps : List (Item × Item)) → ((k : ℕ) (d : Item × Item) → k < length ps → IsProperPair (get_or ps k d)) → HasProperPairs (pairs_of (pairs ps))
+are_proper_by_pair [] h = tt
+are_proper_by_pair (p ∷ ps) h =
+    let t = h 0 p (omega arith) in
+    (t.0, t.1, are_proper_by_pair ps (λ k d l. h (suc k) d (omega arith)))
+
+-- with the bound on the count
+pub array_proper : (is : List Item) (vs : List Value) (r : Bool) → values is ≡ vs → (IsTrue r ↔ AreProper (values_of (values is)) × (length is < 2 ^ 64)) → (IsTrue r ↔ IsProper (array (values_of vs)))
+array_proper is vs r e f =
+    let count = value_count-values_of (values is) ∙ length-map is item_value in
+    let g : IsTrue r ↔ IsProper (array (values_of (values is))) = (λ y. let t = f.0 y in (t.0, subst (λ n. n < 2 ^ 64) (sym count) t.1), λ h. f.1 (h.0, subst (λ n. n < 2 ^ 64) count h.1)) in
+    subst (λ l. IsTrue r ↔ IsProper (array (values_of l))) e g
+
+pub dict_proper : (ps : List (Item × Item)) (vs : List (Value × Value)) (r : Bool) → pairs ps ≡ vs → HasProperPairs (pairs_of (pairs ps)) × (length ps < 2 ^ 64) → (IsTrue r ↔ HasNewKeys (pairs_of (pairs ps))) → (IsTrue r ↔ IsProper (dict (pairs_of vs)))
+dict_proper ps vs r e h f =
+    let count = pair_count-pairs_of (pairs ps) ∙ length-map ps pair_value in
+    let g : IsTrue r ↔ IsProper (dict (pairs_of (pairs ps))) = (λ y. (h.0, f.0 y, subst (λ n. n < 2 ^ 64) (sym count) h.1), λ k. f.1 k.1) in
+    subst (λ l. IsTrue r ↔ IsProper (dict (pairs_of l))) e g
+
+-- a key whose value is given isn't new
+pub given_not_new : (k v : Value) (ps : List (Value × Value)) → IsNew k (pairs_of ps) → Gives k v ps → ⊥
+given_not_new k v [] h g = g
+given_not_new k v (p ∷ ps) h g = elim g [ inl s ↦ h.0 s.0 | inr s ↦ given_not_new k v ps h.1 s ]
+
+-- one more item, as a loop over the items meets it
+pub value_depth-take_more : (is : List Item) (i : ℕ) (x : Item) → i < length is → x ≡ get_or is i x → values_depth (values_of (map item_value (take (i + 1) is))) ≡ max (values_depth (values_of (map item_value (take i is)))) (value_depth (item_value x))
+value_depth-take_more is i x h e =
+    let F : List Item → ℕ = λ l. values_depth (values_of (map item_value l)) in
+    let each : Item → ℕ = λ y. value_depth (item_value y) in
+    ap F (take_more is i x h) ∙ max_push F each refl (λ _ _. refl) (take i is) (get_or is i x) ∙ ap (λ y. max (F (take i is)) (each y)) (sym e)
+
+pub pair_value_depth-take_more : (ps : List (Item × Item)) (i : ℕ) (x : Item × Item) → i < length ps → x ≡ get_or ps i x → pairs_depth (pairs_of (map pair_value (take (i + 1) ps))) ≡ max (pairs_depth (pairs_of (map pair_value (take i ps)))) (max (value_depth (item_value x.0)) (value_depth (item_value x.1)))
+pair_value_depth-take_more ps i x h e =
+    let F : List (Item × Item) → ℕ = λ l. pairs_depth (pairs_of (map pair_value l)) in
+    let each : Item × Item → ℕ = λ y. max (value_depth (item_value y.0)) (value_depth (item_value y.1)) in
+    ap F (take_more ps i x h) ∙ max_push F each refl (λ _ _. refl) (take i ps) (get_or ps i x) ∙ ap (λ y. max (F (take i ps)) (each y)) (sym e)
+
+given_in_front : (k v : Value) (n : ℕ) (ps : List (Item × Item)) → Gives k v (pairs (take n ps)) → Gives k v (pairs ps)
+given_in_front k v zero ps g = absurd g
+given_in_front k v (suc n) [] g = g
+given_in_front k v (suc n) (p ∷ ps) g = elim g [ inl s ↦ inl s | inr s ↦ inr (given_in_front k v n ps s) ]
+
+-- so no key has a value that is given behind it
+pub given_behind_head : (v : Value) (n : ℕ) (ps : List (Item × Item)) (x : Item × Item) → 0 < length ps → x ≡ get_or ps 0 x → HasNewKeys (pairs_of (pairs ps)) → Gives (item_value x.0) v (pairs (take n (drop 1 ps))) → ⊥
+given_behind_head v n [] x l e h g = absurd (omega arith)
+given_behind_head v n (p ∷ ps) x l e h g =
+    given_not_new (item_value p.0) v (pairs ps) h.0 (subst (λ (z : Item × Item). Gives (item_value z.0) v (pairs ps)) e (given_in_front (item_value x.0) v n ps g))

@@ -1,0 +1,5 @@
+-- A head says one argument, and each number has one magnitude without leading zeros.
+pub mod Majors
+pub mod OneHead
+pub mod OneMagnitude
+pub mod SomeMagnitude

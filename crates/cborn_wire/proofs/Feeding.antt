@@ -1,0 +1,6 @@
+-- What a reader tells of the bytes that it was fed: by pieces, as a whole, or up to the first item.
+pub mod Completing
+pub mod FeederLaws
+pub mod Outcomes
+pub mod WholeInput
+pub mod OneItem

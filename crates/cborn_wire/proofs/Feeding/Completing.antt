@@ -1,0 +1,114 @@
+-- What a reader that is fed by pieces has ready is what it has to give.
+use Rattle.std.proofs.Common.{◌≡◌, refl, sym, ap, ◌∙◌, subst, ℕ, ◌≤◌, List, [], ◌++◌, length, ◌⊎◌, inl, inr, arith, append_assoc, append-nil, length-append}
+use Rattle.cborn_model.specs.Bytes.{AreBytes}
+use Rattle.cborn_model.specs.Tree.{Tree, Trees, no_item, more, trees, depth, depth_all}
+use Rattle.cborn_model.specs.Spelled.{spelled, spelled_all, Fits, FitsAll, Wellformed}
+use Rattle.cborn_model.specs.Placed.{Placed, PlacedAll}
+use Rattle.cborn_wire.specs.declared.faults.WireReason.{WireReason}
+use Rattle.cborn_wire.specs.declared.faults.WireReason.TheVariants.{Truncated}
+use Rattle.cborn_wire.specs.Slots.{Begun, beginnings}
+use Rattle.cborn_wire.specs.Faults.{IsWellformed, Fault}
+use Rattle.cborn_wire.specs.Places.{all_from}
+use Rattle.cborn_wire.specs.Feeding.{AreComplete}
+use Rattle.cborn_wire.specs.Machine.{append_trees, snoc, IsLive, Partial, nothing, State, Live, Failed, start, ready_in, part_bytes, run}
+use Rattle.cborn_wire.proofs.Machine.Running.{failed_run}
+use Rattle.cborn_wire.proofs.Spelled.AsPlaced.{spelled_all-from}
+use Rattle.cborn_wire.proofs.Machine.WholeFront.{front_run}
+use Rattle.cborn_wire.proofs.Machine.TakesItems.{append_trees-nil}
+use Rattle.cborn_wire.proofs.Spelled.OneReading.{reads, longest, ready_front}
+use Rattle.cborn_wire.proofs.Machine.SoundItems.{SoundLive, Sound}
+use Rattle.cborn_wire.proofs.Machine.SoundRuns.{sound}
+use Rattle.cborn_wire.proofs.Spelled.FaultLaws.{refused_fails, ends_read, well_or_fault}
+use Rattle.cborn_wire.proofs.Spelled.TreeLists.{spelled_all-append}
+
+-- Whole items stay, and more follow them.
+pub ready_grows : (limit : ℕ) (s : State) (y : List ℕ) → (us : Trees) × (ready_in (run limit s y) ≡ append_trees (ready_in s) us)
+ready_grows limit (Live fed ready os part) y =
+    let s = Live fed no_item os part in (
+      ready_in (run limit s y),
+      ap ready_in (ap (λ l. run limit (Live fed l os part) y) (sym (append_trees-nil ready)) ∙ front_run ready limit y s) ∙ ready_front ready (run limit s y),
+    )
+ready_grows limit (Failed ready p r) y = (no_item, ap ready_in (failed_run limit y ready p r) ∙ sym (append_trees-nil ready))
+
+module _ (limit base : ℕ) where
+  -- No well-formed front is longer than what the whole items spell.
+  no_longer : (x f y : List ℕ) (us : Trees) → x ≡ f ++ y → Wellformed limit us f → length f ≤ length (spelled_all (ready_in (run limit (start base) x)))
+  no_longer x f y us is w =
+      let (vs, e) = longest limit base us f y w in
+      let same : spelled_all (ready_in (run limit (start base) x)) ≡ f ++ spelled_all vs
+      = ap (λ l. spelled_all (ready_in (run limit (start base) l))) is ∙ ap spelled_all e ∙ spelled_all-append (all_from base us) vs
+      ∙ ap (λ l. l ++ spelled_all vs) (spelled_all-from us base ∙ w.spells) in
+      omega (arith, ap length same, length-append f (spelled_all vs))
+
+  -- the whole items of a state are sound, and something follows them
+  record Begins (x : List ℕ) (ready : Trees) : Type 0 where
+    others : List ℕ
+    whole : x ≡ spelled_all ready ++ others
+    read : Wellformed limit ready (spelled_all ready)
+    placed : PlacedAll base ready
+
+  begins_live : (x : List ℕ) (fed : ℕ) (ready : Trees) (os : List Begun) (part : Partial) → SoundLive limit base x fed ready os part → Begins x ready
+  begins_live x fed ready os part h = record {
+    others = beginnings os ++ part_bytes part;
+    whole = h.bytes ∙ append_assoc (spelled_all ready) (beginnings os) (part_bytes part);
+    read = record { spells = refl; fit = h.ground.fit; shallow = h.ground.shallow };
+    placed = h.ground.placed;
+  }
+
+  begins : (x : List ℕ) (s : State) → Sound limit base x s → Begins x (ready_in s)
+  begins x (Live fed ready os part) h = begins_live x fed ready os part h
+  begins x (Failed ready p r) h =
+      let b = begins_live h.before p ready h.os nothing h.live in
+      record {
+        others = b.others ++ h.after;
+        whole = h.whole ∙ ap (λ l. l ++ h.after) b.whole ∙ append_assoc (spelled_all ready) b.others h.after;
+        read = b.read;
+        placed = b.placed;
+      }
+
+  -- What is ready are the nodes of the longest front that is well-formed.
+  pub complete : (items : List Tree) (x : List ℕ) → AreBytes x → ready_in (run limit (start base) x) ≡ trees items → AreComplete limit base items x
+  complete items x bytes e =
+      let s = run limit (start base) x in
+      let b = begins x s (sound limit base x bytes) in
+      let same : spelled_all (ready_in s) ≡ spelled_all (trees items) = ap spelled_all e in
+      record {
+        front = spelled_all (trees items);
+        rest = b.others;
+        whole = b.whole ∙ ap (λ l. l ++ b.others) same;
+        read = record { spells = refl; fit = subst FitsAll e b.read.fit; shallow = subst (λ ts. depth_all ts ≤ limit) e b.read.shallow };
+        placed = subst (PlacedAll base) e b.placed;
+        longest = λ f y others is w. subst (λ l. length f ≤ length l) same (no_longer x f y (trees others) is w);
+      }
+
+  -- No item is whole: none stands at the front.
+  pub no_first : (x : List ℕ) (t : Tree) (y : List ℕ) → ready_in (run limit (start base) x) ≡ no_item → x ≡ spelled t ++ y → Fits t → depth t ≤ limit → ⊥
+  no_first x t y e is fits deep =
+      let w : Wellformed limit (more t no_item) (spelled t) = record { spells = append-nil (spelled t); fit = (fits, tt); shallow = omega arith } in
+      let (vs, some) = longest limit base (more t no_item) (spelled t) y w in
+      clash (sym e ∙ ap (λ l. ready_in (run limit (start base) l)) is ∙ some)
+    where
+      clash : {u : Tree} {us : Trees} → no_item ≡ more u us → ⊥
+      clash e = cc
+
+  -- The item that is whole, where nothing is left open.
+  pub first_read : (y : List ℕ) (fed : ℕ) (t : Tree) → AreBytes y → run limit (start base) y ≡ Live fed (snoc no_item t) [] nothing → (y ≡ spelled t) × Fits t × (depth t ≤ limit) × Placed base t
+  first_read y fed t bytes e =
+      let (w, placed) = ends_read limit base y bytes fed (more t no_item) e in
+      (sym w.spells ∙ append-nil (spelled t), w.fit.0, omega (arith, w.shallow), placed.0)
+
+  -- Bytes without a whole item, of which none is refused, are none at all, or are cut.
+  pub no_item_cut : (x : List ℕ) → AreBytes x → IsLive (run limit (start base) x) → ready_in (run limit (start base) x) ≡ no_item → (x ≡ []) ⊎ Fault limit x (length x) Truncated
+  no_item_cut x bytes live e = choose (well_or_fault limit x bytes)
+    where
+      empty : (ts : Trees) → all_from base ts ≡ no_item → spelled_all ts ≡ x → x ≡ []
+      empty no_item n is = sym is
+      empty (more t ts) n is = cc
+
+      dead : {s : State} {ready : Trees} {p : ℕ} {r : WireReason} → s ≡ Failed ready p r → IsLive s → ⊥
+      dead f l = subst IsLive f l
+
+      choose : IsWellformed limit x ⊎ ((p : ℕ) × (r : WireReason) × Fault limit x p r) → (x ≡ []) ⊎ Fault limit x (length x) Truncated
+      choose (inl (ts, w)) = inl (empty ts (sym (ap ready_in (reads limit base ts x w)) ∙ e) w.spells)
+      choose (inr (p, r, inl h)) = absurd (dead (refused_fails limit base x p r h).1 live)
+      choose (inr (p, r, inr h)) = inr (inr (refl, (refl, h.1.1, h.1.2)))

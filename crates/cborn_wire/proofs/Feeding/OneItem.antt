@@ -1,0 +1,97 @@
+-- A reader that stops at the first whole item has read it, and one that comes to none knows the fault.
+use Rattle.std.proofs.Common.{◌≡◌, refl, sym, ap, ◌∙◌, subst, ℕ, ◌+◌, ◌≤◌, List, [], ◌++◌, length, take, drop, ◌⊎◌, inl, inr, arith, append_assoc, length-drop}
+use Rattle.std.proofs.lemmas.List.{take-append-drop, drop-drop, nil_from_length}
+use Rattle.cborn_model.specs.Bytes.{AreBytes}
+use Rattle.cborn_model.specs.Tree.{Tree, Trees, no_item, more}
+use Rattle.cborn_wire.specs.declared.faults.WireFault.{WireFault}
+use Rattle.cborn_wire.specs.declared.faults.WireFault.TheVariants as faults
+use Rattle.cborn_wire.specs.declared.faults.WireReason.{WireReason}
+use Rattle.cborn_wire.specs.declared.faults.WireReason.TheVariants.{Truncated}
+use Rattle.cborn_wire.specs.Slots.{Begun}
+use Rattle.cborn_wire.specs.Faults.{Fault}
+use Rattle.cborn_wire.specs.Reading.{IsFirstItem, ItemFault}
+use Rattle.cborn_wire.specs.Machine.{snoc, Partial, nothing, State, Live, Failed, start, IsLive, ready_in, run, Stops, Settles}
+use Rattle.cborn_wire.proofs.Machine.Running.{run-append}
+use Rattle.cborn_wire.proofs.Feeding.Outcomes.{refused_is}
+use Rattle.cborn_wire.proofs.Spelled.AllBytes.{bytes-left, bytes-right}
+use Rattle.cborn_wire.proofs.Spelled.FaultLaws.{fails_refused}
+use Rattle.cborn_wire.proofs.Feeding.Completing.{no_first, first_read, no_item_cut}
+
+module _ (limit base : ℕ) where
+  pub item_there : (x y rest : List ℕ) (fed : ℕ) (t : Tree) → AreBytes y → x ≡ y ++ rest → run limit (start base) y ≡ Live fed (snoc no_item t) [] nothing → IsFirstItem limit base t x rest
+  item_there x y rest fed t are cut e =
+      let (same, fits, shallow, placed) = first_read limit base y fed t are e in
+      record { whole = cut ∙ ap (λ l. l ++ rest) same; fits = fits; shallow = shallow; placed = placed }
+
+  pub item_refused : (x : List ℕ) (q : ℕ) (r : WireReason) → AreBytes x → run limit (start base) x ≡ Failed no_item q r → (p : ℕ) × (q ≡ base + p) × ItemFault limit x p r
+  item_refused x q r are e =
+      let (p, at, fault) = fails_refused limit base x are no_item q r e in
+      (p, at, (λ t rest. no_first limit base x t rest (ap ready_in e), inr (inl fault)))
+
+  pub item_cut : (x : List ℕ) (fed : ℕ) (os : List Begun) (part : Partial) → AreBytes x → run limit (start base) x ≡ Live fed no_item os part → ItemFault limit x (length x) Truncated
+  item_cut x fed os part are e = (λ t rest. no_first limit base x t rest (ap ready_in e), choose (no_item_cut limit base x are (subst IsLive (sym e) tt) (ap ready_in e)))
+    where
+      choose : (x ≡ []) ⊎ Fault limit x (length x) Truncated → ((x ≡ []) × (length x ≡ 0) × (Truncated ≡ Truncated)) ⊎ Fault limit x (length x) Truncated
+      choose (inl n) = inl (n, ap length n, refl)
+      choose (inr h) = inr h
+
+-- A reader of one item, which goes from the offset start on and stands at the offset end: what it read makes the state.
+pub record ReadSoFar (limit from end : ℕ) (bytes : List ℕ) (s : State) : Type 0 where
+  pub read : List ℕ
+  pub above : from ≤ end
+  pub below : end ≤ length bytes
+  pub cut : drop from bytes ≡ read ++ drop end bytes
+  pub makes : run limit (start from) read ≡ s
+
+module _ (limit from : ℕ) (bytes : List ℕ) (are : AreBytes bytes) where
+  pub are_later : AreBytes (drop from bytes)
+  are_later = bytes-right (take from bytes) (drop from bytes) (subst AreBytes (sym (take-append-drop from bytes)) are)
+
+  pub are_read : (end : ℕ) (s : State) (h : ReadSoFar limit from end bytes s) → AreBytes h.read
+  are_read end s h = bytes-left h.read (drop end bytes) (subst AreBytes h.cut are_later)
+
+  pub read_more : (end n : ℕ) (s u : State) → ReadSoFar limit from end bytes s → n ≤ length (drop end bytes) → run limit s (take n (drop end bytes)) ≡ u → ReadSoFar limit from (end + n) bytes u
+  read_more end n s u h fits goes =
+      let piece = take n (drop end bytes) in
+      let apart : drop end bytes ≡ piece ++ drop (end + n) bytes = sym (take-append-drop n (drop end bytes)) ∙ ap (λ l. piece ++ l) (drop-drop n end bytes) in
+      record {
+        read = h.read ++ piece;
+        above = omega (arith, h.above);
+        below = omega (arith, h.below, length-drop end bytes, fits);
+        cut = h.cut ∙ ap (λ l. h.read ++ l) apart ∙ sym (append_assoc h.read piece (drop (end + n) bytes));
+        makes = run-append limit (start from) h.read piece ∙ ap (λ v. run limit v piece) h.makes ∙ goes;
+      }
+
+  -- One item is whole.
+  pub read_item : (end : ℕ) (s : State) (t : Tree) (ts : Trees) → ReadSoFar limit from end bytes s → Settles no_item s → ready_in s ≡ more t ts → IsFirstItem limit from t (drop from bytes) (drop end bytes)
+  read_item end s t ts h (inl none) is = absurd (clash (sym none ∙ is))
+    where
+      clash : no_item ≡ more t ts → ⊥
+      clash e = cc
+  read_item end s t ts h (inr (fed, u, e)) is =
+      let same : u ≡ t = first (sym (ap ready_in e) ∙ is) in
+      subst (λ t. IsFirstItem limit from t (drop from bytes) (drop end bytes)) same (item_there limit from (drop from bytes) h.read (drop end bytes) fed u (are_read end s h) h.cut (h.makes ∙ e))
+    where
+      first : more u no_item ≡ more t ts → u ≡ t
+      first e = cc
+
+  whole_run : (end : ℕ) (s : State) (h : ReadSoFar limit from end bytes s) → run limit (start from) (drop from bytes) ≡ run limit s (drop end bytes)
+  whole_run end s h = ap (run limit (start from)) h.cut ∙ run-append limit (start from) h.read (drop end bytes) ∙ ap (λ v. run limit v (drop end bytes)) h.makes
+
+  -- A head is refused before any item is whole.
+  pub read_refused : (end : ℕ) (s : State) (e : WireFault) (p : ℕ) (r : WireReason) → ReadSoFar limit from end bytes s → Stops limit s (drop end bytes) e no_item → e ≡ faults.Refused p r
+      → (q : ℕ) × (p ≡ from + q) × ItemFault limit (drop from bytes) q r
+  read_refused end s (faults.Refused q t) p r h stops e =
+      let (a, b) = refused_is q p t r e in
+      let failed = whole_run end s h ∙ stops ∙ ap (λ q. Failed no_item q t) a ∙ ap (Failed no_item p) b in
+      item_refused limit from (drop from bytes) p r are_later failed
+  read_refused end s faults.OutOfMemory p r h stops e = cc
+
+  -- The bytes end before any item is whole.
+  pub read_cut : (end fed : ℕ) (os : List Begun) (part : Partial) → ReadSoFar limit from end bytes (Live fed no_item os part) → length bytes ≤ end
+      → (q : ℕ) × (length bytes ≡ from + q) × ItemFault limit (drop from bytes) q Truncated
+  read_cut end fed os part h over =
+      let x = drop from bytes in
+      let rest : drop end bytes ≡ [] = nil_from_length (drop end bytes) (omega (arith, length-drop end bytes)) in
+      let here : run limit (start from) x ≡ Live fed no_item os part = whole_run end (Live fed no_item os part) h ∙ ap (run limit (Live fed no_item os part)) rest in
+      (length x, omega (arith, length-drop from bytes, h.above, h.below), item_cut limit from x fed os part are_later here)

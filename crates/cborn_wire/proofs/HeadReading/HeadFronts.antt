@@ -1,0 +1,192 @@
+-- What `read_head` answers, at each kind of initial byte.
+use Rattle.std.proofs.Common.{◌≡◌, refl, sym, ap, ◌∙◌, subst, ℕ, zero, suc, ◌+◌, ◌-◌, ◌*◌, ◌/◌, ◌%◌, ◌<◌, ◌≤◌, List, [], ◌∷◌, ◌++◌, length, take, drop, get_or, true, false, None, arith, length-append}
+use Rattle.std.proofs.lemmas.List.{take-append-drop, length-take-le, length-replicate}
+use Rattle.std.proofs.Math.ListN.{replicate}
+use Rattle.cborn_model.specs.Bytes.{AreBytes}
+use Rattle.cborn_model.specs.declared.heads.Width.{Width}
+use Rattle.cborn_model.specs.declared.heads.Width.TheVariants.{Direct, One, Two, Four, Eight}
+use Rattle.cborn_model.specs.declared.heads.Major.{Major}
+use Rattle.cborn_model.specs.declared.heads.Major.TheVariants.{Unsigned, Negative, ByteString, TextString, Array, Map, Tag, Other}
+use Rattle.cborn_model.specs.Heads.{code, information, following}
+use Rattle.cborn_model.specs.Heads as heads
+use Rattle.cborn_wire.specs.declared.heads.Argument.TheVariants.{Given, Endless}
+use Rattle.cborn_wire.specs.declared.heads.HeadRead.{HeadRead}
+use Rattle.cborn_wire.specs.HeadReading.{major_at, reason_alone, IsHeadOf, IsFrontOfHead, ReadsHead}
+use Rattle.cborn_wire.specs.Slots.{element_or_end}
+use Rattle.cborn_wire.specs.InitialBytes.{Info, Now, Next, Unended, Reserved, info_at, is_unended, is_always_bounded, is_other, head_reason}
+use Rattle.cborn_wire.specs.Machine.{width_bytes, number}
+use Rattle.cborn_wire.proofs.HeadReading.InitialBytes.{same_alone}
+use Rattle.cborn_wire.proofs.Spelled.AllBytes.{bytes-append, bytes-left}
+use Rattle.cborn_wire.proofs.Machine.TakesHeads.{info_at-now}
+use Rattle.cborn_wire.proofs.Machine.SoundRuns.{code_at, IsWide, InfoIs, info_is, again, wide_information}
+
+module _ (y : List ℕ) where
+  now_free : (m : Major) (n : ℕ) → head_reason element_or_end false m (Now n) y ≡ None
+  now_free Unsigned n = refl
+  now_free Negative n = refl
+  now_free ByteString n = refl
+  now_free TextString n = refl
+  now_free Array n = refl
+  now_free Map n = refl
+  now_free Tag n = refl
+  now_free Other n = refl
+
+  endless_free : (m : Major) → is_always_bounded m ≡ false → head_reason element_or_end false m Unended y ≡ None
+  endless_free Unsigned e = cc
+  endless_free Negative e = cc
+  endless_free ByteString e = refl
+  endless_free TextString e = refl
+  endless_free Array e = refl
+  endless_free Map e = refl
+  endless_free Tag e = cc
+  endless_free Other e = refl
+
+  pub direct_head : (b : ℕ) → b < 256 → b % 32 < 24 → IsHeadOf (b ∷ y) (record { major = b / 32; argument = Given Direct (b % 32) }) 1
+  direct_head b small h =
+      let same : b ≡ 32 * code (major_at (b / 32)) + b % 32 = omega (arith, code_at (b / 32) (omega arith)) in
+      record {
+        rest = y;
+        major = omega arith;
+        fits = h;
+        whole = ap (λ c. c ∷ y) same;
+        len = refl;
+        free = same_alone b y ∙ ap (λ i. head_reason element_or_end false (major_at (b / 32)) i y) (info_at-now (b % 32) h) ∙ now_free (major_at (b / 32)) (b % 32);
+      }
+
+  pub endless_head : (b m : ℕ) → m < 8 → b / 32 ≡ m → info_at (b % 32) ≡ Unended → is_always_bounded (major_at m) ≡ false → IsHeadOf (b ∷ y) (record { major = m; argument = Endless }) 1
+  endless_head b m small e i free =
+      let low : b % 32 ≡ 31 = subst (InfoIs (b % 32)) i (info_is (b % 32)) in
+      let same : b ≡ 32 * code (major_at m) + 31 = omega (arith, code_at m small, e, low) in
+      record {
+        rest = y;
+        major = small;
+        fits = tt;
+        whole = ap (λ c. c ∷ y) same;
+        len = refl;
+        free = same_alone b y ∙ ap (λ n. head_reason element_or_end false (major_at n) (info_at (b % 32)) y) e ∙ ap (λ j. head_reason element_or_end false (major_at m) j y) i ∙ endless_free (major_at m) free;
+      }
+
+  -- the initial byte of a head with a wide argument
+  wide_first : (b m n : ℕ) (w : Width) → m < 8 → b / 32 ≡ m → info_at (b % 32) ≡ Next w → (b ≡ 32 * code (major_at m) + information w n) × IsWide w
+  wide_first b m n w small e i =
+      let low : (b % 32 ≡ information w 0) × IsWide w = subst (InfoIs (b % 32)) i (info_is (b % 32)) in
+      (omega (arith, code_at m small, e, low.0, wide_information w n low.1), low.1)
+
+  pub wide_head : (b m n k : ℕ) (w : Width) → m < 8 → b / 32 ≡ m → info_at (b % 32) ≡ Next w → AreBytes y → width_bytes w ≤ length y → n ≡ number w (take (width_bytes w) y) → k ≡ width_bytes w → reason_alone (b ∷ y) ≡ None
+      → IsHeadOf (b ∷ y) (record { major = m; argument = Given w n }) (1 + k)
+  wide_head b m n k w small e i are all value len free =
+      let got = take (width_bytes w) y in
+      let first = wide_first b m n w small e i in
+      let bytes : AreBytes got = bytes-left got (drop (width_bytes w) y) (subst AreBytes (sym (take-append-drop (width_bytes w) y)) are) in
+      let many : length got ≡ width_bytes w = length-take-le (width_bytes w) y all in
+      let same = again w got first.1 many bytes in
+      let follows : following w n ≡ got = ap (following w) value ∙ same.0 in
+      record {
+        rest = drop (width_bytes w) y;
+        major = small;
+        fits = subst (heads.WidthFits w) (sym value) same.1;
+        whole = ap (λ c. c ∷ y) first.0 ∙ ap (λ l. (32 * code (major_at m) + information w n) ∷ l) (sym (take-append-drop (width_bytes w) y) ∙ ap (λ l. l ++ drop (width_bytes w) y) (sym follows));
+        len = omega (arith, ap length follows, many, len);
+        free = free;
+      }
+
+  bytes_zeros : (n : ℕ) → AreBytes (replicate n 0)
+  bytes_zeros zero = tt
+  bytes_zeros (suc n) = (omega arith, bytes_zeros n)
+
+  pub wide_front : (b m : ℕ) (w : Width) → m < 8 → b / 32 ≡ m → info_at (b % 32) ≡ Next w → AreBytes y → length y < width_bytes w → reason_alone (b ∷ y) ≡ None → IsFrontOfHead (b ∷ y)
+  wide_front b m w small e i are short free =
+      let missing = replicate (width_bytes w - length y) 0 in
+      let got = y ++ missing in
+      let many : length got ≡ width_bytes w = omega (arith, length-append y missing, length-replicate {A = ℕ} (width_bytes w - length y) 0) in
+      let first = wide_first b m (number w got) w small e i in
+      let same = again w got first.1 many (bytes-append y missing are (bytes_zeros (width_bytes w - length y))) in
+      record {
+        major = major_at m;
+        argument = heads.Given w (number w got);
+        missing = missing;
+        fits = same.1;
+        whole = ap (λ c. c ∷ got) first.0 ∙ ap (λ l. (32 * code (major_at m) + information w (number w got)) ∷ l) (sym same.0);
+        some = omega (arith, length-replicate {A = ℕ} (width_bytes w - length y) 0);
+        free = free;
+      }
+
+pub no_head : (x : List ℕ) → length x < 1 → IsFrontOfHead x
+no_head [] h = record { major = Unsigned; argument = heads.Given Direct 0; missing = 0 ∷ []; fits = omega arith; whole = refl; some = omega arith; free = refl }
+no_head (b ∷ x) h = absurd (omega arith)
+
+unended_is : (i : Info) → is_unended i ≡ true → i ≡ Unended
+unended_is (Now n) e = cc
+unended_is (Next w) e = cc
+unended_is Reserved e = cc
+unended_is Unended e = refl
+
+no_other : (m : Major) → (m ≡ Other → ⊥) → is_other (major_at (code m)) ≡ false
+no_other Unsigned h = refl
+no_other Negative h = refl
+no_other ByteString h = refl
+no_other TextString h = refl
+no_other Array h = refl
+no_other Map h = refl
+no_other Tag h = refl
+no_other Other h = absurd (h refl)
+
+pub code_small : (m : Major) → code m < 8
+code_small Unsigned = omega arith
+code_small Negative = omega arith
+code_small ByteString = omega arith
+code_small TextString = omega arith
+code_small Array = omega arith
+code_small Map = omega arith
+code_small Tag = omega arith
+code_small Other = omega arith
+
+next_free : (y : List ℕ) (m : Major) (w : Width) → is_other m ≡ false → head_reason element_or_end false m (Next w) y ≡ None
+next_free y Unsigned w e = refl
+next_free y Negative w e = refl
+next_free y ByteString w e = refl
+next_free y TextString w e = refl
+next_free y Array w e = refl
+next_free y Map w e = refl
+next_free y Tag w e = refl
+next_free y Other w e = cc
+
+pub direct_front : (x : List ℕ) (m : Major) → AreBytes x → 1 ≤ length x → code m ≡ get_or x 0 0 / 32 → get_or x 0 0 % 32 < 24
+    → IsHeadOf x (record { major = code m; argument = Given Direct (get_or x 0 0 % 32) }) 1
+direct_front [] m are h first low = absurd (omega arith)
+direct_front (b ∷ y) m are h first low =
+    subst (λ (n : ℕ). IsHeadOf (b ∷ y) (record { major = n; argument = Given Direct (b % 32) }) 1) (sym first) (direct_head y b are.0 low)
+
+pub endless_front : (x : List ℕ) (r : HeadRead) (m : Major) → 1 ≤ length x → code m ≡ get_or x 0 0 / 32 → is_unended (info_at (get_or x 0 0 % 32)) ≡ true
+    → ((b : ℕ) (y : List ℕ) → b / 32 ≡ code m → info_at (b % 32) ≡ Unended → ReadsHead (b ∷ y) r) → ReadsHead x r
+endless_front [] r m h first e reads = absurd (omega arith)
+endless_front (b ∷ y) r m h first e reads = reads b y (sym first) (unended_is (info_at (b % 32)) e)
+
+pub wide_fronts : (x rest : List ℕ) (r : HeadRead) (m : Major) (w : Width) → rest ≡ drop 1 x → 1 ≤ length x → code m ≡ get_or x 0 0 / 32 → info_at (get_or x 0 0 % 32) ≡ Next w → (m ≡ Other → ⊥)
+    → ((b : ℕ) → b / 32 ≡ code m → info_at (b % 32) ≡ Next w → reason_alone (b ∷ rest) ≡ None → ReadsHead (b ∷ rest) r) → ReadsHead x r
+wide_fronts [] rest r m w same h first i e reads = absurd (omega arith)
+wide_fronts (b ∷ y) rest r m w same h first i e reads =
+    let other : is_other (major_at (b / 32)) ≡ false = ap (λ n. is_other (major_at n)) (sym first) ∙ no_other m e in
+    subst (λ (l : List ℕ). ReadsHead (b ∷ l) r) same (reads b (sym first) i (same_alone b rest ∙ ap (λ j. head_reason element_or_end false (major_at (b / 32)) j rest) i ∙ next_free rest (major_at (b / 32)) w other))
+
+-- A byte below 24 is the head of an unsigned integer.
+pub small_head : (x : List ℕ) → 0 < length x → get_or x 0 0 < 24 → IsHeadOf x (record { major = 0; argument = Given Direct (get_or x 0 0) }) 1
+small_head [] some h = absurd (omega arith)
+small_head (b ∷ y) some h =
+    let none : b / 32 ≡ 0 = omega arith in
+    let same : b % 32 ≡ b = omega arith in
+    subst (λ (n : ℕ). IsHeadOf (b ∷ y) (record { major = 0; argument = Given Direct n }) 1) same
+    (subst (λ (m : ℕ). IsHeadOf (b ∷ y) (record { major = m; argument = Given Direct (b % 32) }) 1) none (direct_head y b (omega arith) (omega arith)))
+
+-- The front of a head that isn't whole announces an argument of one byte or more.
+pub short_front : (x : List ℕ) → 0 < length x → IsFrontOfHead x → (24 ≤ get_or x 0 0 % 32) × (get_or x 0 0 % 32 ≤ 27)
+short_front [] some f = absurd (omega (arith, some))
+short_front (b ∷ x) some f = go f.argument f.whole
+  where
+    go : (a : heads.Argument) → b ∷ (x ++ f.missing) ≡ heads.head f.major a → (24 ≤ b % 32) × (b % 32 ≤ 27)
+    go (heads.Given Direct n) e = absurd (omega (arith, ap length e, length-append x f.missing, f.some))
+    go (heads.Given One n) e = let first : b ≡ 32 * code f.major + 24 = cc in (omega (arith, first), omega (arith, first))
+    go (heads.Given Two n) e = let first : b ≡ 32 * code f.major + 25 = cc in (omega (arith, first), omega (arith, first))
+    go (heads.Given Four n) e = let first : b ≡ 32 * code f.major + 26 = cc in (omega (arith, first), omega (arith, first))
+    go (heads.Given Eight n) e = let first : b ≡ 32 * code f.major + 27 = cc in (omega (arith, first), omega (arith, first))
+    go heads.Unbounded e = absurd (omega (arith, ap length e, length-append x f.missing, f.some))

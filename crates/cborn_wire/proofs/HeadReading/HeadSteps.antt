@@ -1,0 +1,103 @@
+-- The machine takes what `read_head` reads.
+use Rattle.std.proofs.Common.{◌≡◌, refl, sym, ap, ◌∙◌, ℕ, ◌+◌, ◌/◌, ◌%◌, ◌<◌, ◌≤◌, List, [], ◌∷◌, ◌++◌, length, take, get_or, Bool, true, false, ◌&&◌, cond, leb, Option, Some, None, arith, append-nil, length-append, add-one}
+use Rattle.std.proofs.Math.Bool.{and-false}
+use Rattle.std.proofs.lemmas.List.{take_all, take-append-le, length-take}
+use Rattle.cborn_model.specs.declared.heads.Width.{Width}
+use Rattle.cborn_model.specs.declared.heads.Width.TheVariants.{Direct, One, Two, Four, Eight}
+use Rattle.cborn_model.specs.declared.heads.Major.{Major}
+use Rattle.cborn_model.specs.Heads.{Argument, Given, Unbounded, head}
+use Rattle.cborn_model.specs.Tree.{Trees}
+use Rattle.cborn_wire.specs.declared.faults.WireReason.{WireReason}
+use Rattle.cborn_wire.specs.declared.faults.WireReason.TheVariants.{BadSimple, TooDeep}
+use Rattle.cborn_wire.specs.declared.heads.Head.{Head}
+use Rattle.cborn_wire.specs.HeadReading.{major_at, seen_argument, reason_alone, IsHeadOf}
+use Rattle.cborn_wire.specs.Slots.{Slot, element_or_end, Begun, slot, open_depth}
+use Rattle.cborn_wire.specs.Faults.{begins_low}
+use Rattle.cborn_wire.specs.InitialBytes.{Info, info_at, is_break, is_other, is_one, is_container, head_reason}
+use Rattle.cborn_wire.specs.Machine.{width_bytes, number, argument_of, nothing, gathering, Live, Failed, after_head, run}
+use Rattle.cborn_wire.proofs.HeadReading.InitialBytes.{same_alone}
+use Rattle.cborn_wire.proofs.Machine.Pieces.{takes_whole_head, refuses_first, argument_done}
+use Rattle.cborn_wire.proofs.Machine.SoundSteps.{is_clear}
+use Rattle.cborn_wire.proofs.Machine.SomeEnd.{refused_run}
+
+take_one : (x : List ℕ) → 0 < length x → take 1 x ≡ get_or x 0 0 ∷ []
+take_one [] h = absurd (omega arith)
+take_one (b ∷ x) h = refl
+
+fills : (w : Width) → width_bytes w ≤ 8
+fills Direct = omega arith
+fills One = omega arith
+fills Two = omega arith
+fills Four = omega arith
+fills Eight = omega arith
+
+-- There is room for one byte more of an argument.
+pub argument_room : (w : Width) (n : ℕ) (bytes : List ℕ) → length bytes ≡ 8 → length (take n bytes) < width_bytes w → n < 8
+argument_room w n bytes l h = omega (arith, length-take n bytes, l, fills w, h)
+
+head_some : (m : Major) (a : Argument) → 0 < length (head m a)
+head_some m (Given w n) = omega arith
+head_some m Unbounded = omega arith
+
+module _ (limit at : ℕ) (ready : Trees) (os : List Begun) where
+  -- The last byte of an argument.
+  pub argument_ends : (p : ℕ) (m : Major) (w : Width) (got all piece : List ℕ) (n : ℕ) → 0 < length piece → all ≡ got ++ get_or piece 0 0 ∷ [] → length got < width_bytes w → width_bytes w ≤ length all → n ≡ number w (take (width_bytes w) all)
+      → run limit (Live at ready os (gathering p (argument_of m w) (width_bytes w) got)) (take 1 piece) ≡ after_head (at + 1) p ready os m (Given w n)
+  argument_ends p m w got all piece n some is short full value =
+      let many : length all ≡ length got + 1 = ap length is ∙ length-append got (get_or piece 0 0 ∷ []) in
+      let whole : take (width_bytes w) all ≡ all = take_all (width_bytes w) all (omega (arith, many, short)) in
+      ap (run limit (Live at ready os (gathering p (argument_of m w) (width_bytes w) got))) (take_one piece some)
+      ∙ argument_done limit at ready os p m w (width_bytes w) got (get_or piece 0 0) (omega (arith, many, full))
+      ∙ ap (λ k. after_head k p ready os m (Given w (number w (got ++ get_or piece 0 0 ∷ [])))) (sym (add-one at))
+      ∙ ap (λ k. after_head (at + 1) p ready os m (Given w k)) (sym (value ∙ ap (number w) (whole ∙ is)))
+
+  -- An initial byte that may not stand there.
+  pub first_refused : (piece : List ℕ) (r : WireReason) → 0 < length piece → Some r ≡ head_reason (slot os) (leb limit (open_depth os)) (major_at (get_or piece 0 0 / 32)) (info_at (get_or piece 0 0 % 32)) []
+      → run limit (Live at ready os nothing) piece ≡ Failed ready at r
+  first_refused [] r some e = absurd (omega arith)
+  first_refused (b ∷ y) r some e = refuses_first limit at ready os b y r (sym e)
+
+  -- A whole head.
+  pub head_taken : (piece : List ℕ) (h : Head) (n : ℕ) → IsHeadOf piece h n → None ≡ head_reason (slot os) (leb limit (open_depth os)) (major_at (get_or piece 0 0 / 32)) (info_at (get_or piece 0 0 % 32)) []
+      → run limit (Live at ready os nothing) (take n piece) ≡ after_head (at + n) at ready os (major_at h.major) (seen_argument h.argument)
+  head_taken piece h n i none =
+      let x = head (major_at h.major) (seen_argument h.argument) in
+      let front : take n piece ≡ x = ap (take n) i.whole ∙ ap (λ k. take k (x ++ i.rest)) i.len ∙ take-append-le (length x) x i.rest (omega arith) ∙ take_all (length x) x (omega arith) in
+      whole_head x i.rest refl piece i.whole front none
+    where
+      whole_head : (x rest : List ℕ) → x ≡ head (major_at h.major) (seen_argument h.argument) → (all : List ℕ) → all ≡ x ++ rest → take n piece ≡ x
+          → None ≡ head_reason (slot os) (leb limit (open_depth os)) (major_at (get_or all 0 0 / 32)) (info_at (get_or all 0 0 % 32)) []
+          → run limit (Live at ready os nothing) (take n piece) ≡ after_head (at + n) at ready os (major_at h.major) (seen_argument h.argument)
+      whole_head [] rest e all is f none = absurd (omega (arith, ap length e, head_some (major_at h.major) (seen_argument h.argument)))
+      whole_head (b ∷ y) rest e all is f none =
+          let first : get_or all 0 0 ≡ b = ap (λ l. get_or l 0 0) is in
+          let clear : head_reason (slot os) (leb limit (open_depth os)) (major_at (b / 32)) (info_at (b % 32)) [] ≡ None = ap (λ j. head_reason (slot os) (leb limit (open_depth os)) (major_at (j / 32)) (info_at (j % 32)) []) (sym first) ∙ sym none in
+          ap (run limit (Live at ready os nothing)) f
+          ∙ takes_whole_head limit at ready os (major_at h.major) (seen_argument h.argument) b y [] i.fits (e ∙ sym (append-nil (head (major_at h.major) (seen_argument h.argument)))) clear
+          ∙ ap (λ k. after_head (at + k) at ready os (major_at h.major) (seen_argument h.argument)) (sym i.len)
+
+-- A reason that the initial byte alone doesn't give is told by the second byte, wherever the head stands.
+bad_simple : (s : Slot) (full : Bool) (m : Major) (i : Info) (y : List ℕ) (r : WireReason) → head_reason s full m i [] ≡ None → head_reason element_or_end false m i y ≡ Some r → head_reason s full m i y ≡ Some r
+bad_simple s full m i y r none e =
+    let c = is_clear s full m i [] none in
+    rw (c.reserved, c.bounded, c.chunked, c.broken, c.float, c.room) (again e)
+  where
+    last : (a b : Bool) (x : Option WireReason) → cond a x (cond (b && false) (Some TooDeep) None) ≡ Some r → cond a x None ≡ Some r
+    last a true x e = e
+    last a false x e = e
+
+    again : head_reason element_or_end false m i y ≡ Some r → cond (is_other m && is_one i && begins_low y) (Some BadSimple) None ≡ Some r
+    again e =
+        let c = is_clear s full m i [] none in
+        last (is_other m && is_one i && begins_low y) (is_container m) (Some BadSimple) (rw (c.reserved, c.bounded, and-false (is_break m i), c.float) at e)
+
+pub second_refused : (limit at : ℕ) (ready : Trees) (os : List Begun) (piece : List ℕ) (r : WireReason) → 0 < length piece
+    → None ≡ head_reason (slot os) (leb limit (open_depth os)) (major_at (get_or piece 0 0 / 32)) (info_at (get_or piece 0 0 % 32)) [] → reason_alone piece ≡ Some r
+    → run limit (Live at ready os nothing) piece ≡ Failed ready at r
+second_refused limit at ready os [] r some none e = absurd (omega arith)
+second_refused limit at ready os (b ∷ y) r some none e =
+    refused_run limit (b ∷ y) at ready os r (bad_simple (slot os) (leb limit (open_depth os)) (major_at (b / 32)) (info_at (b % 32)) y r (sym none) (sym (same_alone b y) ∙ e))
+
+pub head_fits : (piece : List ℕ) (h : Head) (n : ℕ) → IsHeadOf piece h n → (0 < n) × (n ≤ length piece)
+head_fits piece h n i =
+    (omega (arith, i.len, head_some (major_at h.major) (seen_argument h.argument)), omega (arith, i.len, ap length i.whole, length-append (head (major_at h.major) (seen_argument h.argument)) i.rest))

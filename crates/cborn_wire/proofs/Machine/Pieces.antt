@@ -1,0 +1,91 @@
+-- A piece may be taken by heads and by slices, and not byte by byte.
+use Rattle.std.proofs.Common.{◌≡◌, refl, sym, ap, ◌∙◌, ℕ, suc, ◌+◌, ◌*◌, ◌/◌, ◌%◌, ◌<◌, ◌≤◌, List, [], ◌∷◌, ◌++◌, length, cond, leb, Some, None, arith, length-append}
+use Rattle.std.proofs.lemmas.Bool.{lt-leb, le-leb}
+use Rattle.cborn_model.specs.declared.heads.Width.{Width}
+use Rattle.cborn_model.specs.declared.heads.Width.TheVariants.{Direct, One, Two, Four, Eight}
+use Rattle.cborn_model.specs.declared.heads.Major.{Major}
+use Rattle.cborn_model.specs.Heads.{Argument, Given, Unbounded, code, following, head}
+use Rattle.cborn_model.specs.Tree.{Trees}
+use Rattle.cborn_wire.specs.declared.faults.WireReason.{WireReason}
+use Rattle.cborn_wire.specs.Slots.{StringKind, Begun, slot, open_depth}
+use Rattle.cborn_wire.specs.InitialBytes.{info_at, head_reason}
+use Rattle.cborn_wire.specs.Machine.{number, Goal, argument_of, content_of, nothing, gathering, Live, Failed, string_done, after_head, gathered, gather, begin_head, unless, step, run}
+use Rattle.cborn_wire.proofs.Machine.Running.{failed_run}
+use Rattle.cborn_wire.specs.HeadReading.{major_at, ArgumentFits}
+use Rattle.cborn_wire.proofs.Machine.TakesHeads.{gathers, takes_head, info_for, quotient, remainder, major_at-code, info_at-now}
+
+-- the initial byte of a head, and what its information is
+record FirstOf (m : Major) (a : Argument) : Type 0 where
+  low : ℕ
+  others : List ℕ
+  bytes : head m a ≡ (32 * code m + low) ∷ others
+  small : low < 32
+  says : info_at low ≡ info_for a
+
+first_of : (m : Major) (a : Argument) → ArgumentFits a → FirstOf m a
+first_of m (Given Direct n) h = record { low = n; others = []; bytes = refl; small = omega arith; says = info_at-now n h }
+first_of m (Given One n) h = record { low = 24; others = following One n; bytes = refl; small = omega arith; says = refl }
+first_of m (Given Two n) h = record { low = 25; others = following Two n; bytes = refl; small = omega arith; says = refl }
+first_of m (Given Four n) h = record { low = 26; others = following Four n; bytes = refl; small = omega arith; says = refl }
+first_of m (Given Eight n) h = record { low = 27; others = following Eight n; bytes = refl; small = omega arith; says = refl }
+first_of m Unbounded h = record { low = 31; others = []; bytes = refl; small = omega arith; says = refl }
+
+first_byte : (m : Major) (a : Argument) (b : ℕ) (z y : List ℕ) → b ∷ z ≡ head m a ++ y → (f : FirstOf m a) → b ≡ 32 * code m + f.low
+first_byte m a b z y e f = go (e ∙ ap (λ l. l ++ y) f.bytes)
+  where
+    go : {c : ℕ} {l : List ℕ} → b ∷ z ≡ c ∷ l → b ≡ c
+    go e = cc
+
+pub major_of_head : (m : Major) (a : Argument) (b : ℕ) (z y : List ℕ) → ArgumentFits a → b ∷ z ≡ head m a ++ y → major_at (b / 32) ≡ m
+major_of_head m a b z y fits e =
+    let f = first_of m a fits in
+    ap (λ n. major_at (n / 32)) (first_byte m a b z y e f) ∙ ap major_at (quotient (code m) f.low f.small) ∙ major_at-code m
+
+pub info_of_head : (m : Major) (a : Argument) (b : ℕ) (z y : List ℕ) → ArgumentFits a → b ∷ z ≡ head m a ++ y → info_at (b % 32) ≡ info_for a
+info_of_head m a b z y fits e =
+    let f = first_of m a fits in
+    ap (λ n. info_at (n % 32)) (first_byte m a b z y e f) ∙ ap info_at (remainder (code m) f.low f.small) ∙ f.says
+
+module _ (limit fed : ℕ) (ready : Trees) (os : List Begun) where
+  -- A head that lies whole at the front of a piece.
+  pub takes_whole_head : (m : Major) (a : Argument) (b : ℕ) (z y : List ℕ) → ArgumentFits a → b ∷ z ≡ head m a ++ y
+      → head_reason (slot os) (leb limit (open_depth os)) (major_at (b / 32)) (info_at (b % 32)) [] ≡ None
+      → run limit (Live fed ready os nothing) (b ∷ z) ≡ run limit (after_head (fed + length (head m a)) fed ready os m a) y
+  takes_whole_head m a b z y fits e none =
+      let suits : head_reason (slot os) (leb limit (open_depth os)) m (info_for a) [] ≡ None
+      = ap (λ j. head_reason (slot os) (leb limit (open_depth os)) j (info_for a) []) (sym (major_of_head m a b z y fits e))
+      ∙ ap (λ i. head_reason (slot os) (leb limit (open_depth os)) (major_at (b / 32)) i []) (sym (info_of_head m a b z y fits e)) ∙ none in
+      ap (run limit (Live fed ready os nothing)) e ∙ takes_head limit fed ready os m a y fits suits
+
+  -- An initial byte that may not stand in the slot.
+  pub refuses_first : (b : ℕ) (y : List ℕ) (r : WireReason) → head_reason (slot os) (leb limit (open_depth os)) (major_at (b / 32)) (info_at (b % 32)) [] ≡ Some r
+      → run limit (Live fed ready os nothing) (b ∷ y) ≡ Failed ready fed r
+  refuses_first b y r e =
+      ap (λ o. run limit (unless o ready fed (begin_head fed ready os (major_at (b / 32)) (info_at (b % 32)))) y) e ∙ failed_run limit y ready fed r
+
+  -- The last byte of an argument.
+  pub argument_done : (p : ℕ) (m : Major) (w : Width) (n : ℕ) (got : List ℕ) (b : ℕ) → n ≤ suc (length got)
+      → step limit (Live fed ready os (gathering p (argument_of m w) n got)) b ≡ after_head (suc fed) p ready os m (Given w (number w (got ++ b ∷ [])))
+  argument_done p m w n got b h =
+      ap (λ c. cond c (gathered (suc fed) p ready os (argument_of m w) (got ++ b ∷ [])) (Live (suc fed) ready os (gathering p (argument_of m w) n (got ++ b ∷ []))))
+      (le-leb n (length (got ++ b ∷ [])) (omega (arith, length-append got (b ∷ []))))
+
+  starts_gathering : (p : ℕ) (g : Goal) (n : ℕ) (got x : List ℕ) → length got < n → run limit (Live fed ready os (gathering p g n got)) x ≡ run limit (gather fed p ready os g n got) x
+  starts_gathering p g n got x h = ap (λ c. run limit (cond c (gathered fed p ready os g got) (Live fed ready os (gathering p g n got))) x) (sym (lt-leb n (length got) h))
+
+  -- A slice of a string's content that leaves some to come, and one that ends it.
+  pub content_more : (p : ℕ) (k : StringKind) (w : Width) (n : ℕ) (got y x : List ℕ) → length got + length y < n
+      → run limit (Live fed ready os (gathering p (content_of k w) n got)) (y ++ x) ≡ run limit (Live (fed + length y) ready os (gathering p (content_of k w) n (got ++ y))) x
+  content_more p k w n got y x h =
+      starts_gathering p (content_of k w) n got (y ++ x) (omega arith)
+      ∙ gathers limit y fed p ready os (content_of k w) n got x (omega arith)
+      ∙ ap (λ c. run limit (cond c (string_done (fed + length y) p ready os k w (got ++ y)) (Live (fed + length y) ready os (gathering p (content_of k w) n (got ++ y)))) x)
+      (lt-leb n (length (got ++ y)) (omega (arith, length-append got y)))
+
+  pub content_done : (p : ℕ) (k : StringKind) (w : Width) (n : ℕ) (got y x : List ℕ) → length got < n → length got + length y ≡ n
+      → run limit (Live fed ready os (gathering p (content_of k w) n got)) (y ++ x) ≡ run limit (string_done (fed + length y) p ready os k w (got ++ y)) x
+  content_done p k w n got y x h all =
+      starts_gathering p (content_of k w) n got (y ++ x) h
+      ∙ gathers limit y fed p ready os (content_of k w) n got x (omega arith)
+      ∙ ap (λ c. run limit (cond c (string_done (fed + length y) p ready os k w (got ++ y)) (Live (fed + length y) ready os (gathering p (content_of k w) n (got ++ y)))) x)
+      (le-leb n (length (got ++ y)) (omega (arith, length-append got y)))

@@ -1,0 +1,88 @@
+-- What is known of a state that some bytes make.
+use Rattle.std.proofs.Common.{◌≡◌, refl, sym, ap, ◌∙◌, subst, ℕ, ◌+◌, ◌<◌, ◌≤◌, List, [], ◌∷◌, ◌++◌, length, true, false, arith}
+use Rattle.cborn_model.specs.Bytes.{AreBytes}
+use Rattle.cborn_model.specs.declared.heads.Width.{Width}
+use Rattle.cborn_model.specs.declared.heads.Major.{Major}
+use Rattle.cborn_model.specs.declared.heads.Major.TheVariants.{Unsigned, Negative, ByteString, TextString, Array, Map, Tag, Other}
+use Rattle.cborn_model.specs.Heads.{WidthFits}
+use Rattle.cborn_model.specs.Tree.{Tree, Trees, no_item, more, depth, depth_all}
+use Rattle.cborn_model.specs.Spelled.{Fits, FitsAll}
+use Rattle.cborn_wire.specs.Slots.{StringKind, Slot, Begun, begun_items, begun_pairs, begun_value, begun_tag, begun_chunks, slot, open_depth, IsNoChunk, AreBegun}
+use Rattle.cborn_wire.specs.InitialBytes.{Info, is_container, is_bad_chunk}
+use Rattle.cborn_wire.specs.Machine.{snoc, width_bytes, argument_of, content_of, Partial, gathering, State, Live, Failed, start, IsLive, held, run, IsReached}
+use Rattle.cborn_wire.proofs.Machine.Running.{run-append}
+use Rattle.cborn_wire.proofs.Spelled.AllBytes.{bytes-append}
+use Rattle.cborn_wire.proofs.Machine.SoundItems.{SoundLive, Sound}
+use Rattle.cborn_wire.proofs.Machine.SoundSteps.{free_of, other_kind}
+use Rattle.cborn_wire.proofs.Machine.SoundRuns.{sound}
+
+fits_last : (ts : Trees) (t : Tree) → FitsAll (snoc ts t) → Fits t
+fits_last no_item t h = h.0
+fits_last (more u ts) t h = fits_last ts t h.1
+
+depth_last : (ts : Trees) (t : Tree) → depth t ≤ depth_all (snoc ts t)
+depth_last no_item t = omega arith
+depth_last (more u ts) t = omega (arith, depth_last ts t)
+
+-- No array, map or tag is open inside an indefinite string, so all that is open counts.
+pub depth_is_length : (limit : ℕ) (os : List Begun) → AreBegun limit os → IsNoChunk (slot os) → open_depth os ≡ length os
+depth_is_length limit [] h free = refl
+depth_is_length limit (begun_items p a ts ∷ os) h free = omega (arith, depth_is_length limit os h.2 h.1)
+depth_is_length limit (begun_pairs p a es ∷ os) h free = omega (arith, depth_is_length limit os h.2 h.1)
+depth_is_length limit (begun_value p a es k ∷ os) h free = omega (arith, depth_is_length limit os h.2 h.1)
+depth_is_length limit (begun_tag p w n ∷ os) h free = omega (arith, depth_is_length limit os h.2 h.1)
+depth_is_length limit (begun_chunks p k cs ∷ os) h free = absurd free
+
+container_free : (s : Slot) (m : Major) (i : Info) → is_container m ≡ true → is_bad_chunk s m i ≡ false → IsNoChunk s
+container_free s Unsigned i c e = cc
+container_free s Negative i c e = cc
+container_free s ByteString i c e = cc
+container_free s TextString i c e = cc
+container_free s Array i c e = free_of s Array i e (other_kind Array refl refl) refl
+container_free s Map i c e = free_of s Map i e (other_kind Map refl refl) refl
+container_free s Tag i c e = free_of s Tag i e (other_kind Tag refl refl) refl
+container_free s Other i c e = cc
+
+-- Where the head of an array, a map or a tag may stand as far as chunks go, the depth is the number of all that is open.
+pub container_depth : (limit : ℕ) (os : List Begun) (m : Major) (i : Info) → AreBegun limit os → is_container m ≡ true → is_bad_chunk (slot os) m i ≡ false → open_depth os ≡ length os
+container_depth limit os m i h c e = depth_is_length limit os h (container_free (slot os) m i c e)
+
+module _ (limit base : ℕ) where
+  pub reached_start : IsReached limit base (start base)
+  reached_start = ([], tt, refl)
+
+  pub reached_more : (s : State) (y : List ℕ) → IsReached limit base s → AreBytes y → IsReached limit base (run limit s y)
+  reached_more s y (x, bytes, is) are = (x ++ y, bytes-append x y bytes are, run-append limit (start base) x y ∙ ap (λ u. run limit u y) is)
+
+  pub reached_sound : (s : State) → IsReached limit base s → (x : List ℕ) × Sound limit base x s
+  reached_sound s (x, bytes, is) = (x, subst (Sound limit base x) is (sound limit base x bytes))
+
+  -- A state that lives tells the bytes that it stands for.
+  pub reached_held : (s : State) → IsReached limit base s → IsLive s → (run limit (start base) (held s) ≡ s) × AreBytes (held s)
+  reached_held (Live fed ready os part) (x, bytes, is) live =
+      let h : SoundLive limit base x fed ready os part = subst (Sound limit base x) is (sound limit base x bytes) in
+      (ap (run limit (start base)) (sym h.bytes) ∙ is, subst AreBytes h.bytes bytes)
+  reached_held (Failed ready p r) h live = absurd live
+
+  pub reached_offset : (fed : ℕ) (ready : Trees) (os : List Begun) (part : Partial) → IsReached limit base (Live fed ready os part) → fed ≡ base + length (held (Live fed ready os part))
+  reached_offset fed ready os part h = let (x, s) = reached_sound (Live fed ready os part) h in s.fed_is ∙ ap (λ l. base + length l) s.bytes
+
+  -- a whole item
+  pub reached_item : (fed : ℕ) (ready : Trees) (t : Tree) (os : List Begun) (part : Partial) → IsReached limit base (Live fed (snoc ready t) os part) → Fits t × (depth t ≤ limit)
+  reached_item fed ready t os part h =
+      let (x, s) = reached_sound (Live fed (snoc ready t) os part) h in
+      (fits_last ready t s.ground.fit, omega (arith, depth_last ready t, s.ground.shallow))
+
+  pub reached_begun : (fed : ℕ) (ready : Trees) (os : List Begun) (part : Partial) → IsReached limit base (Live fed ready os part) → AreBegun limit os
+  reached_begun fed ready os part h = let (x, s) = reached_sound (Live fed ready os part) h in s.ground.begun
+
+  -- a part of an argument, and of a string's content
+  pub reached_argument : (fed p n : ℕ) (ready : Trees) (os : List Begun) (m : Major) (w : Width) (got : List ℕ) → IsReached limit base (Live fed ready os (gathering p (argument_of m w) n got)) → (n ≡ width_bytes w) × (length got < n)
+  reached_argument fed p n ready os m w got h =
+      let (x, s) = reached_sound (Live fed ready os (gathering p (argument_of m w) n got)) h in
+      (s.part_fits.1, s.part_fits.2)
+
+  pub reached_content : (fed p n : ℕ) (ready : Trees) (os : List Begun) (k : StringKind) (w : Width) (got : List ℕ) → IsReached limit base (Live fed ready os (gathering p (content_of k w) n got)) → WidthFits w n × (length got < n) × AreBytes got
+  reached_content fed p n ready os k w got h =
+      let (x, s) = reached_sound (Live fed ready os (gathering p (content_of k w) n got)) h in
+      (s.part_fits.1, s.part_fits.2, s.part_fits.4)

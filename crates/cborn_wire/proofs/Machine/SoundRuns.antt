@@ -1,0 +1,207 @@
+-- A whole run keeps what the machine has to what was read.
+use Rattle.std.proofs.Common.{◌≡◌, refl, sym, ap, ◌∙◌, subst, ℕ, zero, suc, ◌+◌, ◌*◌, ◌/◌, ◌%◌, ◌<◌, ◌≤◌, List, [], ◌∷◌, ◌++◌, length, get_or, Bool, true, false, cond, ◌&&◌, ltb, leb, eqb, Option, Some, None, arith, append_assoc, append-nil}
+use Rattle.std.proofs.lemmas.List.{length_push}
+use Rattle.std.proofs.lemmas.Bool.{leb-true, leb-false, ltb-true, eqb-true}
+use Rattle.std.proofs.lemmas.Nat.{be_bytes_2, be_bytes_4, be_bytes_8}
+use Rattle.cborn_model.specs.Bytes.{AreBytes}
+use Rattle.cborn_model.specs.declared.heads.Width.{Width}
+use Rattle.cborn_model.specs.declared.heads.Width.TheVariants.{Direct, One, Two, Four, Eight}
+use Rattle.cborn_model.specs.declared.heads.Major.{Major}
+use Rattle.cborn_model.specs.declared.heads.Major.TheVariants.{Unsigned, Negative, ByteString, TextString, Array, Map, Tag, Other}
+use Rattle.cborn_model.specs.Heads.{Given, Unbounded, code, information, following, head, WidthFits}
+use Rattle.cborn_model.specs.Tree.{Trees}
+pub use Rattle.cborn_model.proofs.Numbers.Majors.{code_at}
+use Rattle.cborn_wire.specs.declared.faults.WireReason.{WireReason}
+use Rattle.cborn_wire.specs.declared.faults.WireReason.TheVariants.{BadSimple, TooDeep}
+use Rattle.cborn_wire.specs.Slots.{major_of, Slot, Begun, slot, open_depth}
+use Rattle.cborn_wire.specs.Faults.{needs_item, begins_low}
+use Rattle.cborn_wire.specs.InitialBytes.{Info, Now, Next, Reserved, Unended, info_at, is_bad_chunk, head_reason, front_reason, is_reserved, is_unended, is_always_bounded, is_break, is_other, is_float, is_one, is_container}
+use Rattle.cborn_wire.specs.HeadReading.{major_at}
+use Rattle.cborn_wire.specs.Machine.{start, width_bytes, number, argument_of, content_of, nothing, gathering, State, Live, Failed, gather, begin_head, after_head, at_slot, unless, step, run, front}
+use Rattle.cborn_wire.proofs.Spelled.AllBytes.{bytes-append}
+use Rattle.cborn_wire.proofs.Machine.TakesHeads.{info_for}
+use Rattle.cborn_wire.proofs.Machine.SoundItems.{Ground, SoundLive, Sound}
+use Rattle.cborn_wire.proofs.Machine.SoundSteps.{Clear, is_clear, sound_head, sound_content}
+
+pub initial : (b : ℕ) → b < 256 → b ≡ 32 * code (major_at (b / 32)) + b % 32
+initial b h = omega (arith, code_at (b / 32) (omega arith))
+
+abbrev pub IsWide : Width → Type 0
+IsWide Direct = ⊥
+IsWide One = Unit {0}
+IsWide Two = Unit {0}
+IsWide Four = Unit {0}
+IsWide Eight = Unit {0}
+
+abbrev pub InfoIs : ℕ → Info → Type 0
+InfoIs i (Now n) = (i ≡ n) × (n < 24)
+InfoIs i (Next w) = (i ≡ information w 0) × IsWide w
+InfoIs i Reserved = Unit {0}
+InfoIs i Unended = i ≡ 31
+
+chosen : (P : Info → Type 0) (b : Bool) (x y : Info) → (b ≡ true → P x) → (b ≡ false → P y) → P (cond b x y)
+chosen P true x y f g = f refl
+chosen P false x y f g = g refl
+
+pub info_is : (i : ℕ) → InfoIs i (info_at i)
+info_is i =
+    chosen (InfoIs i) (ltb i 24) (Now i) _ (λ e. (refl, ltb-true i 24 e)) (λ _.
+    chosen (InfoIs i) (eqb i 24) (Next One) _ (λ e. (eqb-true i 24 e, tt)) (λ _.
+    chosen (InfoIs i) (eqb i 25) (Next Two) _ (λ e. (eqb-true i 25 e, tt)) (λ _.
+    chosen (InfoIs i) (eqb i 26) (Next Four) _ (λ e. (eqb-true i 26 e, tt)) (λ _.
+    chosen (InfoIs i) (eqb i 27) (Next Eight) _ (λ e. (eqb-true i 27 e, tt)) (λ _.
+    chosen (InfoIs i) (eqb i 31) Unended Reserved (λ e. eqb-true i 31 e) (λ _. tt))))))
+
+small : (x : List ℕ) → AreBytes x → (i : ℕ) → get_or x i 0 < 256
+small [] h i = omega arith
+small (b ∷ x) h zero = h.0
+small (b ∷ x) h (suc i) = small x h.1 i
+
+-- the bytes of an argument are those of the number that they make
+pub again : (w : Width) (got : List ℕ) → IsWide w → length got ≡ width_bytes w → AreBytes got → (following w (number w got) ≡ got) × WidthFits w (number w got)
+again Direct got wide l h = absurd wide
+again One [] wide l h = absurd (omega arith)
+again One (n ∷ []) wide l h = (refl, h.0)
+again One (n ∷ m ∷ got) wide l h = absurd (omega arith)
+again Two got wide l h = (be_bytes_2 got _ l (small got h) refl, omega (arith, small got h 0, small got h 1))
+again Four got wide l h = (be_bytes_4 got _ l (small got h) refl, omega (arith, small got h 0, small got h 1, small got h 2, small got h 3))
+again Eight got wide l h = (
+  be_bytes_8 got _ l (small got h) refl,
+  omega (arith, small got h 0, small got h 1, small got h 2, small got h 3, small got h 4, small got h 5, small got h 6, small got h 7),
+)
+
+pub wide : (w : Width) → 0 < width_bytes w → IsWide w
+wide Direct h = omega arith
+wide One h = tt
+wide Two h = tt
+wide Four h = tt
+wide Eight h = tt
+
+pub wide_info : (w : Width) (n : ℕ) → IsWide w → info_for (Given w n) ≡ Next w
+wide_info Direct n h = absurd h
+wide_info One n h = refl
+wide_info Two n h = refl
+wide_info Four n h = refl
+wide_info Eight n h = refl
+
+pub wide_information : (w : Width) (n : ℕ) → IsWide w → information w n ≡ information w 0
+wide_information Direct n h = absurd h
+wide_information One n h = refl
+wide_information Two n h = refl
+wide_information Four n h = refl
+wide_information Eight n h = refl
+
+pass : (c : Bool) (q : WireReason) (o o' : Option WireReason) (r : WireReason) → cond c (Some q) o ≡ Some r → (o ≡ Some r → o' ≡ Some r) → cond c (Some q) o' ≡ Some r
+pass true q o o' r e f = e
+pass false q o o' r e f = f e
+
+reason_last : (full one : Bool) (m : Major) (y : List ℕ) (r : WireReason)
+    → cond ((is_other m && one) && false) (Some BadSimple) (cond (is_container m && full) (Some TooDeep) None) ≡ Some r
+    → cond ((is_other m && one) && begins_low y) (Some BadSimple) (cond (is_container m && full) (Some TooDeep) None) ≡ Some r
+reason_last full one Unsigned y r e = e
+reason_last full one Negative y r e = e
+reason_last full one ByteString y r e = e
+reason_last full one TextString y r e = e
+reason_last full one Array y r e = e
+reason_last full one Map y r e = e
+reason_last full one Tag y r e = e
+reason_last full true Other y r e = cc
+reason_last full false Other y r e = e
+
+-- a reason that the initial byte gives stands, whatever follows
+pub reason_stays : (s : Slot) (full : Bool) (m : Major) (i : Info) (y : List ℕ) (r : WireReason) → head_reason s full m i [] ≡ Some r → head_reason s full m i y ≡ Some r
+reason_stays s full m i y r e =
+    pass (is_reserved i) _ _ _ r e (λ e.
+    pass (is_unended i && is_always_bounded m) _ _ _ r e (λ e.
+    pass (is_bad_chunk s m i) _ _ _ r e (λ e.
+    pass (is_break m i && needs_item s) _ _ _ r e (λ e.
+    pass (is_other m && is_float i) _ _ _ r e (λ e.
+    reason_last full (is_one i) m y r e)))))
+
+pub front_reason_stays : (limit : ℕ) (s : Slot) (k : ℕ) (y z : List ℕ) (r : WireReason) → front_reason limit s k y ≡ Some r → front_reason limit s k (y ++ z) ≡ Some r
+front_reason_stays limit s k [] z r e = cc
+front_reason_stays limit s k (c ∷ d ∷ y) z r e = e
+front_reason_stays limit s k (c ∷ []) z r e = reason_stays s (leb limit k) (major_at (c / 32)) (info_at (c % 32)) z r e
+
+module _ (limit base : ℕ) where
+  -- some bytes of an argument came
+  sound_argument : (m : Major) (w : Width) (ready : Trees) (os : List Begun) (n : ℕ) (got : List ℕ) (fed p : ℕ) (x : List ℕ)
+      → Ground limit base ready os → head_reason (slot os) (leb limit (open_depth os)) m (Next w) [] ≡ None → AreBytes got → IsWide w
+      → n ≡ width_bytes w → length got ≤ n → p ≡ base + length (front ready os)
+      → x ≡ front ready os ++ ((32 * code m + information w 0) ∷ got) → fed ≡ base + length x
+      → Sound limit base x (gather fed p ready os (argument_of m w) n got)
+  sound_argument m w ready os n got fed p x g none bytes broad all up placed is at = go (leb n (length got)) refl
+    where
+      go : (b : Bool) → leb n (length got) ≡ b → Sound limit base x (cond b (after_head fed p ready os m (Given w (number w got))) (Live fed ready os (gathering p (argument_of m w) n got)))
+      go true e =
+          let full : length got ≡ width_bytes w = omega (arith, leb-true n (length got) e) in
+          let k = number w got in
+          let same = again w got broad full bytes in
+          let clear = is_clear (slot os) (leb limit (open_depth os)) m (Next w) [] none in
+          sound_head limit base m (Given w k) ready os fed p x g (subst (Clear (slot os) (leb limit (open_depth os)) m) (sym (wide_info w k broad)) clear) same.1 placed
+          (is ∙ ap (λ i. front ready os ++ ((32 * code m + i) ∷ got)) (sym (wide_information w k broad))
+          ∙ ap (λ l. front ready os ++ ((32 * code m + information w k) ∷ l)) (sym same.0)) at
+      go false e = record { ground = g; bytes = is; fed_is = at; part_fits = (placed, all, leb-false n (length got) e, none, bytes) }
+
+  sound_begin : (i : Info) (m : Major) (ready : Trees) (os : List Begun) (fed b : ℕ) (x : List ℕ)
+      → SoundLive limit base x fed ready os nothing → head_reason (slot os) (leb limit (open_depth os)) m i [] ≡ None
+      → b ≡ 32 * code m + b % 32 → InfoIs (b % 32) i
+      → Sound limit base (x ++ b ∷ []) (begin_head fed ready os m i)
+  sound_begin i m ready os fed b x h none first is = go i none is
+    where
+      here : x ≡ front ready os
+      here = h.bytes ∙ append-nil (front ready os)
+
+      at : suc fed ≡ base + length (x ++ b ∷ [])
+      at = omega (arith, h.fed_is, length_push x b)
+
+      placed : fed ≡ base + length (front ready os)
+      placed = h.fed_is ∙ ap (λ l. base + length l) here
+
+      read : (j : ℕ) → b % 32 ≡ j → x ++ b ∷ [] ≡ front ready os ++ (32 * code m + j) ∷ []
+      read j e = ap (λ l. l ++ b ∷ []) here ∙ ap (λ c. front ready os ++ c ∷ []) (first ∙ ap (λ k. 32 * code m + k) e)
+
+      go : (i : Info) → head_reason (slot os) (leb limit (open_depth os)) m i [] ≡ None → InfoIs (b % 32) i → Sound limit base (x ++ b ∷ []) (begin_head fed ready os m i)
+      go (Now n) none is = sound_head limit base m (Given Direct n) ready os (suc fed) fed (x ++ b ∷ []) h.ground (is_clear (slot os) (leb limit (open_depth os)) m (Now n) [] none) is.1 placed (read n is.0) at
+      go (Next w) none is = sound_argument m w ready os (width_bytes w) [] (suc fed) fed (x ++ b ∷ []) h.ground none tt is.1 refl (omega arith) placed (read (information w 0) is.0) at
+      go Reserved none is = let e : true ≡ false = (is_clear (slot os) (leb limit (open_depth os)) m Reserved [] none).reserved in cc
+      go Unended none is = sound_head limit base m Unbounded ready os (suc fed) fed (x ++ b ∷ []) h.ground (is_clear (slot os) (leb limit (open_depth os)) m Unended [] none) tt placed (read 31 is) at
+
+  sound_slot : (ready : Trees) (os : List Begun) (fed b : ℕ) (x : List ℕ) → b < 256 → SoundLive limit base x fed ready os nothing
+      → Sound limit base (x ++ b ∷ []) (at_slot limit fed ready os (major_at (b / 32)) (info_at (b % 32)))
+  sound_slot ready os fed b x byte h = go (head_reason (slot os) (leb limit (open_depth os)) (major_at (b / 32)) (info_at (b % 32)) []) refl
+    where
+      go : (o : Option WireReason) → head_reason (slot os) (leb limit (open_depth os)) (major_at (b / 32)) (info_at (b % 32)) [] ≡ o
+          → Sound limit base (x ++ b ∷ []) (unless o ready fed (begin_head fed ready os (major_at (b / 32)) (info_at (b % 32))))
+      go None e = sound_begin (info_at (b % 32)) (major_at (b / 32)) ready os fed b x h e (initial b byte) (info_is (b % 32))
+      go (Some r) e = record { before = x; after = b ∷ []; os = os; whole = refl; live = h; refused = e }
+
+  sound_step : (s : State) (b : ℕ) (x : List ℕ) → b < 256 → Sound limit base x s → Sound limit base (x ++ b ∷ []) (step limit s b)
+  sound_step (Failed ready p r) b x byte h = record {
+    before = h.before;
+    after = h.after ++ b ∷ [];
+    os = h.os;
+    whole = ap (λ l. l ++ b ∷ []) h.whole ∙ append_assoc h.before h.after (b ∷ []);
+    live = h.live;
+    refused = front_reason_stays limit (slot h.os) (open_depth h.os) h.after (b ∷ []) r h.refused;
+  }
+  sound_step (Live fed ready os nothing) b x byte h = sound_slot ready os fed b x byte h
+  sound_step (Live fed ready os (gathering p (argument_of m w) n got)) b x byte h =
+      sound_argument m w ready os n (got ++ b ∷ []) (suc fed) p (x ++ b ∷ []) h.ground h.part_fits.3 (bytes-append got (b ∷ []) h.part_fits.4 (byte, tt))
+      (wide w (omega (arith, h.part_fits.1, h.part_fits.2))) h.part_fits.1 (omega (arith, h.part_fits.2, length_push got b)) h.part_fits.0
+      (ap (λ l. l ++ b ∷ []) h.bytes ∙ append_assoc (front ready os) _ (b ∷ [])) (omega (arith, h.fed_is, length_push x b))
+  sound_step (Live fed ready os (gathering p (content_of k w) n got)) b x byte h =
+      sound_content limit base k ready os w n (got ++ b ∷ []) (suc fed) p (x ++ b ∷ []) h.ground h.part_fits.3 h.part_fits.1 h.part_fits.0
+      (omega (arith, h.part_fits.2, length_push got b)) (bytes-append got (b ∷ []) h.part_fits.4 (byte, tt))
+      (ap (λ l. l ++ b ∷ []) h.bytes ∙ append_assoc (front ready os) _ (b ∷ []) ∙ ap (λ l. front ready os ++ l) (append_assoc (head (major_of k) (Given w n)) got (b ∷ [])))
+      (omega (arith, h.fed_is, length_push x b))
+
+  pub sound_run : (y : List ℕ) (s : State) (x : List ℕ) → AreBytes y → Sound limit base x s → Sound limit base (x ++ y) (run limit s y)
+  sound_run [] s x h k = subst (λ l. Sound limit base l s) (sym (append-nil x)) k
+  sound_run (b ∷ y) s x h k = subst (λ l. Sound limit base l (run limit (step limit s b) y)) (append_assoc x (b ∷ []) y) (sound_run y (step limit s b) (x ++ b ∷ []) h.1 (sound_step s b x h.0 k))
+
+  pub sound_start : Sound limit base [] (start base)
+  sound_start = record { ground = record { fit = tt; shallow = omega arith; placed = tt; begun = tt; open_placed = tt }; bytes = refl; fed_is = omega arith; part_fits = tt }
+
+  pub sound : (x : List ℕ) → AreBytes x → Sound limit base x (run limit (start base) x)
+  sound x h = sound_run x (start base) [] h sound_start

@@ -1,0 +1,9 @@
+-- What nodes spell is bytes, and bytes have one reading, or one fault.
+-- The laws (`OneReading`, `FaultLaws`) follow from the machine: it takes each reading, and has one state for some bytes.
+pub mod AllBytes
+pub mod ByteLists
+pub mod TreeLists
+pub mod AsPlaced
+pub mod Spellings
+pub mod OneReading
+pub mod FaultLaws

@@ -1,0 +1,102 @@
+-- What is spelled is bytes.
+use Rattle.std.proofs.Common.{subst, ℕ, ◌<◌, List, [], ◌∷◌, ◌++◌, length, arith}
+use Rattle.std.specs.List.{flat_map}
+use Rattle.cborn_model.specs.Bytes.{AreBytes}
+use Rattle.cborn_model.specs.declared.heads.Width.{Width}
+use Rattle.cborn_model.specs.declared.heads.Width.TheVariants.{Direct, One, Two, Four, Eight}
+use Rattle.cborn_model.specs.declared.heads.Size.{Size}
+use Rattle.cborn_model.specs.declared.heads.Size.TheVariants.{Fixed, Endless}
+use Rattle.cborn_model.specs.declared.nodes.Chunk.{Chunk}
+use Rattle.cborn_model.specs.declared.heads.Major.{Major}
+use Rattle.cborn_model.specs.declared.heads.Major.TheVariants.{Unsigned, Negative, ByteString, TextString, Array, Map, Tag, Other}
+use Rattle.cborn_model.specs.Heads.{code, WidthFits, information, following, Argument, Given, Unbounded, head, argument, SizeFits}
+use Rattle.cborn_model.specs.Tree.{Tree, Uint, Nint, Bytes, Text, ByteChunks, TextChunks, Items, Pairs, Tagged, Simple, Trees, no_item, more, Entries, no_entry, entry, count, count_entries}
+use Rattle.cborn_model.specs.Spelled.{ending, string, chunk_bytes, chunks, simple_width, spelled, spelled_all, spelled_entries, ChunksFit, Fits, FitsAll, FitsEntries, Wellformed}
+use Rattle.cborn_wire.specs.HeadReading.{ArgumentFits}
+use Rattle.cborn_wire.proofs.Machine.TakesItems.{size_fits, simple_fits}
+
+pub bytes-append : (x y : List ℕ) → AreBytes x → AreBytes y → AreBytes (x ++ y)
+bytes-append [] y h k = k
+bytes-append (b ∷ x) y h k = (h.0, bytes-append x y h.1 k)
+
+pub bytes-left : (x y : List ℕ) → AreBytes (x ++ y) → AreBytes x
+bytes-left [] y h = tt
+bytes-left (b ∷ x) y h = (h.0, bytes-left x y h.1)
+
+pub bytes-right : (x y : List ℕ) → AreBytes (x ++ y) → AreBytes y
+bytes-right [] y h = h
+bytes-right (b ∷ x) y h = bytes-right x y h.1
+
+information_below : (w : Width) (n : ℕ) → WidthFits w n → information w n < 32
+information_below Direct n h = omega arith
+information_below One n h = omega arith
+information_below Two n h = omega arith
+information_below Four n h = omega arith
+information_below Eight n h = omega arith
+
+code_below : (m : Major) → code m < 8
+code_below Unsigned = omega arith
+code_below Negative = omega arith
+code_below ByteString = omega arith
+code_below TextString = omega arith
+code_below Array = omega arith
+code_below Map = omega arith
+code_below Tag = omega arith
+code_below Other = omega arith
+
+following_bytes : (w : Width) (n : ℕ) → WidthFits w n → AreBytes (following w n)
+following_bytes Direct n h = tt
+following_bytes One n h = (h, tt)
+following_bytes Two n h = (omega arith, (omega arith, tt))
+following_bytes Four n h = (omega arith, (omega arith, (omega arith, (omega arith, tt))))
+following_bytes Eight n h = (omega arith, (omega arith, (omega arith, (omega arith, (omega arith, (omega arith, (omega arith, (omega arith, tt))))))))
+
+pub head_bytes : (m : Major) (a : Argument) → ArgumentFits a → AreBytes (head m a)
+head_bytes m (Given w n) h = (omega (arith, code_below m, information_below w n h), following_bytes w n h)
+head_bytes m Unbounded h = (omega (arith, code_below m), tt)
+
+string_bytes : (m : Major) (w : Width) (b : List ℕ) → WidthFits w (length b) → AreBytes b → AreBytes (string m w b)
+string_bytes m w b h k = bytes-append (head m (Given w (length b))) b (head_bytes m (Given w (length b)) h) k
+
+chunks_bytes : (m : Major) (cs : List Chunk) → ChunksFit cs → AreBytes (flat_map (chunk_bytes m) cs)
+chunks_bytes m [] h = tt
+chunks_bytes m (c ∷ cs) h = bytes-append (chunk_bytes m c) (flat_map (chunk_bytes m) cs) (string_bytes m c.width c.bytes h.0.0 h.0.1) (chunks_bytes m cs h.1)
+
+ending_bytes : (s : Size) → AreBytes (ending s)
+ending_bytes (Fixed w) = tt
+ending_bytes Endless = head_bytes Other Unbounded tt
+
+chunked_bytes : (m : Major) (cs : List Chunk) → ChunksFit cs → AreBytes (chunks m cs ++ ending Endless)
+chunked_bytes m cs h =
+    bytes-append (chunks m cs) (ending Endless) (bytes-append (head m Unbounded) (flat_map (chunk_bytes m) cs) (head_bytes m Unbounded tt) (chunks_bytes m cs h)) (ending_bytes Endless)
+
+-- what a head and an ending enclose
+inside_bytes : (m : Major) (s : Size) (n : ℕ) (x : List ℕ) → SizeFits s n → AreBytes x → AreBytes (head m (argument s n) ++ x ++ ending s)
+inside_bytes m s n x h k =
+    bytes-append (head m (argument s n) ++ x) (ending s) (bytes-append (head m (argument s n)) x (head_bytes m (argument s n) (size_fits s n h)) k) (ending_bytes s)
+
+mutual
+  pub spelled_bytes : (t : Tree) → Fits t → AreBytes (spelled t)
+  spelled_bytes (Uint p w n) h = head_bytes Unsigned (Given w n) h
+  spelled_bytes (Nint p w n) h = head_bytes Negative (Given w n) h
+  spelled_bytes (Bytes p w b) h = string_bytes ByteString w b h.0 h.1
+  spelled_bytes (Text p w b) h = string_bytes TextString w b h.0 h.1
+  spelled_bytes (ByteChunks p cs) h = chunked_bytes ByteString cs h
+  spelled_bytes (TextChunks p cs) h = chunked_bytes TextString cs h
+  spelled_bytes (Items p s ts) h = inside_bytes Array s (count ts) (spelled_all ts) h.0 (spelled_all_bytes ts h.1)
+  spelled_bytes (Pairs p s es) h = inside_bytes Map s (count_entries es) (spelled_entries es) h.0 (spelled_entries_bytes es h.1)
+  spelled_bytes (Tagged p w n t) h = bytes-append (head Tag (Given w n)) (spelled t) (head_bytes Tag (Given w n) h.0) (spelled_bytes t h.1)
+  spelled_bytes (Simple p n) h = head_bytes Other (Given (simple_width n) n) (simple_fits n h)
+
+  pub spelled_all_bytes : (ts : Trees) → FitsAll ts → AreBytes (spelled_all ts)
+  spelled_all_bytes no_item h = tt
+  spelled_all_bytes (more t ts) h = bytes-append (spelled t) (spelled_all ts) (spelled_bytes t h.0) (spelled_all_bytes ts h.1)
+
+  pub spelled_entries_bytes : (es : Entries) → FitsEntries es → AreBytes (spelled_entries es)
+  spelled_entries_bytes no_entry h = tt
+  spelled_entries_bytes (entry k v es) h =
+      bytes-append (spelled k ++ spelled v) (spelled_entries es) (bytes-append (spelled k) (spelled v) (spelled_bytes k h.0) (spelled_bytes v h.1)) (spelled_entries_bytes es h.2)
+
+-- What is well-formed is bytes.
+pub well_bytes : (limit : ℕ) (ts : Trees) (x : List ℕ) → Wellformed limit ts x → AreBytes x
+well_bytes limit ts x h = subst AreBytes h.spells (spelled_all_bytes ts h.fit)

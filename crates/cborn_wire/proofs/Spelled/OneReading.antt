@@ -1,0 +1,98 @@
+-- A list of bytes has one reading at most, and no item begins another.
+use Rattle.std.proofs.Common.{◌≡◌, refl, sym, ap, ◌∙◌, ℕ, ◌+◌, ◌≤◌, List, [], ◌++◌, length, max, arith, append_assoc, append-nil, length-append, add-zero}
+use Rattle.std.proofs.lemmas.List.{append_cancel_left}
+use Rattle.cborn_model.specs.Tree.{Tree, Trees, no_item, more, depth, depth_all}
+use Rattle.cborn_model.specs.Spelled.{spelled, spelled_all, Fits, FitsAll, Wellformed}
+use Rattle.cborn_model.specs.Placed.{Placed, PlacedAll}
+use Rattle.cborn_wire.specs.Places.{placed_from, all_from}
+use Rattle.cborn_wire.specs.Machine.{append_trees, snoc, nothing, State, Live, Failed, start, ready_in, run}
+use Rattle.cborn_wire.proofs.Machine.Running.{run-append}
+use Rattle.cborn_wire.proofs.Machine.TakesItems.{takes, append_trees-nil, append_trees-snoc}
+use Rattle.cborn_wire.proofs.Spelled.AsPlaced.{spelled-from, spelled_all-from, depth-from, depth_all-from, fits-from, fits_all-from, placed-from, placed_all-from, same_all-from}
+use Rattle.cborn_wire.proofs.Machine.WholeFront.{with_front, front_run}
+
+pub takes_sequence : (ts : Trees) (limit fed : ℕ) (ready : Trees) (x : List ℕ) → FitsAll ts → depth_all ts ≤ limit → PlacedAll fed ts
+    → run limit (Live fed ready [] nothing) (spelled_all ts ++ x) ≡ run limit (Live (fed + length (spelled_all ts)) (append_trees ready ts) [] nothing) x
+takes_sequence no_item limit fed ready x fits deep placed = rw (append_trees-nil, add-zero) refl
+takes_sequence (more t ts) limit fed ready x fits deep placed =
+    let rest = spelled_all ts in
+    let total : fed + length (spelled t) + length rest ≡ fed + length (spelled t ++ rest) = omega (arith, length-append (spelled t) rest) in
+    ap (run limit (Live fed ready [] nothing)) (append_assoc (spelled t) rest x)
+    ∙ takes t limit fed ready [] (rest ++ x) fits.0 tt (omega arith) placed.0
+    ∙ takes_sequence ts limit (fed + length (spelled t)) (snoc ready t) x fits.1 (omega arith) placed.1
+    ∙ ap (λ k. run limit (Live k (append_trees (snoc ready t) ts) [] nothing) x) total
+    ∙ ap (λ l. run limit (Live (fed + length (spelled t ++ rest)) l [] nothing) x) (append_trees-snoc ready t ts)
+
+-- What is well-formed is read, wherever it begins.
+pub reads : (limit p : ℕ) (ts : Trees) (x : List ℕ) → Wellformed limit ts x → run limit (start p) x ≡ Live (p + length x) (all_from p ts) [] nothing
+reads limit p ts x h =
+    let us = all_from p ts in
+    let same : spelled_all us ≡ x = spelled_all-from ts p ∙ h.spells in
+    let deep : depth_all us ≤ limit = omega (arith, depth_all-from ts p, h.shallow) in
+    ap (run limit (start p)) (sym same ∙ sym (append-nil (spelled_all us)))
+    ∙ takes_sequence us limit p no_item [] (fits_all-from ts p h.fit) deep (placed_all-from ts p)
+    ∙ ap (λ l. Live (p + length l) us [] nothing) same
+
+-- places aside
+pub one_reading : (limit : ℕ) (ts us : Trees) (x : List ℕ) → Wellformed limit ts x → Wellformed limit us x → (p : ℕ) → all_from p ts ≡ all_from p us
+one_reading limit ts us x h k p = ap ready_in (sym (reads limit p ts x h) ∙ reads limit p us x k)
+
+-- placed
+pub one_placed_reading : (limit p : ℕ) (ts us : Trees) (x : List ℕ) → Wellformed limit ts x → Wellformed limit us x → PlacedAll p ts → PlacedAll p us → ts ≡ us
+one_placed_reading limit p ts us x h k a b = sym (same_all-from ts p a) ∙ one_reading limit ts us x h k p ∙ same_all-from us p b
+
+-- without a limit
+pub one_spelling : (ts us : Trees) → FitsAll ts → FitsAll us → spelled_all ts ≡ spelled_all us → (p : ℕ) → all_from p ts ≡ all_from p us
+one_spelling ts us h k e = one_reading (max (depth_all ts) (depth_all us)) ts us (spelled_all us)
+    (record { spells = e; fit = h; shallow = omega arith }) (record { spells = refl; fit = k; shallow = omega arith })
+
+head_of : Tree → Trees → Tree
+head_of d no_item = d
+head_of d (more t ts) = t
+
+-- no item's bytes are a proper front of another's
+no_front : (t u : Tree) (y : List ℕ) → Fits t → Fits u → spelled t ++ y ≡ spelled u → (y ≡ []) × (placed_from 0 t ≡ placed_from 0 u)
+unfolding head_of
+no_front t u y h k e =
+    let limit = max (depth t) (depth u) in
+    let t' = placed_from 0 t in
+    let u' = placed_from 0 u in
+    let end = 0 + length (spelled t') in
+    let left : run limit (start 0) (spelled t' ++ y) ≡ with_front (more t' no_item) (run limit (start end) y)
+    = takes t' limit 0 no_item [] y (fits-from t 0 h) tt (omega (arith, depth-from t 0)) (placed-from t 0)
+    ∙ front_run (more t' no_item) limit y (start end) in
+    let right : run limit (start 0) (spelled u' ++ []) ≡ Live (0 + length (spelled u')) (more u' no_item) [] nothing
+    = takes u' limit 0 no_item [] [] (fits-from u 0 k) tt (omega (arith, depth-from u 0)) (placed-from u 0) in
+    let bytes : spelled t' ++ y ≡ spelled u' ++ [] = ap (λ l. l ++ y) (spelled-from t 0) ∙ e ∙ sym (spelled-from u 0) ∙ sym (append-nil (spelled u')) in
+    let all : with_front (more t' no_item) (run limit (start end) y) ≡ Live (0 + length (spelled u')) (more u' no_item) [] nothing
+    = sym left ∙ ap (run limit (start 0)) bytes ∙ right in
+    let same : t' ≡ u' = first_is t' u' (run limit (start end) y) all in
+    (append_cancel_left (spelled t) y [] (e ∙ sym (spelled-from u 0) ∙ sym (ap spelled same) ∙ spelled-from t 0 ∙ sym (append-nil (spelled t))), same)
+  where
+    first_is : (t u : Tree) (s : State) {fed : ℕ} → with_front (more t no_item) s ≡ Live fed (more u no_item) [] nothing → t ≡ u
+    first_is t u (Live fed ready os part) e = ap (λ s. head_of t (ready_in s)) e
+    first_is t u (Failed ready p r) e = ap (λ s. head_of t (ready_in s)) e
+
+pub no_item_begins : (t u : Tree) (y : List ℕ) → Fits t → Fits u → spelled t ++ y ≡ spelled u → (y ≡ []) × ((p : ℕ) → placed_from p t ≡ placed_from p u)
+no_item_begins t u y h k e =
+    let nil : y ≡ [] = (no_front t u y h k e).0 in
+    let same : spelled t ++ [] ≡ spelled u ++ [] = ap (λ l. spelled t ++ l) (sym nil) ∙ e ∙ sym (append-nil (spelled u)) in
+    (nil, λ p. first (one_spelling (more t no_item) (more u no_item) (h, tt) (k, tt) same p))
+  where
+    first : {t u : Tree} → more t no_item ≡ more u no_item → t ≡ u
+    first e = cc
+
+-- For a feeder: what is left once the first item was taken is what the bytes after it make.
+pub after_first : (t : Tree) (limit p : ℕ) (x : List ℕ) → Fits t → depth t ≤ limit → Placed p t
+    → run limit (start p) (spelled t ++ x) ≡ with_front (more t no_item) (run limit (start (p + length (spelled t))) x)
+after_first t limit p x fits deep placed = takes t limit p no_item [] x fits tt (omega arith) placed ∙ front_run (more t no_item) limit x (start (p + length (spelled t)))
+
+pub ready_front : (front : Trees) (s : State) → ready_in (with_front front s) ≡ append_trees front (ready_in s)
+ready_front front (Live fed ready os part) = refl
+ready_front front (Failed ready q r) = refl
+
+-- Each well-formed front of what was read is among the items that are whole: they are the longest.
+pub longest : (limit p : ℕ) (ts : Trees) (x y : List ℕ) → Wellformed limit ts x → (us : Trees) × (ready_in (run limit (start p) (x ++ y)) ≡ append_trees (all_from p ts) us)
+longest limit p ts x y h =
+    let s = run limit (start (p + length x)) y in
+    (ready_in s, ap ready_in (run-append limit (start p) x y ∙ ap (λ u. run limit u y) (reads limit p ts x h ∙ ap (λ l. Live (p + length x) l [] nothing) (sym (append_trees-nil (all_from p ts)))) ∙ front_run (all_from p ts) limit y (start (p + length x))) ∙ ready_front (all_from p ts) s)

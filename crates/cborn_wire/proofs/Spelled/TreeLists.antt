@@ -1,0 +1,35 @@
+-- Nodes one after another, as lists of std and as the trees' own.
+use Rattle.std.proofs.Common.{◌≡◌, refl, sym, ap, ◌∙◌, List, [], ◌∷◌, ◌++◌, append_assoc}
+use Rattle.cborn_model.specs.Tree.{Tree, Trees, no_item, more, entry, trees, entries}
+use Rattle.cborn_model.specs.Spelled.{spelled, spelled_all}
+use Rattle.cborn_model.proofs.Listed.Trees.{trees-injective}
+use Rattle.cborn_wire.specs.Machine.{append_trees, snoc, snoc_entry}
+
+pub trees-append : (ts us : List Tree) → trees (ts ++ us) ≡ append_trees (trees ts) (trees us)
+trees-append [] us = refl
+trees-append (t ∷ ts) us = ap (more t) (trees-append ts us)
+
+pub trees-push : (ts : List Tree) (t : Tree) → trees (ts ++ t ∷ []) ≡ snoc (trees ts) t
+trees-push [] t = refl
+trees-push (u ∷ ts) t = ap (more u) (trees-push ts t)
+
+pub entries-push : (es : List (Tree × Tree)) (k v : Tree) → entries (es ++ (k, v) ∷ []) ≡ snoc_entry (entries es) k v
+entries-push [] k v = refl
+entries-push (e ∷ es) k v = ap (entry e.0 e.1) (entries-push es k v)
+
+abbrev pub tree_list : Trees → List Tree
+tree_list no_item = []
+tree_list (more t ts) = t ∷ tree_list ts
+
+pub trees-tree_list : (ts : Trees) → trees (tree_list ts) ≡ ts
+trees-tree_list no_item = refl
+trees-tree_list (more t ts) = ap (more t) (trees-tree_list ts)
+
+-- a list that begins with another, seen from its trees
+pub begins_list : (ts us : List Tree) (vs : Trees) → trees us ≡ append_trees (trees ts) vs → us ≡ ts ++ tree_list vs
+begins_list ts us vs e =
+    trees-injective us (ts ++ tree_list vs) (e ∙ ap (append_trees (trees ts)) (sym (trees-tree_list vs)) ∙ sym (trees-append ts (tree_list vs)))
+
+pub spelled_all-append : (ts us : Trees) → spelled_all (append_trees ts us) ≡ spelled_all ts ++ spelled_all us
+spelled_all-append no_item us = refl
+spelled_all-append (more t ts) us = ap (λ l. spelled t ++ l) (spelled_all-append ts us) ∙ sym (append_assoc (spelled t) (spelled_all ts) (spelled_all us))
