@@ -17,7 +17,7 @@ use Rattle.cborn_model.specs.declared.heads.Width.{Width}
 use Rattle.cborn_model.specs.declared.heads.Width.TheVariants.{Direct, One}
 use Rattle.cborn_model.specs.Heads.{information, following, IsHead, least, IsLeastHead}
 use Rattle.cborn_det.specs.Det.{IsString, IsInteger, IsSimple, Det, DetValues, DetPairs, DetSeq, DetMap, Entry, joined, major_of, bignum_tag}
-use Rattle.cborn_det.specs.Writing.{HasDistinctKeys}
+use Rattle.cborn_det.specs.devices.Writing.{HasDistinctKeys}
 use Rattle.cborn_model.specs.Orders.{IsKeyOrder}
 
 -- the heads that an item may begin with

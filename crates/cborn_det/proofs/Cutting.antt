@@ -5,7 +5,7 @@ use Rattle.cborn_model.proofs.Numbers.OneHead.{append_same}
 use Rattle.std.specs.Prelude.{Option, None, Some, ⊤}
 use Rattle.cborn_model.specs.Orders.{Rising}
 use Rattle.cborn_det.specs.Det.{Entry, keys, joined}
-use Rattle.cborn_det.specs.Writing.{IsWritten, lengths_of}
+use Rattle.cborn_det.specs.devices.Writing.{IsWritten, lengths_of}
 
 -- what was written says which entries there are
 pub one_written : (es fs : List Entry) (cs : List (ℕ × ℕ)) (b : List ℕ) → IsWritten es cs b → IsWritten fs cs b → es ≡ fs

@@ -13,7 +13,7 @@ use Rattle.cborn_model.specs.Orders.{Rising}
 use Rattle.cborn_model.proofs.Listed.Values.{value_count-values_of, pair_count-pairs_of}
 use Rattle.cborn_det.specs.Det.{Det, DetValues, DetPairs, DetSeq, Entry, joined, keys}
 use Rattle.cborn_det.specs.Appending.{Appends}
-use Rattle.cborn_det.specs.Writing.{AppendsPair, BeginsWith, IsWritten, lengths_of}
+use Rattle.cborn_det.specs.devices.Writing.{AppendsPair, BeginsWith, IsWritten, lengths_of}
 
 -- ---- what is valid of all is valid of each
 

@@ -1,3 +1,3 @@
 pub mod Det
 pub mod Appending
-pub mod Writing
+pub mod devices

@@ -5,7 +5,7 @@ ghost use Rattle.cborn_model.specs.ItemView.{item_value, pair_value};
 ghost use Rattle.cborn_model.specs.Valid.{IsProper, AreProper, HasProperPairs, HasNewKeys};
 ghost use Rattle.cborn_model.specs.Value.{Same, values_of, pairs_of, dict};
 ghost use Rattle.cborn_det.specs.Appending.{Appends};
-ghost use Rattle.cborn_det.specs.Writing.{AppendsPair, BeginsWith, IsWritten, Writes};
+ghost use Rattle.cborn_det.specs.devices.Writing.{AppendsPair, BeginsWith, IsWritten, Writes};
 ghost use Rattle.cborn_det.specs.Det.{Det, DetSeq, DetPairs, Entry};
 
 use crate::entries::arrange;

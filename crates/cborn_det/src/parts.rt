@@ -2,7 +2,7 @@
 
 ghost use Rattle.std.specs.Prelude.{◌≡◌, ◌<◌, ◌≤◌, ◌⊎◌};
 ghost use Rattle.cborn_model.specs.Heads.{code, IsLeastHead};
-ghost use Rattle.cborn_det.specs.Writing.{Writes};
+ghost use Rattle.cborn_det.specs.devices.Writing.{Writes};
 ghost use Rattle.cborn_det.specs.Det.{IsInteger, IsSimple, IsString, major_of};
 
 use cborn_model::{Magnitude, Major, Number, Width, shortest};

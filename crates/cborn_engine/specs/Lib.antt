@@ -9,9 +9,5 @@ pub mod Canonical
 pub mod Showing
 pub mod Comparing
 pub mod Checking
-pub mod Defects
-pub mod Encoding
-pub mod Pieces
-pub mod Sending
-pub mod Stopping
 pub mod Whole
+pub mod devices

@@ -2,7 +2,7 @@
 ghost use Rattle.std.specs.Prelude.{◌≡◌, ◌≤◌, ◌+◌, ◌^◌, ℕ, length, IfSome, IfOk, IfErr};
 ghost use Rattle.cborn_judge.specs.Flaws.{IsRefusalOfAll};
 ghost use Rattle.cborn_engine.specs.Checking.{Checks, CheckAnswers};
-ghost use Rattle.cborn_engine.specs.Defects.{Finds};
+ghost use Rattle.cborn_engine.specs.devices.Defects.{Finds};
 ghost use Rattle.cborn_engine.specs.Reading.{read_failures};
 
 use crate::faults::EngineFault;

@@ -1,7 +1,7 @@
 //! Whether two inputs hold the same items. Each is read whole and encoded, the first before a byte of the second is read; the encodings are equal exactly if the items are the same.
 ghost use Rattle.std.specs.Prelude.{◌≡◌, ◌≤◌, ◌⊎◌, ◌+◌, ◌^◌, IfErr};
 ghost use Rattle.cborn_engine.specs.Comparing.{Compares, IsOfFirst, IsHeldWhole, first_failures, second_failures};
-ghost use Rattle.cborn_engine.specs.Stopping.{of_first, of_second};
+ghost use Rattle.cborn_engine.specs.devices.Stopping.{of_first, of_second};
 
 use crate::differences::difference;
 use crate::encodings::read_encoded;

@@ -6,7 +6,7 @@ ghost use Rattle.cborn_engine.specs.declared.kinds.Kind.TheVariants as kinds;
 ghost use Rattle.cborn_engine.specs.Canonical.{Normalises};
 ghost use Rattle.cborn_engine.specs.Reading.{read_failures};
 ghost use Rattle.cborn_engine.specs.Holding.{Holds, IsFixedText};
-ghost use Rattle.cborn_engine.specs.Encoding.{IsWrittenAs};
+ghost use Rattle.cborn_engine.specs.devices.Encoding.{IsWrittenAs};
 ghost use Rattle.cborn_engine.specs.Showing.{Shows};
 ghost use Rattle.cborn_engine.specs.Writing.{write_failures};
 

@@ -4,7 +4,7 @@ ghost use Rattle.cborn_model.specs.Value.{Value};
 ghost use Rattle.cborn_det.specs.Det.{Det};
 ghost use Rattle.cborn_engine.specs.declared.kinds.Kind.TheVariants as kinds;
 ghost use Rattle.cborn_engine.specs.Comparing.{AreCompared, Difference};
-ghost use Rattle.cborn_engine.specs.Encoding.{IsEncoded};
+ghost use Rattle.cborn_engine.specs.devices.Encoding.{IsEncoded};
 ghost use Rattle.cborn_engine.specs.Holding.{Holds};
 
 use crate::nodes::held_nodes;

@@ -1,7 +1,7 @@
 //! Reading a whole input, and encoding what it holds. A pass that keeps no tree is tried first. Where that answers nothing, what is wrong with bytes is looked for without a tree too, and only an input in which none is found becomes nodes, which are judged.
 ghost use Rattle.std.specs.Prelude.{◌≡◌, ◌≤◌, ◌+◌, ◌^◌, ℕ, length, IfSome, IsTrue};
-ghost use Rattle.cborn_engine.specs.Encoding.{EncodeAnswers, IsEncoded};
-ghost use Rattle.cborn_engine.specs.Pieces.{Reads};
+ghost use Rattle.cborn_engine.specs.devices.Encoding.{EncodeAnswers, IsEncoded};
+ghost use Rattle.cborn_engine.specs.devices.Pieces.{Reads};
 ghost use Rattle.cborn_engine.specs.Reading.{read_failures};
 
 use crate::faults::EngineFault;

@@ -1,7 +1,7 @@
 //! What an input or an output is.
 ghost use Rattle.std.specs.Prelude.{◌≡◌, MatchOption};
 ghost use Rattle.cborn_engine.specs.declared.kinds.Kind.TheVariants as kinds;
-ghost use Rattle.cborn_engine.specs.Encoding.{kind_of};
+ghost use Rattle.cborn_engine.specs.devices.Encoding.{kind_of};
 
 use cborn_lex::Profile;
 

@@ -5,7 +5,7 @@ ghost use Rattle.cborn_model.specs.Spelled.{Wellformed};
 ghost use Rattle.cborn_model.specs.Tree.{trees};
 ghost use Rattle.cborn_model.specs.Value.{Value};
 ghost use Rattle.cborn_engine.specs.declared.kinds.Kind.TheVariants as kinds;
-ghost use Rattle.cborn_engine.specs.Encoding.{kind_of};
+ghost use Rattle.cborn_engine.specs.devices.Encoding.{kind_of};
 ghost use Rattle.cborn_engine.specs.Holding.{Holds, Spells};
 ghost use Rattle.cborn_engine.specs.Loading.{IsNoFlaw};
 ghost use Rattle.cborn_engine.specs.Reading.{read_failures};

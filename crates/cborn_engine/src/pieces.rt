@@ -1,6 +1,6 @@
 //! Reading a piece of an input, and room for the next.
 ghost use Rattle.std.specs.Prelude.{◌≡◌, ◌≤◌, ◌<◌, ◌+◌, ◌^◌, length, take, drop, OnOk};
-ghost use Rattle.cborn_engine.specs.Pieces.{PieceAnswers};
+ghost use Rattle.cborn_engine.specs.devices.Pieces.{PieceAnswers};
 ghost use Rattle.cborn_engine.specs.Reading.{read_failures};
 
 use crate::faults::EngineFault;

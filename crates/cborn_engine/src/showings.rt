@@ -5,8 +5,8 @@ ghost use Rattle.cborn_model.specs.Spelled.{Wellformed};
 ghost use Rattle.cborn_model.specs.Tree.{Tree, trees};
 ghost use Rattle.cborn_edn.specs.declared.faults.ShowFault.TheVariants.{NotUtf8};
 ghost use Rattle.cborn_engine.specs.declared.kinds.Kind.TheVariants as kinds;
-ghost use Rattle.cborn_engine.specs.Encoding.{kind_of};
-ghost use Rattle.cborn_engine.specs.Pieces.{Reads};
+ghost use Rattle.cborn_engine.specs.devices.Encoding.{kind_of};
+ghost use Rattle.cborn_engine.specs.devices.Pieces.{Reads};
 ghost use Rattle.cborn_engine.specs.Reading.{read_failures};
 ghost use Rattle.cborn_engine.specs.Showing.{TellAnswers, IsShown, IsSpelledAs, IsUnshownAs, IsUnspelledAs};
 

@@ -6,7 +6,7 @@ ghost use Rattle.cborn_engine.specs.declared.kinds.Kind.TheVariants as kinds;
 ghost use Rattle.cborn_engine.specs.Canonical.{IsCanonical};
 ghost use Rattle.cborn_engine.specs.Checking.{IsChecked};
 ghost use Rattle.cborn_engine.specs.Comparing.{AreCompared};
-ghost use Rattle.cborn_engine.specs.Encoding.{IsEncoded, IsWrittenAs};
+ghost use Rattle.cborn_engine.specs.devices.Encoding.{IsEncoded, IsWrittenAs};
 ghost use Rattle.cborn_engine.specs.Holding.{Holds};
 ghost use Rattle.cborn_engine.specs.Showing.{IsShown};
 ghost use Rattle.cborn_engine.specs.Whole.{IsRefusedWhole, IsUnshownWhole, AreRefusedWhole};

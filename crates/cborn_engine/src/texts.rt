@@ -2,9 +2,9 @@
 ghost use Rattle.std.specs.Prelude.{◌≡◌, ◌≤◌, ◌+◌, ◌^◌, ℕ, length, IfOk, IfErr, IfSome, IsUtf8};
 ghost use Rattle.cborn_lex.specs.declared.classes.Profile.{Profile as ProfileSpec};
 ghost use Rattle.cborn_spell.specs.Descent.{IsSpelling};
-ghost use Rattle.cborn_engine.specs.Encoding.{kind_of};
+ghost use Rattle.cborn_engine.specs.devices.Encoding.{kind_of};
 ghost use Rattle.cborn_engine.specs.Loading.{IsNoFlaw};
-ghost use Rattle.cborn_engine.specs.Pieces.{Collects};
+ghost use Rattle.cborn_engine.specs.devices.Pieces.{Collects};
 ghost use Rattle.cborn_engine.specs.Reading.{read_failures};
 ghost use Rattle.cborn_engine.specs.Refusing.{IsRefused};
 

@@ -8,7 +8,7 @@ ghost use Rattle.cborn_model.specs.Tree.{trees, entries};
 ghost use Rattle.cborn_model.specs.declared.heads.Width.{Width};
 ghost use Rattle.cborn_model.specs.Valid.{IsProper, AreProper, HasProperPairs};
 ghost use Rattle.cborn_model.specs.Value.{Values, Couples, array, dict, values_of, pairs_of};
-ghost use Rattle.cborn_judge.specs.Checked.{FindsDefect, DefectIn, DefectInAll, DescentAt, NotAboveAt, MapDefect, TagDefect};
+ghost use Rattle.cborn_judge.specs.devices.Checked.{FindsDefect, DefectIn, DefectInAll, DescentAt, NotAboveAt, MapDefect, TagDefect};
 ghost use Rattle.cborn_judge.specs.Defects.{IsCheck, IsDeterministic};
 ghost use Rattle.cborn_judge.specs.Flaws.{IsRefusal};
 

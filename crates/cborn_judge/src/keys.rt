@@ -3,7 +3,7 @@
 ghost use Rattle.std.specs.Prelude.{◌≤◌, ℕ, List, [], IfOk, OnOk, vec_len};
 ghost use Rattle.cborn_model.specs.ItemView.{item_value};
 ghost use Rattle.cborn_model.specs.Valid.{IsProper};
-ghost use Rattle.cborn_judge.specs.Keeping.{AreKept, IsNextKey, IsMarked, CodesOf};
+ghost use Rattle.cborn_judge.specs.devices.Keeping.{AreKept, IsNextKey, IsMarked, CodesOf};
 
 use cborn_det::push_encoding;
 use cborn_model::{Bytewise, Item, KeyOrder};

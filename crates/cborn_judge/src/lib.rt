@@ -7,7 +7,7 @@
 //!
 //! A reader of the definitions starts at `specs/Flaws.antt` (what is wrong with a node, and what is wrong first) and
 //! `specs/Defects.antt` (where a spelling departs from the deterministic encoding); what a node means is told by
-//! `cborn_model`. The other files of `specs/` are devices of the proofs. [`laws`] says that no flaw means an item, and no
+//! `cborn_model`. Devices of the proofs stand in `specs/devices/`. [`laws`] says that no flaw means an item, and no
 //! defect the deterministic encoding.
 #![tactic(auto)]
 

@@ -3,7 +3,7 @@
 ghost use Rattle.std.specs.Prelude.{◌≡◌, ◌⊎◌, ◌↔◌, IfOk, IsTrue, List, ℕ, length};
 ghost use Rattle.std.proofs.Common.{Ordering};
 ghost use Rattle.cborn_model.specs.Meaning.{IsByteString};
-ghost use Rattle.cborn_judge.specs.Checked.{FindsDefect, LongAt, SizeAt, LooseBytesAt, TagDefect};
+ghost use Rattle.cborn_judge.specs.devices.Checked.{FindsDefect, LongAt, SizeAt, LooseBytesAt, TagDefect};
 ghost use Rattle.cborn_judge.specs.Defects.{ChunksDefect, IsLoose};
 
 use crate::defects::{Defect, DefectReason};

@@ -1,9 +1,6 @@
 pub mod Tokens
 pub mod Numbers
 pub mod Strings
-pub mod Letters
 pub mod Forms
 pub mod Lex
-pub mod Pieces
-pub mod View
-pub mod Scan
+pub mod devices

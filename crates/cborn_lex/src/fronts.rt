@@ -4,7 +4,7 @@ ghost use Rattle.std.specs.Prelude.{◌≡◌, ℕ, ◌<◌, ◌≤◌, List, le
 ghost use Rattle.cborn_lex.specs.declared.classes.Class.TheVariants.{ArrayOpen, MapOpen, EmbedClose};
 ghost use Rattle.cborn_lex.specs.Tokens.{Blank, is_white, mark_of, marked};
 ghost use Rattle.cborn_lex.specs.Forms.{start_of, paren_front, IsIndicator, Through, Lacks, ReadsFrom, Reads};
-ghost use Rattle.cborn_lex.specs.View.{front_view, start_view, single_class};
+ghost use Rattle.cborn_lex.specs.devices.View.{front_view, start_view, single_class};
 
 use crate::classes::{Class, Profile};
 use crate::escaped::quoted;

@@ -6,7 +6,7 @@ ghost use Rattle.std.specs.Char.{digit_value, is_digit};
 ghost use Rattle.cborn_lex.specs.Tokens.{begins};
 ghost use Rattle.cborn_lex.specs.Numbers.{integer, within, number, are_digits, number_front};
 ghost use Rattle.cborn_lex.specs.Forms.{ReadsNumber};
-ghost use Rattle.cborn_lex.specs.View.{front_view};
+ghost use Rattle.cborn_lex.specs.devices.View.{front_view};
 
 use crate::classes::{Class, Mark};
 use crate::faults::LexReason;

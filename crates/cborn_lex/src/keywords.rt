@@ -3,7 +3,7 @@
 ghost use Rattle.std.specs.Prelude.{◌≡◌, ◌<◌, ◌≤◌, length, take, drop, slice_index, IfOk};
 ghost use Rattle.cborn_lex.specs.Numbers.{word_front};
 ghost use Rattle.cborn_lex.specs.Forms.{IsPrefixed, prefix_of, IsAfterWord, ReadsWord};
-ghost use Rattle.cborn_lex.specs.View.{front_view};
+ghost use Rattle.cborn_lex.specs.devices.View.{front_view};
 
 use crate::classes::Class;
 use crate::encoded::{in_base64, in_hex};

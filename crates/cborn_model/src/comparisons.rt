@@ -3,7 +3,7 @@
 ghost use Rattle.std.specs.Prelude.{◌≡◌, ◌<◌, ◌≤◌, ◌↔◌, map, length, IsTrue, MatchOption};
 ghost use Rattle.cborn_model.specs.Bytes.{AreBytes, IsShortest, big_endian};
 ghost use Rattle.cborn_model.specs.ItemView.{item_value, pair_value};
-ghost use Rattle.cborn_model.specs.Pairs.{HasPair, Gives};
+ghost use Rattle.cborn_model.specs.devices.Pairs.{HasPair, Gives};
 ghost use Rattle.cborn_model.specs.Valid.{IsNew, HasNewKeys, IsProper, AreProper, HasProperPairs};
 ghost use Rattle.cborn_model.specs.Value.{Same, SameValues, dict, values_of, pairs_of};
 

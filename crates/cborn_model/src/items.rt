@@ -134,7 +134,7 @@ impl Model for ItemList {
     ghost use Rattle.std.specs.Coded.{coded_list};
     ghost use Rattle.cborn_model.specs.Value as model;
     ghost use Rattle.cborn_model.specs.Value.{values_of, height_all};
-    ghost use Rattle.cborn_model.specs.ValueCode.{value_code};
+    ghost use Rattle.cborn_model.specs.devices.ValueCode.{value_code};
 
     ghost Value = { List model.Value };
 
@@ -146,7 +146,7 @@ impl Model for ItemList {
 
     ghost size = { λ vs. height_all (values_of vs) };
 
-    ghost use Rattle.cborn_model.specs.ItemFalls.{items_fall};
+    ghost use Rattle.cborn_model.specs.devices.ItemFalls.{items_fall};
 
     ghost size_decreases = { λ a h. items_fall a.items.items };
 }
@@ -156,7 +156,7 @@ impl Model for PairList {
     ghost use Rattle.std.specs.Coded.{coded_list, coded×};
     ghost use Rattle.cborn_model.specs.Value as model;
     ghost use Rattle.cborn_model.specs.Value.{pairs_of, height_pairs};
-    ghost use Rattle.cborn_model.specs.ValueCode.{value_code};
+    ghost use Rattle.cborn_model.specs.devices.ValueCode.{value_code};
 
     ghost Value = { List (model.Value × model.Value) };
 
@@ -168,7 +168,7 @@ impl Model for PairList {
 
     ghost size = { λ ps. height_pairs (pairs_of ps) };
 
-    ghost use Rattle.cborn_model.specs.ItemFalls.{pairs_fall};
+    ghost use Rattle.cborn_model.specs.devices.ItemFalls.{pairs_fall};
 
     ghost size_decreases = { λ a h. pairs_fall a.pairs.items };
 }
@@ -176,7 +176,7 @@ impl Model for PairList {
 impl Model for ItemBox {
     ghost use Rattle.cborn_model.specs.Value as model;
     ghost use Rattle.cborn_model.specs.Value.{height};
-    ghost use Rattle.cborn_model.specs.ValueCode.{value_code};
+    ghost use Rattle.cborn_model.specs.devices.ValueCode.{value_code};
 
     ghost Value = { model.Value };
 
@@ -188,7 +188,7 @@ impl Model for ItemBox {
 
     ghost size = { height };
 
-    ghost use Rattle.cborn_model.specs.ItemFalls.{item_falls};
+    ghost use Rattle.cborn_model.specs.devices.ItemFalls.{item_falls};
 
     ghost size_decreases = { λ a h. item_falls a.item.value };
 }

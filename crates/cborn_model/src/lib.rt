@@ -24,7 +24,7 @@
 //!
 //! The definitions stand in `specs/`, each by itself and without the code: `Bytes` and `Heads`; `Tree` (the pure node),
 //! `Spelled` (its bytes, and when it fits) and `Placed`; `Value` (the pure item, and `Same`), `Valid` and `Meaning` (which
-//! item a node means); `Orders`; `First` (the first of several faults). The other files there are devices of the proofs.
+//! item a node means); `Orders`; `First` (the first of several faults). Devices of the proofs stand in `specs/devices/`.
 //! [`laws`] has what is proved of the definitions alone.
 #![tactic(auto)]
 

@@ -52,7 +52,7 @@ pub enum Form {
 
 impl Model for Node {
     ghost use Rattle.cborn_model.specs.Tree.{Tree, depth};
-    ghost use Rattle.cborn_model.specs.TreeCode.{tree_code};
+    ghost use Rattle.cborn_model.specs.devices.TreeCode.{tree_code};
 
     ghost Value = { Tree };
 
@@ -64,7 +64,7 @@ impl Model for Node {
 
     ghost size = { depth };
 
-    ghost use Rattle.cborn_model.specs.TreeFalls.{depth_falls};
+    ghost use Rattle.cborn_model.specs.devices.TreeFalls.{depth_falls};
 
     ghost size_decreases = { λ a h. depth_falls a.place a.form };
 }

@@ -18,7 +18,7 @@ pub struct Valid {
 
 impl Model for Valid {
     ghost use Rattle.cborn_model.specs.Value as model;
-    ghost use Rattle.cborn_model.specs.ValueCode.{value_code};
+    ghost use Rattle.cborn_model.specs.devices.ValueCode.{value_code};
 
     ghost Value = { model.Value };
 

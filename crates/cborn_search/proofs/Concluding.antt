@@ -1,11 +1,11 @@
 -- From the defects that a walk found to what is said of a whole input.
 use Rattle.std.proofs.Common.{◌≡◌, ℕ, List, length, Option, None, Some, Ordering}
 use Rattle.cborn_model.specs.Tree.{Tree, trees}
-use Rattle.cborn_judge.specs.Checked.{FindsDefect, DefectInAll}
+use Rattle.cborn_judge.specs.devices.Checked.{FindsDefect, DefectInAll}
 use Rattle.cborn_judge.specs.Defects.{SequenceDefect}
 use Rattle.cborn_judge.specs.declared.defects.Defect.{Defect}
 use Rattle.cborn_judge.proofs.FirstDefect.Departing.{alike}
-use Rattle.cborn_search.specs.Departed.{HaveDefect, WalkedAll}
+use Rattle.cborn_search.specs.devices.Departed.{HaveDefect, WalkedAll}
 use Rattle.cborn_search.specs.Searching.{DefectVerdict, IsFirstDefectOf}
 use Rattle.cborn_search.proofs.Sequencing.{whole_read}
 

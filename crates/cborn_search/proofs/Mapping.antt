@@ -9,7 +9,7 @@ use Rattle.cborn_model.specs.Heads.{Given, Unbounded, head, WidthFits}
 use Rattle.cborn_model.specs.Orders.{bytewise}
 use Rattle.cborn_model.specs.Tree.{Tree, Pairs, entries}
 use Rattle.cborn_judge.specs.Flaws.{Flaw}
-use Rattle.cborn_judge.specs.Judged.{FlawAmong, RepeatFlaw}
+use Rattle.cborn_judge.specs.devices.Judged.{FlawAmong, RepeatFlaw}
 use Rattle.cborn_judge.specs.declared.faults.InvalidReason.{InvalidReason}
 use Rattle.cborn_judge.proofs.Loops.Firsts.{Either}
 use Rattle.cborn_judge.proofs.FirstFlaw.Pairing.{after, before, last_key, last_value}
@@ -18,7 +18,7 @@ use Rattle.cborn_judge.proofs.FirstFlaw.Steps.{flaw_pairs}
 use Rattle.cborn_transcode.specs.Transcoding.{IsTranscoded}
 use Rattle.cborn_search.specs.Reading.{Pair, NodeRead}
 use Rattle.cborn_search.specs.Flawed.{Told, IsEarliestTold, FindsTold, SeenKey, seen_bytes, seen_position, seen_place, AreSeen, HasFlaw, Scanned, PairsFlaw, PairsSeen}
-use Rattle.cborn_search.specs.Marks.{Joins, MapFlaw, MapSeen}
+use Rattle.cborn_search.specs.devices.Marks.{Joins, MapFlaw, MapSeen}
 use Rattle.cborn_search.proofs.Couples.{no_pair, pair_more, map_read, endless_map_read}
 use Rattle.cborn_search.proofs.Keying.{key_coded, cut_out, key_unknown, stands}
 use Rattle.cborn_search.proofs.Scanning.{both_told, alike_told}

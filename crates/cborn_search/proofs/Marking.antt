@@ -6,10 +6,10 @@ use Rattle.std.proofs.Math.Seq.{drop-append_seam}
 use Rattle.std.proofs.lemmas.List.{take_all, drop-append-le, take-append-le}
 use Rattle.cborn_model.specs.Tree.{entries}
 use Rattle.cborn_model.specs.Orders.{bytewise}
-use Rattle.cborn_model.specs.OrderLaws.{bytewise_order}
+use Rattle.cborn_model.specs.devices.OrderLaws.{bytewise_order}
 use Rattle.cborn_judge.specs.Flaws.{HasRepeat, flaw_rank}
-use Rattle.cborn_judge.specs.Judged.{RepeatFlaw}
-use Rattle.cborn_judge.specs.Repeats.{IsOneOf, IsAgain, IsTied, PositionsRise}
+use Rattle.cborn_judge.specs.devices.Judged.{RepeatFlaw}
+use Rattle.cborn_judge.specs.devices.Repeats.{IsOneOf, IsAgain, IsTied, PositionsRise}
 use Rattle.cborn_judge.specs.declared.faults.InvalidReason.{InvalidReason}
 use Rattle.cborn_judge.specs.declared.faults.InvalidReason.TheVariants.{DuplicateKey}
 use Rattle.cborn_judge.proofs.Loops.Firsts.{Either}
@@ -17,7 +17,7 @@ use Rattle.cborn_judge.proofs.Loops.Passing.{passed_one}
 use Rattle.cborn_judge.proofs.SameKeys.Repeating.{repeat_again, again_repeat, InOrder, again_tied}
 use Rattle.cborn_search.specs.Reading.{Pair}
 use Rattle.cborn_search.specs.Flawed.{Told, IsEarliestTold, FindsTold, SeenKey, seen_bytes, seen_position, seen_place, AreSeen}
-use Rattle.cborn_search.specs.Marks.{mark_start, mark_bytes, IsMark, StartsRise, AreMarked, Comes, InPlace, ComesAfter, TieAfter, TieFlaw}
+use Rattle.cborn_search.specs.devices.Marks.{mark_start, mark_bytes, IsMark, StartsRise, AreMarked, Comes, InPlace, ComesAfter, TieAfter, TieFlaw}
 use Rattle.cborn_search.specs.declared.keys.Keys.{Keys}
 use Rattle.cborn_search.specs.declared.keys.Mark.{Mark}
 use Rattle.cborn_search.proofs.Scanning.{both_told, alike_told}

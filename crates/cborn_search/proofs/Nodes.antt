@@ -16,7 +16,7 @@ use Rattle.cborn_wire.specs.declared.heads.Argument.TheVariants as arguments
 use Rattle.cborn_wire.specs.declared.heads.Head.{Head}
 use Rattle.cborn_wire.specs.HeadReading.{major_at, IsHeadOf, seen_argument, ArgumentFits}
 use Rattle.cborn_transcode.proofs.Heading.{head_split}
-use Rattle.cborn_transcode.specs.Walking.{Leaves}
+use Rattle.cborn_transcode.specs.devices.Walking.{Leaves}
 use Rattle.cborn_search.specs.Reading.{StringRead, IsSimpleArgument, ChunkRead, ChunksRead, NodeRead, NodesRead}
 
 -- the place of what follows

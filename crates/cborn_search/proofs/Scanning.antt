@@ -14,7 +14,7 @@ use Rattle.cborn_wire.specs.declared.heads.Argument.{Argument}
 use Rattle.cborn_wire.specs.HeadReading.{major_at, IsHeadOf, seen_argument, ArgumentFits}
 use Rattle.cborn_wire.specs.declared.heads.Head.{Head}
 use Rattle.cborn_judge.specs.Flaws.{FlawAt, Flaw, HasBadChunk, flaw_rank}
-use Rattle.cborn_judge.specs.Judged.{FlawIn, ChunkFlaw}
+use Rattle.cborn_judge.specs.devices.Judged.{FlawIn, ChunkFlaw}
 use Rattle.cborn_judge.specs.declared.faults.InvalidReason.{InvalidReason}
 use Rattle.cborn_judge.specs.declared.faults.InvalidReason.TheVariants.{BadBignum}
 use Rattle.cborn_judge.proofs.Loops.Firsts.{Either, found_both, found_alike}

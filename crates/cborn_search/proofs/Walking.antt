@@ -18,7 +18,7 @@ use Rattle.cborn_det.specs.Det.{Det}
 use Rattle.cborn_wire.specs.declared.heads.Argument.{Argument}
 use Rattle.cborn_wire.specs.declared.heads.Head.{Head}
 use Rattle.cborn_wire.specs.HeadReading.{major_at, IsHeadOf, seen_argument, ArgumentFits}
-use Rattle.cborn_judge.specs.Checked.{IsEarliestDefect, FindsDefect, LongAt, SizeAt, DefectIn, DefectAmong, DescentAt, NotAboveAt, TagDefect, LooseBytesAt}
+use Rattle.cborn_judge.specs.devices.Checked.{IsEarliestDefect, FindsDefect, LongAt, SizeAt, DefectIn, DefectAmong, DescentAt, NotAboveAt, TagDefect, LooseBytesAt}
 use Rattle.cborn_judge.specs.Defects.{defect_rank, ChunksDefect, DefectAt, IsLoose}
 use Rattle.cborn_judge.specs.declared.defects.Defect.{Defect}
 use Rattle.cborn_judge.specs.declared.defects.DefectReason.{DefectReason}
@@ -29,9 +29,9 @@ use Rattle.cborn_judge.proofs.Loops.Firsts.{Either}
 use Rattle.cborn_judge.proofs.FirstFlaw.Pairing.{after, before, last_key, last_value}
 use Rattle.cborn_transcode.specs.Transcoding.{IsTranscoded}
 use Rattle.cborn_search.specs.Reading.{Pair, StringRead, IsSimpleArgument, NodeRead, PairsRead}
-use Rattle.cborn_search.specs.Digits.{AreDigits, BeginsWith, DigitsWalked}
+use Rattle.cborn_search.specs.devices.Digits.{AreDigits, BeginsWith, DigitsWalked}
 use Rattle.cborn_search.specs.declared.departures.Digits.{Digits}
-use Rattle.cborn_search.specs.Departed.{LongChunk, ChunkWalked, HaveLongChunk, ChunksWalked, HasDefect, Walked, HaveDefect, WalkedAll, PairsDefect, PairsWalked, AfterKey}
+use Rattle.cborn_search.specs.devices.Departed.{LongChunk, ChunkWalked, HaveLongChunk, ChunksWalked, HasDefect, Walked, HaveDefect, WalkedAll, PairsDefect, PairsWalked, AfterKey}
 use Rattle.cborn_search.proofs.Couples.{no_pair, pair_more, map_read, endless_map_read}
 use Rattle.cborn_search.proofs.Keying.{key_coded, cut_out, stands}
 use Rattle.cborn_search.proofs.Mapping.{node_with}

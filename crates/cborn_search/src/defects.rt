@@ -1,11 +1,11 @@
 //! The first defect of an item, and of those inside it, as `flaws` tells flaws: what was found is written to one place.
 
 ghost use Rattle.std.specs.Prelude.{◌≡◌, ◌≤◌, ◌-◌, ◌++◌, length, IfSome};
-ghost use Rattle.cborn_judge.specs.Checked.{FindsDefect, TagDefect};
+ghost use Rattle.cborn_judge.specs.devices.Checked.{FindsDefect, TagDefect};
 ghost use Rattle.cborn_model.specs.declared.heads.Major.TheVariants.{Array, Map};
 ghost use Rattle.cborn_model.specs.Heads.{Unbounded, head};
-ghost use Rattle.cborn_transcode.specs.Walking.{Leaves};
-ghost use Rattle.cborn_search.specs.Departed.{PairsWalked, Walked, WalkedAll};
+ghost use Rattle.cborn_transcode.specs.devices.Walking.{Leaves};
+ghost use Rattle.cborn_search.specs.devices.Departed.{PairsWalked, Walked, WalkedAll};
 ghost use Rattle.cborn_search.specs.Reading.{NodeRead};
 
 use crate::departures::{add_head, head_defect, walk_bignum_content, walk_long_string};

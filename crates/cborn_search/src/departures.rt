@@ -1,11 +1,11 @@
 //! The defects of heads, strings, bignums and keys.
 
 ghost use Rattle.std.specs.Prelude.{◌≡◌, ◌≢◌, ◌<◌, ◌≤◌, ◌++◌, ◌∷◌, ◌⊎◌, ◌↔◌, ℕ, List, Option, length, IsTrue, IfSome, MatchBool};
-ghost use Rattle.cborn_judge.specs.Checked.{FindsDefect, LongAt, LooseBytesAt, IsEarliestDefect};
+ghost use Rattle.cborn_judge.specs.devices.Checked.{FindsDefect, LongAt, LooseBytesAt, IsEarliestDefect};
 ghost use Rattle.cborn_judge.specs.Defects.{ChunksDefect, IsLoose};
 ghost use Rattle.cborn_judge.specs.declared.defects.Defect.{Defect};
-ghost use Rattle.cborn_search.specs.Departed.{AfterKey, BignumWalked, ChunkWalked, ChunksWalked};
-ghost use Rattle.cborn_search.specs.Digits.{AreDigits, BeginsWith, DigitsWalked};
+ghost use Rattle.cborn_search.specs.devices.Departed.{AfterKey, BignumWalked, ChunkWalked, ChunksWalked};
+ghost use Rattle.cborn_search.specs.devices.Digits.{AreDigits, BeginsWith, DigitsWalked};
 
 use crate::leaves::{behind_break, string_at};
 use cborn_judge::{Defect, DefectReason, earliest};

@@ -6,9 +6,9 @@ ghost use Rattle.std.specs.Prelude.{◌≡◌, ◌≢◌, ◌≤◌, ◌-◌, �
 ghost use Rattle.cborn_model.specs.declared.heads.Width.{Width};
 ghost use Rattle.cborn_model.specs.declared.heads.Major.TheVariants.{Array, Map, Tag};
 ghost use Rattle.cborn_model.specs.Heads.{Given, Unbounded, head, WidthFits};
-ghost use Rattle.cborn_transcode.specs.Walking.{Leaves};
+ghost use Rattle.cborn_transcode.specs.devices.Walking.{Leaves};
 ghost use Rattle.cborn_search.specs.Flawed.{Scanned, ScannedAll};
-ghost use Rattle.cborn_search.specs.Marks.{MapSeen};
+ghost use Rattle.cborn_search.specs.devices.Marks.{MapSeen};
 
 use crate::leaves::{
     behind_break, is_bignum, is_done, is_simple, last, scan_long_bytes, scan_long_text, scan_text,

@@ -2,10 +2,10 @@
 
 ghost use Rattle.std.specs.Prelude.{◌≡◌, ◌≤◌, ◌-◌, ◌∷◌, ◌++◌, ℕ, List, [], length, take, IfSome, OnSome, IsPermutation};
 ghost use Rattle.cborn_model.specs.Tree.{entries};
-ghost use Rattle.cborn_judge.specs.Judged.{RepeatFlaw};
+ghost use Rattle.cborn_judge.specs.devices.Judged.{RepeatFlaw};
 ghost use Rattle.cborn_transcode.specs.Transcoding.{IsTranscoded};
 ghost use Rattle.cborn_search.specs.Flawed.{FindsTold, SeenKey, AreSeen};
-ghost use Rattle.cborn_search.specs.Marks.{mark_bytes, AreMarked, TakesKey, InPlace, ComesAfter, TieAfter, TieFlaw};
+ghost use Rattle.cborn_search.specs.devices.Marks.{mark_bytes, AreMarked, TakesKey, InPlace, ComesAfter, TieAfter, TieFlaw};
 ghost use Rattle.cborn_search.specs.Reading.{Pair};
 
 use cborn_judge::{InvalidReason, earliest};

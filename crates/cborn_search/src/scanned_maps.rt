@@ -2,7 +2,7 @@
 
 ghost use Rattle.std.specs.Prelude.{◌≡◌, ◌≤◌, None, [], false, length, OnSome};
 ghost use Rattle.cborn_search.specs.Flawed.{IsEarliestTold};
-ghost use Rattle.cborn_search.specs.Marks.{AreMarked, Concludes, TakesKey};
+ghost use Rattle.cborn_search.specs.devices.Marks.{AreMarked, Concludes, TakesKey};
 
 use crate::keys::Keys;
 use crate::told::Finding;

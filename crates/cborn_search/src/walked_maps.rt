@@ -1,8 +1,8 @@
 //! What a search for defects knows of a map.
 
 ghost use Rattle.std.specs.Prelude.{◌≡◌, ◌≤◌, None, length, OnSome};
-ghost use Rattle.cborn_judge.specs.Checked.{IsEarliestDefect};
-ghost use Rattle.cborn_search.specs.Departed.{TakesNext};
+ghost use Rattle.cborn_judge.specs.devices.Checked.{IsEarliestDefect};
+ghost use Rattle.cborn_search.specs.devices.Departed.{TakesNext};
 
 use crate::departures::order_defect;
 use crate::keys::encoded;

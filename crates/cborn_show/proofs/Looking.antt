@@ -11,9 +11,9 @@ use Rattle.cborn_model.proofs.Numbers.Majors.{major_at-code}
 use Rattle.cborn_model.proofs.Numbers.OneHead.{one_head}
 use Rattle.cborn_wire.specs.declared.heads.Head.{Head}
 use Rattle.cborn_wire.specs.HeadReading.{major_at, IsHeadOf, seen_argument, ArgumentFits}
-use Rattle.cborn_wire.specs.Scanning.{content_of}
+use Rattle.cborn_wire.specs.devices.Scanning.{content_of}
 use Rattle.cborn_show.specs.declared.bad_texts.Look.TheVariants.{Passed}
-use Rattle.cborn_show.specs.Pieces.{Piece, PieceFits, piece_bytes, IsBadPiece, all_bytes, AllFit, BadAt, IsFirstBad, Looks, Remaining}
+use Rattle.cborn_show.specs.devices.Pieces.{Piece, PieceFits, piece_bytes, IsBadPiece, all_bytes, AllFit, BadAt, IsFirstBad, Looks, Remaining}
 use Rattle.cborn_show.proofs.Heading.{head_split}
 
 -- Only a definite string has content.

@@ -15,9 +15,9 @@ use Rattle.cborn_model.specs.Spelled.{spelled, spelled_all, spelled_entries, Fit
 use Rattle.cborn_model.specs.Tree.{Tree, Uint, Nint, Bytes, Text, ByteChunks, TextChunks, Items, Pairs, Tagged, Simple, Trees, no_item, more, Entries, no_entry, entry, count, count_entries}
 use Rattle.cborn_edn.specs.Shown.{IsBadText, IsBadAmong, IsBadInPairs, IsBadChunk, LowestBadText}
 use Rattle.cborn_wire.specs.HeadReading.{ArgumentFits}
-use Rattle.cborn_wire.specs.Scanning.{content_of}
+use Rattle.cborn_wire.specs.devices.Scanning.{content_of}
 use Rattle.cborn_wire.proofs.Machine.TakesItems.{simple_fits}
-use Rattle.cborn_show.specs.Pieces.{Piece, piece_bytes, all_bytes, AllFit, BadAt, IsFirstBad}
+use Rattle.cborn_show.specs.devices.Pieces.{Piece, piece_bytes, all_bytes, AllFit, BadAt, IsFirstBad}
 
 abbrev bare : Major → Argument → Piece
 bare m a = record { major = m; argument = a; content = [] }

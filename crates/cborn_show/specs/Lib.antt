@@ -1,2 +1,2 @@
 pub mod Passed
-pub mod Pieces
+pub mod devices

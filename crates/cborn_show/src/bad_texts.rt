@@ -8,8 +8,8 @@ ghost use Rattle.cborn_model.specs.Spelled.{Wellformed};
 ghost use Rattle.cborn_model.specs.Tree.{Trees};
 ghost use Rattle.cborn_edn.specs.Shown.{LowestBadText};
 ghost use Rattle.cborn_wire.specs.HeadReading.{major_at, seen_argument};
-ghost use Rattle.cborn_wire.specs.Scanning.{content_of};
-ghost use Rattle.cborn_show.specs.Pieces.{Piece, PieceFits, piece_bytes, Looks, Steps, all_bytes, AllFit, IsFirstBad};
+ghost use Rattle.cborn_wire.specs.devices.Scanning.{content_of};
+ghost use Rattle.cborn_show.specs.devices.Pieces.{Piece, PieceFits, piece_bytes, Looks, Steps, all_bytes, AllFit, IsFirstBad};
 
 use crate::leaves::is_text;
 use cborn_model::Major;

@@ -12,8 +12,8 @@ use Rattle.cborn_lex.specs.declared.classes.Mark.TheVariants.{Absent, Endless, W
 use Rattle.cborn_lex.specs.Tokens.{begins}
 use Rattle.cborn_lex.specs.Numbers.{number}
 use Rattle.cborn_lex.specs.Strings.{is_content, IsText, are_hex, code}
-use Rattle.cborn_lex.specs.Letters.{Letter, is_letter, meant, written as letter}
-use Rattle.cborn_lex.specs.Scan.{is_raw}
+use Rattle.cborn_lex.specs.devices.Letters.{Letter, is_letter, meant, written as letter}
+use Rattle.cborn_lex.specs.devices.Scan.{is_raw}
 use Rattle.cborn_model.specs.declared.heads.Major.{Major}
 use Rattle.cborn_model.specs.declared.heads.Major.TheVariants.{ByteString, TextString}
 use Rattle.cborn_model.specs.Heads.{head_bytes, least}

@@ -8,7 +8,7 @@ use Rattle.cborn_transcode.specs.declared.entries.Span.{Span}
 use Rattle.std.proofs.lemmas.List.Sorted.{IsPermutation-map, IsPermutation-reverse, IsPermutation-trans}
 use Rattle.cborn_transcode.specs.declared.places.Place.{Place}
 use Rattle.cborn_transcode.specs.Transcoding.{spanned, all_spanned, AreSpans}
-use Rattle.cborn_transcode.specs.Walking.{span_of, spans_of}
+use Rattle.cborn_transcode.specs.devices.Walking.{span_of, spans_of}
 
 pub spanned_more : (b : List ℕ) (ss : List Span) (i : ℕ) (d : Span) → i < length ss → all_spanned b (take (i + 1) ss) ≡ all_spanned b (take i ss) ++ spanned b (get_or ss i d) ∷ []
 spanned_more b ss i d l = ap (all_spanned b) (take_more ss i d l) ∙ map-append (spanned b) (take i ss) (get_or ss i d ∷ [])

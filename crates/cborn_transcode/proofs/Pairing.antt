@@ -17,7 +17,7 @@ use Rattle.cborn_model.specs.Orders.{IsKeyOrder, Rising}
 use Rattle.cborn_model.proofs.Listed.Values.{pair_count-pairs_of}
 use Rattle.cborn_judge.proofs.Meaning.Meanings.{Short, left, right, meaning_valid, same_count_entries}
 use Rattle.cborn_det.specs.Det.{Det, DetPairs, Entry, joined, keys}
-use Rattle.cborn_det.specs.Writing.{HasDistinctKeys}
+use Rattle.cborn_det.specs.devices.Writing.{HasDistinctKeys}
 use Rattle.cborn_det.specs.Appending.{Appends}
 use Rattle.cborn_det.proofs.Canon.{one_of_same}
 use Rattle.cborn_det.proofs.Steps.{map_done}

@@ -24,7 +24,7 @@ use Rattle.cborn_wire.specs.declared.heads.Argument.TheVariants as arguments
 use Rattle.cborn_wire.specs.HeadReading.{major_at, IsHeadOf, seen_argument, ArgumentFits}
 use Rattle.cborn_transcode.specs.declared.entries.Span.{Span}
 use Rattle.cborn_transcode.specs.Transcoding.{all_spanned, StringTaken, BignumTaken, ItemTranscoded, ItemsTranscoded, MapTranscoded, IsTranscoded}
-use Rattle.cborn_transcode.specs.Walking.{Leaves, IsLast, LeastHeadRead, ContentWalked, BignumWalked, ItemWalked, ItemsWalked, PairsFound, PairsWalked, WalkedBehind}
+use Rattle.cborn_transcode.specs.devices.Walking.{Leaves, IsLast, LeastHeadRead, ContentWalked, BignumWalked, ItemWalked, ItemsWalked, PairsFound, PairsWalked, WalkedBehind}
 use Rattle.cborn_transcode.proofs.Heading.{head_split, big_integer, bytes_left, bytes_right}
 use Rattle.cborn_transcode.proofs.Closing.{uint_done, nint_done, bytes_done, text_done, bignum_done, tagged_done}
 use Rattle.cborn_transcode.proofs.Lists.{all_none, all_more, array_done, normalised}

@@ -1,2 +1,2 @@
 pub mod Transcoding
-pub mod Walking
+pub mod devices

@@ -6,7 +6,7 @@ ghost use Rattle.cborn_det.specs.Det.{Entry, joined, keys};
 ghost use Rattle.cborn_model.specs.Orders.{Rising};
 ghost use Rattle.cborn_transcode.specs.declared.places.Place.{Place};
 ghost use Rattle.cborn_transcode.specs.Transcoding.{all_spanned};
-ghost use Rattle.cborn_transcode.specs.Walking.{Leaves, ItemWalked, PairsFound, span_of, spans_of};
+ghost use Rattle.cborn_transcode.specs.devices.Walking.{Leaves, ItemWalked, PairsFound, span_of, spans_of};
 
 use crate::entries::{Span, compare_keys, hint_at, key_in, pair_in, whole};
 use crate::walked_integers::int_len;

@@ -6,7 +6,7 @@ ghost use Rattle.cborn_det.proofs.Cutting.{Below};
 ghost use Rattle.cborn_model.specs.Bytes.{IsShortest};
 ghost use Rattle.cborn_model.specs.Tree.{Simple};
 ghost use Rattle.cborn_model.specs.Spelled.{Fits};
-ghost use Rattle.cborn_transcode.specs.Walking.{Leaves, IsLast, LeastHeadRead, ContentWalked, BignumWalked, WalkedBehind};
+ghost use Rattle.cborn_transcode.specs.devices.Walking.{Leaves, IsLast, LeastHeadRead, ContentWalked, BignumWalked, WalkedBehind};
 
 use crate::leaves::is_text;
 use cborn_model::{KeyOrder, Major, shortest};

@@ -3,7 +3,7 @@
 ghost use Rattle.std.specs.Prelude.{ℕ, ◌≤◌, [], IsTrue, IfSome};
 ghost use Rattle.cborn_model.specs.declared.heads.Major.TheVariants.{Array, Map, Tag};
 ghost use Rattle.cborn_transcode.specs.Transcoding.{IsTranscoded};
-ghost use Rattle.cborn_transcode.specs.Walking.{Leaves, ItemWalked, ItemsWalked, WalkedBehind};
+ghost use Rattle.cborn_transcode.specs.devices.Walking.{Leaves, ItemWalked, ItemsWalked, WalkedBehind};
 
 use crate::walked_integers::int_len;
 use crate::walked_leaves::{last, read_least, rises_above, split_before, walk_bignum, walk_leaf};

@@ -1,14 +1,7 @@
 pub mod Slots
 pub mod Faults
 pub mod Places
-pub mod Machine
 pub mod Feeding
-pub mod FeedingCode
 pub mod Reading
 pub mod HeadReading
-pub mod InitialBytes
-pub mod Standing
-pub mod StackView
-pub mod StackKeeps
-pub mod FeederView
-pub mod Scanning
+pub mod devices

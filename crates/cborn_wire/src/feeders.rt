@@ -15,13 +15,13 @@ pub struct Feeder {
 
 impl Model for Feeder {
     ghost use Rattle.cborn_wire.specs.Feeding.{Feeding};
-    ghost use Rattle.cborn_wire.specs.FeedingCode.{feeding_code};
+    ghost use Rattle.cborn_wire.specs.devices.FeedingCode.{feeding_code};
 
     ghost Value = { Feeding };
 
     ghost coded = { feeding_code };
 
-    ghost use Rattle.cborn_wire.specs.FeederView.{told, Keeps};
+    ghost use Rattle.cborn_wire.specs.devices.FeederView.{told, Keeps};
 
     ghost view = { told };
 

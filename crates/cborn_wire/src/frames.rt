@@ -3,7 +3,7 @@
 ghost use Rattle.std.specs.Prelude.{ℕ, ◌≡◌};
 ghost use Rattle.cborn_wire.specs.Slots.{slot_in};
 ghost use Rattle.cborn_wire.specs.Faults.{needs_item};
-ghost use Rattle.cborn_wire.specs.StackView.{seen_frame, Puts, Closes};
+ghost use Rattle.cborn_wire.specs.devices.StackView.{seen_frame, Puts, Closes};
 
 use crate::{Argument, WireFault, WireReason};
 use cborn_model::{Chunk, Form, Node, Size, Width, push_doubling};

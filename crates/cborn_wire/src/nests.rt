@@ -4,9 +4,9 @@ ghost use Rattle.std.specs.Prelude.{◌≡◌, ◌∷◌, ◌+◌, ◌<◌, ◌^
 ghost use Rattle.cborn_model.specs.Tree.{no_item, no_entry};
 ghost use Rattle.cborn_model.specs.declared.heads.Major.TheVariants as heads;
 ghost use Rattle.cborn_wire.specs.Slots.{major_of, AreBegun};
-ghost use Rattle.cborn_wire.specs.Machine.{nothing, content_of, gathering, width_bytes, items_at, pairs_at, string_done, ended, after_head, Live};
+ghost use Rattle.cborn_wire.specs.devices.Machine.{nothing, content_of, gathering, width_bytes, items_at, pairs_at, string_done, ended, after_head, Live};
 ghost use Rattle.cborn_wire.specs.HeadReading.{major_at, seen_argument, ArgumentFits};
-ghost use Rattle.cborn_wire.specs.StackView.{seen_kind, seen_frame, opened, seen_partial, IsShort, Gives, Takes};
+ghost use Rattle.cborn_wire.specs.devices.StackView.{seen_kind, seen_frame, opened, seen_partial, IsShort, Gives, Takes};
 
 use crate::frames::{Frame, Partial, StringKind};
 use crate::heads::{read_number, wide_width};

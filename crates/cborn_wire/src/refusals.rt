@@ -3,9 +3,9 @@
 ghost use Rattle.std.specs.Prelude.{◌≡◌, ◌<◌, ◌%◌, ◌/◌, [], length, nat_le};
 ghost use Rattle.cborn_wire.specs.Slots.{slot, open_depth, AreBegun};
 ghost use Rattle.cborn_wire.specs.Faults.{needs_item};
-ghost use Rattle.cborn_wire.specs.InitialBytes.{info_at, is_bad_chunk, head_reason};
+ghost use Rattle.cborn_wire.specs.devices.InitialBytes.{info_at, is_bad_chunk, head_reason};
 ghost use Rattle.cborn_wire.specs.HeadReading.{major_at};
-ghost use Rattle.cborn_wire.specs.StackView.{opened};
+ghost use Rattle.cborn_wire.specs.devices.StackView.{opened};
 
 use crate::WireReason;
 use crate::frames::{Frame, StringKind};

@@ -1,6 +1,6 @@
 //! The stack that a reader keeps.
 
-ghost use Rattle.cborn_wire.specs.StackView.{Added};
+ghost use Rattle.cborn_wire.specs.devices.StackView.{Added};
 
 use crate::WireFault;
 use crate::frames::Partial;
@@ -25,13 +25,13 @@ pub(crate) struct Stack {
 }
 
 impl Model for Stack {
-    ghost use Rattle.cborn_wire.specs.Standing.{Standing, standing_code};
+    ghost use Rattle.cborn_wire.specs.devices.Standing.{Standing, standing_code};
 
     ghost Value = { Standing };
 
     ghost coded = { standing_code };
 
-    ghost use Rattle.cborn_wire.specs.StackKeeps.{told, Keeps};
+    ghost use Rattle.cborn_wire.specs.devices.StackKeeps.{told, Keeps};
 
     ghost view = { told };
 
@@ -41,8 +41,8 @@ impl Model for Stack {
 impl Stack {
     ghost use Rattle.std.specs.Prelude.{◌≡◌, ◌+◌, ◌<◌, ◌^◌, ◌++◌, [], length, None, true, false};
     ghost use Rattle.std.specs.Option.{option_to_list};
-    ghost use Rattle.cborn_wire.specs.Machine.{start, nothing};
-    ghost use Rattle.cborn_wire.specs.StackView.{seen, opened, seen_partial, IsMade, Advances, Runs};
+    ghost use Rattle.cborn_wire.specs.devices.Machine.{start, nothing};
+    ghost use Rattle.cborn_wire.specs.devices.StackView.{seen, opened, seen_partial, IsMade, Advances, Runs};
 
     /// Nothing read, of bytes that stand at `at`, in which at most `limit` arrays, maps and tags may stand around one another.
     pub(crate) fn new(alloc: Global, limit: Limit, at: u64) -> Stack

@@ -7,7 +7,7 @@ use Rattle.cborn_lex.specs.declared.classes.Token.{Token}
 use Rattle.cborn_lex.specs.Tokens.{Blank, Read}
 use Rattle.cborn_lex.specs.Forms.{Reads}
 use Rattle.cborn_lex.specs.Lex.{Lex}
-use Rattle.cborn_lex.specs.Pieces.{Lexeme, gap, token as lexed, slice, front_of, spelled, AreRead, tokens}
+use Rattle.cborn_lex.specs.devices.Pieces.{Lexeme, gap, token as lexed, slice, front_of, spelled, AreRead, tokens}
 use Rattle.cborn_lex.proofs.WholeTexts.Parts.{parted_lex}
 use Rattle.cborn_lex.proofs.WholeTexts.Chains.{both_profiles}
 use Rattle.cborn_edn.specs.Syntax.{token}

@@ -3,7 +3,7 @@ use Rattle.std.specs.Prelude.{◌≡◌, List, [], ◌∷◌, refl}
 use Rattle.std.proofs.Common.{ap}
 use Rattle.std.specs.Coded.{Coded, code_by, coded×, coded_list}
 use Rattle.cborn_model.specs.Tree.{Tree, Trees, no_item, more, Entries, no_entry, entry, trees, entries}
-use Rattle.cborn_model.specs.TreeCode.{tree_code}
+use Rattle.cborn_model.specs.devices.TreeCode.{tree_code}
 
 abbrev pub listed_trees : Trees → List Tree
 listed_trees no_item = []

@@ -12,7 +12,7 @@ use Rattle.cborn_engine.specs.declared.faults.EngineFault.TheVariants as fault
 use Rattle.cborn_engine.specs.declared.kinds.Kind.{Kind}
 use Rattle.cborn_engine.specs.declared.kinds.Kind.TheVariants as kind
 use Rattle.cborn_engine.specs.Checking.{CheckAnswers}
-use Rattle.cborn_engine.specs.Encoding.{EncodeAnswers, IsEncoded, IsWrittenAs}
+use Rattle.cborn_engine.specs.devices.Encoding.{EncodeAnswers, IsEncoded, IsWrittenAs}
 use Rattle.cborn_engine.specs.Holding.{Holds}
 use Rattle.cborn_engine.specs.Reading.{read_failures, read_failures_at}
 use Rattle.cborn_engine.specs.Refusing.{IsRefused}

@@ -22,7 +22,7 @@ use Rattle.cborn_judge.proofs.FirstFlaw.Sequences.{refused_at}
 use Rattle.cborn_transcode.proofs.Lists.{all_mean}
 use Rattle.cborn_engine.specs.declared.kinds.Kind.TheVariants as kind
 use Rattle.cborn_engine.specs.Holding.{Holds}
-use Rattle.cborn_engine.specs.Defects.{AreChecked, Finds}
+use Rattle.cborn_engine.specs.devices.Defects.{AreChecked, Finds}
 use Rattle.cborn_engine.specs.Checking.{Verdict}
 use Rattle.cborn_engine.proofs.Held.Meant.{held_is_sound, AreSound}
 

@@ -16,7 +16,7 @@ use Rattle.cborn_transcode.specs.Transcoding.{IsTranscoded}
 use Rattle.cborn_transcode.proofs.Lists.{all_mean}
 use Rattle.cborn_engine.specs.declared.kinds.Kind.{Kind}
 use Rattle.cborn_engine.specs.declared.kinds.Kind.TheVariants as kind
-use Rattle.cborn_engine.specs.Encoding.{kind_of, IsEncoded}
+use Rattle.cborn_engine.specs.devices.Encoding.{kind_of, IsEncoded}
 use Rattle.cborn_engine.specs.Holding.{IsNotation, Spells}
 use Rattle.cborn_engine.specs.Showing.{IsShown, IsSpelledAs}
 use Rattle.cborn_engine.proofs.Held.Meant.{zip_mean}

@@ -13,10 +13,10 @@ use Rattle.cborn_engine.specs.declared.kinds.Kind.{Kind}
 use Rattle.cborn_engine.specs.declared.kinds.Kind.TheVariants as kind
 use Rattle.cborn_engine.specs.Holding.{IsFixedText, Spells}
 use Rattle.cborn_engine.specs.Loading.{IsNoFlaw}
-use Rattle.cborn_engine.specs.Pieces.{Reads}
+use Rattle.cborn_engine.specs.devices.Pieces.{Reads}
 use Rattle.cborn_engine.specs.Refusing.{IsRefused, IsRead}
 use Rattle.cborn_engine.specs.Showing.{ShowAnswers, Shows, IsShown, IsSpelledAs, IsUnshownAs, IsUnspelledAs, TellAnswers}
-use Rattle.cborn_engine.specs.Sending.{Sends, WriteAnswers}
+use Rattle.cborn_engine.specs.devices.Sending.{Sends, WriteAnswers}
 use Rattle.cborn_engine.proofs.Answers.Told.{notation}
 use Rattle.cborn_engine.proofs.Answers.Unanswered.{nothing_written}
 

@@ -12,7 +12,7 @@ use Rattle.cborn_engine.specs.declared.faults.EngineFault.TheVariants as fault
 use Rattle.cborn_engine.specs.Faults.{of_edn}
 use Rattle.cborn_engine.specs.Loading.{IsNoFlaw}
 use Rattle.cborn_engine.specs.Refusing.{IsRefused}
-use Rattle.cborn_engine.specs.Encoding.{kind_of}
+use Rattle.cborn_engine.specs.devices.Encoding.{kind_of}
 
 -- it isn't UTF-8
 pub garbled : (n : ℕ) (input : List ℕ) (p : Profile) (limit most : ℕ) → (IsUtf8 input → ⊥) → IsValidUpTo input n → length input ≤ most → IsRefused (kind_of p) limit most input (fault.TextInput n) × IsNoFlaw (fault.TextInput n)

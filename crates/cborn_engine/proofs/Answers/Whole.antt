@@ -23,10 +23,10 @@ use Rattle.cborn_engine.specs.Holding.{Holds, Spells}
 use Rattle.cborn_engine.specs.Loading.{IsNoFlaw, LoadAnswers, Loads}
 use Rattle.cborn_engine.specs.Refusing.{IsRefused, IsReadBefore, IsRead}
 use Rattle.cborn_engine.specs.Faults.{of_wire}
-use Rattle.cborn_engine.specs.Pieces.{Collects, CollectAnswers, Reads}
-use Rattle.cborn_engine.specs.Encoding.{IsEncoded}
+use Rattle.cborn_engine.specs.devices.Pieces.{Collects, CollectAnswers, Reads}
+use Rattle.cborn_engine.specs.devices.Encoding.{IsEncoded}
 use Rattle.cborn_engine.specs.Checking.{CheckAnswers, Checks, Verdict}
-use Rattle.cborn_engine.specs.Defects.{Finds}
+use Rattle.cborn_engine.specs.devices.Defects.{Finds}
 use Rattle.cborn_search.specs.Searching.{IsFirstFlawOf, IsFirstDefectOf, DefectVerdict}
 use Rattle.cborn_engine.proofs.Held.Meant.{spells_once}
 use Rattle.cborn_engine.proofs.Answers.Checked.{mean_found, verdict, without_defect, with_defect}

@@ -13,11 +13,11 @@ use Rattle.cborn_engine.specs.declared.faults.EngineFault.{EngineFault}
 use Rattle.cborn_engine.specs.declared.faults.EngineFault.TheVariants as fault
 use Rattle.cborn_engine.specs.declared.kinds.Kind.{Kind}
 use Rattle.cborn_engine.specs.declared.kinds.Kind.TheVariants as kind
-use Rattle.cborn_engine.specs.Pieces.{Reads}
+use Rattle.cborn_engine.specs.devices.Pieces.{Reads}
 use Rattle.cborn_engine.specs.Holding.{Spells, Holds, Canon}
-use Rattle.cborn_engine.specs.Encoding.{IsWrittenAs, IsEncoded, EncodeAnswers}
+use Rattle.cborn_engine.specs.devices.Encoding.{IsWrittenAs, IsEncoded, EncodeAnswers}
 use Rattle.cborn_engine.specs.Refusing.{IsRead}
-use Rattle.cborn_engine.specs.Sending.{Sends, WriteAnswers}
+use Rattle.cborn_engine.specs.devices.Sending.{Sends, WriteAnswers}
 use Rattle.cborn_engine.specs.Canonical.{IsCanonical, NormaliseAnswers, Normalises}
 use Rattle.cborn_engine.proofs.Held.Notated.{fits}
 use Rattle.cborn_engine.proofs.Canonical.Proper.{sequence_proper, sequence_shallow}

@@ -12,7 +12,7 @@ use Rattle.cborn_det.proofs.Canon.{same_of_one, one_of_same, seq_of_one}
 use Rattle.cborn_transcode.specs.Transcoding.{ItemTranscoded}
 use Rattle.cborn_engine.specs.declared.kinds.Kind.TheVariants as kind
 use Rattle.cborn_engine.specs.Comparing.{AreAlikeAt, IsFirstDifference, Difference, AreCompared}
-use Rattle.cborn_engine.specs.Encoding.{IsEncoded}
+use Rattle.cborn_engine.specs.devices.Encoding.{IsEncoded}
 use Rattle.cborn_engine.specs.Holding.{Holds}
 use Rattle.cborn_engine.proofs.Comparison.Differing.{unwrapped}
 use Rattle.cborn_engine.proofs.Held.Meant.{all_turned}

@@ -12,8 +12,8 @@ use Rattle.cborn_judge.specs.Flaws.{IsRefusalOfAll}
 use Rattle.cborn_engine.specs.declared.kinds.Kind.{Kind}
 use Rattle.cborn_engine.specs.declared.kinds.Kind.TheVariants as kind
 use Rattle.cborn_engine.specs.Comparing.{AreCompared, IsHeldWhole, Compares}
-use Rattle.cborn_engine.specs.Encoding.{IsEncoded, EncodeAnswers}
-use Rattle.cborn_engine.specs.Pieces.{Reads}
+use Rattle.cborn_engine.specs.devices.Encoding.{IsEncoded, EncodeAnswers}
+use Rattle.cborn_engine.specs.devices.Pieces.{Reads}
 use Rattle.cborn_engine.specs.Holding.{Holds}
 use Rattle.cborn_engine.proofs.Comparison.Apart.{difference_too}
 use Rattle.cborn_engine.proofs.Canonical.Canonicity.{own_bytes}

@@ -6,7 +6,7 @@ use Rattle.std.proofs.lemmas.List.{length-take-le}
 use Rattle.std.proofs.Math.Seq.{take-add}
 use Rattle.cborn_engine.specs.declared.faults.EngineFault.{EngineFault}
 use Rattle.cborn_engine.specs.declared.faults.EngineFault.TheVariants as fault
-use Rattle.cborn_engine.specs.Pieces.{PieceAnswers, Collects}
+use Rattle.cborn_engine.specs.devices.Pieces.{PieceAnswers, Collects}
 
 -- the first bytes of a buffer are what was read
 pub record Filled (most filled : ℕ) (before after : Option (List ℕ)) (x : List ℕ) : Type 0 where

@@ -4,7 +4,7 @@ use Rattle.std.specs.Io.KnownBytes.{Appends}
 use Rattle.std.proofs.KnownBytes.{Appends-trans}
 use Rattle.std.proofs.lemmas.List.{take-append-drop, take_rest}
 use Rattle.std.proofs.Math.Seq.{take-add, drop-cons}
-use Rattle.cborn_engine.specs.Sending.{Sends}
+use Rattle.cborn_engine.specs.devices.Sending.{Sends}
 use Rattle.cborn_engine.specs.Failures.{failures_taking, one_more}
 use Rattle.cborn_engine.specs.declared.faults.EngineFault.TheVariants.{WriteFault}
 

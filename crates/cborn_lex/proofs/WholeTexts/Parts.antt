@@ -7,7 +7,7 @@ use Rattle.cborn_lex.specs.Tokens.{Blank, Read}
 use Rattle.cborn_lex.specs.Forms.{Reads}
 use Rattle.cborn_lex.specs.Lex as text
 use Rattle.cborn_lex.specs.Lex.{Through, Lex, Stop, HasNoPiece}
-use Rattle.cborn_lex.specs.Pieces.{Lexeme, gap, token, spelled, AreRead, tokens, Parted, BeginsNoPiece, LexParted, StopParted}
+use Rattle.cborn_lex.specs.devices.Pieces.{Lexeme, gap, token, spelled, AreRead, tokens, Parted, BeginsNoPiece, LexParted, StopParted}
 
 pub parted : (profile : Profile) {n m : ℕ} {x y : List ℕ} {ts : List Token} → Through profile n x ts m y → Parted profile n x ts m y
 parted profile (text.here n x) = record { pieces = []; read = tt; whole = refl; place = omega arith; placed = refl }

@@ -6,7 +6,7 @@ use Rattle.cborn_model.specs.declared.items.Item.{Item}
 use Rattle.cborn_model.specs.ItemView.{item_value, pair_value}
 use Rattle.cborn_model.specs.Value.{Value, array, dict, values_of, pairs_of}
 use Rattle.cborn_model.specs.Valid.{IsNew, HasNewKeys, IsProper, AreProper, HasProperPairs, value_depth, values_depth, pairs_depth}
-use Rattle.cborn_model.specs.Pairs.{Gives}
+use Rattle.cborn_model.specs.devices.Pairs.{Gives}
 use Rattle.cborn_model.proofs.Listed.Values.{value_count-values_of, pair_count-pairs_of}
 use Rattle.cborn_model.proofs.SameItems.Comparing.{values, pairs, IsProperItem, IsProperPair}
 

@@ -4,7 +4,7 @@ use Rattle.cborn_model.specs.declared.items.Item.{Item}
 use Rattle.cborn_model.specs.ItemView.{item_value, pair_value}
 use Rattle.cborn_model.specs.Value.{Value, dict, listed, values_of, pairs_of, Same, SameValues}
 use Rattle.cborn_model.specs.Valid.{IsNew, HasNewKeys, IsProper, AreProper, HasProperPairs}
-use Rattle.cborn_model.specs.Pairs.{HasPair, Gives}
+use Rattle.cborn_model.specs.devices.Pairs.{HasPair, Gives}
 use Rattle.std.proofs.lemmas.Bool.{cases_lt}
 use Rattle.std.proofs.lemmas.List.{length-map, get_or_default, map-append}
 use Rattle.cborn_model.proofs.Listed.Values.{pair_count-pairs_of, listed-pairs_of}

@@ -5,7 +5,7 @@ use Rattle.cborn_model.proofs.SameItems.Rearranging.{IsIn, AreIn, are_in_moved}
 use Rattle.cborn_model.proofs.SameItems.Sameness.{same_turned, same_chained}
 use Rattle.cborn_model.specs.Value.{Value, Couples, no_pairs, pair, listed, dict, pairs_of, pair_count, Same, SamePairs}
 use Rattle.cborn_model.specs.Valid.{IsNew, HasNewKeys}
-use Rattle.cborn_model.specs.Pairs.{HasPair, Gives}
+use Rattle.cborn_model.specs.devices.Pairs.{HasPair, Gives}
 
 -- each pair of the one is among the others
 abbrev pub AllHave : Couples → List (Value × Value) → Type 0

@@ -5,7 +5,7 @@ use Rattle.cborn_wire.specs.declared.faults.WireReason.{WireReason}
 use Rattle.cborn_wire.specs.declared.faults.WireReason.TheVariants.{ReservedInfo, EndlessNotAllowed, BadChunk, UnexpectedBreak, FloatLeftOut, BadSimple, TooDeep}
 use Rattle.cborn_wire.specs.Slots.{Slot}
 use Rattle.cborn_wire.specs.Faults.{needs_item}
-use Rattle.cborn_wire.specs.InitialBytes.{Info, is_reserved, is_unended, is_always_bounded, is_bad_chunk, is_break, is_other, is_float, is_one, is_container, head_reason}
+use Rattle.cborn_wire.specs.devices.InitialBytes.{Info, is_reserved, is_unended, is_always_bounded, is_bad_chunk, is_break, is_other, is_float, is_one, is_container, head_reason}
 
 -- without the line that asks for a second byte
 abbrev pub first_reason : Bool → Bool → Bool → Bool → Bool → Bool → Option WireReason

@@ -8,8 +8,8 @@ use Rattle.cborn_model.specs.Heads.{Argument, Given, Unbounded, code, following,
 use Rattle.cborn_model.specs.Tree.{Trees}
 use Rattle.cborn_wire.specs.declared.faults.WireReason.{WireReason}
 use Rattle.cborn_wire.specs.Slots.{StringKind, Begun, slot, open_depth}
-use Rattle.cborn_wire.specs.InitialBytes.{info_at, head_reason}
-use Rattle.cborn_wire.specs.Machine.{number, Goal, argument_of, content_of, nothing, gathering, Live, Failed, string_done, after_head, gathered, gather, begin_head, unless, step, run}
+use Rattle.cborn_wire.specs.devices.InitialBytes.{info_at, head_reason}
+use Rattle.cborn_wire.specs.devices.Machine.{number, Goal, argument_of, content_of, nothing, gathering, Live, Failed, string_done, after_head, gathered, gather, begin_head, unless, step, run}
 use Rattle.cborn_wire.proofs.Machine.Running.{failed_run}
 use Rattle.cborn_wire.specs.HeadReading.{major_at, ArgumentFits}
 use Rattle.cborn_wire.proofs.Machine.TakesHeads.{gathers, takes_head, info_for, quotient, remainder, major_at-code, info_at-now}

@@ -13,8 +13,8 @@ use Rattle.cborn_model.specs.Spelled.{chunk_bytes, spelled, spelled_all, spelled
 use Rattle.cborn_model.specs.Placed.{ChunksPlaced, Placed, PlacedAll, PlacedEntries}
 use Rattle.cborn_wire.specs.declared.faults.WireReason.{WireReason}
 use Rattle.cborn_wire.specs.Slots.{major_of, Begun, begun_items, begun_pairs, begun_value, begun_tag, begun_chunks, beginnings, slot, open_depth, HasRoom, IsNoChunk, MayBegin, AreBegun}
-use Rattle.cborn_wire.specs.InitialBytes.{Next, is_bad_chunk, head_reason, front_reason}
-use Rattle.cborn_wire.specs.Machine.{front, part_bytes, snoc, snoc_entry, width_bytes, argument_of, content_of, Partial, nothing, gathering, State, Live, Failed, finished, items_at, pairs_at}
+use Rattle.cborn_wire.specs.devices.InitialBytes.{Next, is_bad_chunk, head_reason, front_reason}
+use Rattle.cborn_wire.specs.devices.Machine.{front, part_bytes, snoc, snoc_entry, width_bytes, argument_of, content_of, Partial, nothing, gathering, State, Live, Failed, finished, items_at, pairs_at}
 use Rattle.cborn_wire.specs.HeadReading.{ArgumentFits}
 use Rattle.cborn_wire.proofs.Machine.TakesHeads.{info_for}
 use Rattle.cborn_wire.proofs.Machine.TakesItems.{UpTo, count-snoc, count_entries-snoc}

@@ -12,12 +12,12 @@ use Rattle.cborn_wire.specs.declared.frames.Partial.TheVariants as partials
 use Rattle.cborn_wire.specs.declared.nests.Nest.{Nest}
 use Rattle.cborn_wire.specs.declared.nests.Outcome.{Outcome}
 use Rattle.cborn_wire.specs.declared.nests.Outcome.TheVariants.{Open, Whole, Part}
-use Rattle.cborn_wire.specs.Standing.{Standing}
+use Rattle.cborn_wire.specs.devices.Standing.{Standing}
 use Rattle.cborn_wire.specs.Slots.{StringKind, Begun}
 use Rattle.cborn_wire.specs.HeadReading.{major_at}
-use Rattle.cborn_wire.specs.Machine as machine
-use Rattle.cborn_wire.specs.Machine.{append_trees, State, Live, Failed, ready_in, Stops, Settles, content_of, gathering, width_bytes, snoc, string_done, run, IsReached}
-use Rattle.cborn_wire.specs.StackView.{seen_kind, seen_partial, opened, left, seen, FailsAs, Took, IsShort, Fails, IsMade, IsMoved, Advances}
+use Rattle.cborn_wire.specs.devices.Machine as machine
+use Rattle.cborn_wire.specs.devices.Machine.{append_trees, State, Live, Failed, ready_in, Stops, Settles, content_of, gathering, width_bytes, snoc, string_done, run, IsReached}
+use Rattle.cborn_wire.specs.devices.StackView.{seen_kind, seen_partial, opened, left, seen, FailsAs, Took, IsShort, Fails, IsMade, IsMoved, Advances}
 use Rattle.cborn_wire.proofs.Machine.Running.{run-append, failed_run}
 use Rattle.cborn_wire.proofs.Spelled.AllBytes.{bytes-left}
 use Rattle.cborn_wire.proofs.Machine.Reached.{reached_more, reached_item, reached_argument, reached_content}

@@ -6,7 +6,7 @@ use Rattle.std.specs.declared.vec.Vec.{Vec}
 use Rattle.std.specs.declared.alloc.Global.{Global}
 use Rattle.cborn_wire.specs.declared.frames.Frame.{Frame}
 use Rattle.cborn_wire.specs.Slots.{Begun}
-use Rattle.cborn_wire.specs.StackView.{seen_frame, seen_outer, seen_open}
+use Rattle.cborn_wire.specs.devices.StackView.{seen_frame, seen_outer, seen_open}
 
 seen_outer-push : (os : List Begun) (fs : List Frame) (f : Frame) → seen_outer os (fs ++ f ∷ []) ≡ seen_frame f ∷ seen_outer os fs
 seen_outer-push os [] f = refl

@@ -1,5 +1,5 @@
 use Rattle.std.proofs.Common.{take}
-use Rattle.cborn_engine.specs.Defects.{Finds}
+use Rattle.cborn_engine.specs.devices.Defects.{Finds}
 use Rattle.cborn_engine.proofs.checks.defect_of.Given as goal
 
 abbrev pub invariant-loop-node : goal.invariant-loop-node

@@ -1,5 +1,5 @@
 use Rattle.std.proofs.Common.{List, ℕ, Option, arith, rules}
-use Rattle.cborn_engine.specs.Sending.{Sends}
+use Rattle.cborn_engine.specs.devices.Sending.{Sends}
 use Rattle.cborn_engine.proofs.Canonical.Canonicity.{encoded_held, normalised}
 use Rattle.cborn_engine.proofs.conversions.normalise.Goals as goal
 

@@ -3,7 +3,7 @@ use Rattle.cborn_transcode.specs.Transcoding.{IsTranscoded}
 use Rattle.cborn_transcode.proofs.Iteming.{under}
 use Rattle.cborn_engine.specs.declared.kinds.Kind.{Kind}
 use Rattle.cborn_engine.specs.declared.kinds.Kind.TheVariants as kind
-use Rattle.cborn_engine.specs.Encoding.{IsEncoded}
+use Rattle.cborn_engine.specs.devices.Encoding.{IsEncoded}
 use Rattle.cborn_engine.proofs.Answers.Noted.{encoded}
 use Rattle.cborn_engine.proofs.Answers.Whole.{transcoded}
 use Rattle.cborn_engine.proofs.encodings.encode_by_pass.Goals as goal

@@ -1,5 +1,5 @@
 use Rattle.std.proofs.Common.{◌≤◌, ◌^◌, length}
-use Rattle.cborn_engine.specs.Encoding.{EncodeAnswers}
+use Rattle.cborn_engine.specs.devices.Encoding.{EncodeAnswers}
 use Rattle.cborn_engine.proofs.Answers.Told.{told}
 use Rattle.cborn_engine.proofs.encodings.encode_by_trees.Goals as goal
 

@@ -1,6 +1,6 @@
 use Rattle.std.proofs.Common.{◌^◌, ℕ, List, Ok, subst}
-use Rattle.cborn_engine.specs.Encoding.{EncodeAnswers, IsEncoded}
-use Rattle.cborn_engine.specs.Pieces.{Reads}
+use Rattle.cborn_engine.specs.devices.Encoding.{EncodeAnswers, IsEncoded}
+use Rattle.cborn_engine.specs.devices.Pieces.{Reads}
 use Rattle.cborn_engine.proofs.Answers.Told.{told}
 use Rattle.cborn_engine.proofs.Answers.Whole.{unread, read_whole}
 use Rattle.cborn_engine.proofs.encodings.read_encoded.Goals as goal

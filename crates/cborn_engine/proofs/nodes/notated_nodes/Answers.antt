@@ -1,6 +1,6 @@
 use Rattle.std.proofs.Common.{◌≤◌, ℕ, length}
 use Rattle.std.specs.Prelude.{IfErr}
-use Rattle.cborn_engine.specs.Encoding.{kind_of}
+use Rattle.cborn_engine.specs.devices.Encoding.{kind_of}
 use Rattle.cborn_engine.specs.Loading.{IsNoFlaw}
 use Rattle.cborn_engine.specs.Refusing.{IsRefused}
 use Rattle.cborn_engine.proofs.Answers.Told.{told}

@@ -1,5 +1,5 @@
 use Rattle.std.proofs.Common.{◌^◌, ℕ, List, Ok, subst}
-use Rattle.cborn_engine.specs.Pieces.{Reads}
+use Rattle.cborn_engine.specs.devices.Pieces.{Reads}
 use Rattle.cborn_engine.specs.Showing.{IsShown, TellAnswers}
 use Rattle.cborn_engine.proofs.Answers.Telling.{refused}
 use Rattle.cborn_engine.proofs.Answers.Told.{told}

@@ -1,5 +1,5 @@
 use Rattle.std.proofs.Common.{◌≤◌, ◌+◌, length, drop, arith, length-drop}
-use Rattle.cborn_engine.specs.Pieces.{Collects}
+use Rattle.cborn_engine.specs.devices.Pieces.{Collects}
 use Rattle.cborn_engine.proofs.Streams.Collecting.{kept, stopped, more}
 use Rattle.cborn_engine.proofs.Answers.Told.{told}
 use Rattle.cborn_engine.proofs.texts.read_bytes.Goals as goal

@@ -1,5 +1,5 @@
 use Rattle.std.proofs.Common.{subst}
-use Rattle.cborn_judge.specs.Checked.{FindsDefect, DefectIn}
+use Rattle.cborn_judge.specs.devices.Checked.{FindsDefect, DefectIn}
 use Rattle.cborn_judge.proofs.FirstDefect.Concluding.{concluded, conclusive}
 use Rattle.cborn_judge.proofs.checks.first_defect.Goals as goal
 

@@ -1,8 +1,8 @@
 use Rattle.std.proofs.Common.{rules, arith, subst, refl, inl, inr}
 use Rattle.cborn_model.proofs.Listed.Fitting.{fits_at, pair_fits_at}
 use Rattle.cborn_model.proofs.Listed.Trees.{depth_of_item, depth_of_pair}
-use Rattle.cborn_judge.specs.Judged.{IsJudged, IsJudgedPair, IsBignumItem, MeansItem}
-use Rattle.cborn_judge.specs.Places.{key_places}
+use Rattle.cborn_judge.specs.devices.Judged.{IsJudged, IsJudgedPair, IsBignumItem, MeansItem}
+use Rattle.cborn_judge.specs.devices.Places.{key_places}
 use Rattle.cborn_judge.proofs.FirstFlaw.Pairing as pairs
 use Rattle.cborn_judge.proofs.FirstFlaw.Pairing.{kept_valid, kept_flawed, kept-take_more}
 use Rattle.cborn_judge.proofs.FirstFlaw.Tagging.{plain_flawed, bad_judged}

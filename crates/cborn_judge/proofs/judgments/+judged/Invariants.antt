@@ -2,8 +2,8 @@ use Rattle.std.proofs.Common.{◌+◌, ◌*◌, take, max}
 use Rattle.cborn_model.specs.Tree.{trees, entries, depth, depth_all, depth_entries}
 use Rattle.cborn_judge.proofs.FirstFlaw.Walking.{AreJudged}
 use Rattle.cborn_judge.proofs.FirstFlaw.Pairing.{ArePairsJudged}
-use Rattle.cborn_judge.specs.Keeping.{AreKept}
-use Rattle.cborn_judge.specs.Places.{key_places}
+use Rattle.cborn_judge.specs.devices.Keeping.{AreKept}
+use Rattle.cborn_judge.specs.devices.Places.{key_places}
 use Rattle.cborn_judge.proofs.judgments.+judged.Given as goal
 
 abbrev pub decreases-judge_node : goal.decreases-judge_node

@@ -4,7 +4,7 @@ use Rattle.std.specs.List.{list_all}
 use Rattle.cborn_lex.specs.declared.classes.Class.TheVariants.{Bytes}
 use Rattle.cborn_lex.specs.Tokens.{is_not, Bad}
 use Rattle.cborn_lex.specs.Strings.{IsBase64}
-use Rattle.cborn_lex.specs.View.{front_view}
+use Rattle.cborn_lex.specs.devices.View.{front_view}
 use Rattle.cborn_lex.proofs.Sliced.Words.{IsClosedAt, string_ok, string_bad}
 use Rattle.cborn_lex.proofs.encoded.in_base64.Goals as goal
 use Rattle.cborn_lex.proofs.encoded.in_base64.Goals.{In_ok-bytes}

@@ -1,6 +1,6 @@
 use Rattle.std.proofs.Common.{sym, ap, ◌∙◌, subst, get_or, take, drop, arith}
 use Rattle.cborn_lex.specs.Forms.{Start, ReadsFrom}
-use Rattle.cborn_lex.specs.View.{front_view, single_class}
+use Rattle.cborn_lex.specs.devices.View.{front_view, single_class}
 use Rattle.cborn_lex.proofs.WholeTexts.Progress.{first_reads, single_reads}
 use Rattle.cborn_lex.proofs.fronts.first_of.Goals as goal
 

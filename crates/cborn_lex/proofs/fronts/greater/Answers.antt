@@ -1,5 +1,5 @@
 use Rattle.std.proofs.Common.{inl, sym, ◌∙◌}
-use Rattle.cborn_lex.specs.View.{front_view}
+use Rattle.cborn_lex.specs.devices.View.{front_view}
 use Rattle.cborn_lex.proofs.Sliced.Words.{close_made}
 use Rattle.cborn_lex.proofs.fronts.greater.Goals as goal
 

@@ -1,5 +1,5 @@
 use Rattle.std.proofs.Common.{sym, ◌∙◌}
-use Rattle.cborn_lex.specs.View.{front_view}
+use Rattle.cborn_lex.specs.devices.View.{front_view}
 use Rattle.cborn_lex.proofs.Sliced.Words.{prefix_made}
 use Rattle.cborn_lex.proofs.keywords.after_word.Goals as goal
 

@@ -1,5 +1,5 @@
 use Rattle.std.proofs.Common.{get_or, ◌∙◌}
-use Rattle.cborn_lex.specs.View.{front_view}
+use Rattle.cborn_lex.specs.devices.View.{front_view}
 use Rattle.cborn_lex.proofs.Sliced.Words.{word_made, word_text}
 use Rattle.cborn_lex.proofs.keywords.word_at.Goals as goal
 

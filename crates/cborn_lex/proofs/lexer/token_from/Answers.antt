@@ -1,6 +1,6 @@
 use Rattle.std.proofs.Common.{ap, sym, subst, ◌∙◌, ◌≤◌, length}
 use Rattle.cborn_lex.specs.Tokens.{Blank, Read, Bad}
-use Rattle.cborn_lex.specs.View.{front_view}
+use Rattle.cborn_lex.specs.devices.View.{front_view}
 use Rattle.cborn_lex.proofs.WholeTexts.Progress.{nothing, after_white, after_blank, then_token, then_end, then_stop, reads_at}
 use Rattle.cborn_lex.proofs.lexer.token_from.Goals as goal
 

@@ -1,7 +1,7 @@
 use Rattle.std.proofs.Common.{ℕ, ◌<◌, ◌+◌, ◌*◌, max, map, get_or}
 use Rattle.cborn_model.specs.declared.items.Item.{Item}
 use Rattle.cborn_model.specs.ItemView.{item_value, pair_value}
-use Rattle.cborn_model.specs.Pairs.{HasPair}
+use Rattle.cborn_model.specs.devices.Pairs.{HasPair}
 use Rattle.cborn_model.specs.Value.{Same, values_of, pairs_of, height, height_all, height_pairs}
 use Rattle.cborn_model.proofs.comparisons.+same_items.Given as goal
 

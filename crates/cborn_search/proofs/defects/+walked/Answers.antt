@@ -2,8 +2,8 @@ use Rattle.cborn_model.specs.declared.heads.Major.TheVariants.{Unsigned, Negativ
 use Rattle.std.proofs.Common.{rules, ◌≡◌, ◌≢◌, ◌+◌, ◌-◌, ◌<◌, ◌≤◌, ◌^◌, ℕ, List, length, refl, subst, arith, sym, ap, ◌∙◌, Option, None}
 use Rattle.std.proofs.lemmas.List.{take_rest}
 use Rattle.cborn_wire.specs.declared.heads.Argument.TheVariants.{Given, Endless}
-use Rattle.cborn_search.specs.Departed.{HasDefect, Walked, WalkedAll, PairsWalked, TakesNext}
-use Rattle.cborn_judge.specs.Checked.{IsEarliestDefect}
+use Rattle.cborn_search.specs.devices.Departed.{HasDefect, Walked, WalkedAll, PairsWalked, TakesNext}
+use Rattle.cborn_judge.specs.devices.Checked.{IsEarliestDefect}
 use Rattle.cborn_judge.specs.declared.defects.Defect.{Defect}
 use Rattle.cborn_search.specs.declared.walked_maps.WalkedMap.{WalkedMap}
 use Rattle.cborn_search.specs.Reading.{PairsRead}

@@ -1,5 +1,5 @@
 use Rattle.std.proofs.Common.{◌+◌, ◌*◌, ◌≤◌, length}
-use Rattle.cborn_search.specs.Departed.{WalkedAll}
+use Rattle.cborn_search.specs.devices.Departed.{WalkedAll}
 use Rattle.cborn_search.specs.Reading.{PairsRead}
 use Rattle.cborn_search.proofs.Walking.{SoFar}
 use Rattle.cborn_search.proofs.defects.+walked.Given as goal

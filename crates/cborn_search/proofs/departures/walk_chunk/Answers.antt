@@ -1,6 +1,6 @@
 use Rattle.std.proofs.Common.{rules, ◌≡◌, refl, sym, ◌∙◌}
 use Rattle.std.proofs.lemmas.List.{take_rest}
-use Rattle.cborn_search.specs.Departed.{LongChunk}
+use Rattle.cborn_search.specs.devices.Departed.{LongChunk}
 use Rattle.cborn_search.proofs.Nodes.{chunk_read}
 use Rattle.cborn_search.proofs.departures.walk_chunk.Goals as goal
 

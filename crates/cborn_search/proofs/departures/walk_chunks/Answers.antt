@@ -1,4 +1,4 @@
-use Rattle.cborn_search.specs.Departed.{HaveLongChunk, ChunksWalked}
+use Rattle.cborn_search.specs.devices.Departed.{HaveLongChunk, ChunksWalked}
 use Rattle.cborn_search.proofs.Nodes.{chunks_left}
 use Rattle.cborn_search.proofs.Walking.{chunks_none, chunks_more}
 use Rattle.cborn_search.proofs.departures.walk_chunks.Goals as goal

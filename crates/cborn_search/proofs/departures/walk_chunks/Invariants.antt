@@ -1,5 +1,5 @@
 use Rattle.std.proofs.Common.{◌≤◌, length}
-use Rattle.cborn_search.specs.Departed.{ChunksWalked}
+use Rattle.cborn_search.specs.devices.Departed.{ChunksWalked}
 use Rattle.cborn_search.proofs.departures.walk_chunks.Given as goal
 
 abbrev pub invariant-chunks : goal.invariant-chunks

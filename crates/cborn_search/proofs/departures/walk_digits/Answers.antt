@@ -1,5 +1,5 @@
 use Rattle.cborn_model.specs.declared.heads.Major.TheVariants.{ByteString}
-use Rattle.cborn_search.specs.Digits.{DigitsWalked}
+use Rattle.cborn_search.specs.devices.Digits.{DigitsWalked}
 use Rattle.cborn_search.proofs.Nodes.{chunks_left}
 use Rattle.cborn_search.proofs.Walking.{Digital, digits_none, digits_more}
 use Rattle.cborn_search.proofs.departures.walk_digits.Goals as goal

@@ -1,5 +1,5 @@
 use Rattle.std.proofs.Common.{◌≤◌, length}
-use Rattle.cborn_search.specs.Digits.{DigitsWalked}
+use Rattle.cborn_search.specs.devices.Digits.{DigitsWalked}
 use Rattle.cborn_search.proofs.departures.walk_digits.Given as goal
 
 abbrev pub invariant-chunks : goal.invariant-chunks

@@ -1,6 +1,6 @@
 use Rattle.std.proofs.Common.{◌+◌, ◌*◌, ◌≤◌, length, List}
 use Rattle.cborn_search.specs.Flawed.{ScannedAll, SeenKey, PairsSeen}
-use Rattle.cborn_search.specs.Marks.{AreMarked}
+use Rattle.cborn_search.specs.devices.Marks.{AreMarked}
 use Rattle.cborn_search.proofs.flaws.+scanned.Given as goal
 
 abbrev pub decreases-scan_item : goal.decreases-scan_item

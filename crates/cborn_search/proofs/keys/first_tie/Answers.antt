@@ -1,7 +1,7 @@
 use Rattle.std.proofs.Common.{get_or, subst, List}
 use Rattle.std.proofs.lemmas.List.{take_all, get_or_default}
 use Rattle.cborn_search.specs.Flawed.{FindsTold}
-use Rattle.cborn_search.specs.Marks.{InPlace, TieFlaw}
+use Rattle.cborn_search.specs.devices.Marks.{InPlace, TieFlaw}
 use Rattle.cborn_search.specs.declared.keys.Mark.{Mark}
 use Rattle.cborn_search.proofs.Marking.{no_tie, tie-take_more}
 use Rattle.cborn_search.proofs.keys.first_tie.Goals as goal

@@ -1,6 +1,6 @@
 use Rattle.std.proofs.Common.{sym, ◌∙◌, ◌≡◌, Less, Equal}
 use Rattle.cborn_model.specs.Orders.{bytewise}
-use Rattle.cborn_search.specs.Marks.{mark_bytes}
+use Rattle.cborn_search.specs.devices.Marks.{mark_bytes}
 use Rattle.cborn_search.proofs.Marking.{tie_less, tie_equal}
 use Rattle.cborn_search.proofs.keys.tie_with.Goals as goal
 

@@ -1,5 +1,5 @@
 use Rattle.std.proofs.Common.{◌≡◌, ◌+◌, ℕ, length, rules, arith, subst}
-use Rattle.cborn_search.specs.Departed.{HasDefect, Walked}
+use Rattle.cborn_search.specs.devices.Departed.{HasDefect, Walked}
 use Rattle.cborn_search.specs.Searching.{IsFirstDefectOf}
 use Rattle.cborn_search.proofs.Concluding.{defect_found}
 use Rattle.cborn_search.proofs.Nodes.{node_left}

@@ -1,5 +1,5 @@
 use Rattle.std.proofs.Common.{ℕ, ◌≤◌, length}
-use Rattle.cborn_search.specs.Departed.{WalkedAll}
+use Rattle.cborn_search.specs.devices.Departed.{WalkedAll}
 use Rattle.cborn_search.proofs.sequences.first_defect.Given as goal
 
 -- the items so far

@@ -1,5 +1,5 @@
 use Rattle.std.proofs.Common.{length, drop, ◌-◌, ◌≡◌, ◌≤◌, List}
-use Rattle.cborn_show.specs.Pieces.{Piece, all_bytes, AllFit, Remaining}
+use Rattle.cborn_show.specs.devices.Pieces.{Piece, all_bytes, AllFit, Remaining}
 use Rattle.cborn_show.proofs.bad_texts.first_bad_piece.Given as goal
 
 -- what is left of any pieces that the bytes are

@@ -7,7 +7,7 @@ use Rattle.cborn_transcode.specs.Transcoding.{ItemsTranscoded, PairsTranscoded, 
 use Rattle.cborn_transcode.proofs.Closing.{uint_done, nint_done, bytes_done, text_done, byte_chunks_done, text_chunks_done, simple_done, bignum_done, tagged_done}
 use Rattle.cborn_transcode.proofs.Lists.{all_none, run_more, all_more, array_done, endless_array_done}
 use Rattle.cborn_transcode.proofs.Pairing.{pairs_none, pairs_more, map_fused, endless_map_fused, arranged_map}
-use Rattle.cborn_transcode.specs.Walking.{spans_of}
+use Rattle.cborn_transcode.specs.devices.Walking.{spans_of}
 use Rattle.cborn_transcode.proofs.Walking.{map_found}
 use Rattle.cborn_transcode.proofs.Iteming.{inside, alone, item_last, under}
 use Rattle.cborn_transcode.proofs.items.+transcoded.Goals.{put_items-else-items-test, put_items-then-items-test+in_ok-after+then-is_done}

@@ -1,5 +1,5 @@
 use Rattle.std.proofs.Common.{◌+◌, ◌*◌, ◌-◌, ◌≤◌}
-use Rattle.cborn_transcode.specs.Walking.{ItemsWalked, PairsWalked}
+use Rattle.cborn_transcode.specs.devices.Walking.{ItemsWalked, PairsWalked}
 use Rattle.cborn_transcode.proofs.walks.+walked.Given as goal
 
 abbrev pub decreases-walk_item : goal.decreases-walk_item

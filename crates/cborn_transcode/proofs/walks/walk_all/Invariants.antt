@@ -1,5 +1,5 @@
 use Rattle.std.proofs.Common.{ℕ}
-use Rattle.cborn_transcode.specs.Walking.{ItemsWalked}
+use Rattle.cborn_transcode.specs.devices.Walking.{ItemsWalked}
 use Rattle.cborn_transcode.proofs.walks.walk_all.Given as goal
 
 -- the items so far

@@ -4,10 +4,10 @@ use Rattle.std.proofs.lemmas.List.{take_rest, length-take-le}
 use Rattle.cborn_model.specs.Tree.{no_item, more, trees}
 use Rattle.cborn_wire.specs.declared.faults.WireFault.TheVariants.{Refused}
 use Rattle.cborn_wire.specs.declared.faults.WireReason.TheVariants.{Truncated}
-use Rattle.cborn_wire.specs.Machine.{Live, Settles, run}
+use Rattle.cborn_wire.specs.devices.Machine.{Live, Settles, run}
 use Rattle.cborn_wire.specs.Reading.{ItemFault}
-use Rattle.cborn_wire.specs.Standing.{Standing}
-use Rattle.cborn_wire.specs.StackView.{seen, seen_partial, opened, Fails}
+use Rattle.cborn_wire.specs.devices.Standing.{Standing}
+use Rattle.cborn_wire.specs.devices.StackView.{seen, seen_partial, opened, Fails}
 use Rattle.cborn_wire.proofs.Spelled.ByteLists.{are_bytes}
 use Rattle.cborn_wire.proofs.Feeding.Outcomes.{refused_is, err_is, passed_on}
 use Rattle.cborn_wire.proofs.Feeding.OneItem.{ReadSoFar, read_more, read_item, read_refused, read_cut}

@@ -1,5 +1,5 @@
 use Rattle.std.proofs.Common.{◌≡◌, [], ◌-◌, length, None}
-use Rattle.cborn_wire.specs.StackView.{seen}
+use Rattle.cborn_wire.specs.devices.StackView.{seen}
 use Rattle.cborn_wire.proofs.Feeding.OneItem.{ReadSoFar}
 use Rattle.cborn_wire.proofs.readers.read_one.Given as goal
 

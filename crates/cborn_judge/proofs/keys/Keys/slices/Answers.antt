@@ -1,7 +1,7 @@
 use Rattle.std.proofs.Common.{arith, ◌≡◌, ◌++◌, ◌∷◌, [], List, ℕ, get_or, ap, sym, subst, ◌∙◌}
 use Rattle.std.proofs.lemmas.List.{map-append}
-use Rattle.cborn_judge.specs.Keeping.{CodesOf, IsMarked}
-use Rattle.cborn_judge.specs.Places.{Key}
+use Rattle.cborn_judge.specs.devices.Keeping.{CodesOf, IsMarked}
+use Rattle.cborn_judge.specs.devices.Places.{Key}
 use Rattle.cborn_judge.proofs.SameKeys.Codes.{first_fits, Cut, cut_more, all_cut}
 use Rattle.cborn_judge.proofs.keys.Keys.slices.Goals as goal
 

@@ -1,5 +1,5 @@
 use Rattle.std.proofs.Common.{List, ◌++◌, drop}
-use Rattle.cborn_judge.specs.Keeping.{Code, IsMarked, CodesOf}
+use Rattle.cborn_judge.specs.devices.Keeping.{Code, IsMarked, CodesOf}
 use Rattle.cborn_judge.proofs.keys.Keys.slices.Given as goal
 
 abbrev pub invariant-loop-length : goal.invariant-loop-length

@@ -1,5 +1,5 @@
 use Rattle.std.proofs.Common.{◌≡◌, ◌<◌, ◌++◌, ◌∷◌, [], ℕ, length, subst, rules}
-use Rattle.cborn_search.specs.Marks.{AreMarked}
+use Rattle.cborn_search.specs.devices.Marks.{AreMarked}
 use Rattle.cborn_search.specs.declared.keys.Keys.{Keys}
 use Rattle.cborn_search.specs.declared.keys.Mark.{Mark}
 use Rattle.cborn_search.proofs.Marking.{marked_more}

@@ -1,6 +1,6 @@
 use Rattle.std.proofs.Common.{List, ℕ, ◌-◌, length, subst, refl}
-use Rattle.cborn_judge.specs.Checked.{FindsDefect}
-use Rattle.cborn_search.specs.Departed.{AfterKey}
+use Rattle.cborn_judge.specs.devices.Checked.{FindsDefect}
+use Rattle.cborn_search.specs.devices.Departed.{AfterKey}
 use Rattle.cborn_search.proofs.walked_maps.WalkedMap.take_key.Goals as goal
 
 pub returns : goal.returns

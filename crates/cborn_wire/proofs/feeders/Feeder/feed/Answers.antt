@@ -1,8 +1,8 @@
 use Rattle.std.proofs.Common.{◌≡◌, sym, ◌∙◌, subst, None, Some, Err, arith}
 use Rattle.std.proofs.lemmas.Result.{err_from_is_err_and}
 use Rattle.cborn_wire.specs.Feeding.{Feeding, Feeds}
-use Rattle.cborn_wire.specs.Machine.{held}
-use Rattle.cborn_wire.specs.StackView.{seen, seen_partial, opened}
+use Rattle.cborn_wire.specs.devices.Machine.{held}
+use Rattle.cborn_wire.specs.devices.StackView.{seen, seen_partial, opened}
 use Rattle.cborn_wire.proofs.Spelled.ByteLists.{are_bytes}
 use Rattle.cborn_wire.proofs.Feeding.FeederLaws.{accepts, fails}
 use Rattle.cborn_wire.proofs.feeders.Feeder.feed.Goals as goal

@@ -5,7 +5,7 @@ use Rattle.cborn_wire.specs.declared.faults.WireFault.TheVariants.{Refused}
 use Rattle.cborn_wire.specs.declared.faults.WireReason.TheVariants.{Truncated}
 use Rattle.cborn_wire.specs.Faults.{Fault}
 use Rattle.cborn_wire.specs.Feeding.{Feeding}
-use Rattle.cborn_wire.specs.StackView.{seen_partial, opened}
+use Rattle.cborn_wire.specs.devices.StackView.{seen_partial, opened}
 use Rattle.cborn_wire.proofs.Feeding.FeederLaws.{feeds_cut, whole}
 use Rattle.cborn_wire.proofs.feeders.Feeder.finish.Goals as goal
 

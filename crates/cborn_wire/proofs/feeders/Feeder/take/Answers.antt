@@ -1,7 +1,7 @@
 use Rattle.std.proofs.Common.{sym, ap, ◌∙◌}
 use Rattle.cborn_wire.specs.Feeding.{Feeding}
-use Rattle.cborn_wire.specs.Standing.{Standing}
-use Rattle.cborn_wire.specs.StackView.{seen_partial, opened}
+use Rattle.cborn_wire.specs.devices.Standing.{Standing}
+use Rattle.cborn_wire.specs.devices.StackView.{seen_partial, opened}
 use Rattle.cborn_wire.proofs.Feeding.FeederLaws.{is_fed}
 use Rattle.cborn_wire.proofs.feeders.Feeder.take.Goals as goal
 

@@ -2,9 +2,9 @@ use Rattle.std.proofs.Common.{◌≡◌, ◌/◌, ◌%◌, sym, ◌∙◌, true,
 use Rattle.std.proofs.lemmas.Bool.{le-leb, lt-leb}
 use Rattle.cborn_wire.specs.Slots.{slot, open_depth}
 use Rattle.cborn_wire.specs.Faults.{needs_item}
-use Rattle.cborn_wire.specs.InitialBytes.{info_at, is_unended, is_always_bounded, is_break, is_container, is_bad_chunk}
+use Rattle.cborn_wire.specs.devices.InitialBytes.{info_at, is_unended, is_always_bounded, is_break, is_container, is_bad_chunk}
 use Rattle.cborn_wire.specs.HeadReading.{major_at}
-use Rattle.cborn_wire.specs.StackView.{opened}
+use Rattle.cborn_wire.specs.devices.StackView.{opened}
 use Rattle.cborn_wire.proofs.Machine.Reached.{container_depth}
 use Rattle.cborn_wire.proofs.HeadReading.Refusing.{and_left, and_right, and_both, deep_reason, no_reason}
 use Rattle.cborn_wire.proofs.nests.Nest.refusal_in_order.Goals.{else-is_endless-via-then-is_endless+else-is_always_bounded, else-is_endless-via-else-is_endless, else-is_break-via-then-is_break+else-needs_item, else-is_break-via-else-is_break, else-is_container-via-then-is_container+else-len-limit, else-is_container-via-else-is_container}

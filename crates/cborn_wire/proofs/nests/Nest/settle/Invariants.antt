@@ -1,7 +1,7 @@
 use Rattle.std.proofs.Common.{◌≡◌}
 use Rattle.cborn_model.specs.Tree.{no_item}
-use Rattle.cborn_wire.specs.Machine.{finished}
-use Rattle.cborn_wire.specs.StackView.{opened, open_len}
+use Rattle.cborn_wire.specs.devices.Machine.{finished}
+use Rattle.cborn_wire.specs.devices.StackView.{opened, open_len}
 use Rattle.cborn_wire.proofs.nests.Nest.settle.Given as goal
 
 -- what the item comes to now is what it came to at first

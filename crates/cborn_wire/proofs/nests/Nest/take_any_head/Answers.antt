@@ -2,10 +2,10 @@ use Rattle.std.proofs.Common.{rules, ◌≡◌, ◌+◌, ◌/◌, ◌%◌, [], s
 use Rattle.std.proofs.lemmas.Result.{err_from_is_err_and}
 use Rattle.cborn_model.specs.Tree.{no_item}
 use Rattle.cborn_wire.specs.Slots.{slot, open_depth}
-use Rattle.cborn_wire.specs.InitialBytes.{info_at, head_reason}
+use Rattle.cborn_wire.specs.devices.InitialBytes.{info_at, head_reason}
 use Rattle.cborn_wire.specs.HeadReading.{major_at, seen_argument}
-use Rattle.cborn_wire.specs.Machine.{nothing}
-use Rattle.cborn_wire.specs.StackView.{opened}
+use Rattle.cborn_wire.specs.devices.Machine.{nothing}
+use Rattle.cborn_wire.specs.devices.StackView.{opened}
 use Rattle.cborn_wire.proofs.Stacked.Settling.{settles_head}
 use Rattle.cborn_wire.proofs.Stacked.Advancing.{fails_on, took}
 use Rattle.cborn_wire.proofs.HeadReading.HeadFronts.{short_front}

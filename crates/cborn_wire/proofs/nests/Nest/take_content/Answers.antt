@@ -1,8 +1,8 @@
 use Rattle.std.proofs.Common.{rules, ◌≡◌, ◌+◌, ◌-◌, ◌≤◌, ◌<◌, refl, inl, arith, length, ap, sym, ◌∙◌}
 use Rattle.std.proofs.lemmas.Result.{err_from_is_err_and}
 use Rattle.cborn_model.specs.Tree.{no_item}
-use Rattle.cborn_wire.specs.Machine.{gathering, content_of, string_done}
-use Rattle.cborn_wire.specs.StackView.{seen_kind, opened}
+use Rattle.cborn_wire.specs.devices.Machine.{gathering, content_of, string_done}
+use Rattle.cborn_wire.specs.devices.StackView.{seen_kind, opened}
 use Rattle.cborn_wire.proofs.Stacked.Settling.{settles_string}
 use Rattle.cborn_wire.proofs.Stacked.Advancing.{content_ends, content_stays, fails_on, took}
 use Rattle.cborn_wire.proofs.nests.Nest.take_content.Goals as goal

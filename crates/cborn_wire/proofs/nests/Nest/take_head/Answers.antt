@@ -5,8 +5,8 @@ use Rattle.cborn_model.specs.Tree.{no_item}
 use Rattle.cborn_wire.specs.declared.heads.Argument.TheVariants.{Given}
 use Rattle.cborn_wire.specs.declared.heads.Head.{Head}
 use Rattle.cborn_wire.specs.HeadReading.{major_at, seen_argument, IsHeadOf}
-use Rattle.cborn_wire.specs.Machine.{nothing}
-use Rattle.cborn_wire.specs.StackView.{opened}
+use Rattle.cborn_wire.specs.devices.Machine.{nothing}
+use Rattle.cborn_wire.specs.devices.StackView.{opened}
 use Rattle.cborn_wire.proofs.Stacked.Settling.{settles_head}
 use Rattle.cborn_wire.proofs.Stacked.Advancing.{fails_on, took}
 use Rattle.cborn_wire.proofs.HeadReading.HeadFronts.{small_head}

@@ -1,8 +1,8 @@
 use Rattle.std.proofs.Common.{◌≡◌, ◌++◌, ◌∷◌, [], ap, ◌∙◌, refl}
 use Rattle.cborn_model.specs.Tree.{trees}
-use Rattle.cborn_wire.specs.Standing.{Standing}
-use Rattle.cborn_wire.specs.StackKeeps.{told}
-use Rattle.cborn_wire.specs.StackView.{opened, seen_partial}
+use Rattle.cborn_wire.specs.devices.Standing.{Standing}
+use Rattle.cborn_wire.specs.devices.StackKeeps.{told}
+use Rattle.cborn_wire.specs.devices.StackView.{opened, seen_partial}
 use Rattle.cborn_wire.proofs.Spelled.ByteLists.{are_bytes}
 use Rattle.cborn_wire.proofs.Machine.Reached.{reached_begun}
 use Rattle.cborn_wire.proofs.Stacked.Advancing.{part_short, advanced, made, is_open, is_part, is_whole, is_spelled, stack_fails}

@@ -1,6 +1,6 @@
 use Rattle.std.proofs.Common.{ap, ◌∙◌}
-use Rattle.cborn_wire.specs.Standing.{Standing}
-use Rattle.cborn_wire.specs.StackView.{opened, seen_partial}
+use Rattle.cborn_wire.specs.devices.Standing.{Standing}
+use Rattle.cborn_wire.specs.devices.StackView.{opened, seen_partial}
 use Rattle.cborn_wire.proofs.Feeding.FeederLaws.{taken}
 use Rattle.cborn_wire.proofs.stacks.Stack.pop_item.Goals as goal
 

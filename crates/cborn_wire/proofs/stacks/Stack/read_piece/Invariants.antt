@@ -1,5 +1,5 @@
 use Rattle.std.proofs.Common.{◌≡◌, List, ℕ, ◌++◌, length}
-use Rattle.cborn_wire.specs.StackView.{IsMoved}
+use Rattle.cborn_wire.specs.devices.StackView.{IsMoved}
 use Rattle.cborn_wire.proofs.stacks.Stack.read_piece.Given as goal
 
 -- a front of the piece was taken

@@ -1,4 +1,4 @@
--- What the parts of the check answer. No public contract cites it.
+-- A device of the proofs: what the parts of the check answer. No public contract cites it.
 use Rattle.std.specs.Prelude.{◌≡◌, ◌≢◌, ℕ, ◌⊎◌, List, Option}
 use Rattle.std.specs.declared.cmp.Ordering.{Ordering}
 use Rattle.std.specs.declared.cmp.Ordering.TheVariants.{Less}
@@ -9,7 +9,7 @@ use Rattle.cborn_model.specs.declared.heads.Width.{Width}
 use Rattle.cborn_judge.specs.Defects.{defect_rank, IsLong, IsLoose, SizeDefect, HasDescent, DefectAt}
 use Rattle.cborn_judge.specs.Flaws.{Within, WithinAll, WithinEntries}
 use Rattle.cborn_judge.specs.Earliest.{IsEarliest}
-use Rattle.cborn_judge.specs.Judged.{Finds}
+use Rattle.cborn_judge.specs.devices.Judged.{Finds}
 use Rattle.cborn_judge.specs.declared.defects.Defect as defect
 use Rattle.cborn_judge.specs.declared.defects.DefectReason.{DefectReason}
 use Rattle.cborn_judge.specs.declared.defects.DefectReason.TheVariants.{LongHead, LooseBignum, KeyOrder}

@@ -16,7 +16,7 @@ use Rattle.cborn_wire.specs.declared.faults.WireFault.TheVariants as faults
 use Rattle.cborn_wire.specs.declared.faults.WireReason.{WireReason}
 use Rattle.cborn_wire.specs.declared.faults.WireReason.TheVariants.{ReservedInfo, EndlessNotAllowed, BadChunk, UnexpectedBreak, FloatLeftOut, BadSimple}
 use Rattle.cborn_wire.specs.Slots.{StringKind, OfBytes, OfText, Begun, begun_items, begun_pairs, begun_value, begun_tag, begun_chunks, beginnings, major_of, slot, open_depth}
-use Rattle.cborn_wire.specs.InitialBytes.{Info, Now, Next, Reserved, Unended, info_at, head_reason}
+use Rattle.cborn_wire.specs.devices.InitialBytes.{Info, Now, Next, Reserved, Unended, info_at, head_reason}
 use Rattle.cborn_wire.specs.HeadReading.{major_at}
 
 -- one list of nodes after another, and a node or a pair at the end of a list

@@ -1,8 +1,8 @@
--- What the search for a repeated key says. No public contract cites it.
+-- A device of the proofs: what the search for a repeated key says. No public contract cites it.
 use Rattle.std.specs.Prelude.{◌≡◌, ℕ, List, slice_index, map}
 use Rattle.cborn_model.specs.Tree.{Tree, place}
 use Rattle.std.proofs.Common.{Bor}
-use Rattle.cborn_judge.specs.Repeats.{IsAgain}
+use Rattle.cborn_judge.specs.devices.Repeats.{IsAgain}
 use Rattle.cborn_judge.specs.declared.faults.InvalidReason.{InvalidReason}
 use Rattle.cborn_judge.specs.declared.faults.InvalidReason.TheVariants.{DuplicateKey}
 

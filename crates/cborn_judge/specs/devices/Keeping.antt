@@ -1,11 +1,11 @@
--- What is kept of the keys of a map while its pairs are judged. No public contract cites it.
+-- A device of the proofs: what is kept of the keys of a map while its pairs are judged. No public contract cites it.
 use Rattle.std.specs.Prelude.{◌≡◌, ℕ, ◌≤◌, List, [], ◌∷◌, ◌++◌, flat_map, length, map, slice_index, IsTrue, Bool}
 use Rattle.cborn_model.specs.Orders.{bytewise, Rising}
 use Rattle.cborn_model.specs.Tree.{Tree, entries, place}
 use Rattle.cborn_model.specs.Value.{Value}
 use Rattle.cborn_det.specs.Det.{Det}
-use Rattle.cborn_judge.specs.Repeats.{AreKeys}
-use Rattle.cborn_judge.specs.Places.{Key}
+use Rattle.cborn_judge.specs.devices.Repeats.{AreKeys}
+use Rattle.cborn_judge.specs.devices.Places.{Key}
 use Rattle.cborn_judge.specs.declared.keys.Keys.{Keys}
 
 -- a key's encoding and the key's position in its map

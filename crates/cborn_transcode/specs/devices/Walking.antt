@@ -1,4 +1,4 @@
--- What a walk finds in place: the front of its input spells what it encodes, so that it is its own deterministic encoding.
+-- A device of the proofs: what a walk finds in place, where the front of its input spells what it encodes, so that it is its own deterministic encoding. No public contract cites it.
 use Rattle.std.specs.Prelude.{◌≡◌, ℕ, ◌+◌, ◌*◌, ◌/◌, ◌%◌, ◌⊎◌, ◌<◌, List, [], ◌++◌, map, length, Option, IsUtf8}
 use Rattle.std.specs.declared.cmp.Ordering.{Ordering}
 use Rattle.std.proofs.Common.{Bor}

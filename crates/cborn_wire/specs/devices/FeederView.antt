@@ -2,8 +2,8 @@
 use Rattle.std.specs.Prelude.{◌≡◌, None}
 use Rattle.cborn_wire.specs.declared.feeders.Feeder.TheInside.{Inside}
 use Rattle.cborn_wire.specs.Feeding.{Feeding}
-use Rattle.cborn_wire.specs.Machine.{held}
-use Rattle.cborn_wire.specs.StackView.{seen}
+use Rattle.cborn_wire.specs.devices.Machine.{held}
+use Rattle.cborn_wire.specs.devices.StackView.{seen}
 
 abbrev pub told : Inside → Feeding
 told f = record { limit = f.stack.limit; fed = f.fed; held = held (seen f.stack); items = f.stack.items; fault = f.stack.fault }

@@ -1,4 +1,4 @@
--- What the parts of the judge answer. No public contract cites it.
+-- A device of the proofs: what the parts of the judge answer. No public contract cites it.
 use Rattle.std.specs.Prelude.{◌≡◌, ℕ, ◌^◌, ◌<◌, ◌⊎◌, Bool, List, length, Option, None, Some}
 use Rattle.cborn_model.specs.Bytes.{AreBytes, IsShortest, big_endian}
 use Rattle.cborn_model.specs.First.{IsFirst}

@@ -1,10 +1,10 @@
--- What the search for defects finds.
+-- A device of the proofs: what the search for defects finds. No public contract cites it.
 use Rattle.std.specs.Prelude.{◌≡◌, ◌≢◌, ℕ, ◌-◌, ◌⊎◌, List, length, take, Option}
 use Rattle.std.specs.declared.cmp.Ordering.{Ordering}
 use Rattle.cborn_model.specs.Tree.{Tree, trees, entries}
 use Rattle.cborn_model.specs.declared.heads.Major.{Major}
 use Rattle.cborn_model.specs.declared.nodes.Chunk.{Chunk}
-use Rattle.cborn_judge.specs.Checked.{FindsDefect, IsEarliestDefect, LongAt, DefectIn, DefectInAll, NotAboveAt, MapDefect, TagDefect}
+use Rattle.cborn_judge.specs.devices.Checked.{FindsDefect, IsEarliestDefect, LongAt, DefectIn, DefectInAll, NotAboveAt, MapDefect, TagDefect}
 use Rattle.cborn_judge.specs.Defects.{ChunksDefect}
 use Rattle.cborn_judge.specs.declared.defects.Defect.{Defect}
 use Rattle.cborn_judge.specs.declared.defects.DefectReason.{DefectReason}

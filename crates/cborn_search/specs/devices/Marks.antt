@@ -1,11 +1,11 @@
--- The keys of a map, as they are kept while its pairs are searched. No public contract cites it.
+-- A device of the proofs: the keys of a map, as they are kept while its pairs are searched. No public contract cites it.
 use Rattle.std.specs.Prelude.{◌≡◌, ℕ, suc, ◌+◌, ◌<◌, ◌≤◌, ◌⊎◌, List, [], ◌∷◌, ◌++◌, length, take, drop, Bool, Option, None, Some, ⊤}
 use Rattle.std.specs.List.{AllZip}
 use Rattle.std.specs.declared.cmp.Ordering.TheVariants.{Less}
 use Rattle.cborn_model.specs.Orders.{bytewise}
 use Rattle.cborn_model.specs.Tree.{Tree, entries}
-use Rattle.cborn_judge.specs.Judged.{FlawAmong, RepeatFlaw}
-use Rattle.cborn_judge.specs.Repeats.{IsTied}
+use Rattle.cborn_judge.specs.devices.Judged.{FlawAmong, RepeatFlaw}
+use Rattle.cborn_judge.specs.devices.Repeats.{IsTied}
 use Rattle.cborn_judge.specs.declared.faults.InvalidReason.{InvalidReason}
 use Rattle.cborn_judge.specs.declared.faults.InvalidReason.TheVariants.{DuplicateKey}
 use Rattle.cborn_search.specs.Reading.{Pair, PairsRead}

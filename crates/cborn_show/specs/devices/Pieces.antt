@@ -1,11 +1,11 @@
--- Well-formed bytes as pieces that say nothing of what holds what: heads, each with the content of a definite string.
+-- A device of the proofs: well-formed bytes as pieces that say nothing of what holds what: heads, each with the content of a definite string. No public contract cites it.
 use Rattle.std.specs.Prelude.{◌≡◌, ℕ, ◌+◌, ◌<◌, ◌≤◌, ◌⊎◌, List, [], ◌∷◌, ◌++◌, length, false}
 use Rattle.std.specs.Str.{is_utf8}
 use Rattle.cborn_model.specs.declared.heads.Major.{Major}
 use Rattle.cborn_model.specs.declared.heads.Major.TheVariants.{TextString}
 use Rattle.cborn_model.specs.Heads.{Argument, head}
 use Rattle.cborn_wire.specs.HeadReading.{ArgumentFits}
-use Rattle.cborn_wire.specs.Scanning.{content_of}
+use Rattle.cborn_wire.specs.devices.Scanning.{content_of}
 use Rattle.cborn_show.specs.declared.bad_texts.Look.{Look}
 use Rattle.cborn_show.specs.declared.bad_texts.Look.TheVariants.{Passed, NotUtf8, Ended}
 

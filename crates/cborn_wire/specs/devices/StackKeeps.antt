@@ -1,8 +1,8 @@
 -- A device of the proofs: what the fields of a stack are seen as, and what is true of them. No definition cites it.
 use Rattle.std.specs.Prelude.{◌≡◌, ◌≤◌, None}
 use Rattle.cborn_wire.specs.declared.stacks.Stack.TheInside.{Inside}
-use Rattle.cborn_wire.specs.Standing.{Standing}
-use Rattle.cborn_wire.specs.StackView.{IsMade}
+use Rattle.cborn_wire.specs.devices.Standing.{Standing}
+use Rattle.cborn_wire.specs.devices.StackView.{IsMade}
 
 abbrev pub told : Inside → Standing
 told f = record { limit = f.limit; at = f.at; items = f.ready.items; nest = f.nest; partial = f.partial; fault = f.fault }

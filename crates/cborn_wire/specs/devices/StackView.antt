@@ -16,12 +16,12 @@ use Rattle.cborn_wire.specs.declared.frames.Partial.TheVariants as partials
 use Rattle.cborn_wire.specs.declared.nests.Nest.{Nest}
 use Rattle.cborn_wire.specs.declared.nests.Outcome.{Outcome}
 use Rattle.cborn_wire.specs.declared.nests.Outcome.TheVariants.{Open, Whole, Part}
-use Rattle.cborn_wire.specs.Standing.{Standing}
+use Rattle.cborn_wire.specs.devices.Standing.{Standing}
 use Rattle.cborn_wire.specs.HeadReading.{major_at, seen_argument}
 use Rattle.cborn_wire.specs.Slots as slots
 use Rattle.cborn_wire.specs.Slots.{OfBytes, OfText, Begun, begun_items, begun_pairs, begun_value, begun_tag, begun_chunks}
-use Rattle.cborn_wire.specs.Machine as machine
-use Rattle.cborn_wire.specs.Machine.{argument_of, content_of, nothing, gathering, width_bytes, State, Live, Failed, finished, ended, run, IsReached, Stops, Settles}
+use Rattle.cborn_wire.specs.devices.Machine as machine
+use Rattle.cborn_wire.specs.devices.Machine.{argument_of, content_of, nothing, gathering, width_bytes, State, Live, Failed, finished, ended, run, IsReached, Stops, Settles}
 
 abbrev pub seen_kind : StringKind → slots.StringKind
 seen_kind kinds.Bytes = OfBytes

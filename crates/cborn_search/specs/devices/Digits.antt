@@ -1,9 +1,9 @@
--- What the search for defects finds of a bignum that is in chunks. No public contract cites it.
+-- A device of the proofs: what the search for defects finds of a bignum that is in chunks. No public contract cites it.
 use Rattle.std.specs.Prelude.{◌≡◌, ℕ, List, [], ◌∷◌, length, Option, ⊤}
 use Rattle.cborn_model.specs.declared.heads.Major.TheVariants.{ByteString}
 use Rattle.cborn_model.specs.Meaning.{joined_chunks}
 use Rattle.cborn_judge.specs.declared.defects.Defect.{Defect}
-use Rattle.cborn_search.specs.Departed.{HaveLongChunk}
+use Rattle.cborn_search.specs.devices.Departed.{HaveLongChunk}
 use Rattle.cborn_search.specs.Reading.{ChunksRead}
 use Rattle.cborn_search.specs.declared.departures.Digits.{Digits}
 

@@ -16,8 +16,8 @@ use Rattle.cborn_wire.specs.declared.scanning.Step.{Step}
 use Rattle.cborn_wire.specs.declared.scanning.Step.TheVariants.{Taken, Cut, Refused}
 use Rattle.cborn_wire.specs.Slots as slots
 use Rattle.cborn_wire.specs.Slots.{OfBytes, OfText, Slot, item, value, element_or_end, key_or_end, chunk, Begun, begun_items, begun_pairs, begun_value, begun_tag, begun_chunks, AreBegun}
-use Rattle.cborn_wire.specs.StackView.{seen_kind}
-use Rattle.cborn_wire.specs.Machine.{nothing, gathering, State, Live, Failed, run}
+use Rattle.cborn_wire.specs.devices.StackView.{seen_kind}
+use Rattle.cborn_wire.specs.devices.Machine.{nothing, gathering, State, Live, Failed, run}
 
 -- the innermost first
 abbrev pub turned : List Level → List Level → List Level

@@ -1,0 +1,5 @@
+pub mod Defects
+pub mod Encoding
+pub mod Pieces
+pub mod Sending
+pub mod Stopping

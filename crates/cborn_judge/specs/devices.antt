@@ -1,0 +1,5 @@
+pub mod Repeats
+pub mod Places
+pub mod Judged
+pub mod Keeping
+pub mod Checked

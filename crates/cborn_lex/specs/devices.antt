@@ -1,0 +1,4 @@
+pub mod Letters
+pub mod Pieces
+pub mod View
+pub mod Scan

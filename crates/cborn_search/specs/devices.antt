@@ -1,0 +1,3 @@
+pub mod Departed
+pub mod Digits
+pub mod Marks
