@@ -6,7 +6,8 @@ use std::io::{ErrorKind, Read};
 use std::rt::Files;
 use std::{fs, io};
 
-/// A file that is opened at its first read. An opening that fails counts as a failed read, and each later read fails as well.
+/// A file that is opened at its first read. An opening that fails counts as a failed read, and each
+/// later read fails as well.
 #[derive(Drop)]
 pub struct LateFile<'a, F: Files> {
     rt: &'a F,

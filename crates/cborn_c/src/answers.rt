@@ -21,7 +21,8 @@ pub struct CbornTold {
     pub length: u64,
 }
 
-/// Puts an answer to the front of `out`, or tells why there is none. Where `out` is too small, it is as it was.
+/// Puts an answer to the front of `out`, or tells why there is none. Where `out` is too small, it
+/// is as it was.
 pub fn put(
     answer: Result<CowSlice<'_, u8, Global>, EngineFault>,
     out: &mut [u8],

@@ -50,7 +50,8 @@ pub fn checked<O: KeyOrder>(
     check_slice::<O>(alloc, limit, input)
 }
 
-/// The least index at which the items of two inputs differ. The answer doesn't depend on the order of keys.
+/// The least index at which the items of two inputs differ. The answer doesn't depend on the order
+/// of keys.
 pub fn compared(
     alloc: Global,
     limit: Limit,

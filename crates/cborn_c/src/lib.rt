@@ -1,6 +1,10 @@
-//! The calls of `cborn_engine` for C, as `include/cborn.h` declares them: numbers and slices in, a number and a filled buffer out.
+//! The calls of `cborn_engine` for C, as `include/cborn.h` declares them: numbers and slices in, a
+//! number and a filled buffer out.
 //!
-//! C passes a slice as a pointer and then a length, and a `Global` as nothing. An answer goes to a buffer of the caller's; where that is too small nothing is written, and the call tells the length that the answer takes. No call keeps anything. `specs/Calls.antt` says what each call answers, `specs/Numbers.antt` what the numbers stand for.
+//! C passes a slice as a pointer and then a length, and a `Global` as nothing. An answer goes to a
+//! buffer of the caller's; where that is too small nothing is written, and the call tells the
+//! length that the answer takes. No call keeps anything. `specs/Calls.antt` says what each call
+//! answers, `specs/Numbers.antt` what the numbers stand for.
 #![tactic(auto)]
 
 mod answers;
@@ -17,10 +21,16 @@ use inputs::{checked, compared, normalised, shown};
 use numbers::{BAD_ARGUMENT, KeyOrdering, kind_at, order_at};
 use std::alloc::Global;
 
-/// Writes the canonical form of the items that `input` holds to the front of `out`: their deterministic encodings (RFC 8949 section 4.2), or the fixed notation of these. `depth` is how many arrays, maps and tags may stand in one another, from 1 to 1,024. `told` gets the place of a fault, in bytes from the start of `input`, and the length of the answer in bytes. From bytes to bytes a buffer that is a third longer than the input is never too small.
+/// Writes the canonical form of the items that `input` holds to the front of `out`: their
+/// deterministic encodings (RFC 8949 section 4.2), or the fixed notation of these. `depth` is how
+/// many arrays, maps and tags may stand in one another, from 1 to 1,024. `told` gets the place of a
+/// fault, in bytes from the start of `input`, and the length of the answer in bytes. From bytes to
+/// bytes a buffer that is a third longer than the input is never too small.
 ///
 /// # Errors
-/// `TOO_SMALL` where the answer is longer than `out`, and its length is told. `BAD_ARGUMENT` where a number stands for nothing; then `told` is as it was. Else the number of the fault of `input`. At each of these `out` is as it was.
+/// `TOO_SMALL` where the answer is longer than `out`, and its length is told. `BAD_ARGUMENT` where
+/// a number stands for nothing; then `told` is as it was. Else the number of the fault of `input`.
+/// At each of these `out` is as it was.
 #[unsafe(no_mangle)]
 pub extern "C" fn cborn_normalise(
     alloc: Global,
@@ -54,7 +64,10 @@ pub extern "C" fn cborn_normalise(
     put(answer, out, told)
 }
 
-/// Writes the items of `input` as they are spelled to the front of `out`: as bytes (RFC 8949 section 3), or in the fixed notation (section 8). The arguments and the errors are those of `cborn_normalise`, but no item is refused for what it means; a text string that isn't UTF-8 is refused where the output is notation.
+/// Writes the items of `input` as they are spelled to the front of `out`: as bytes (RFC 8949
+/// section 3), or in the fixed notation (section 8). The arguments and the errors are those of
+/// `cborn_normalise`, but no item is refused for what it means; a text string that isn't UTF-8 is
+/// refused where the output is notation.
 #[unsafe(no_mangle)]
 pub extern "C" fn cborn_show(
     alloc: Global,
@@ -79,10 +92,13 @@ pub extern "C" fn cborn_show(
     put(shown(alloc, limit, from, to, input), out, told)
 }
 
-/// Tells whether the bytes of `input` are the deterministic encodings of the items that they hold (RFC 8949 section 4.2), else the number of the first defect. `place` gets its offset in bytes from the start of `input`.
+/// Tells whether the bytes of `input` are the deterministic encodings of the items that they hold
+/// (RFC 8949 section 4.2), else the number of the first defect. `place` gets its offset in bytes
+/// from the start of `input`.
 ///
 /// # Errors
-/// `BAD_ARGUMENT` where a number stands for nothing; then `place` is as it was. Else the number of the fault of `input`, whose offset `place` gets.
+/// `BAD_ARGUMENT` where a number stands for nothing; then `place` is as it was. Else the number of
+/// the fault of `input`, whose offset `place` gets.
 #[unsafe(no_mangle)]
 pub extern "C" fn cborn_check(
     alloc: Global,
@@ -106,10 +122,13 @@ pub extern "C" fn cborn_check(
     defect_told(answer, place)
 }
 
-/// Tells whether two inputs hold the same items (RFC 8949 section 2), else `DIFFERENT`, and `place` gets the least index, from 0, at which they differ.
+/// Tells whether two inputs hold the same items (RFC 8949 section 2), else `DIFFERENT`, and `place`
+/// gets the least index, from 0, at which they differ.
 ///
 /// # Errors
-/// `BAD_ARGUMENT` where a number stands for nothing; then `place` is as it was. Else the number of the fault of `first`, or that of the fault of `second` and `OF_SECOND` more; `place` gets its offset in bytes from the start of that input.
+/// `BAD_ARGUMENT` where a number stands for nothing; then `place` is as it was. Else the number of
+/// the fault of `first`, or that of the fault of `second` and `OF_SECOND` more; `place` gets its
+/// offset in bytes from the start of that input.
 #[unsafe(no_mangle)]
 pub extern "C" fn cborn_compare(
     alloc: Global,
@@ -134,7 +153,8 @@ pub extern "C" fn cborn_compare(
     difference_told(compared(alloc, limit, from_a, first, from_b, second), place)
 }
 
-/// The version of the library, 65,536 for each major one, 256 for each minor one, and the patch: 0.2.0.
+/// The version of the library, 65,536 for each major one, 256 for each minor one, and the patch:
+/// 0.2.0.
 #[unsafe(no_mangle)]
 pub extern "C" fn cborn_version() -> u32
     ensures { result ≡ 512 }

@@ -1,4 +1,5 @@
-//! The numbers by which C names a kind, an order and a fault. That of a fault has its class in the high byte and its reason in the low one; no number ever changes what it stands for.
+//! The numbers by which C names a kind, an order and a fault. That of a fault has its class in the
+//! high byte and its reason in the low one; no number ever changes what it stands for.
 ghost use Rattle.std.specs.Prelude.{◌≡◌, ◌<◌};
 ghost use Rattle.cborn_c.specs.Numbers.{numbered_kind, numbered_order, wire_number, lex_number, edn_number, invalid_number, defect_number, fault_number, fault_place};
 
@@ -133,7 +134,8 @@ pub fn number_defect(reason: DefectReason) -> u32
     }
 }
 
-/// Why there is no answer. A slice that is read never fails, and a vector that is written fails for want of memory alone.
+/// Why there is no answer. A slice that is read never fails, and a vector that is written fails for
+/// want of memory alone.
 pub fn number_fault(why: EngineFault) -> u32
     ensures number { result ≡ fault_number why }
     ensures small { result < 65536 }
@@ -157,7 +159,8 @@ pub fn number_fault(why: EngineFault) -> u32
     }
 }
 
-/// Where a fault is, in bytes from the start of the input; 0 where it is none of the input's content.
+/// Where a fault is, in bytes from the start of the input; 0 where it is none of the input's
+/// content.
 pub fn place_of(why: EngineFault) -> u64
     ensures { result ≡ fault_place why }
 {

@@ -1,4 +1,5 @@
-//! Each call with ample memory, since one that only answers want of memory would be proved too. Expected values come from RFC 8949 and docs/FORMATS.md.
+//! Each call with ample memory, since one that only answers want of memory would be proved too.
+//! Expected values come from RFC 8949 and docs/FORMATS.md.
 
 use crate::answers::CbornTold;
 use crate::{cborn_check, cborn_compare, cborn_normalise, cborn_show, cborn_version};

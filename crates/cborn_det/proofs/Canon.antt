@@ -254,12 +254,6 @@ values_count (value v vs) (value w ws) h = ap suc (values_count vs ws h.1)
 values_count _ _ h = absurd h
 
 module _ (order : List ℕ → List ℕ → Ordering) (laws : IsKeyOrder order) where
-  zip_length : (rs : List (Value × Value)) (es : List Entry) → AllZip (DetPair order) rs es → length rs ≡ length es
-  zip_length [] [] z = refl
-  zip_length [] (e ∷ es) z = absurd z
-  zip_length (r ∷ rs) [] z = absurd z
-  zip_length (r ∷ rs) (e ∷ es) z = ap suc (zip_length rs es z.1)
-
   -- items that are the same have one encoding
   mutual
     pub one_of_same : (a b : Value) (x y : List ℕ) → IsProper a → IsProper b → Same a b → Det order a x → Det order b y → x ≡ y

@@ -14,15 +14,20 @@ use cborn_model::{Item, KeyOrder, Major, Valid};
 use std::alloc::{AllocError, Global};
 
 /// The deterministic encoding of `valid`, the keys of its maps in the order `O` (RFC 8949 section
-/// 4.2). An error says that memory was refused.
+/// 4.2).
+///
+/// # Errors
+/// Where memory was refused.
 pub fn encode<O: KeyOrder>(alloc: Global, valid: &Valid) -> Result<Vec<u8>, AllocError>
     ensures { IfOk result (λ bytes. Det O.order valid.now bytes.items) }
 {
     encode_item::<O>(alloc, valid.item())
 }
 
-/// The deterministic encodings of `items`, one after another. An error says that memory was
-/// refused.
+/// The deterministic encodings of `items`, one after another.
+///
+/// # Errors
+/// Where memory was refused.
 pub fn encode_all<O: KeyOrder>(alloc: Global, items: &[Valid]) -> Result<Vec<u8>, AllocError>
     ensures { IfOk result (λ bytes. DetSeq O.order items.now bytes.items) }
 {
@@ -34,7 +39,9 @@ pub fn encode_all<O: KeyOrder>(alloc: Global, items: &[Valid]) -> Result<Vec<u8>
 }
 
 /// Whether `a` and `b` have one deterministic encoding, which is exactly if they are the same item.
-/// An error says that memory was refused.
+///
+/// # Errors
+/// Where memory was refused.
 pub fn equal_bytes<O: KeyOrder>(alloc: Global, a: &Valid, b: &Valid) -> Result<bool, AllocError>
     ensures same { IfOk result (λ equal. IsTrue equal ↔ Same a.now b.now) }
     ensures bytes { IfOk result (λ equal. (x y : List ℕ) → Det O.order a.now x → Det O.order b.now y → IsTrue equal ↔ x ≡ y) }
@@ -54,9 +61,12 @@ fn encode_item<O: KeyOrder>(alloc: Global, item: &Item) -> Result<Vec<u8>, Alloc
     Ok(out)
 }
 
-/// Appends the deterministic encoding of `item` to `out`, the keys of its maps in the order `O` (RFC
-/// 8949 section 4.2). The item has to be valid but for its depth, as each item is that stands inside
-/// a `Valid`. An error says that memory was refused; `out` then stays as it was.
+/// Appends the deterministic encoding of `item` to `out`, the keys of its maps in the order `O`
+/// (RFC 8949 section 4.2). The item has to be valid but for its depth, as each item is that stands
+/// inside a `Valid`.
+///
+/// # Errors
+/// Where memory was refused; `out` then stays as it was.
 pub fn push_encoding<O: KeyOrder>(
     alloc: Global,
     item: &Item,

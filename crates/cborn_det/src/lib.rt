@@ -1,6 +1,6 @@
-//! The deterministic encoding of data items (RFC 8949 section 4.2): each head as short as it can be,
-//! definite lengths alone, an integer within 64 bits as a head, and the pairs of each map in the
-//! order of their keys' encodings, under any order of keys that has the laws.
+//! The deterministic encoding of data items (RFC 8949 section 4.2): each head as short as it can
+//! be, definite lengths alone, an integer within 64 bits as a head, and the pairs of each map in
+//! the order of their keys' encodings, under any order of keys that has the laws.
 //!
 //! An item is written to the end of one buffer: `encoding` goes over what is inside it, `parts`
 //! appends heads, strings and numbers, and `entries` arranges the pairs of a map where they lie,

@@ -56,7 +56,8 @@ impl Bracket {
     ghost use Rattle.cborn_edn.specs.devices.Draft as pure;
     ghost use Rattle.cborn_edn.specs.devices.Ready.{MaySpell, HasRoom};
 
-    /// Takes the item in, where the bracket may end behind it or a comma may follow. Whether that is so.
+    /// Takes the item in, where the bracket may end behind it or a comma may follow. Whether that
+    /// is so.
     pub(crate) fn settle(&mut self, item: Option<Node>) -> Result<bool, AllocError>
         requires spelled { MaySpell item }
         requires room { HasRoom self.old }
@@ -244,7 +245,8 @@ impl Brackets {
         Some(bracket)
     }
 
-    /// A comma behind an item: the innermost takes the item in, where a comma may follow. Whether that is so.
+    /// A comma behind an item: the innermost takes the item in, where a comma may follow. Whether
+    /// that is so.
     #[tactic(auto, using(crate::proofs::Reader::Innermost::innermost))]
     pub(crate) fn settle(&mut self, item: Option<Node>) -> Result<bool, AllocError>
         requires spelled { MaySpell item }
@@ -257,7 +259,8 @@ impl Brackets {
         bracket.settle(item)
     }
 
-    /// A colon behind an item: the item becomes the key of the next pair, where the innermost is a map that wants one. Whether that is so.
+    /// A colon behind an item: the item becomes the key of the next pair, where the innermost is a
+    /// map that wants one. Whether that is so.
     #[tactic(auto, using(crate::proofs::Reader::Innermost::innermost))]
     pub(crate) fn key(&mut self, item: Option<Node>) -> bool
         ensures { pure.keyed_in self.old item ≡ (if result then Some self.new else None) }
@@ -278,7 +281,8 @@ impl Brackets {
         }
     }
 
-    /// Whether a closing bracket of this class stands behind items or pairs, where the innermost wants one more.
+    /// Whether a closing bracket of this class stands behind items or pairs, where the innermost
+    /// wants one more.
     pub(crate) fn is_filled(&self, class: &Class) -> bool
         ensures { result ≡ filled self.now class.now }
     {

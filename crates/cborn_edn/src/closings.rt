@@ -1,4 +1,5 @@
-//! What may stand behind something complete: one more piece, a comma, a colon, or the end of a bracket.
+//! What may stand behind something complete: one more piece, a comma, a colon, or the end of a
+//! bracket.
 
 ghost use Rattle.std.specs.Prelude.{◌≡◌, ℕ, true, Some, None, IfOk, if◌then◌else◌};
 ghost use Rattle.cborn_lex.specs.declared.classes.Class.TheVariants.{ArrayClose, EmbedClose, MapClose, ParenClose};

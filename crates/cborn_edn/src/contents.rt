@@ -1,4 +1,5 @@
-//! What stands complete inside an open bracket: the nodes, unless there is a slip among them, and their number.
+//! What stands complete inside an open bracket: the nodes, unless there is a slip among them, and
+//! their number.
 
 ghost use Rattle.std.specs.Prelude.{◌≡◌, suc, ◌^◌, ◌<◌, [], ◌∷◌, ◌++◌, Some, IfOk, OnOk};
 ghost use Rattle.cborn_edn.specs.devices.Draft as pure;

@@ -50,7 +50,8 @@ pub enum EdnFault {
     /// The text has no tokens.
     #[error("{0}")]
     Lex(LexFault),
-    /// The tokens are no text of the grammar, or mean nothing. `place` is an offset in bytes from the start of the text.
+    /// The tokens are no text of the grammar, or mean nothing. `place` is an offset in bytes from
+    /// the start of the text.
     #[error("offset {place}: {reason}")]
     Refused { place: u64, reason: EdnReason },
     /// Memory was refused.
@@ -100,7 +101,8 @@ impl From<AllocError> for ShowFault {
 impl EdnReason {
     ghost use Rattle.cborn_edn.specs.Meaning.{number_of};
 
-    /// The number of the reason: 20 to 22 for the tokens, 30 to 36 for what they mean. At one place the lowest is told.
+    /// The number of the reason: 20 to 22 for the tokens, 30 to 36 for what they mean. At one place
+    /// the lowest is told.
     pub(crate) fn number(self) -> u8
         ensures { result ≡ number_of self }
     {

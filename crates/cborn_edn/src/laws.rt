@@ -1,4 +1,5 @@
-//! Laws of the notation, over its definitions alone. Each function says one of them by its contract, and does nothing.
+//! Laws of the notation, over its definitions alone. Each function says one of them by its
+//! contract, and does nothing.
 
 ghost use Rattle.std.specs.Prelude.{◌≡◌, ℕ, ◌^◌, ◌<◌, ◌≤◌, Bool, true, List, [], map, length, ◌⊎◌, ◌↔◌};
 ghost use Rattle.std.specs.Str.{is_utf8};
@@ -26,7 +27,8 @@ pub fn one_tree()
     ensures { (profile other : Profile) (tokens : List Token) (t u : Input) → Parse profile tokens t → Parse other tokens u → t ≡ u }
 {}
 
-/// Tokens have a tree within the limit or one jam, never both or two. `end` is the length of their text.
+/// Tokens have a tree within the limit or one jam, never both or two. `end` is the length of their
+/// text.
 pub fn one_answer()
     ensures some { (profile : Profile) (limit end : ℕ) (tokens : List Token) → HasTree profile limit tokens ⊎ ((p : ℕ) × (r : EdnReason) × Jam profile limit end tokens p r) }
     ensures not_both { (profile : Profile) (limit end : ℕ) (tokens : List Token) (p : ℕ) (r : EdnReason) → HasTree profile limit tokens → Jam profile limit end tokens p r → ⊥ }
@@ -43,7 +45,10 @@ pub fn both_profiles()
     ensures { (tokens : List Token) (t : Input) → Parse ProfileOne tokens t → Parse ProfileTwo tokens t }
 {}
 
-/// A tree that says nodes has no slip. For the converse the tree is counted: lengths and counts are below 2^64, strings are bytes, and words are below 24. A counted tree without a slip says nodes, and what it says fits its widths and is no deeper than the tree. Where there is a slip, there is one first.
+/// A tree that says nodes has no slip. For the converse the tree is counted: lengths and counts are
+/// below 2^64, strings are bytes, and words are below 24. A counted tree without a slip says nodes,
+/// and what it says fits its widths and is no deeper than the tree. Where there is a slip, there is
+/// one first.
 pub fn one_meaning()
     ensures says { (t : Input) → CountedInput t → ((p : ℕ) (r : EdnReason) → HasSlip t p r → ⊥) → (nodes : Trees) × Says t nodes }
     ensures no_slip { (t : Input) (nodes : Trees) (p : ℕ) (r : EdnReason) → Says t nodes → HasSlip t p r → ⊥ }
@@ -52,12 +57,16 @@ pub fn one_meaning()
     ensures one_first { (t : Input) (p q : ℕ) (r s : EdnReason) → FirstSlip t p r → FirstSlip t q s → (p ≡ q) × (r ≡ s) }
 {}
 
-/// Tokens that are those of the fixed notation of nodes, places aside, say nodes that spell the same bytes, under both profiles, where the nodes are within the limit.
+/// Tokens that are those of the fixed notation of nodes, places aside, say nodes that spell the
+/// same bytes, under both profiles, where the nodes are within the limit.
 pub fn reading_back()
     ensures { (profile : Profile) (limit : ℕ) (nodes : Trees) (tokens : List Token) → FitsAll nodes → AreShowable nodes → depth_all nodes ≤ limit → map bare tokens ≡ tokens_of_input (notated_input nodes) → ReadsBack profile limit nodes tokens }
 {}
 
-/// Nodes have a fixed notation exactly if each text and text chunk among them is UTF-8. The text of the fixed notation of nodes is UTF-8 and has the tokens of the fixed notation, places aside. Under both profiles it notates the same nodes, places aside, which spell the same bytes, where the nodes are within the limit, and under no limit others.
+/// Nodes have a fixed notation exactly if each text and text chunk among them is UTF-8. The text of
+/// the fixed notation of nodes is UTF-8 and has the tokens of the fixed notation, places aside.
+/// Under both profiles it notates the same nodes, places aside, which spell the same bytes, where
+/// the nodes are within the limit, and under no limit others.
 pub fn shown_text_reads_back()
     ensures texts { (nodes : Trees) → FitsAll nodes → (AreShowable nodes ↔ Shown nodes (shown_lines nodes)) }
     ensures utf8 { (nodes : Trees) (text : List ℕ) → FitsAll nodes → Shown nodes text → is_utf8 text ≡ true }
@@ -66,7 +75,8 @@ pub fn shown_text_reads_back()
     ensures only { (profile : Profile) (limit : ℕ) (nodes : Trees) (text : List ℕ) (says : Trees) → FitsAll nodes → Shown nodes text → Notates profile limit text says → (unplaced_all says ≡ unplaced_all nodes) × (spelled_all says ≡ spelled_all nodes) }
 {}
 
-/// Nodes that are the same, places aside, fit their widths alike, are as deep, spell the same bytes, mean the same items and have the same fixed notation.
+/// Nodes that are the same, places aside, fit their widths alike, are as deep, spell the same
+/// bytes, mean the same items and have the same fixed notation.
 pub fn places_aside()
     ensures fits { (nodes others : Trees) → unplaced_all nodes ≡ unplaced_all others → FitsAll nodes → FitsAll others }
     ensures depth { (nodes others : Trees) → unplaced_all nodes ≡ unplaced_all others → depth_all nodes ≡ depth_all others }
@@ -75,14 +85,18 @@ pub fn places_aside()
     ensures text { (nodes others : Trees) (text : List ℕ) → unplaced_all nodes ≡ unplaced_all others → Shown nodes text → Shown others text }
 {}
 
-/// A text notates at most one list of nodes. It notates the same under each larger limit, and what it notates under profile 1, places included, it notates under profile 2.
+/// A text notates at most one list of nodes. It notates the same under each larger limit, and what
+/// it notates under profile 1, places included, it notates under profile 2.
 pub fn one_notation()
     ensures one { (profile : Profile) (limit most : ℕ) (text : List ℕ) (nodes others : Trees) → Notates profile limit text nodes → Notates profile most text others → nodes ≡ others }
     ensures larger { (profile : Profile) (limit most : ℕ) (text : List ℕ) (nodes : Trees) → limit ≤ most → Notates profile limit text nodes → Notates profile most text nodes }
     ensures both { (limit : ℕ) (text : List ℕ) (nodes : Trees) → Notates ProfileOne limit text nodes → Notates ProfileTwo limit text nodes }
 {}
 
-/// A text of fewer than 2^56 bytes has an answer: it notates nodes, or it has a lexical stop, a jam or a slip. The nodes that it notates fit their widths and are within the limit. Its tree is counted: lengths and counts are below 2^64, strings are bytes, and words are below 24. No text, however long, notates nodes and has a slip, whatever the limits.
+/// A text of fewer than 2^56 bytes has an answer: it notates nodes, or it has a lexical stop, a jam
+/// or a slip. The nodes that it notates fit their widths and are within the limit. Its tree is
+/// counted: lengths and counts are below 2^64, strings are bytes, and words are below 24. No text,
+/// however long, notates nodes and has a slip, whatever the limits.
 pub fn short_text()
     ensures answered { (profile : Profile) (limit : ℕ) (text : List ℕ) → AreBytes text → length text < 2 ^ 56 → ((nodes : Trees) × Notates profile limit text nodes) ⊎ (((p : ℕ) × (r : LexReason) × Stop profile text p r) ⊎ ((p : ℕ) × (r : EdnReason) × (Jams profile limit text p r ⊎ Slips profile limit text p r))) }
     ensures no_slip { (profile : Profile) (limit most : ℕ) (text : List ℕ) (nodes : Trees) (p : ℕ) (r : EdnReason) → Notates profile limit text nodes → Slips profile most text p r → ⊥ }

@@ -10,17 +10,20 @@
 //! The crate has four parts:
 //!
 //! - *Tokens* are those of `cborn_lex`; a text without tokens is refused as that crate tells.
-//! - *Grammar*: `specs/Syntax.antt` has the trees, and `specs/Parse.antt` says which tokens have one, and where other
-//!   tokens jam. The depth of brackets has a limit.
-//! - *Meaning*: `specs/Meaning.antt` says which nodes a tree says, and has the slips of a tree that says none. Pieces that
-//!   stand side by side are joined to one string, an indicator gives a width, and what stands in `<< >>` becomes bytes.
-//!   `specs/Notates.antt` puts tokens, grammar and meaning together: which nodes a text notates, and why a text notates none.
-//! - *Showing*: `specs/Shown.antt` has the fixed notation, one text for each list of nodes, places aside.
+//! - *Grammar*: `specs/Syntax.antt` has the trees, and `specs/Parse.antt` says which tokens have
+//!   one, and where other tokens jam. The depth of brackets has a limit.
+//! - *Meaning*: `specs/Meaning.antt` says which nodes a tree says, and has the slips of a tree that
+//!   says none. Pieces that stand side by side are joined to one string, an indicator gives a
+//!   width, and what stands in `<< >>` becomes bytes. `specs/Notates.antt` puts tokens, grammar and
+//!   meaning together: which nodes a text notates, and why a text notates none.
+//! - *Showing*: `specs/Shown.antt` has the fixed notation, one text for each list of nodes, places
+//!   aside.
 //!
-//! [`read_notation`] gives what a text notates, or why it notates nothing, and [`show`] gives the fixed notation. Start with
-//! `Notates` and follow the definitions that it names; [`laws`] has what is proved of them alone, above all that the fixed
-//! notation notates the nodes that it shows. In the code start with `readers` and `showing`: the reader takes one token at a
-//! time from the text (`states`), keeps in `brackets` what is open, and keeps no token.
+//! [`read_notation`] gives what a text notates, or why it notates nothing, and [`show`] gives the
+//! fixed notation. Start with `Notates` and follow the definitions that it names; [`laws`] has what
+//! is proved of them alone, above all that the fixed notation notates the nodes that it shows. In
+//! the code start with `readers` and `showing`: the reader takes one token at a time from the text
+//! (`states`), keeps in `brackets` what is open, and keeps no token.
 #![tactic(auto)]
 
 mod brackets;

@@ -16,7 +16,8 @@ use cborn_lex::Mark;
 use cborn_model::{ByteString, Form, Node, Size, Width, shortest};
 use std::alloc::{AllocError, Global};
 
-/// The width of a head with the argument `n` under an indicator, where the head can't be indefinite.
+/// The width of a head with the argument `n` under an indicator, where the head can't be
+/// indefinite.
 pub(crate) fn width_for(mark: Mark, n: u64) -> Result<Width, EdnReason>
     ensures width { result_ok result ≡ pure.width_for mark n }
     ensures slip { (p : ℕ) → slip_at p result ≡ first_slip (pure.width_slips p mark n) }

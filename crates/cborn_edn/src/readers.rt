@@ -18,10 +18,14 @@ use cborn_lex::{Profile, Token, token_from};
 use cborn_model::{Limit, Spelled};
 use std::alloc::{AllocError, Global};
 
-/// The items of `text`, under that profile of the notation, none deeper than `limit`. The place of a node is the offset of its first token, in bytes from the start of the text; a chunk's is that of its first piece.
+/// The items of `text`, under that profile of the notation, none deeper than `limit`. The place of
+/// a node is the offset of its first token, in bytes from the start of the text; a chunk's is that
+/// of its first piece.
 ///
 /// # Errors
-/// A text without tokens is `Lex`. Else `Refused` tells the first token with which no text of the grammar within the limit goes on, or the text's end; else the fault of meaning of least place, and there of least number. `OutOfMemory` where memory was refused.
+/// A text without tokens is `Lex`. Else `Refused` tells the first token with which no text of the
+/// grammar within the limit goes on, or the text's end; else the fault of meaning of least place,
+/// and there of least number. `OutOfMemory` where memory was refused.
 pub fn read_notation(
     alloc: Global,
     limit: Limit,
@@ -84,7 +88,8 @@ fn parsed(alloc: Global, limit: Limit, profile: Profile, text: &str) -> Result<S
     }
 }
 
-/// Takes `token`. The reason, where no text of the grammar within the limit goes on with it; then the state is of no use.
+/// Takes `token`. The reason, where no text of the grammar within the limit goes on with it; then
+/// the state is of no use.
 fn step(
     alloc: Global,
     limit: Limit,

@@ -100,7 +100,8 @@ impl State {
         }
     }
 
-    /// Takes `token`. Whether the grammar has such a token here; where it has none, the state is of no use.
+    /// Takes `token`. Whether the grammar has such a token here; where it has none, the state is of
+    /// no use.
     pub(crate) fn step(&mut self, alloc: Global, token: Token) -> Result<bool, AllocError>
         requires { IsReady self.old }
         ensures { IfOk result (λ b. pure.draft_step self.old token ≡ (if b then Some self.new else None)) }

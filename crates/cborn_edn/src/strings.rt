@@ -21,7 +21,8 @@ pub enum StringKind {
     Text,
 }
 
-/// The pieces of a string so far, as one: the first gives the kind and the place, the last one the indicator.
+/// The pieces of a string so far, as one: the first gives the kind and the place, the last one the
+/// indicator.
 #[derive(Drop)]
 pub(crate) struct Pieces {
     pub(crate) kind: StringKind,

@@ -37,7 +37,8 @@ fn shown(alloc: Global, digits: &str) -> Result<String, AllocError> {
     }
 }
 
-/// Whether a text has items, or a fault of its own, which stands at its end where the text ends too early.
+/// Whether a text has items, or a fault of its own, which stands at its end where the text ends too
+/// early.
 fn is_told(alloc: Global, profile: Profile, text: &str) -> Result<bool, EdnFault> {
     match read_notation(alloc, LIMIT, profile, text) {
         Ok(_) | Err(EdnFault::Lex(LexFault::Refused { .. })) => Ok(true),
@@ -302,7 +303,8 @@ fn tells_fronts_of_each_profile(rt: HostRuntime) -> Result<(), Fail> {
     Ok(())
 }
 
-/// Texts with two faults, the limit, and the one that is told: that of a token before that of the grammar, and this before that of meaning.
+/// Texts with two faults, the limit, and the one that is told: that of a token before that of the
+/// grammar, and this before that of meaning.
 const TWO_FAULTS: [(&str, u64, &str); 11] = [
     ("] 007", 128, "offset 2: bad number"),
     ("1 2, \"a", 128, "offset 5: unclosed string"),
@@ -335,7 +337,8 @@ fn tells_faults_in_order(rt: HostRuntime) -> Result<(), Fail> {
     Ok(())
 }
 
-/// A front so many times, a middle, and a back so many times; the limit; and the answer, or how it begins.
+/// A front so many times, a middle, and a back so many times; the limit; and the answer, or how it
+/// begins.
 const NESTS: [(&str, &str, &str, u64, u64, &str); 9] = [
     (
         "[",

@@ -77,6 +77,9 @@ fn push_pairs(alloc: Global, out: &mut Vec<u8>, pairs: &[(Node, Node)]) -> Resul
 }
 
 /// Appends what stands before the item at `i`, of those that have `separator` between them.
+///
+/// # Errors
+/// Where memory was refused.
 pub fn push_between(out: &mut Vec<u8>, i: usize, separator: &[u8]) -> Result<(), AllocError>
     ensures { OnOk result (out.new.items ≡ out.old.items ++ between separator.now i) }
 {
@@ -112,6 +115,9 @@ fn push_decimal(out: &mut Vec<u8>, n: u128) -> Result<(), AllocError>
 }
 
 /// Appends the indicator of a head that isn't the shortest for `n`.
+///
+/// # Errors
+/// Where memory was refused.
 pub fn push_indicator(out: &mut Vec<u8>, width: Width, n: u64) -> Result<(), AllocError>
     ensures { OnOk result (out.new.items ≡ out.old.items ++ pure.indicator (mark_for width n)) }
 {
@@ -144,6 +150,9 @@ fn push_size(out: &mut Vec<u8>, size: Size, n: u64) -> Result<(), AllocError>
 }
 
 /// Appends a simple value.
+///
+/// # Errors
+/// Where memory was refused.
 pub fn push_simple(out: &mut Vec<u8>, n: u8) -> Result<(), AllocError>
     ensures { OnOk result (out.new.items ≡ out.old.items ++ pure.shown_simple n) }
 {
@@ -195,6 +204,9 @@ fn push_text(
 }
 
 /// Appends text with its escapes, run by run.
+///
+/// # Errors
+/// Where memory was refused.
 pub fn push_escaped(alloc: Global, out: &mut Vec<u8>, text: &[u8]) -> Result<(), AllocError>
     ensures { OnOk result (out.new.items ≡ out.old.items ++ flat_map pure.escaped text.now) }
 {

@@ -16,7 +16,8 @@ use cborn_transcode::is_deterministic;
 use cborn_wire::{WireFault, read_all, scan};
 use std::alloc::Global;
 
-/// The first defect of nodes, each of which means an item; or the first flaw of the first node that doesn't.
+/// The first defect of nodes, each of which means an item; or the first flaw of the first node that
+/// doesn't.
 fn defect_of<O: KeyOrder>(alloc: Global, nodes: &[Spelled]) -> Result<Option<Defect>, Invalid>
     ensures found { IfOk result (Finds O.order nodes.now) }
     ensures refused { IfErr result (IsRefusalOfAll nodes.now) }
@@ -29,10 +30,14 @@ fn defect_of<O: KeyOrder>(alloc: Global, nodes: &[Spelled]) -> Result<Option<Def
     Ok(first)
 }
 
-/// The first defect of the bytes of an input, if they aren't the deterministic encodings of the items that they hold, the keys of maps in the order `O` (RFC 8949 section 4.2). None: they are. The input has at most 2^30 bytes.
+/// The first defect of the bytes of an input, if they aren't the deterministic encodings of the
+/// items that they hold, the keys of maps in the order `O` (RFC 8949 section 4.2). None: they are.
+/// The input has at most 2^30 bytes.
 ///
 /// # Errors
-/// `ReadFault`, `TooLong`, `Wire` and `OutOfMemory`, as `load_within` tells them of bytes, and `Invalid`: the first flaw of the first item that isn't valid, at its offset in bytes from the start of the input. A defect is told only of bytes whose items are all valid.
+/// `ReadFault`, `TooLong`, `Wire` and `OutOfMemory`, as `load_within` tells them of bytes, and
+/// `Invalid`: the first flaw of the first item that isn't valid, at its offset in bytes from the
+/// start of the input. A defect is told only of bytes whose items are all valid.
 pub fn check<O: KeyOrder, R: Source>(
     alloc: Global,
     limit: Limit,

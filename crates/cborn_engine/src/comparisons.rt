@@ -1,4 +1,5 @@
-//! Whether two inputs hold the same items. Each is read whole and encoded, the first before a byte of the second is read; the encodings are equal exactly if the items are the same.
+//! Whether two inputs hold the same items. Each is read whole and encoded, the first before a byte
+//! of the second is read; the encodings are equal exactly if the items are the same.
 ghost use Rattle.std.specs.Prelude.{◌≡◌, ◌≤◌, ◌⊎◌, ◌+◌, ◌^◌, IfErr};
 ghost use Rattle.cborn_engine.specs.Comparing.{Compares, IsOfFirst, IsHeldWhole, first_failures, second_failures};
 ghost use Rattle.cborn_engine.specs.devices.Stopping.{of_first, of_second};
@@ -33,10 +34,16 @@ impl CompareFault {
     }
 }
 
-/// Compares what two inputs hold. None: they hold the same items. Else the least index, from 0, at which the items differ or only one input has an item. The answer doesn't depend on `O`. Each input has at most 2^30 bytes.
+/// Compares what two inputs hold. None: they hold the same items. Else the least index, from 0, at
+/// which the items differ or only one input has an item. The answer doesn't depend on `O`. Each
+/// input has at most 2^30 bytes.
 ///
 /// # Errors
-/// `First`, where the first input gave no items, by `ReadFault`, `TooLong` or the fault of its content as `normalise` tells it, at its offset in bytes from the start of that input; then not a byte of the second was read. `Second`, likewise, where the first input gave items and the second gave none. `OutOfMemory` may come at any time, before a byte of the second was read or once the first is known to hold items, and is never inside of `First` or `Second`.
+/// `First`, where the first input gave no items, by `ReadFault`, `TooLong` or the fault of its
+/// content as `normalise` tells it, at its offset in bytes from the start of that input; then not a
+/// byte of the second was read. `Second`, likewise, where the first input gave items and the second
+/// gave none. `OutOfMemory` may come at any time, before a byte of the second was read or once the
+/// first is known to hold items, and is never inside of `First` or `Second`.
 #[tactic(auto, using(crate::proofs::Answers::Unanswered::not_compared))]
 pub fn compare<O: KeyOrder, R: Source, Q: Source>(
     alloc: Global,

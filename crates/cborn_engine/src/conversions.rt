@@ -23,10 +23,15 @@ use cborn_model::{KeyOrder, Limit};
 use cborn_show::show_bytes;
 use std::alloc::{AllocError, Global};
 
-/// Writes the canonical form of the items that the input holds: their deterministic encodings one after another, the keys of maps in the order `O` (RFC 8949 section 4.2), or the fixed notation of these. The writer is flushed behind the answer, also where that is empty. The input has at most 2^30 bytes.
+/// Writes the canonical form of the items that the input holds: their deterministic encodings one
+/// after another, the keys of maps in the order `O` (RFC 8949 section 4.2), or the fixed notation
+/// of these. The writer is flushed behind the answer, also where that is empty. The input has at
+/// most 2^30 bytes.
 ///
 /// # Errors
-/// Those of `load_within`, and `Invalid`: the first flaw of the first item that isn't valid, at its offset in bytes from the start of the input. At these the writer is as it was. `WriteFault` where the writer failed; then a front of the answer went out.
+/// Those of `load_within`, and `Invalid`: the first flaw of the first item that isn't valid, at its
+/// offset in bytes from the start of the input. At these the writer is as it was. `WriteFault`
+/// where the writer failed; then a front of the answer went out.
 #[tactic(auto, using(crate::proofs::Answers::Unanswered::not_normalised, crate::proofs::Canonical::Canonicity::no_answer))]
 pub fn normalise<O: KeyOrder, R: Source, W: Sink>(
     alloc: Global,
@@ -48,10 +53,14 @@ pub fn normalise<O: KeyOrder, R: Source, W: Sink>(
     write_answer(writer, &answer)
 }
 
-/// Writes the items of the input as they are spelled: as bytes (RFC 8949 section 3), or in the fixed notation (section 8). The writer is flushed behind the answer, also where that is empty. The input has at most 2^30 bytes.
+/// Writes the items of the input as they are spelled: as bytes (RFC 8949 section 3), or in the
+/// fixed notation (section 8). The writer is flushed behind the answer, also where that is empty.
+/// The input has at most 2^30 bytes.
 ///
 /// # Errors
-/// Those of `load_within`, and `Show` where the output is notation and a text string in it isn't UTF-8, at the lowest place of one. At these the writer is as it was. `WriteFault` where the writer failed; then a front of the answer went out.
+/// Those of `load_within`, and `Show` where the output is notation and a text string in it isn't
+/// UTF-8, at the lowest place of one. At these the writer is as it was. `WriteFault` where the
+/// writer failed; then a front of the answer went out.
 pub fn show_all<R: Source, W: Sink>(
     alloc: Global,
     limit: Limit,
@@ -98,7 +107,8 @@ pub fn fixed_text(alloc: Global, limit: Limit, bytes: &[u8]) -> Result<Vec<u8>, 
     }
 }
 
-/// What `fixed_text` answers, by trees. Bytes that hold items are well-formed, and their text strings are UTF-8.
+/// What `fixed_text` answers, by trees. Bytes that hold items are well-formed, and their text
+/// strings are UTF-8.
 fn fixed_text_by_trees(alloc: Global, limit: Limit, bytes: &[u8]) -> Result<Vec<u8>, AllocError>
     requires { (items : List Value) × Holds kinds.Wire limit bytes.now items }
     ensures { IfOk result (λ text. IsFixedText bytes.now text.items) }

@@ -9,7 +9,8 @@ use crate::sources::Source;
 use std::io;
 use std::io::{Read, Write};
 
-/// A reader or a writer of std, with counts. Each stays at `u64::MAX` once it is there. An interrupted call is a failure as any other: nothing is tried again.
+/// A reader or a writer of std, with counts. Each stays at `u64::MAX` once it is there. An
+/// interrupted call is a failure as any other: nothing is tried again.
 #[derive(Drop)]
 pub struct Counted<T> {
     pub inner: T,

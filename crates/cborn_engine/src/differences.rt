@@ -1,4 +1,5 @@
-//! Where two sequences differ whose deterministic encodings are held. The encodings are walked side by side, item by item; where the walk answers nothing, they are read as nodes.
+//! Where two sequences differ whose deterministic encodings are held. The encodings are walked side
+//! by side, item by item; where the walk answers nothing, they are read as nodes.
 ghost use Rattle.std.specs.Prelude.{◌≡◌, ◌≢◌, ◌++◌, ℕ, List, Some, IfOk, IfSome, MatchOption};
 ghost use Rattle.cborn_model.specs.Value.{Value};
 ghost use Rattle.cborn_det.specs.Det.{Det};
@@ -34,7 +35,8 @@ pub fn difference<O: KeyOrder>(
     }
 }
 
-/// The index of the first item at which two encodings differ, which aren't equal. None promises nothing.
+/// The index of the first item at which two encodings differ, which aren't equal. None promises
+/// nothing.
 fn difference_of_encodings<O: KeyOrder>(
     alloc: Global,
     limit: Limit,
@@ -65,7 +67,8 @@ fn difference_of_encodings<O: KeyOrder>(
     None
 }
 
-/// Puts the encoding that stands at the front of the bytes into `item`, in the place of what stood there, and answers what follows it. None promises nothing.
+/// Puts the encoding that stands at the front of the bytes into `item`, in the place of what stood
+/// there, and answers what follows it. None promises nothing.
 fn take_item<'a, O: KeyOrder>(
     alloc: Global,
     limit: Limit,

@@ -1,4 +1,6 @@
-//! Reading a whole input, and encoding what it holds. A pass that keeps no tree is tried first. Where that answers nothing, what is wrong with bytes is looked for without a tree too, and only an input in which none is found becomes nodes, which are judged.
+//! Reading a whole input, and encoding what it holds. A pass that keeps no tree is tried first.
+//! Where that answers nothing, what is wrong with bytes is looked for without a tree too, and only
+//! an input in which none is found becomes nodes, which are judged.
 ghost use Rattle.std.specs.Prelude.{◌≡◌, ◌≤◌, ◌+◌, ◌^◌, ℕ, length, IfSome, IsTrue};
 ghost use Rattle.cborn_engine.specs.devices.Encoding.{EncodeAnswers, IsEncoded};
 ghost use Rattle.cborn_engine.specs.devices.Pieces.{Reads};
@@ -16,7 +18,8 @@ use cborn_model::{KeyOrder, Limit};
 use cborn_transcode::{is_deterministic, transcode};
 use std::alloc::Global;
 
-/// The deterministic encodings of what the whole input holds, one after another. Bytes that are these already are moved.
+/// The deterministic encodings of what the whole input holds, one after another. Bytes that are
+/// these already are moved.
 ///
 /// # Errors
 /// Those of `load_within`, and `Invalid`.
@@ -37,7 +40,8 @@ pub fn read_encoded<O: KeyOrder, R: Source>(
     encode_input::<O>(alloc, limit, kind, &input)
 }
 
-/// Whether an input is bytes that are the deterministic encodings of what they hold. No promises nothing.
+/// Whether an input is bytes that are the deterministic encodings of what they hold. No promises
+/// nothing.
 pub fn is_own_encoding<O: KeyOrder>(limit: Limit, kind: Kind, input: &[u8]) -> bool
     ensures { IsTrue result → IsEncoded O.order kind limit input.now input.now }
 {
@@ -63,7 +67,8 @@ pub fn encode_input<O: KeyOrder>(
     }
 }
 
-/// What `encode_input` answers, by a pass over the bytes, or over those that a text spells. None promises nothing.
+/// What `encode_input` answers, by a pass over the bytes, or over those that a text spells. None
+/// promises nothing.
 fn encode_by_pass<O: KeyOrder>(
     alloc: Global,
     limit: Limit,

@@ -10,7 +10,8 @@ use cborn_wire::WireFault;
 use std::alloc::AllocError;
 use thiserror::Error;
 
-/// Why a call gave no answer. A fault of a crate below never holds want of memory here: that is `OutOfMemory`.
+/// Why a call gave no answer. A fault of a crate below never holds want of memory here: that is
+/// `OutOfMemory`.
 #[derive(Clone, Copy, PartialEq, Eq, Debug, Error)]
 pub enum EngineFault {
     /// The bytes are not well-formed.

@@ -14,7 +14,8 @@ use std::alloc::Global;
 /// The most bytes of an input.
 pub const MOST: u64 = 1 << 30;
 
-/// The items of the whole input as they are spelled, valid or not. The input has at most 2^30 bytes.
+/// The items of the whole input as they are spelled, valid or not. The input has at most 2^30
+/// bytes.
 ///
 /// # Errors
 /// Those of `load_within`.
@@ -31,10 +32,16 @@ pub fn load<R: Source>(
     load_within(alloc, limit, MOST, kind, reader)
 }
 
-/// The items of the whole input as they are spelled, valid or not, none deeper than `limit`, each with its place in bytes from the start of the input. The input has at most `most` bytes, and `most` is at most 2^30.
+/// The items of the whole input as they are spelled, valid or not, none deeper than `limit`, each
+/// with its place in bytes from the start of the input. The input has at most `most` bytes, and
+/// `most` is at most 2^30.
 ///
 /// # Errors
-/// `ReadFault` where the reader failed, which ends the reading. `TooLong` where it gave `most` + 1 bytes; no more are read. Else, once the input has ended, the fault of its content, at its offset in bytes from the start of the input: `Wire` where bytes aren't well-formed (RFC 8949 section 3), `TextInput` where a text isn't UTF-8, `Edn` where a text notates no items (RFC 8949 section 8). `OutOfMemory` may come at any time.
+/// `ReadFault` where the reader failed, which ends the reading. `TooLong` where it gave `most` + 1
+/// bytes; no more are read. Else, once the input has ended, the fault of its content, at its offset
+/// in bytes from the start of the input: `Wire` where bytes aren't well-formed (RFC 8949 section
+/// 3), `TextInput` where a text isn't UTF-8, `Edn` where a text notates no items (RFC 8949 section
+/// 8). `OutOfMemory` may come at any time.
 pub fn load_within<R: Source>(
     alloc: Global,
     limit: Limit,

@@ -1,4 +1,5 @@
-//! What follows from the contracts. Each function does nothing; its contract is a theorem over the definitions in `specs/`.
+//! What follows from the contracts. Each function does nothing; its contract is a theorem over the
+//! definitions in `specs/`.
 
 ghost use Rattle.std.specs.Prelude.{◌≡◌, ◌≤◌, ◌^◌, ◌↔◌, ℕ, List, Option, Some, Ok, Err, length};
 ghost use Rattle.std.specs.Io.KnownBytes.{Consumes, IsAtEnd};
@@ -17,7 +18,11 @@ ghost use Rattle.cborn_engine.specs.Comparing.{HoldSameItems};
 
 use cborn_model::KeyOrder;
 
-/// The headline. Where `normalise` answers for two inputs, each of any kind, under one order of keys, one limit and to one kind of output, it writes the same bytes for both exactly if they hold the same items. What it writes holds the items that it read. Normalising that again, where it is no longer than allowed, is refused only where the reader, the writer or memory failed, and then a front of the same bytes went out; else it writes the same bytes.
+/// The headline. Where `normalise` answers for two inputs, each of any kind, under one order of
+/// keys, one limit and to one kind of output, it writes the same bytes for both exactly if they
+/// hold the same items. What it writes holds the items that it read. Normalising that again, where
+/// it is no longer than allowed, is refused only where the reader, the writer or memory failed, and
+/// then a front of the same bytes went out; else it writes the same bytes.
 pub fn headline<O: KeyOrder>()
     ensures alike { (k l out : Kind) (limit most : ℕ) (x y v w : List ℕ) → most ≤ 2 ^ 30 → NormaliseAnswers O.order k out limit most x v (Ok tt) → NormaliseAnswers O.order l out limit most y w (Ok tt) → (v ≡ w) ↔ HoldSameItems k l limit x y }
     ensures held { (k out : Kind) (limit most : ℕ) (x v : List ℕ) → most ≤ 2 ^ 30 → NormaliseAnswers O.order k out limit most x v (Ok tt) → HoldSameItems k out limit x v }
@@ -50,7 +55,8 @@ pub fn one_form<O: KeyOrder>()
     ensures { (k out : Kind) (limit : ℕ) (x v w : List ℕ) → length x ≤ 2 ^ 30 → (a : IsCanonical O.order k out limit x v) → Canon O.order out a.items w → w ≡ v }
 {}
 
-/// It is the canonical form of valid items, of any depth, exactly if they are the same as those of the input.
+/// It is the canonical form of valid items, of any depth, exactly if they are the same as those of
+/// the input.
 pub fn form_of_same<O: KeyOrder>()
     ensures { (k out : Kind) (limit : ℕ) (x v : List ℕ) (others : List Value) → length x ≤ 2 ^ 30 → (a : IsCanonical O.order k out limit x v) → AllByRecursion IsProper others → Canon O.order out others v ↔ AllZip Same a.items others }
 {}
@@ -71,7 +77,9 @@ pub fn whole_input()
     ensures { (x input : List ℕ) (after : Option (List ℕ)) → Consumes (Some x) after input → IsAtEnd after → input ≡ x }
 {}
 
-/// An input that holds items, and is no longer than allowed, is refused only where the reader failed or memory was refused. So is the loading of one that spells nodes, whether they mean items or not.
+/// An input that holds items, and is no longer than allowed, is refused only where the reader
+/// failed or memory was refused. So is the loading of one that spells nodes, whether they mean
+/// items or not.
 pub fn held_input()
     ensures items { (k : Kind) (limit most : ℕ) (x : List ℕ) (vs : List Value) (why : EngineFault) → length x ≤ most → Holds k limit x vs → IsRefused k limit most x why → IsNoRefusal why }
     ensures nodes { (k : Kind) (limit most : ℕ) (x : List ℕ) (nodes : List Tree) (why : EngineFault) → length x ≤ most → Spells k limit x nodes → LoadAnswers k limit most x (Err why) → IsNoRefusal why }

@@ -1,8 +1,19 @@
 //! Sequences of data items (RFC 8742) end to end: from readers to writers.
 //!
-//! [`load`] reads a whole input, bytes or notation ([`Kind`]), and gives its items as they are spelled. [`normalise`] and [`show_all`] go on to a writer; [`compare`] and [`check`] answer. What is read from is a [`Source`], what is written to a [`Sink`]; [`Counted`] makes them of the readers and writers of std.
+//! [`load`] reads a whole input, bytes or notation ([`Kind`]), and gives its items as they are
+//! spelled. [`normalise`] and [`show_all`] go on to a writer; [`compare`] and [`check`] answer.
+//! What is read from is a [`Source`], what is written to a [`Sink`]; [`Counted`] makes them of the
+//! readers and writers of std.
 //!
-//! A reader of the definitions starts at `specs/Holding.antt` (what an input holds, and its canonical form) and `specs/Canonical.antt` (the headline). `Refusing` says why an input is refused; `Loading`, `Showing`, `Comparing` and `Checking` say what the other calls answer. [`laws`] has the headline in one place. In the code `pieces` and `texts` read, `nodes` makes nodes of what was read and `inputs` hands them out. `encodings` encodes a whole input, `showings` tells it in another form and `checks` judges it: each tries a pass that keeps no tree first (`cborn_transcode`, `cborn_spell`, `cborn_show`), and where that answers nothing goes by `nodes`. `conversions` and `comparisons` are the calls over readers, `slices` those over inputs that are held whole. `outputs` writes.
+//! A reader of the definitions starts at `specs/Holding.antt` (what an input holds, and its
+//! canonical form) and `specs/Canonical.antt` (the headline). `Refusing` says why an input is
+//! refused; `Loading`, `Showing`, `Comparing` and `Checking` say what the other calls answer.
+//! [`laws`] has the headline in one place. In the code `pieces` and `texts` read, `nodes` makes
+//! nodes of what was read and `inputs` hands them out. `encodings` encodes a whole input,
+//! `showings` tells it in another form and `checks` judges it: each tries a pass that keeps no tree
+//! first (`cborn_transcode`, `cborn_spell`, `cborn_show`), and where that answers nothing goes by
+//! `nodes`. `conversions` and `comparisons` are the calls over readers, `slices` those over inputs
+//! that are held whole. `outputs` writes.
 #![tactic(auto)]
 
 mod checks;

@@ -57,8 +57,9 @@ fn notated_nodes(
     Ok(read_notation(alloc, limit, profile, text)?)
 }
 
-/// The nodes of an input that are to be judged. Bytes that aren't well-formed are refused before a node is kept, and so are
-/// those with a flaw, where a search that keeps none finds it. What it finds none of may have one yet.
+/// The nodes of an input that are to be judged. Bytes that aren't well-formed are refused before a
+/// node is kept, and so are those with a flaw, where a search that keeps none finds it. What it
+/// finds none of may have one yet.
 pub fn unjudged_nodes(
     alloc: Global,
     limit: Limit,

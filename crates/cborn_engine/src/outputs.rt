@@ -7,7 +7,8 @@ ghost use Rattle.cborn_engine.specs.devices.Sending.{Sends};
 use crate::faults::EngineFault;
 use crate::sinks::Sink;
 
-/// Sends all the bytes, and flushes once, also where there are none. After `WriteFault`, its only fault, a front of the bytes went out.
+/// Sends all the bytes, and flushes once, also where there are none. After `WriteFault`, its only
+/// fault, a front of the bytes went out.
 pub fn write_answer<W: Sink>(writer: &mut W, bytes: &[u8]) -> Result<(), EngineFault>
     ensures writes { Sends (W.contents writer.old) (W.contents writer.new) bytes.now result }
     ensures failures { W.failed writer.new ≡ write_failures result (W.failed writer.old) }

@@ -7,7 +7,9 @@ use crate::faults::EngineFault;
 use crate::sources::Source;
 use std::alloc::AllocError;
 
-/// Reads a piece of an input of which at most `left` more bytes are allowed, to the front of `buf`, and answers its length: 0 only at the end. Of an input that is longer one byte more than allowed is read.
+/// Reads a piece of an input of which at most `left` more bytes are allowed, to the front of `buf`,
+/// and answers its length: 0 only at the end. Of an input that is longer one byte more than allowed
+/// is read.
 ///
 /// # Errors
 /// `ReadFault` where the reader failed, `TooLong` where it gave more than is allowed.
@@ -35,7 +37,8 @@ const FIRST_ROOM: usize = 512;
 /// The most room that a buffer grows by, in bytes.
 const MOST_ROOM: usize = 1 << 18;
 
-/// Makes room for a piece behind the first `filled` bytes, which stay. A buffer that is full is doubled while it is small.
+/// Makes room for a piece behind the first `filled` bytes, which stay. A buffer that is full is
+/// doubled while it is small.
 pub fn make_room(bytes: &mut Vec<u8>, filled: usize) -> Result<(), AllocError>
     requires { filled ≤ length bytes.old.items }
     ensures front { OnOk result (take filled bytes.new.items ≡ take filled bytes.old.items) }

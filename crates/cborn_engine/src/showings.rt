@@ -1,4 +1,8 @@
-//! Reading a whole input, and telling what it holds in another form. Bytes that are to stay bytes are what their nodes spell, once it is known that they are well-formed. Else a pass that keeps no tree is tried first: a text becomes bytes, and bytes become notation. Where it answers nothing, what is wrong with bytes is looked for without a tree too, and only an input in which nothing is found becomes nodes.
+//! Reading a whole input, and telling what it holds in another form. Bytes that are to stay bytes
+//! are what their nodes spell, once it is known that they are well-formed. Else a pass that keeps
+//! no tree is tried first: a text becomes bytes, and bytes become notation. Where it answers
+//! nothing, what is wrong with bytes is looked for without a tree too, and only an input in which
+//! nothing is found becomes nodes.
 ghost use Rattle.std.specs.Prelude.{◌≡◌, ◌≤◌, ◌+◌, ◌^◌, ℕ, List, length, IfOk, IfErr, IfSome, IsTrue};
 ghost use Rattle.cborn_model.specs.Placed.{PlacedAll};
 ghost use Rattle.cborn_model.specs.Spelled.{Wellformed};
@@ -23,7 +27,8 @@ use cborn_show::{first_bad_text, show_bytes};
 use cborn_wire::{WireFault, scan, spell_all};
 use std::alloc::Global;
 
-/// The items of the whole input as they are spelled, in a form of this kind. Bytes that are to stay bytes are moved.
+/// The items of the whole input as they are spelled, in a form of this kind. Bytes that are to stay
+/// bytes are moved.
 ///
 /// # Errors
 /// Those of `load`, and `Show`.
@@ -138,7 +143,8 @@ fn show_by_trees(
     spelled(alloc, out_kind, &nodes)
 }
 
-/// The place of the first text string in well-formed bytes that keeps them from being told in this kind.
+/// The place of the first text string in well-formed bytes that keeps them from being told in this
+/// kind.
 fn bad_text(out_kind: Kind, input: &[u8]) -> Option<u64>
     ensures { IfSome result (λ place. (most : ℕ) (nodes : List Tree) → Wellformed most (trees nodes) input.now → PlacedAll 0 (trees nodes) → IsUnshownAs out_kind nodes (NotUtf8 place)) }
 {
@@ -151,7 +157,8 @@ fn bad_text(out_kind: Kind, input: &[u8]) -> Option<u64>
 /// Nodes as they are spelled, or their fixed notation.
 ///
 /// # Errors
-/// `Show` where a text string of theirs isn't UTF-8 and they are to become notation, or `OutOfMemory`.
+/// `Show` where a text string of theirs isn't UTF-8 and they are to become notation, or
+/// `OutOfMemory`.
 fn spelled(alloc: Global, kind: Kind, nodes: &[Spelled]) -> Result<Vec<u8>, EngineFault>
     ensures spelled { IfOk result (λ answer. IsSpelledAs kind nodes.now answer.items) }
     ensures unspelled { IfErr result (IsUnspelledAs kind nodes.now) }

@@ -14,10 +14,12 @@ pub trait Sink {
     /// How many writes and flushes failed.
     ghost failed: { Self → ℕ };
 
-    /// How many bytes were taken and not flushed yet, where the writer counts them; 0 where it doesn't.
+    /// How many bytes were taken and not flushed yet, where the writer counts them; 0 where it
+    /// doesn't.
     ghost unflushed: { Self → ℕ } = { λ _. 0 };
 
-    /// Takes bytes from the front of a piece, and answers how many. An error is one more failure and takes none; so is 0 for a piece that isn't empty.
+    /// Takes bytes from the front of a piece, and answers how many. An error is one more failure
+    /// and takes none; so is 0 for a piece that isn't empty.
     fn write_some(&mut self, piece: &[u8]) -> io::Result<usize>
         ensures bound { WritesAtMost result piece.now }
         ensures bytes { WriteAppends (contents self.old) (contents self.new) result piece.now }
@@ -29,7 +31,8 @@ pub trait Sink {
         ensures failures { failed self.new ≡ failures_after result (failed self.old) }
         ensures flushed { OnOk result (unflushed self.new ≡ 0) };
 
-    /// How many calls answered an error, or took nothing of a piece that isn't empty. The count stays at `u64::MAX` once it is there.
+    /// How many calls answered an error, or took nothing of a piece that isn't empty. The count
+    /// stays at `u64::MAX` once it is there.
     fn failures(&self) -> u64
         ensures { result ≡ failed self.now };
 }

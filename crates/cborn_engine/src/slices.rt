@@ -1,4 +1,5 @@
-//! The calls over inputs that are held whole. Such an input is read where it lies, and where it is its own answer, that is lent and not copied.
+//! The calls over inputs that are held whole. Such an input is read where it lies, and where it is
+//! its own answer, that is lent and not copied.
 ghost use Rattle.std.specs.Prelude.{◌≡◌, ◌<◌, ◌≤◌, ◌*◌, ◌^◌, ◌↔◌, List, length, IfOk, IfErr, IsTrue};
 ghost use Rattle.std.specs.Cow.{cow_slice_items};
 ghost use Rattle.cborn_model.specs.Value.{Value};
@@ -24,10 +25,14 @@ use cborn_model::{KeyOrder, Limit};
 use std::alloc::{AllocError, Global};
 use std::borrow::CowSlice;
 
-/// The canonical form of the items that an input holds: their deterministic encodings one after another, the keys of maps in the order `O` (RFC 8949 section 4.2), or the fixed notation of these. It is lent from the input where that is these bytes. From bytes to bytes it is at most a third longer than the input.
+/// The canonical form of the items that an input holds: their deterministic encodings one after
+/// another, the keys of maps in the order `O` (RFC 8949 section 4.2), or the fixed notation of
+/// these. It is lent from the input where that is these bytes. From bytes to bytes it is at most a
+/// third longer than the input.
 ///
 /// # Errors
-/// `TooLong` where the input has more than 2^30 bytes. Else the fault of its content, as `normalise` tells it, at its offset in bytes from the start of the input, or `OutOfMemory`.
+/// `TooLong` where the input has more than 2^30 bytes. Else the fault of its content, as
+/// `normalise` tells it, at its offset in bytes from the start of the input, or `OutOfMemory`.
 pub fn normalise_slice<'a, O: KeyOrder>(
     alloc: Global,
     limit: Limit,
@@ -43,10 +48,12 @@ pub fn normalise_slice<'a, O: KeyOrder>(
     Ok(written_as(alloc, limit, out_kind, bytes)?)
 }
 
-/// The items of an input as they are spelled: as bytes (RFC 8949 section 3), which are lent from an input of bytes, or in the fixed notation (section 8).
+/// The items of an input as they are spelled: as bytes (RFC 8949 section 3), which are lent from an
+/// input of bytes, or in the fixed notation (section 8).
 ///
 /// # Errors
-/// `TooLong` where the input has more than 2^30 bytes. Else the fault of its content, as `show_all` tells it, at its offset in bytes from the start of the input, or `OutOfMemory`.
+/// `TooLong` where the input has more than 2^30 bytes. Else the fault of its content, as `show_all`
+/// tells it, at its offset in bytes from the start of the input, or `OutOfMemory`.
 pub fn show_slice<'a>(
     alloc: Global,
     limit: Limit,
@@ -66,10 +73,12 @@ pub fn show_slice<'a>(
     Ok(CowSlice::Owned(show_input(alloc, limit, in_kind, out_kind, input)?))
 }
 
-/// The first defect of bytes, if they aren't the deterministic encodings of the items that they hold, the keys of maps in the order `O` (RFC 8949 section 4.2). None: they are.
+/// The first defect of bytes, if they aren't the deterministic encodings of the items that they
+/// hold, the keys of maps in the order `O` (RFC 8949 section 4.2). None: they are.
 ///
 /// # Errors
-/// `TooLong` where there are more than 2^30 bytes. Else the fault of their content, as `check` tells it, at its offset from their start, or `OutOfMemory`.
+/// `TooLong` where there are more than 2^30 bytes. Else the fault of their content, as `check`
+/// tells it, at its offset from their start, or `OutOfMemory`.
 pub fn check_slice<O: KeyOrder>(
     alloc: Global,
     limit: Limit,
@@ -84,10 +93,13 @@ pub fn check_slice<O: KeyOrder>(
     check_input::<O>(alloc, limit, input)
 }
 
-/// Compares what two inputs hold. None: they hold the same items. Else the least index, from 0, at which the items differ or only one input has an item. The answer doesn't depend on `O`.
+/// Compares what two inputs hold. None: they hold the same items. Else the least index, from 0, at
+/// which the items differ or only one input has an item. The answer doesn't depend on `O`.
 ///
 /// # Errors
-/// `First`, where the first input gives no items, by the fault that `normalise_slice` tells of it. `Second`, likewise, where the first gives items and the second gives none. `OutOfMemory` is never inside of these.
+/// `First`, where the first input gives no items, by the fault that `normalise_slice` tells of it.
+/// `Second`, likewise, where the first gives items and the second gives none. `OutOfMemory` is
+/// never inside of these.
 pub fn compare_slices<O: KeyOrder>(
     alloc: Global,
     limit: Limit,

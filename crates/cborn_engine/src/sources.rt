@@ -17,7 +17,8 @@ pub trait Source {
     /// How many reads were asked for, where the reader counts them; 0 where it doesn't.
     ghost asked: { Self → ℕ } = { λ _. 0 };
 
-    /// Gives the next bytes at the front of `buf`, and answers how many: 0 only at the end, or where `buf` is empty. An error is one more failure, and gives none.
+    /// Gives the next bytes at the front of `buf`, and answers how many: 0 only at the end, or
+    /// where `buf` is empty. An error is one more failure, and gives none.
     fn read_some(&mut self, buf: &mut [u8]) -> io::Result<usize>
         ensures bound { ReadsAtMost result buf.new }
         ensures bytes { ReadConsumes (remaining self.old) (remaining self.new) result buf.new }

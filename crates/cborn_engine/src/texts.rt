@@ -17,7 +17,8 @@ use cborn_spell::spell_text;
 use simdutf8::compat::from_utf8;
 use std::alloc::Global;
 
-/// All the bytes of an input, of which at most `most` are allowed. They are read to where they stay, in a buffer that grows with them.
+/// All the bytes of an input, of which at most `most` are allowed. They are read to where they
+/// stay, in a buffer that grows with them.
 ///
 /// # Errors
 /// `ReadFault`, `TooLong` or `OutOfMemory`, and no other fault.
@@ -59,7 +60,8 @@ pub fn text_of(bytes: &[u8]) -> Result<&str, EngineFault>
     }
 }
 
-/// The bytes that a text spells which notates nodes, by a pass that keeps none. None promises nothing.
+/// The bytes that a text spells which notates nodes, by a pass that keeps none. None promises
+/// nothing.
 pub fn bytes_of_text(alloc: Global, limit: Limit, profile: Profile, input: &[u8]) -> Option<Vec<u8>>
     ensures { IfSome result (λ bytes. IsUtf8 input.now × IsSpelling profile limit input.now bytes.items) }
 {

@@ -23,7 +23,8 @@ pub(crate) fn small_integer(negative: bool, n: u64) -> Item
     }
 }
 
-/// The integer of tag 2 or 3 over `content` (RFC 8949 section 3.4.3), if `content` is a byte string.
+/// The integer of tag 2 or 3 over `content` (RFC 8949 section 3.4.3), if `content` is a byte
+/// string.
 pub(crate) fn judge_bignum(
     alloc: Global,
     negative: bool,

@@ -21,10 +21,12 @@ use cborn_det::push_encoding;
 use cborn_model::{Form, Item, KeyOrder, Node, Spelled};
 use std::alloc::{AllocError, Global};
 
-/// The first departure of the node's spelling from the deterministic encoding of the item that it means (RFC 8949 section 4.2), if there is one. The keys of maps are compared in the order `O`.
+/// The first departure of the node's spelling from the deterministic encoding of the item that it
+/// means (RFC 8949 section 4.2), if there is one. The keys of maps are compared in the order `O`.
 ///
 /// # Errors
-/// Those of [`judge`]: `Refused` with the first flaw of a node that means nothing, and `OutOfMemory` where memory was refused.
+/// Those of [`judge`]: `Refused` with the first flaw of a node that means nothing, and
+/// `OutOfMemory` where memory was refused.
 pub fn first_defect<O: KeyOrder>(
     alloc: Global,
     spelled: &Spelled,
@@ -118,7 +120,8 @@ fn defect_in_pairs<O: KeyOrder>(
     Ok(first)
 }
 
-/// The first defect of the content of a tag at `place` that means `item`, and of the tag as a bignum's.
+/// The first defect of the content of a tag at `place` that means `item`, and of the tag as a
+/// bignum's.
 #[cycle(checked)]
 #[inline(never)]
 fn defect_in_tag<O: KeyOrder>(

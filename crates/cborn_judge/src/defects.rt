@@ -6,7 +6,8 @@ ghost use Rattle.cborn_judge.specs.Defects.{defect_rank};
 use crate::precedence::Fault;
 use thiserror::Error;
 
-/// How the spelling of an item departs from its deterministic encoding. The number of a reason is its place in this list, from 1.
+/// How the spelling of an item departs from its deterministic encoding. The number of a reason is
+/// its place in this list, from 1.
 #[derive(Clone, Copy, PartialEq, Eq, Debug, Error)]
 pub enum DefectReason {
     /// A head is not the shortest for its argument (RFC 8949 section 4.2.1).
@@ -23,7 +24,8 @@ pub enum DefectReason {
     KeyOrder,
 }
 
-/// A departure from the deterministic encoding, and where. `place` is that of the head of the node, chunk, tag or key: its offset in bytes, from the start of the input that the node was read from.
+/// A departure from the deterministic encoding, and where. `place` is that of the head of the node,
+/// chunk, tag or key: its offset in bytes, from the start of the input that the node was read from.
 #[derive(Clone, Copy, PartialEq, Eq, Debug, Error)]
 #[error("offset {place}: {reason}")]
 pub struct Defect {

@@ -25,7 +25,9 @@ pub enum InvalidReason {
 /// Why there is no valid item.
 #[derive(Clone, Copy, PartialEq, Eq, Debug, Error)]
 pub enum Invalid {
-    /// The node means nothing. `place` is that of the head of the string or chunk that is not UTF-8, of the tag, or of the later key: its offset in bytes, from the start of the input that the node was read from.
+    /// The node means nothing. `place` is that of the head of the string or chunk that is not
+    /// UTF-8, of the tag, or of the later key: its offset in bytes, from the start of the input
+    /// that the node was read from.
     #[error("offset {place}: {reason}")]
     Refused { place: u64, reason: InvalidReason },
     /// Memory was refused.

@@ -34,10 +34,13 @@ pub(crate) enum JudgedPair {
     Flawed(Flaw),
 }
 
-/// The item that the node means (RFC 8949 section 5.3; bignums: section 3.4.3), or the first of all its flaws: the one at the least place, and there the one with the least number.
+/// The item that the node means (RFC 8949 section 5.3; bignums: section 3.4.3), or the first of all
+/// its flaws: the one at the least place, and there the one with the least number.
 ///
 /// # Errors
-/// `Refused` tells the reason and the place of that flaw, which is the offset of the head of the node or chunk where it stands, in bytes from the start of the input that the node was read from. `OutOfMemory` where memory was refused.
+/// `Refused` tells the reason and the place of that flaw, which is the offset of the head of the
+/// node or chunk where it stands, in bytes from the start of the input that the node was read from.
+/// `OutOfMemory` where memory was refused.
 pub fn judge(alloc: Global, spelled: &Spelled) -> Result<Valid, Invalid>
     ensures meant { IfOk result (λ valid. Means spelled.now valid) }
     ensures refused { IfErr result (IsRefusal spelled.now) }
@@ -57,10 +60,12 @@ fn judge_with(alloc: Global, spelled: &Spelled, spare: &mut Vec<Keys>) -> Result
     }
 }
 
-/// The items that the nodes mean, in order (RFC 8949 sections 5.3 and 3.4.3), or the first flaw of the first node that means nothing.
+/// The items that the nodes mean, in order (RFC 8949 sections 5.3 and 3.4.3), or the first flaw of
+/// the first node that means nothing.
 ///
 /// # Errors
-/// Those of [`judge`]: `Refused` with the reason and the place of that flaw, and `OutOfMemory` where memory was refused.
+/// Those of [`judge`]: `Refused` with the reason and the place of that flaw, and `OutOfMemory`
+/// where memory was refused.
 pub fn judge_all(alloc: Global, spelled: &[Spelled]) -> Result<Vec<Valid>, Invalid>
     ensures meant { IfOk result (λ items. AllZip Means spelled.now items.items) }
     ensures refused { IfErr result (IsRefusalOfAll spelled.now) }
@@ -74,7 +79,8 @@ pub fn judge_all(alloc: Global, spelled: &[Spelled]) -> Result<Vec<Valid>, Inval
     Ok(items)
 }
 
-/// What the node means. What stands in `spare` is of no meaning: its room is used again for the keys of maps, one for each that is open at a time.
+/// What the node means. What stands in `spare` is of no meaning: its room is used again for the
+/// keys of maps, one for each that is open at a time.
 #[cycle(judged)]
 #[inline(always)]
 fn judge_node(alloc: Global, node: &Node, spare: &mut Vec<Keys>) -> Result<Judged, AllocError>

@@ -1,14 +1,17 @@
-//! What items mean: validity, and the check for the deterministic encoding (RFC 8949 sections 4.2 and 5.3).
+//! What items mean: validity, and the check for the deterministic encoding (RFC 8949 sections 4.2
+//! and 5.3).
 //!
-//! Two questions are answered about a node. *Does it mean an item?* [`judge`] gives the item, or the first flaw:
-//! `judgments` walks the node, and `strings`, `bignums` and `keys` with `repeats` judge what has rules of its own. *Is it
-//! the deterministic encoding of that item?* [`first_defect`] walks the node beside its item (`checks`), and `spellings`
-//! looks at its heads. Which of two faults comes first is said in `precedence`.
+//! Two questions are answered about a node. *Does it mean an item?* [`judge`] gives the item, or
+//! the first flaw: `judgments` walks the node, and `strings`, `bignums` and `keys` with `repeats`
+//! judge what has rules of its own. *Is it the deterministic encoding of that item?*
+//! [`first_defect`] walks the node beside its item (`checks`), and `spellings` looks at its heads.
+//! Which of two faults comes first is said in `precedence`.
 //!
-//! A reader of the definitions starts at `specs/Flaws.antt` (what is wrong with a node, and what is wrong first) and
-//! `specs/Defects.antt` (where a spelling departs from the deterministic encoding); what a node means is told by
-//! `cborn_model`. Devices of the proofs stand in `specs/devices/`. [`laws`] says that no flaw means an item, and no
-//! defect the deterministic encoding.
+//! A reader of the definitions starts at `specs/Flaws.antt` (what is wrong with a node, and what is
+//! wrong first) and `specs/Defects.antt` (where a spelling departs from the deterministic
+//! encoding); what a node means is told by `cborn_model`. Devices of the proofs stand in
+//! `specs/devices/`. [`laws`] says that no flaw means an item, and no defect the deterministic
+//! encoding.
 #![tactic(auto)]
 
 mod bignums;

@@ -3,7 +3,8 @@
 ghost use Rattle.std.specs.Prelude.{◌≡◌, ℕ};
 ghost use Rattle.cborn_judge.specs.Earliest.{IsEarlier, IsEarliest};
 
-/// Something wrong at a place, for a reason that has a number. The first of several is the one at the lowest place, and there the one with the lowest number.
+/// Something wrong at a place, for a reason that has a number. The first of several is the one at
+/// the lowest place, and there the one with the lowest number.
 pub trait Fault: Copy {
     /// Its place, and the number of its reason.
     ghost key: { Self → ℕ × ℕ };

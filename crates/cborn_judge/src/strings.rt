@@ -59,7 +59,8 @@ pub(crate) fn judge_text(alloc: Global, place: u64, bytes: &[u8]) -> Result<Judg
     }
 }
 
-/// What a text string of these chunks means. Each chunk has to be UTF-8 by itself (RFC 8949 section 3.2.3).
+/// What a text string of these chunks means. Each chunk has to be UTF-8 by itself (RFC 8949 section
+/// 3.2.3).
 pub(crate) fn judge_text_chunks(alloc: Global, chunks: &[Chunk]) -> Result<Judged, AllocError>
     ensures { IfOk result (λ judged. (p : ℕ) → IsJudged (tree.TextChunks p chunks.now) judged) }
 {

@@ -5,7 +5,8 @@ use cborn_det::encode_all;
 use cborn_model::{Bytewise, LengthFirst, Limit};
 use cborn_wire::read_all;
 
-/// What is valid, and the deterministic encoding of what it means; the second case has each form of a node.
+/// What is valid, and the deterministic encoding of what it means; the second case has each form of
+/// a node.
 #[test]
 fn means(rt: HostRuntime) {
     let cases: [(&[u8], &[u8]); 12] = [

@@ -65,7 +65,8 @@ pub enum Class {
         bytes: ByteString,
         mark: Mark,
     },
-    /// A string in single quotes (`quoted`), by its bytes in UTF-8; or one with the prefix `h` or `b64`, by the bytes that it encodes.
+    /// A string in single quotes (`quoted`), by its bytes in UTF-8; or one with the prefix `h` or
+    /// `b64`, by the bytes that it encodes.
     Bytes {
         quoted: bool,
         bytes: ByteString,
@@ -73,7 +74,8 @@ pub enum Class {
     },
 }
 
-/// A token, and the slice of the text that it is, from `start` up to `stop`, in bytes from the start of the text.
+/// A token, and the slice of the text that it is, from `start` up to `stop`, in bytes from the
+/// start of the text.
 #[derive(Drop)]
 pub struct Token {
     pub start: u64,

@@ -83,7 +83,8 @@ fn low_code(x: &[u8]) -> Option<u32>
     if is_low(n) { Some(n) } else { None }
 }
 
-/// The character of an escape `\uXXXX`, or of a pair of them, from its digits on, and the bytes that all of it takes.
+/// The character of an escape `\uXXXX`, or of a pair of them, from its digits on, and the bytes
+/// that all of it takes.
 fn unit_at(x: &[u8]) -> Option<(char, usize)>
     ensures { result ≡ unit_from (code_at x.now) (drop 4 x.now) }
 {
@@ -123,7 +124,8 @@ fn escape_code(e: u8) -> u8
     }
 }
 
-/// The character of the escape whose backslash stands before `x`, and the bytes that it takes with its backslash.
+/// The character of the escape whose backslash stands before `x`, and the bytes that it takes with
+/// its backslash.
 fn escape_of(q: u8, x: &[u8]) -> Option<(char, usize)>
     ensures { result ≡ escape_of q x.now }
 {

@@ -6,7 +6,8 @@ ghost use Rattle.cborn_lex.specs.declared.faults.LexFault.TheVariants.{OutOfMemo
 use std::alloc::{AllocError, AllocFailed};
 use thiserror::Error;
 
-/// What is wrong with a token. docs/LIBRARY.md numbers the reasons in this order, and no number ever changes: a new one stands last.
+/// What is wrong with a token. docs/LIBRARY.md numbers the reasons in this order, and no number
+/// ever changes: a new one stands last.
 #[derive(Clone, Copy, PartialEq, Eq, Debug, Error)]
 pub enum LexReason {
     /// No token begins like this.
@@ -18,10 +19,12 @@ pub enum LexReason {
     /// A comment without a closing slash.
     #[error("unclosed comment")]
     UnclosedComment,
-    /// An escape that JSON (RFC 8259 section 7) doesn't have, half of a surrogate pair, or a raw control character.
+    /// An escape that JSON (RFC 8259 section 7) doesn't have, half of a surrogate pair, or a raw
+    /// control character.
     #[error("bad escape")]
     BadEscape,
-    /// `h'..'` with an odd number of digits, or with something else than digits, white space and comments.
+    /// `h'..'` with an odd number of digits, or with something else than digits, white space and
+    /// comments.
     #[error("bad hex")]
     BadHex,
     /// `b64'..'` that isn't the base64 (RFC 4648 section 4) of any bytes.
@@ -47,7 +50,8 @@ pub enum LexReason {
 /// Why no tokens were read.
 #[derive(Clone, Copy, PartialEq, Eq, Debug, Error)]
 pub enum LexFault {
-    /// The text isn't made of tokens. `place` is where the first bad token starts, in bytes from the start of the text.
+    /// The text isn't made of tokens. `place` is where the first bad token starts, in bytes from
+    /// the start of the text.
     #[error("offset {place}: {reason}")]
     Refused { place: u64, reason: LexReason },
     /// Memory was refused.

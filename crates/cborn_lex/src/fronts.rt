@@ -184,7 +184,8 @@ fn greater(tail: &[u8]) -> (Front, usize)
     }
 }
 
-/// What the first character of `text` begins, which is no token alone and which `tail` follows, and how many bytes of `tail` belong to it.
+/// What the first character of `text` begins, which is no token alone and which `tail` follows, and
+/// how many bytes of `tail` belong to it.
 fn from_start(
     alloc: Global,
     profile: Profile,

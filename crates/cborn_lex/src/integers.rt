@@ -160,7 +160,8 @@ fn number_len(n: usize, m: usize, tagged: bool) -> usize
     if tagged { n + m + 1 } else { n + m }
 }
 
-/// A number: `tail` follows the `first` bytes of `whole`, which are its first digit, or none behind a minus.
+/// A number: `tail` follows the `first` bytes of `whole`, which are its first digit, or none behind
+/// a minus.
 pub fn number_at(negative: bool, first: usize, whole: &[u8], tail: &[u8]) -> (Front, usize)
     requires first { first ≤ length whole.now }
     requires tail { tail.now ≡ drop first whole.now }

@@ -9,8 +9,12 @@ use crate::fronts::{Front, first_of};
 use crate::slices::{is_white, rest_of};
 use std::alloc::Global;
 
-/// The tokens of `text` in that profile, in their order; white space and comments stand between them alone (RFC 8949 section 8, RFC 8610 appendix G).
-/// Where the text isn't made of tokens, the place and the reason of the first that is bad. `OutOfMemory` if memory was refused.
+/// The tokens of `text` in that profile, in their order; white space and comments stand between
+/// them alone (RFC 8949 section 8, RFC 8610 appendix G).
+///
+/// # Errors
+/// `Refused` where the text isn't made of tokens: the place and the reason of the first that is
+/// bad. `OutOfMemory` where memory was refused.
 pub fn tokens(alloc: Global, profile: Profile, text: &str) -> Result<Vec<Token>, LexFault>
     ensures ok { IfOk result (λ v. Lex profile text.now v.items) }
     ensures refused { IfErr result (λ e. IsStopAt profile text.now e) }
@@ -24,8 +28,13 @@ pub fn tokens(alloc: Global, profile: Profile, text: &str) -> Result<Vec<Token>,
     Ok(found)
 }
 
-/// The first token of `text` at or behind the offset `at`, in bytes, and `None` where only white space and comments are left. Who begins at 0 and goes on at each token's `stop` gets the tokens that [`tokens`] gives, one by one, and no list of them is kept.
-/// Where the text from `at` on begins with no token, the place, from the start of the text, and the reason of what is bad. `OutOfMemory` if memory was refused.
+/// The first token of `text` at or behind the offset `at`, in bytes, and `None` where only white
+/// space and comments are left. Who begins at 0 and goes on at each token's `stop` gets the tokens
+/// that [`tokens`] gives, one by one, and no list of them is kept.
+///
+/// # Errors
+/// `Refused` where the text from `at` on begins with no token: the place, from the start of the
+/// text, and the reason of what is bad. `OutOfMemory` where memory was refused.
 pub fn token_from(
     alloc: Global,
     profile: Profile,

@@ -1,6 +1,7 @@
 //! The tokens of CBOR's diagnostic notation (RFC 8949 section 8, RFC 8610 appendix G).
 //!
-//! A text is read from left to right as white space, comments and tokens, each as long as its form allows:
+//! A text is read from left to right as white space, comments and tokens, each as long as its form
+//! allows:
 //!
 //! ```text
 //! [_ 1_1, 24(h'01'), "é"]  / a comment /
@@ -14,7 +15,10 @@
 //!  └ ArrayOpen, with the indicator Endless
 //! ```
 //!
-//! `specs/Forms.antt` has the forms, and `specs/Lex.antt` says what the tokens of a text are and where a text stops being tokens. [`tokens`] gives exactly these, and [`token_from`] the same one by one, for who needs no list of them. [`laws`] says that each text has tokens or a stop, and that what is read one by one is what the text holds.
+//! `specs/Forms.antt` has the forms, and `specs/Lex.antt` says what the tokens of a text are and
+//! where a text stops being tokens. [`tokens`] gives exactly these, and [`token_from`] the same one
+//! by one, for who needs no list of them. [`laws`] says that each text has tokens or a stop, and
+//! that what is read one by one is what the text holds.
 #![tactic(auto)]
 
 mod classes;

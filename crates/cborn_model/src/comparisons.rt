@@ -97,8 +97,8 @@ fn same_maps(a: &[(Item, Item)], b: &[(Item, Item)]) -> bool
     true
 }
 
-/// Whether the pair of this key and this value is among `pairs`, of distinct keys. The search begins
-/// at `start`, where it stands if both maps were written in one order.
+/// Whether the pair of this key and this value is among `pairs`, of distinct keys. The search
+/// begins at `start`, where it stands if both maps were written in one order.
 #[cycle(same_items)]
 fn has_pair(pairs: &[(Item, Item)], start: usize, key: &Item, value: &Item) -> bool
     requires start { start ≤ length pairs.now }

@@ -4,8 +4,9 @@ ghost use Rattle.std.specs.Prelude.{◌≡◌, ◌<◌, ◌≤◌, ◌+◌, ◌*
 
 use std::alloc::AllocError;
 
-/// Appends one more. A list takes room for one at its first, and then for twice as many as it has: most lists of parts of
-/// items are short, and in a deep nest most have one part, and that is all that they hold.
+/// Appends one more. A list takes room for one at its first, and then for twice as many as it has:
+/// most lists of parts of items are short, and in a deep nest most have one part, and that is all
+/// that they hold.
 ///
 /// # Errors
 /// `AllocError` where memory was refused; the list is as it was.

@@ -77,7 +77,8 @@ impl Major {
         32 * self.number() + information
     }
 
-    /// The head of an indefinite length, one byte (RFC 8949 section 3.2); of `Other` it is the break.
+    /// The head of an indefinite length, one byte (RFC 8949 section 3.2); of `Other` it is the
+    /// break.
     #[inline(always)]
     pub fn endless_head(self) -> u8
         ensures { result ≡ 32 * code self + 31 }

@@ -8,7 +8,8 @@ use std::marker::Model;
 #[derive(Drop)]
 #[cycle(item)]
 pub enum Item {
-    /// An integer: n, or -1 - n if negative, n being the number of the magnitude. A bignum is one too.
+    /// An integer: n, or -1 - n if negative, n being the number of the magnitude. A bignum is one
+    /// too.
     Int {
         /// Whether the integer is below 0.
         negative: bool,
@@ -23,7 +24,8 @@ pub enum Item {
     Items(ItemList),
     /// A map: its pairs of a key and a value. A valid item has no two keys that are the same.
     Pairs(PairList),
-    /// A tag: its number and its content. A valid item has no tag 2 or 3 here, since these are integers.
+    /// A tag: its number and its content. A valid item has no tag 2 or 3 here, since these are
+    /// integers.
     Tagged(u64, ItemBox),
     /// A simple value, by its number: up to 23, or from 32 on in a valid item.
     Simple(u8),
@@ -54,7 +56,10 @@ impl ItemList {
     ghost use Rattle.std.specs.Prelude.{◌≡◌, map};
     ghost use Rattle.cborn_model.specs.ItemView.{item_value};
 
-    /// These items. Takes no memory.
+    /// This item, on the heap.
+    ///
+    /// # Errors
+    /// Where memory was refused; the item is then freed.
     pub fn new(items: Vec<Item>) -> ItemList
         ensures { result ≡ map item_value items.items }
     {

@@ -9,23 +9,26 @@
 //! └── node: Items(Fixed(Direct), ..), an array of the two nodes above
 //! ```
 //!
-//! - A *head* is an initial byte, with the major type in its high three bits, and the bytes that follow it. Its *argument*
-//!   is a number: an integer, a length, a count or a tag.
-//! - The [`Width`] of a head is the number of bytes that its argument takes behind the initial byte. Most numbers can be
-//!   written in several widths; [`shortest`] tells the narrowest.
+//! - A *head* is an initial byte, with the major type in its high three bits, and the bytes that
+//!   follow it. Its *argument* is a number: an integer, a length, a count or a tag.
+//! - The [`Width`] of a head is the number of bytes that its argument takes behind the initial
+//!   byte. Most numbers can be written in several widths; [`shortest`] tells the narrowest.
 //! - A [`Chunk`] is a definite string inside an indefinite one.
-//! - A [`Node`] is a data item as it is spelled: its place, which is the offset of its head in bytes, and its [`Form`].
-//!   Nothing is lost: a node spells one list of bytes.
-//! - An [`Item`] is what a node means. Widths, chunks and places are gone, and a bignum is the integer that it stands for.
+//! - A [`Node`] is a data item as it is spelled: its place, which is the offset of its head in
+//!   bytes, and its [`Form`]. Nothing is lost: a node spells one list of bytes.
+//! - An [`Item`] is what a node means. Widths, chunks and places are gone, and a bignum is the
+//!   integer that it stands for.
 //!
-//! The crate has two halves. *Spelled*: [`fits`] tells whether a node spells any bytes, and a [`Spelled`] is one that does,
-//! at most 1,024 deep. *Meant*: [`is_valid`] tells whether an item is valid, a [`Valid`] is one that is, and [`same`] tells
-//! whether two of these are the same. Beside them stand the orders of keys ([`KeyOrder`]) and the nesting limit ([`Limit`]).
+//! The crate has two halves. *Spelled*: [`fits`] tells whether a node spells any bytes, and a
+//! [`Spelled`] is one that does, at most 1,024 deep. *Meant*: [`is_valid`] tells whether an item is
+//! valid, a [`Valid`] is one that is, and [`same`] tells whether two of these are the same. Beside
+//! them stand the orders of keys ([`KeyOrder`]) and the nesting limit ([`Limit`]).
 //!
-//! The definitions stand in `specs/`, each by itself and without the code: `Bytes` and `Heads`; `Tree` (the pure node),
-//! `Spelled` (its bytes, and when it fits) and `Placed`; `Value` (the pure item, and `Same`), `Valid` and `Meaning` (which
-//! item a node means); `Orders`; `First` (the first of several faults). Devices of the proofs stand in `specs/devices/`.
-//! [`laws`] has what is proved of the definitions alone.
+//! The definitions stand in `specs/`, each by itself and without the code: `Bytes` and `Heads`;
+//! `Tree` (the pure node), `Spelled` (its bytes, and when it fits) and `Placed`; `Value` (the pure
+//! item, and `Same`), `Valid` and `Meaning` (which item a node means); `Orders`; `First` (the first
+//! of several faults). Devices of the proofs stand in `specs/devices/`. [`laws`] has what is proved
+//! of the definitions alone.
 #![tactic(auto)]
 
 mod comparisons;

@@ -92,7 +92,10 @@ impl Magnitude {
     }
 
     /// Gives the bytes back, the highest first. Takes memory only where the number was kept without
-    /// any; an error says that it was refused.
+    /// any.
+    ///
+    /// # Errors
+    /// Where memory was refused.
     pub fn into_vec(self, alloc: Global) -> Result<Vec<u8>, AllocError>
         ensures { IfOk result (λ v. v.items ≡ self) }
     {

@@ -34,7 +34,8 @@ pub enum Form {
     Nint(Width, u64),
     /// A definite byte string (major type 2). The argument is its length.
     Bytes(Width, ByteString),
-    /// A definite text string (major type 3), not known to be UTF-8. The argument is its length in bytes.
+    /// A definite text string (major type 3), not known to be UTF-8. The argument is its length in
+    /// bytes.
     Text(Width, ByteString),
     /// An indefinite byte string (RFC 8949 section 3.2.3): its chunks, in order.
     ByteChunks(Vec<Chunk>),
@@ -42,11 +43,13 @@ pub enum Form {
     TextChunks(Vec<Chunk>),
     /// An array (major type 4): its elements, in order.
     Items(Size, Vec<Node>),
-    /// A map (major type 5): its pairs of a key and a value, in the order in which they are written.
+    /// A map (major type 5): its pairs of a key and a value, in the order in which they are
+    /// written.
     Pairs(Size, Vec<(Node, Node)>),
     /// A tag (major type 6): the width of its head, its number and its content.
     Tagged(Width, u64, Box<Node>),
-    /// A simple value (RFC 8949 section 3.3, major type 7), by its number: up to 23 in one byte, from 32 on in two.
+    /// A simple value (RFC 8949 section 3.3, major type 7), by its number: up to 23 in one byte,
+    /// from 32 on in two.
     Simple(u8),
 }
 

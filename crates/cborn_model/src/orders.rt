@@ -16,7 +16,8 @@ pub trait KeyOrder {
     fn compare(a: &[u8], b: &[u8]) -> Ordering
         ensures { result ≡ order a.now b.now };
 
-    /// Only equal lists tie; turning the arguments round turns the answer round; less than is transitive.
+    /// Only equal lists tie; turning the arguments round turns the answer round; less than is
+    /// transitive.
     ghost laws: { IsKeyOrder order };
 }
 

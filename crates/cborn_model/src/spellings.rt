@@ -30,8 +30,8 @@ impl Model for Spelled {
 }
 
 impl Spelled {
-    /// Keeps `node`, which has to spell bytes and to be at most 1,024 deep: [`fits`] tells whether it
-    /// is so. Takes no memory.
+    /// Keeps `node`, which has to spell bytes and to be at most 1,024 deep: [`fits`] tells whether
+    /// it is so. Takes no memory.
     pub fn new(node: Node) -> Spelled
         requires { IsSpelled node }
         ensures { result ≡ node }

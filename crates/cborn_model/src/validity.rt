@@ -33,8 +33,8 @@ impl Model for Valid {
 }
 
 impl Valid {
-    /// Keeps `item`, which has to be valid, and so at most 1,024 deep: [`is_valid`] tells whether it
-    /// is. Takes no memory.
+    /// Keeps `item`, which has to be valid, and so at most 1,024 deep: [`is_valid`] tells whether
+    /// it is. Takes no memory.
     pub fn new(item: Item) -> Valid
         requires { IsValid (item_value item) }
         ensures { result ≡ item_value item }

@@ -102,9 +102,6 @@ module _ (room total : ℕ) (input after rest : List ℕ) (flaw : Option Told) w
 
 -- ---- nodes one after another
 
-pub all_none : (room total : ℕ) (input : List ℕ) → ScannedAll room total 0 input input None
-all_none room total input = no_node (HaveFlaw None) room total input (λ p r f. f.1)
-
 pub all_more : (room total n : ℕ) (input mid rest : List ℕ) (a b o : Option Told) (s : Bool) → length input ≤ total → ScannedAll room total n input mid a → Scanned room total mid rest b s → IsEarliestTold a b o → ScannedAll room total (n + 1) input rest o
 all_more room total n input mid rest a b o s l x y e =
     node_more (HaveFlaw a) (HaveFlaw o) (HasFlaw b s) room total n input mid rest l x y

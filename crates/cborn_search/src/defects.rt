@@ -1,4 +1,5 @@
-//! The first defect of an item, and of those inside it, as `flaws` tells flaws: what was found is written to one place.
+//! The first defect of an item, and of those inside it, as `flaws` tells flaws: what was found is
+//! written to one place.
 
 ghost use Rattle.std.specs.Prelude.{◌≡◌, ◌≤◌, ◌-◌, ◌++◌, length, IfSome};
 ghost use Rattle.cborn_judge.specs.devices.Checked.{FindsDefect, TagDefect};
@@ -159,7 +160,8 @@ fn walk_endless_array<O: KeyOrder>(
     Some(after.len())
 }
 
-/// The items at the front, at most `most`, and where there may be an end up to a break: what follows them, how many they are, and their first defect.
+/// The items at the front, at most `most`, and where there may be an end up to a break: what
+/// follows them, how many they are, and their first defect.
 #[cycle(walked)]
 #[inline(always)]
 fn walk_items<'a, O: KeyOrder>(
@@ -239,7 +241,9 @@ fn walk_endless_map<O: KeyOrder>(
     Some(after.len())
 }
 
-/// The pairs at the front, as `walk_items` takes items; the first defect of the map that they are, its head aside, is found. What is known of the map is on the heap, out of the frames of a deep nest.
+/// The pairs at the front, as `walk_items` takes items; the first defect of the map that they are,
+/// its head aside, is found. What is known of the map is on the heap, out of the frames of a deep
+/// nest.
 #[cycle(walked)]
 #[inline(always)]
 fn walk_pairs<'a, O: KeyOrder>(
@@ -273,7 +277,8 @@ fn walk_pairs<'a, O: KeyOrder>(
     Some((rest, count))
 }
 
-/// What is tagged by `n`, at `place`, at the front; the first defect of the tag, its head aside, is found.
+/// What is tagged by `n`, at `place`, at the front; the first defect of the tag, its head aside, is
+/// found.
 #[cycle(walked)]
 #[inline(always)]
 fn walk_tag<O: KeyOrder>(

@@ -32,7 +32,8 @@ pub(crate) fn add_head(place: u64, width: Width, n: u64, found: &mut Option<Defe
     *found = earliest(own, *found);
 }
 
-/// The defect of a key at `place` whose encoding follows that of the key before it, if it is not the first.
+/// The defect of a key at `place` whose encoding follows that of the key before it, if it is not
+/// the first.
 pub(crate) fn order_defect<O: KeyOrder>(
     count: u64,
     place: u64,
@@ -51,7 +52,8 @@ pub(crate) fn order_defect<O: KeyOrder>(
     Some(Defect { place, reason })
 }
 
-/// The chunks of a string at `place`, up to a break: what follows them, and the first defect of the string. None promises nothing.
+/// The chunks of a string at `place`, up to a break: what follows them, and the first defect of the
+/// string. None promises nothing.
 fn walk_chunks(
     major: Major,
     total: u64,
@@ -115,7 +117,8 @@ fn walk_chunk(major: Major, total: u64, bytes: &[u8]) -> Option<(&[u8], &[u8], O
     }
 }
 
-/// The content of a bignum at `place`: what follows it, and the first defect of the tag, its head aside. None promises nothing.
+/// The content of a bignum at `place`: what follows it, and the first defect of the tag, its head
+/// aside. None promises nothing.
 fn walk_bignum(total: u64, place: u64, bytes: &[u8]) -> Option<(&[u8], Option<Defect>)>
     requires { length bytes.now ≤ total }
     ensures { IfSome result (λ r. BignumWalked place total bytes.now r.0.now r.1) }
@@ -168,7 +171,8 @@ struct Digits {
     front: u8,
 }
 
-/// The chunks of the byte string at `place`, up to a break, as `walk_chunks` takes them, and what they are together.
+/// The chunks of the byte string at `place`, up to a break, as `walk_chunks` takes them, and what
+/// they are together.
 fn walk_digits(total: u64, place: u64, bytes: &[u8]) -> Option<(&[u8], Option<Defect>, Digits)>
     requires { length bytes.now ≤ total }
     ensures { IfSome result (λ r. DigitsWalked place total bytes.now r.0.now r.1 r.2) }

@@ -1,6 +1,8 @@
 //! The first flaw of an item, and of those inside it.
 //!
-//! A function that calls itself for each level answers a number of bytes, which comes back in registers, and writes what it found to one place that all share: so the frames of a deep nest stay small.
+//! A function that calls itself for each level answers a number of bytes, which comes back in
+//! registers, and writes what it found to one place that all share: so the frames of a deep nest
+//! stay small.
 
 ghost use Rattle.std.specs.Prelude.{◌≡◌, ◌≢◌, ◌≤◌, ◌-◌, ◌++◌, ◌∷◌, ◌⊎◌, ℕ, false, length, IfSome};
 ghost use Rattle.cborn_model.specs.declared.heads.Width.{Width};
@@ -155,7 +157,8 @@ fn scan_endless_array(
     Some(after.len())
 }
 
-/// The items at the front, at most `most`, and where there may be an end up to a break: what follows them, how many they are, and their first flaw.
+/// The items at the front, at most `most`, and where there may be an end up to a break: what
+/// follows them, how many they are, and their first flaw.
 #[cycle(scanned)]
 #[inline(always)]
 fn scan_items<'a>(
@@ -232,7 +235,8 @@ fn scan_endless_map(
     Some(after.len())
 }
 
-/// The pairs at the front, as `scan_items` takes items; the flaw is the first of the map that they are. What is known of the map is on the heap, out of the frames of a deep nest.
+/// The pairs at the front, as `scan_items` takes items; the flaw is the first of the map that they
+/// are. What is known of the map is on the heap, out of the frames of a deep nest.
 #[cycle(scanned)]
 #[inline(always)]
 fn scan_pairs<'a>(

@@ -40,7 +40,8 @@ impl Keys {
         }
     }
 
-    /// Takes in the key at the front of `bytes`, the last of `total`, up to `rest`, unless it has a flaw. None promises nothing.
+    /// Takes in the key at the front of `bytes`, the last of `total`, up to `rest`, unless it has a
+    /// flaw. None promises nothing.
     #[inline(never)]
     pub(crate) fn take(
         &mut self,
@@ -137,7 +138,8 @@ fn sort(bytes: &[u8], marks: &mut Vec<Mark>)
     });
 }
 
-/// The first of the keys that have the bytes of the one before them. None: the marks are in no order.
+/// The first of the keys that have the bytes of the one before them. None: the marks are in no
+/// order.
 fn first_tie(bytes: &[u8], marks: &[Mark]) -> Option<Option<(u64, InvalidReason)>>
     ensures { IfSome result (λ first. InPlace bytes.now marks.now × FindsTold (TieFlaw bytes.now marks.now) first) }
 {

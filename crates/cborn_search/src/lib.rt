@@ -1,8 +1,10 @@
 //! The first flaw, and the first defect, of the items that bytes hold, without a tree.
 //!
-//! [`first_flaw`] tells why bytes that are well-formed hold no items, or that they do; [`first_defect`] tells where bytes that hold
-//! items depart from their deterministic encodings. Each goes through the bytes once, writes nothing, and keeps no more than the
-//! encodings of the keys of the maps that it is in. Where they answer none, the reader and the judge, which keep trees, answer.
+//! [`first_flaw`] tells why bytes that are well-formed hold no items, or that they do;
+//! [`first_defect`] tells where bytes that hold items depart from their deterministic encodings.
+//! Each goes through the bytes once, writes nothing, and keeps no more than the encodings of the
+//! keys of the maps that it is in. Where they answer none, the reader and the judge, which keep
+//! trees, answer.
 //!
 //! A reader of the definitions starts at `specs/Searching.antt`.
 #![tactic(auto)]

@@ -28,7 +28,8 @@ impl ScannedMap {
         }
     }
 
-    /// Takes in the key at the front of `bytes`, the last of `total`, up to `rest`, of which this was found. None promises nothing.
+    /// Takes in the key at the front of `bytes`, the last of `total`, up to `rest`, of which this
+    /// was found. None promises nothing.
     #[inline(never)]
     pub(crate) fn take_key(
         &mut self,

@@ -10,9 +10,13 @@ use cborn_judge::{Defect, InvalidReason, earliest};
 use cborn_model::{KeyOrder, Limit};
 use std::alloc::Global;
 
-/// The first flaw of the first item of the bytes that means nothing: the offset of the string, chunk, tag or key in bytes, and why (RFC 8949 sections 3.1, 3.4.3 and 5.6). No flaw: each item means something.
+/// The first flaw of the first item of the bytes that means nothing: the offset of the string,
+/// chunk, tag or key in bytes, and why (RFC 8949 sections 3.1, 3.4.3 and 5.6). No flaw: each item
+/// means something.
 ///
-/// It takes memory only for the keys of maps. It answers none where the bytes aren't well-formed under the limit, where memory was refused, and where a key holds what `cborn_transcode` doesn't encode.
+/// It takes memory only for the keys of maps. It answers none where the bytes aren't well-formed
+/// under the limit, where memory was refused, and where a key holds what `cborn_transcode` doesn't
+/// encode.
 pub fn first_flaw(alloc: Global, limit: Limit, bytes: &[u8]) -> Option<Option<(u64, InvalidReason)>>
     ensures { IfSome result (λ flaw. IsFirstFlawOf limit bytes.now flaw) }
 {
@@ -37,9 +41,14 @@ pub fn first_flaw(alloc: Global, limit: Limit, bytes: &[u8]) -> Option<Option<(u
     Some(first)
 }
 
-/// The first departure of the bytes from the deterministic encodings of the items that they hold, the keys of maps in the order `O`: its offset in bytes, and why (RFC 8949 section 4.2). No departure: they are these encodings. It says nothing of bytes that hold no items; `first_flaw` tells whether they do.
+/// The first departure of the bytes from the deterministic encodings of the items that they hold,
+/// the keys of maps in the order `O`: its offset in bytes, and why (RFC 8949 section 4.2). No
+/// departure: they are these encodings. It says nothing of bytes that hold no items; `first_flaw`
+/// tells whether they do.
 ///
-/// It takes memory only for the keys of maps. It answers none where the bytes aren't well-formed under the limit, where memory was refused, and where a key means nothing or holds what `cborn_transcode` doesn't encode.
+/// It takes memory only for the keys of maps. It answers none where the bytes aren't well-formed
+/// under the limit, where memory was refused, and where a key means nothing or holds what
+/// `cborn_transcode` doesn't encode.
 pub fn first_defect<O: KeyOrder>(
     alloc: Global,
     limit: Limit,

@@ -4,7 +4,8 @@ use crate::{first_defect, first_flaw};
 use cborn_judge::{Defect, DefectReason, InvalidReason};
 use cborn_model::{Bytewise, LengthFirst, Limit};
 
-/// Where, and why. Each row would catch a walk that tells a flaw too late or at the wrong head, or that misses a repeated key in one of the forms in which it may be written.
+/// Where, and why. Each row would catch a walk that tells a flaw too late or at the wrong head, or
+/// that misses a repeated key in one of the forms in which it may be written.
 #[test]
 fn tells_the_first_flaw(rt: HostRuntime) {
     let cases: [(&[u8], u64, InvalidReason); 18] = [
@@ -74,7 +75,8 @@ fn tells_the_first_flaw(rt: HostRuntime) {
     }
 }
 
-/// What means something. It would catch a search that gives up, or that takes keys for the same that aren't.
+/// What means something. It would catch a search that gives up, or that takes keys for the same
+/// that aren't.
 #[test]
 fn finds_no_flaw(rt: HostRuntime) {
     let cases: [&[u8]; 16] = [
@@ -127,7 +129,8 @@ fn defect(place: u64, reason: DefectReason) -> Option<Defect> {
     Some(Defect { place, reason })
 }
 
-/// Where bytes depart from the deterministic encoding, by both orders. Each row would catch a walk that tells a later departure, that has the wrong place, or that takes one order for the other.
+/// Where bytes depart from the deterministic encoding, by both orders. Each row would catch a walk
+/// that tells a later departure, that has the wrong place, or that takes one order for the other.
 #[test]
 fn tells_the_first_defect(rt: HostRuntime) {
     let long = DefectReason::LongHead;

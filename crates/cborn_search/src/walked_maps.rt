@@ -10,7 +10,8 @@ use cborn_judge::{Defect, earliest};
 use cborn_model::KeyOrder;
 use std::alloc::Global;
 
-/// The encoding of the key before, the first key that isn't above the one before it, and the first defect of keys and values.
+/// The encoding of the key before, the first key that isn't above the one before it, and the first
+/// defect of keys and values.
 #[derive(Drop)]
 pub(crate) struct WalkedMap {
     last: Vec<u8>,
@@ -31,7 +32,8 @@ impl WalkedMap {
         }
     }
 
-    /// Takes in the order of the key at the front of `bytes`, the last of `total`, up to `rest`. `count` keys came before it. None promises nothing.
+    /// Takes in the order of the key at the front of `bytes`, the last of `total`, up to `rest`.
+    /// `count` keys came before it. None promises nothing.
     #[inline(never)]
     pub(crate) fn take_key<O: KeyOrder>(
         &mut self,

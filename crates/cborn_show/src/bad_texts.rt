@@ -1,4 +1,5 @@
-//! The first text that isn't UTF-8. What holds what doesn't matter to it, so it goes from head to head and keeps nothing open.
+//! The first text that isn't UTF-8. What holds what doesn't matter to it, so it goes from head to
+//! head and keeps nothing open.
 
 ghost use Rattle.std.specs.Prelude.{◌≡◌, ◌<◌, ◌≤◌, ◌++◌, ℕ, List, length, false, IfSome, MatchBool};
 ghost use Rattle.std.specs.Str.{is_utf8};
@@ -15,8 +16,9 @@ use crate::leaves::is_text;
 use cborn_model::Major;
 use cborn_wire::{Argument, Head, HeadRead, read_head};
 
-/// The place of the first text string, or chunk of one, that isn't UTF-8, of well-formed bytes: its offset in bytes from
-/// their start. None promises nothing. Takes no memory, and keeps nothing of the items.
+/// The place of the first text string, or chunk of one, that isn't UTF-8, of well-formed bytes: its
+/// offset in bytes from their start. None promises nothing. Takes no memory, and keeps nothing of
+/// the items.
 pub fn first_bad_text(bytes: &[u8]) -> Option<u64>
     ensures { IfSome result (λ place. (limit : ℕ) (nodes : Trees) → Wellformed limit nodes bytes.now → PlacedAll 0 nodes → LowestBadText nodes place) }
 {
@@ -41,7 +43,8 @@ fn first_bad_piece(bytes: &[u8]) -> Option<u64>
 /// What stands at the front of some bytes.
 #[derive(Clone, Copy, PartialEq, Eq, Debug)]
 pub(crate) enum Look {
-    /// A head, and the content of a definite string with it: so many bytes, and no text that isn't UTF-8.
+    /// A head, and the content of a definite string with it: so many bytes, and no text that isn't
+    /// UTF-8.
     Passed(usize),
     /// A text that isn't UTF-8.
     NotUtf8,

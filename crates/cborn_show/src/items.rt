@@ -13,7 +13,8 @@ use cborn_model::{Major, Width, shortest};
 use cborn_wire::{Argument, HeadRead, read_head};
 use std::alloc::Global;
 
-/// Appends the text of the item at the front of `bytes`, which is no deeper than `room`, and answers what follows it.
+/// Appends the text of the item at the front of `bytes`, which is no deeper than `room`, and
+/// answers what follows it.
 #[cycle(shown)]
 #[inline(always)]
 pub(crate) fn put_item<'a>(
@@ -41,8 +42,9 @@ fn last(bytes: &[u8], left: usize) -> Option<&[u8]>
     Some(&bytes[bytes.len() - left..])
 }
 
-/// What `put_item` does; answers how many bytes follow the item, since a number comes back in registers, and keeps the frames
-/// of a deep nest small. So what isn't an array, a map or a tag is written out of line.
+/// What `put_item` does; answers how many bytes follow the item, since a number comes back in
+/// registers, and keeps the frames of a deep nest small. So what isn't an array, a map or a tag is
+/// written out of line.
 #[cycle(shown)]
 #[inline(never)]
 fn put_node(
@@ -153,7 +155,8 @@ fn put_endless_array(
     Some(after.len())
 }
 
-/// The items at the front of `bytes`, at most `most`, and where there may be an end up to a break: answers what follows them, and how many they are.
+/// The items at the front of `bytes`, at most `most`, and where there may be an end up to a break:
+/// answers what follows them, and how many they are.
 #[cycle(shown)]
 #[inline(always)]
 fn put_items<'a>(

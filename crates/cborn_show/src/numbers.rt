@@ -76,8 +76,9 @@ fn put_block(block: &[u8; 64], start: usize, out: &mut Vec<u8>) -> Option<()>
     Some(())
 }
 
-/// What stands before the number at `index` of an array, a sign, the digits, and the indicator: one text where each would be an
-/// append of its own, written from its end and with nothing to choose between.
+/// What stands before the number at `index` of an array, a sign, the digits, and the indicator: one
+/// text where each would be an append of its own, written from its end and with nothing to choose
+/// between.
 #[inline(always)]
 pub(crate) fn put_next_number(
     index: u64,

@@ -9,7 +9,8 @@ use cborn_edn::push_between;
 use cborn_model::Limit;
 use std::alloc::Global;
 
-/// The fixed notation of the items that the bytes hold. None promises nothing: the bytes may hold no items, or memory was refused, or a text in them isn't UTF-8.
+/// The fixed notation of the items that the bytes hold. None promises nothing: the bytes may hold
+/// no items, or memory was refused, or a text in them isn't UTF-8.
 pub fn show_bytes(alloc: Global, limit: Limit, bytes: &[u8]) -> Option<Vec<u8>>
     ensures { IfSome result (λ text. IsShownText limit bytes.now text.items) }
 {

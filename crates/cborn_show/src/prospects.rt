@@ -1,6 +1,7 @@
-//! Whether the rest of an input looks as if it will be shown. A text is several times as long as small items are, so before one
-//! grows much longer than the input, what is left is looked over: where the text would be thrown away, it is given up early.
-//! Nothing is promised: who is refused goes another way, and is answered rightly there.
+//! Whether the rest of an input looks as if it will be shown. A text is several times as long as
+//! small items are, so before one grows much longer than the input, what is left is looked over:
+//! where the text would be thrown away, it is given up early. Nothing is promised: who is refused
+//! goes another way, and is answered rightly there.
 
 ghost use Rattle.std.specs.Prelude.{◌≤◌, length, IfSome};
 
@@ -25,7 +26,8 @@ impl Outlook {
         Outlook { at, limit }
     }
 
-    /// Whether to go on with the rest `bytes`, behind a text of `len` bytes. `may_end` where a break is to come.
+    /// Whether to go on with the rest `bytes`, behind a text of `len` bytes. `may_end` where a
+    /// break is to come.
     #[inline(always)]
     pub(crate) fn is_good(&mut self, may_end: bool, bytes: &[u8], len: usize) -> bool {
         len < self.at || self.is_good_now(may_end, bytes)
@@ -38,9 +40,10 @@ impl Outlook {
     }
 }
 
-/// Whether these are heads and strings, none of them malformed or cut short, with the breaks that are missing, texts that are
-/// UTF-8, and no nest without siblings that is deeper than `limit`. Goes from head to head, and takes no memory. It doesn't know
-/// of all that is open where it starts, so `missing` may be too low.
+/// Whether these are heads and strings, none of them malformed or cut short, with the breaks that
+/// are missing, texts that are UTF-8, and no nest without siblings that is deeper than `limit`.
+/// Goes from head to head, and takes no memory. It doesn't know of all that is open where it
+/// starts, so `missing` may be too low.
 pub(crate) fn is_promising(limit: u64, missing: u64, bytes: &[u8]) -> bool {
     let lens = lens();
     let mut rest = bytes;
@@ -63,8 +66,8 @@ pub(crate) fn is_promising(limit: u64, missing: u64, bytes: &[u8]) -> bool {
     breaks == 0
 }
 
-/// The length in bytes of the head at the front, and of a string's content with it, or of eight small integers. None where it is
-/// malformed or cut short, or a text isn't UTF-8.
+/// The length in bytes of the head at the front, and of a string's content with it, or of eight
+/// small integers. None where it is malformed or cut short, or a text isn't UTF-8.
 #[inline(always)]
 fn len_of_front(lens: &[u8; 256], bytes: &[u8]) -> Option<usize>
     ensures { IfSome result (λ len. len ≤ length bytes.now) }
@@ -100,7 +103,8 @@ fn are_small(word: u64) -> bool {
     (word | word.wrapping_add(0x0808_0808_0808_0808)) & 0xe0e0_e0e0_e0e0_e0e0 == 0
 }
 
-/// No text of up to seven bytes stands here, or its bytes are ASCII. The first of the eight bytes is the lowest.
+/// No text of up to seven bytes stands here, or its bytes are ASCII. The first of the eight bytes
+/// is the lowest.
 #[inline(always)]
 fn is_plain(first: u8, word: u64) -> bool {
     match first {
@@ -154,8 +158,8 @@ fn breaks_behind(first: u8, before: u64) -> u64 {
     }
 }
 
-/// How many heads that go on with what they hold stand in a row behind one with this initial byte. One whose count is no part
-/// of its initial byte may hold nothing.
+/// How many heads that go on with what they hold stand in a row behind one with this initial byte.
+/// One whose count is no part of its initial byte may hold nothing.
 #[inline(always)]
 fn nested_behind(first: u8, before: u64) -> u64 {
     match first {

@@ -1,4 +1,5 @@
-//! Bytes with the text that shows what they hold, and bytes that get no text. That nothing is answered breaks no contract, so these tests hold that there is an answer.
+//! Bytes with the text that shows what they hold, and bytes that get no text. That nothing is
+//! answered breaks no contract, so these tests hold that there is an answer.
 
 use crate::prospects::is_promising;
 use crate::{first_bad_text, show_bytes};
@@ -58,7 +59,8 @@ const SHOWN: [(&str, &str); 36] = [
     ("011864617a", "1,\n100,\n\"z\"\n"),
 ];
 
-/// Catches a form of an item that is left to the reader that keeps trees, and one that is written otherwise.
+/// Catches a form of an item that is left to the reader that keeps trees, and one that is written
+/// otherwise.
 #[test]
 fn shows_bytes(rt: HostRuntime) -> Result<(), Fail> {
     for (digits, want) in SHOWN {
@@ -110,7 +112,8 @@ fn shows_nothing_of_what_is_refused(rt: HostRuntime) -> Result<(), Fail> {
     Ok(())
 }
 
-/// A limit, what stands so many times before the rest, and how it is shown on either side; none where it is too deep.
+/// A limit, what stands so many times before the rest, and how it is shown on either side; none
+/// where it is too deep.
 const DEEP: [(u64, &str, usize, &str, Option<(&str, &str, &str)>); 9] = [
     (128, "81", 128, "00", Some(("[", "0", "]"))),
     (128, "81", 129, "00", None),
@@ -180,7 +183,8 @@ fn shows_as_deep_as_the_limit(rt: HostRuntime) -> Result<(), Fail> {
     Ok(())
 }
 
-/// Well-formed bytes in hexadecimal, and where the first head of a text or a chunk stands whose content isn't UTF-8.
+/// Well-formed bytes in hexadecimal, and where the first head of a text or a chunk stands whose
+/// content isn't UTF-8.
 const BAD_TEXTS: [(&str, u64); 24] = [
     ("61ff", 0),
     ("62c328", 0),
@@ -208,7 +212,8 @@ const BAD_TEXTS: [(&str, u64); 24] = [
     ("9fbf7f61ffff5f41ffffff61ffff", 3),
 ];
 
-/// Catches a place that is one off, a later text, a byte string that is taken for a text, and a chunk at the place of its string.
+/// Catches a place that is one off, a later text, a byte string that is taken for a text, and a
+/// chunk at the place of its string.
 #[test]
 fn tells_the_first_bad_text(rt: HostRuntime) -> Result<(), Fail> {
     for (digits, want) in BAD_TEXTS {
@@ -229,7 +234,8 @@ fn tells_no_text_where_all_are_shown(rt: HostRuntime) -> Result<(), Fail> {
     Ok(())
 }
 
-/// What is left of an input in hexadecimal, and how many breaks are missing there, where no text will be shown.
+/// What is left of an input in hexadecimal, and how many breaks are missing there, where no text
+/// will be shown.
 const THROWN_AWAY: [(u64, &str); 20] = [
     (0, "61ff"),
     (0, "62c3"),
@@ -256,7 +262,8 @@ const THROWN_AWAY: [(u64, &str); 20] = [
 /// How many small integers stand before something: a few are passed singly, eight at once.
 const ZEROS: [usize; 4] = [0, 1, 8, 13];
 
-/// Catches a text that goes on being written although what comes last, or is missing there, keeps it from being shown.
+/// Catches a text that goes on being written although what comes last, or is missing there, keeps
+/// it from being shown.
 #[test]
 fn gives_up_what_is_thrown_away(rt: HostRuntime) -> Result<(), Fail> {
     for (missing, rest) in THROWN_AWAY {
@@ -271,7 +278,8 @@ fn gives_up_what_is_thrown_away(rt: HostRuntime) -> Result<(), Fail> {
     Ok(())
 }
 
-/// Catches a text that is given up although all is shown, so that a tree is kept: at the end of the bytes, and before others.
+/// Catches a text that is given up although all is shown, so that a tree is kept: at the end of the
+/// bytes, and before others.
 #[test]
 fn goes_on_with_what_is_shown(rt: HostRuntime) -> Result<(), Fail> {
     for (digits, _) in SHOWN {
@@ -288,7 +296,8 @@ fn goes_on_with_what_is_shown(rt: HostRuntime) -> Result<(), Fail> {
     Ok(())
 }
 
-/// What is repeated, how often, what follows it, and whether it is shown inside a nest of at most 128 levels.
+/// What is repeated, how often, what follows it, and whether it is shown inside a nest of at most
+/// 128 levels.
 const ROWS: [(&str, usize, &str, bool); 11] = [
     ("81", 128, "00", true),
     ("81", 129, "00", false),
@@ -313,8 +322,8 @@ fn tells_nests_from_siblings(rt: HostRuntime) -> Result<(), Fail> {
     Ok(())
 }
 
-/// Catches a long input that gets no text because it is looked over: the text is several times as long as the input, and behind
-/// the integers comes each form of item.
+/// Catches a long input that gets no text because it is looked over: the text is several times as
+/// long as the input, and behind the integers comes each form of item.
 #[test]
 fn shows_what_is_looked_over(rt: HostRuntime) -> Result<(), Fail> {
     let mut all = String::new(rt.alloc());

@@ -161,7 +161,8 @@ fn ending_behind_comma(c: u8, profile: Profile, text: &str, at: usize) -> Option
     }
 }
 
-/// Whether a closing bracket stands behind a comma, where one may. Nothing is promised: it is read again.
+/// Whether a closing bracket stands behind a comma, where one may. Nothing is promised: it is read
+/// again.
 #[inline(always)]
 pub(crate) fn is_last(profile: Profile, text: &str, at: usize) -> bool
     requires { at ≤ length text.now }

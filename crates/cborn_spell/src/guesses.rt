@@ -1,4 +1,5 @@
-//! What probably stands at a place. Nothing is promised of it: what was guessed is read again by who takes it.
+//! What probably stands at a place. Nothing is promised of it: what was guessed is read again by
+//! who takes it.
 
 ghost use Rattle.std.specs.Prelude.{◌≤◌, ◌<◌, length, IfSome};
 

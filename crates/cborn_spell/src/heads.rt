@@ -55,7 +55,8 @@ fn put_eight(first: u8, n: u64, out: &mut Vec<u8>) -> Option<()>
     out.extend_from_slice(&[first, a, b, c, d, e, f, g, h]).ok()
 }
 
-/// Puts the shortest head of the major type with the argument `n` in the place of the byte at `start`.
+/// Puts the shortest head of the major type with the argument `n` in the place of the byte at
+/// `start`.
 #[inline(always)]
 pub(crate) fn set_head(
     alloc: Global,
@@ -88,7 +89,8 @@ fn widen_head(alloc: Global, major: Major, n: u64, start: usize, out: &mut Vec<u
     out.extend_from_slice(&content).ok()
 }
 
-/// Puts the head of the major type with the argument `n`, which fits the width, in the place of the byte at `start`.
+/// Puts the head of the major type with the argument `n`, which fits the width, in the place of the
+/// byte at `start`.
 pub(crate) fn set_wide_head(
     alloc: Global,
     major: Major,

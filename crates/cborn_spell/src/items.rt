@@ -15,7 +15,8 @@ use cborn_lex::Profile;
 use cborn_model::Major;
 use std::alloc::Global;
 
-/// Appends what the item from `at` on spells, which is no deeper than `room`, and answers where it ends.
+/// Appends what the item from `at` on spells, which is no deeper than `room`, and answers where it
+/// ends.
 #[cycle(descent)]
 #[inline(always)]
 pub(crate) fn put_item(
@@ -35,7 +36,8 @@ pub(crate) fn put_item(
     put_here(alloc, room, profile, text, place, out)
 }
 
-/// As `put_item`, where no white space and no comment comes first. It only calls, so that it takes no room in a nest.
+/// As `put_item`, where no white space and no comment comes first. It only calls, so that it takes
+/// no room in a nest.
 #[cycle(descent)]
 #[inline(never)]
 fn put_here(

@@ -1,4 +1,5 @@
-//! The letters between the quotes of a text string (RFC 8259 section 7): runs of those that stand for themselves, by sixteen at a time, and escapes.
+//! The letters between the quotes of a text string (RFC 8259 section 7): runs of those that stand
+//! for themselves, by sixteen at a time, and escapes.
 
 ghost use Rattle.std.specs.Prelude.{◌≡◌, ◌≤◌, ◌<◌, ◌+◌, ◌++◌, true, length, take, drop, map, slice_index, IfSome, OnSome};
 ghost use Rattle.std.specs.List.{list_all};
@@ -112,7 +113,8 @@ fn put_run(tail: &[u8], at: usize, out: &mut Vec<u8>) -> Option<usize>
     Some(n)
 }
 
-/// Appends the first `n` of sixteen letters: a copy of all of them and a cut take less than a copy of `n`.
+/// Appends the first `n` of sixteen letters: a copy of all of them and a cut take less than a copy
+/// of `n`.
 #[inline(always)]
 fn put_block(tail: &[u8], n: usize, out: &mut Vec<u8>) -> Option<()>
     requires few { n ≤ 16 }
@@ -137,7 +139,8 @@ fn put_last_run(tail: &[u8], out: &mut Vec<u8>) -> Option<usize>
     Some(n)
 }
 
-/// Appends what the escape stands for whose backslash stands at the place, and answers where it ends.
+/// Appends what the escape stands for whose backslash stands at the place, and answers where it
+/// ends.
 #[inline(always)]
 fn put_escape(tail: &[u8], at: usize, out: &mut Vec<u8>) -> Option<usize>
     requires inside { at < length tail.now }
@@ -167,7 +170,8 @@ fn escape_code(e: u8) -> Option<u8>
     if c == 0 { None } else { Some(c) }
 }
 
-/// The character of an escape of two characters, by the second one; 0 where there is no such escape.
+/// The character of an escape of two characters, by the second one; 0 where there is no such
+/// escape.
 const MEANT: [u8; 128] = [
     0, 0, 0, 0, 0, 0, 0, 0, 0, 0, 0, 0, 0, 0, 0, 0, 0, 0, 0, 0, 0, 0, 0, 0, 0, 0, 0, 0, 0, 0, 0, 0,
     0, 0, b'"', 0, 0, 0, 0, 0, 0, 0, 0, 0, 0, 0, 0, b'/', 0, 0, 0, 0, 0, 0, 0, 0, 0, 0, 0, 0, 0, 0,

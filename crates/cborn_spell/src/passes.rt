@@ -9,7 +9,9 @@ use cborn_lex::Profile;
 use cborn_model::Limit;
 use std::alloc::Global;
 
-/// The bytes that the nodes spell which the text notates, none of them deeper than the limit. None promises nothing: the text may notate no items, or memory was refused, or it notates items in a form that is left to the reader that keeps nodes.
+/// The bytes that the nodes spell which the text notates, none of them deeper than the limit. None
+/// promises nothing: the text may notate no items, or memory was refused, or it notates items in a
+/// form that is left to the reader that keeps nodes.
 pub fn spell_text(alloc: Global, limit: Limit, profile: Profile, text: &str) -> Option<Vec<u8>>
     ensures { IfSome result (λ out. IsSpelling profile limit text.now out.items) }
 {

@@ -16,7 +16,8 @@ use cborn_edn::StringKind;
 use cborn_lex::{Mark, Profile};
 use std::alloc::Global;
 
-/// The byte string of the items behind the `<<` at the place, and of what is joined to it, as an item.
+/// The byte string of the items behind the `<<` at the place, and of what is joined to it, as an
+/// item.
 #[cycle(descent)]
 #[inline(never)]
 pub(crate) fn put_embedded_item(
@@ -45,7 +46,8 @@ pub(crate) fn put_embedded_item(
     put_joined_behind(alloc, room, profile, text, last, start, out)
 }
 
-/// The end of the byte string whose embedded items end at the place, and what is joined to it. Its head has its place at `start`.
+/// The end of the byte string whose embedded items end at the place, and what is joined to it. Its
+/// head has its place at `start`.
 #[cycle(descent)]
 #[inline(never)]
 fn put_joined_behind(
@@ -97,7 +99,8 @@ pub(crate) fn put_pieces_item(
     Some(end)
 }
 
-/// The string of the pieces from `at` on; answers where the last one ends, and the kind of the string.
+/// The string of the pieces from `at` on; answers where the last one ends, and the kind of the
+/// string.
 #[cycle(descent)]
 #[inline(never)]
 fn put_joined(
@@ -120,7 +123,8 @@ fn put_joined(
     Some((end, kind))
 }
 
-/// One or more pieces side by side; answers where the last one ends, the kind of the first, and the indicator of the last.
+/// One or more pieces side by side; answers where the last one ends, the kind of the first, and the
+/// indicator of the last.
 #[cycle(descent)]
 fn put_pieces(
     alloc: Global,
@@ -140,7 +144,8 @@ fn put_pieces(
     Some((end, kind, mark))
 }
 
-/// The pieces that stand behind others, the first of which is of the kind `kind`, and the last of which has the indicator `mark`; answers where the last one ends, and its indicator.
+/// The pieces that stand behind others, the first of which is of the kind `kind`, and the last of
+/// which has the indicator `mark`; answers where the last one ends, and its indicator.
 #[cycle(descent)]
 #[inline(never)]
 fn put_further(
@@ -204,7 +209,8 @@ fn put_piece(
     put_string_piece(alloc, room, profile, text, at, out)
 }
 
-/// The bytes of the items between `<<`, which comes first, and `>>`; answers where `>>` ends, and its indicator.
+/// The bytes of the items between `<<`, which comes first, and `>>`; answers where `>>` ends, and
+/// its indicator.
 #[cycle(descent)]
 fn put_embedded(
     alloc: Global,
@@ -255,7 +261,8 @@ pub(crate) fn put_chunked(
     Some(end)
 }
 
-/// One or more chunks with commas between them; answers where the last one ends, and of which kind they are.
+/// One or more chunks with commas between them; answers where the last one ends, and of which kind
+/// they are.
 #[cycle(descent)]
 fn put_chunks(
     alloc: Global,

@@ -43,7 +43,8 @@ pub(crate) fn put_array(
     Some(end)
 }
 
-/// One or more items with commas between them; answers where the last one ends, and how many they are. A comma before a closing bracket is left where it stands.
+/// One or more items with commas between them; answers where the last one ends, and how many they
+/// are. A comma before a closing bracket is left where it stands.
 #[cycle(descent)]
 #[inline(always)]
 pub(crate) fn put_row(

@@ -12,7 +12,8 @@ ghost use Rattle.cborn_spell.specs.Descent.{TokenAt};
 
 use cborn_lex::Profile;
 
-/// The place of the first character at or behind `at` that is neither white space nor in a comment, or the text's end.
+/// The place of the first character at or behind `at` that is neither white space nor in a comment,
+/// or the text's end.
 #[inline(always)]
 pub(crate) fn skip(profile: Profile, text: &str, at: usize) -> Option<usize>
     requires { at ≤ length text.now }
@@ -126,7 +127,8 @@ pub(crate) fn stands(c: u8, text: &str, at: usize) -> bool
     tail.len() > 0 && tail[0] == c
 }
 
-/// The end of the character, which is a token alone, where it stands behind white space and comments.
+/// The end of the character, which is a token alone, where it stands behind white space and
+/// comments.
 #[inline(always)]
 pub(crate) fn behind(c: u8, profile: Profile, text: &str, at: usize) -> Option<usize>
     requires { at ≤ length text.now }

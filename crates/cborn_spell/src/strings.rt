@@ -13,7 +13,8 @@ use crate::marks::indicator;
 use cborn_lex::Mark;
 use cborn_model::Major;
 
-/// The text string at the place, where a double quote stands. None where it is left to others, and then nothing was added.
+/// The text string at the place, where a double quote stands. None where it is left to others, and
+/// then nothing was added.
 #[inline(always)]
 pub(crate) fn put_plain(text: &str, at: usize, len: usize, out: &mut Vec<u8>) -> Option<usize>
     requires inside { at < length text.now }
@@ -31,7 +32,8 @@ pub(crate) fn put_plain(text: &str, at: usize, len: usize, out: &mut Vec<u8>) ->
     Some(at + len + 2)
 }
 
-/// The length of the content at the front that has no escapes, up to its closing quote, behind which no indicator stands.
+/// The length of the content at the front that has no escapes, up to its closing quote, behind
+/// which no indicator stands.
 #[inline(always)]
 pub(crate) fn plain_len(text: &str, at: usize) -> Option<usize>
     requires inside { at < length text.now }
@@ -55,7 +57,8 @@ fn is_marked(tail: &[u8]) -> bool
     tail.len() > 0 && tail[0] == b'_'
 }
 
-/// Appends what the text string at the place stands for, as a piece; answers where it ends, and its indicator.
+/// Appends what the text string at the place stands for, as a piece; answers where it ends, and its
+/// indicator.
 #[inline(never)]
 pub(crate) fn put_text_piece(text: &str, at: usize, out: &mut Vec<u8>) -> Option<(usize, Mark)>
     requires inside { at < length text.now }

@@ -1,4 +1,5 @@
-//! Texts with the bytes that their items spell, and texts that get no bytes. That nothing is answered breaks no contract, so these tests hold that there is an answer.
+//! Texts with the bytes that their items spell, and texts that get no bytes. That nothing is
+//! answered breaks no contract, so these tests hold that there is an answer.
 
 use crate::spell_text;
 use cborn_lex::Profile;
@@ -53,7 +54,8 @@ const NUMBERS: [(&str, &str); 20] = [
     ),
 ];
 
-/// Catches a form of a number that is left to the reader that keeps nodes, and a head of another width.
+/// Catches a form of a number that is left to the reader that keeps nodes, and a head of another
+/// width.
 #[test]
 fn spells_numbers(rt: HostRuntime) {
     for (text, digits) in NUMBERS {
@@ -112,7 +114,8 @@ const STRINGS: [(&str, &str); 31] = [
     ("(_ \"a\", \"b\")", "7f61616162ff"),
 ];
 
-/// Catches an escape that stands for another character, and a length of characters in the place of bytes.
+/// Catches an escape that stands for another character, and a length of characters in the place of
+/// bytes.
 #[test]
 fn spells_strings(rt: HostRuntime) {
     for (text, digits) in STRINGS {
@@ -121,7 +124,8 @@ fn spells_strings(rt: HostRuntime) {
     }
 }
 
-/// Text strings with escapes, likewise. The first ones are of RFC 8259 section 7; the units stand around the lengths of UTF-8 and the surrogates.
+/// Text strings with escapes, likewise. The first ones are of RFC 8259 section 7; the units stand
+/// around the lengths of UTF-8 and the surrogates.
 const ESCAPES: [(&str, &str); 16] = [
     ("\"\\uD834\\uDD1E\"", "64f09d849e"),
     ("\"\\u005C\", \"\\u005c\"", "615c615c"),
@@ -141,7 +145,8 @@ const ESCAPES: [(&str, &str); 16] = [
     ("\"é\\né\"", "65c3a90ac3a9"),
 ];
 
-/// Catches an escape that stands for another character, a surrogate pair of the wrong character, and an indicator lost behind escapes.
+/// Catches an escape that stands for another character, a surrogate pair of the wrong character,
+/// and an indicator lost behind escapes.
 #[test]
 fn spells_escapes(rt: HostRuntime) {
     for (text, digits) in ESCAPES {
@@ -368,7 +373,8 @@ fn spells_the_second_profile(rt: HostRuntime) {
     }
 }
 
-/// A limit; what stands so many times before the middle, and as often behind it; and whether it is within the limit.
+/// A limit; what stands so many times before the middle, and as often behind it; and whether it is
+/// within the limit.
 const DEEP: [(u64, &str, usize, &str, &str, bool); 13] = [
     (128, "[", 128, "", "]", true),
     (128, "[", 129, "", "]", false),

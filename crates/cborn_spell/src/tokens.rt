@@ -120,7 +120,8 @@ fn whole_number(alloc: Global, profile: Profile, text: &str, at: usize) -> Optio
     }
 }
 
-/// The bytes of the piece at or behind the place that is one token; answers where it ends, its kind and its indicator.
+/// The bytes of the piece at or behind the place that is one token; answers where it ends, its kind
+/// and its indicator.
 #[inline(never)]
 pub(crate) fn put_string_piece(
     alloc: Global,

@@ -1,4 +1,5 @@
-//! Escapes `\uXXXX` between the quotes of a text string: a unit of UTF-16, or two that are a surrogate pair (RFC 8259 section 7).
+//! Escapes `\uXXXX` between the quotes of a text string: a unit of UTF-16, or two that are a
+//! surrogate pair (RFC 8259 section 7).
 
 ghost use Rattle.std.specs.Prelude.{◌≡◌, ◌≤◌, ◌<◌, ◌+◌, ◌++◌, true, length, slice_index, encode_utf8, IfSome, OnSome};
 ghost use Rattle.cborn_lex.specs.Strings.{is_high};
@@ -6,7 +7,8 @@ ghost use Rattle.cborn_spell.specs.Descent.{HasUnit, LetterTaken};
 
 use cborn_lex::{are_hex, hex_code, is_high, is_low};
 
-/// Appends what the escape stands for whose backslash stands at the place, before a `u`, and answers where it ends.
+/// Appends what the escape stands for whose backslash stands at the place, before a `u`, and
+/// answers where it ends.
 #[inline(never)]
 pub(crate) fn put_unit(tail: &[u8], at: usize, out: &mut Vec<u8>) -> Option<usize>
     requires inside { at + 1 < length tail.now }

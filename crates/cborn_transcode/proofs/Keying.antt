@@ -23,15 +23,6 @@ rise_on order b ss i d before key l k r e h =
       (keys (all_spanned b (take i ss)), ap keys (spanned_more b ss i d l) ∙ map-append (λ (z : Entry). z.0) (all_spanned b (take i ss)) (spanned b (get_or ss i d) ∷ []) ∙ ap (λ z. keys (all_spanned b (take i ss)) ++ z ∷ []) (sym k)),
     )
 
--- one pair less of those that are left
-pub joined_next : (b : List ℕ) (ss : List Span) (i : ℕ) (d : Span) (pair old half new : List ℕ) → i < length ss → pair ≡ (spanned b (get_or ss i d)).0 ++ (spanned b (get_or ss i d)).1 → half ++ joined (all_spanned b (drop i ss)) ≡ old → new ≡ half ++ pair
-    → new ++ joined (all_spanned b (drop (i + 1) ss)) ≡ old
-joined_next b ss i d pair old half new l p e n =
-    let e0 = (spanned b (get_or ss i d)).0 in
-    ap (λ z. z ++ joined (all_spanned b (drop (i + 1) ss))) n ∙ append_assoc half pair (joined (all_spanned b (drop (i + 1) ss)))
-    ∙ ap (λ z. half ++ (z ++ joined (all_spanned b (drop (i + 1) ss)))) p
-    ∙ ap (λ z. half ++ joined (all_spanned b z)) (sym (drop_more ss i d l)) ∙ e
-
 pub joined_more : (es : List Entry) (e : Entry) → joined (es ++ e ∷ []) ≡ joined es ++ (e.0 ++ e.1)
 joined_more [] e = append-nil (e.0 ++ e.1)
 joined_more (f ∷ es) e = ap (λ l. (f.0 ++ f.1) ++ l) (joined_more es e) ∙ sym (append_assoc (f.0 ++ f.1) (joined es) (e.0 ++ e.1))

@@ -13,7 +13,8 @@ use std::cmp::Ordering;
 /// Where a pair lies in a buffer. It has 20 bytes, since a great map has one for each of its pairs.
 #[derive(Clone, Copy)]
 pub(crate) struct Span {
-    /// A number of 64 bits, the upper half first, that rises with the key, as a rule. Nothing but speed rests on it.
+    /// A number of 64 bits, the upper half first, that rises with the key, as a rule. Nothing but
+    /// speed rests on it.
     pub hint: (u32, u32),
     /// How many bytes stand before the key.
     pub start: u32,
@@ -23,8 +24,8 @@ pub(crate) struct Span {
     pub value_len: u32,
 }
 
-/// Adds the span of the pair that begins at `start`, and whose value begins at `middle` and ends with the buffer. None where
-/// the pair ends behind the first 4 GB.
+/// Adds the span of the pair that begins at `start`, and whose value begins at `middle` and ends
+/// with the buffer. None where the pair ends behind the first 4 GB.
 #[inline(never)]
 pub(crate) fn push_span<O: KeyOrder>(
     start: usize,
@@ -55,8 +56,8 @@ fn length_of(start: usize, end: usize) -> Option<u32>
     u32::try_from(end - start).ok()
 }
 
-/// Arranges the pairs that `out` has from `start` on, and that lie at `spans`, so that their keys rise. Where the keys rise as
-/// they stand, nothing is moved. None where two keys are equal.
+/// Arranges the pairs that `out` has from `start` on, and that lie at `spans`, so that their keys
+/// rise. Where the keys rise as they stand, nothing is moved. None where two keys are equal.
 pub(crate) fn arrange<O: KeyOrder>(
     alloc: Global,
     spans: &mut Vec<Span>,
@@ -74,7 +75,8 @@ pub(crate) fn arrange<O: KeyOrder>(
     Some(())
 }
 
-/// The `len` bytes of the pairs, so arranged that the keys rise. The sort may do as it likes: what came out is tested.
+/// The `len` bytes of the pairs, so arranged that the keys rise. The sort may do as it likes: what
+/// came out is tested.
 fn arranged<O: KeyOrder>(
     alloc: Global,
     len: usize,
@@ -131,7 +133,8 @@ pub(crate) fn hint_at<O: KeyOrder>(out: &[u8], start: usize, end: usize) -> (u32
     ((hint >> 32) as u32, (hint & 0xffff_ffff) as u32)
 }
 
-/// A number that rises with the key, as a rule: its first bytes, behind its length where that comes first.
+/// A number that rises with the key, as a rule: its first bytes, behind its length where that comes
+/// first.
 fn hint(key: &[u8], by_length: bool) -> u64 {
     let front = match key.first_chunk::<8>() {
         Some(bytes) => u64::from_be_bytes(*bytes),

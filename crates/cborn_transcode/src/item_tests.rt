@@ -22,7 +22,8 @@ fn takes<O: KeyOrder>(
     Ok(())
 }
 
-/// Arrays of the standard's examples (RFC 8949 appendix A), before more bytes, which may be no item. A pass that answers nothing, takes all items, or forgets what the buffer held shows here.
+/// Arrays of the standard's examples (RFC 8949 appendix A), before more bytes, which may be no
+/// item. A pass that answers nothing, takes all items, or forgets what the buffer held shows here.
 #[test]
 fn takes_one_item(rt: HostRuntime) -> Result<(), Fail> {
     let alloc = rt.alloc();

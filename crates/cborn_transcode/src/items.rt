@@ -173,7 +173,8 @@ fn is_done(count: u64, most: u64, may_end: bool, bytes: &[u8]) -> bool
     count == most || (may_end && matches!(bytes, [255, ..]))
 }
 
-/// From how many announced pairs on it is tried first to write them from where they stand: fewer need little room either way.
+/// From how many announced pairs on it is tried first to write them from where they stand: fewer
+/// need little room either way.
 const GREAT: u64 = 1000;
 
 /// The map of the `n` pairs at the front of `bytes`.
@@ -238,7 +239,8 @@ fn put_endless_map<O: KeyOrder>(
     Some(after.len())
 }
 
-/// The pairs at the front of `bytes`, as `put_items` takes items. Where each is written joins `spans`.
+/// The pairs at the front of `bytes`, as `put_items` takes items. Where each is written joins
+/// `spans`.
 #[cycle(transcoded)]
 #[inline(always)]
 fn put_pairs<'a, O: KeyOrder>(

@@ -1,26 +1,19 @@
 //! From bytes to the deterministic encodings of the data items that they hold (RFC 8949 section
-//! 4.2), in one pass that
-//! keeps no tree.
+//! 4.2), in one pass that keeps no tree.
 //!
 //! [`transcode`] walks the bytes once, from the front to the end, and appends to one buffer. Each
-//! function takes the bytes
-//! that are left and answers those behind what it took. What a head announces is written with the
-//! shortest head at once,
-//! unless its length is known only behind its contents: then a byte holds the head's place, and the
-//! head is set there later.
-//! The pairs of a map are written as they come; where their keys don't rise, the map's part of the
-//! buffer is arranged anew.
-//! Where a map of many pairs holds nothing but items without children, all in order as they stand, its
-//! pairs are written from the input, in their order, and nothing is moved.
-//! How the pairs are sorted is of no account, as long as none is lost: what came out is tested, key
-//! by key, and equal keys
-//! have no answer.
+//! function takes the bytes that are left and answers those behind what it took. What a head
+//! announces is written with the shortest head at once, unless its length is known only behind its
+//! contents: then a byte holds the head's place, and the head is set there later. The pairs of a
+//! map are written as they come; where their keys don't rise, the map's part of the buffer is
+//! arranged anew. Where a map of many pairs holds nothing but items without children, all in order
+//! as they stand, its pairs are written from the input, in their order, and nothing is moved. How
+//! the pairs are sorted is of no account, as long as none is lost: what came out is tested, key by
+//! key, and equal keys have no answer.
 //!
 //! An answer is always right: the contract says that the bytes spell items, and that the answer is
-//! their encoding. No answer
-//! says nothing. The bytes may be at fault, or hold a flaw, or memory may be wanting; the reader
-//! and the judge, which keep
-//! trees, tell which.
+//! their encoding. No answer says nothing. The bytes may be at fault, or hold a flaw, or memory may
+//! be wanting; the reader and the judge, which keep trees, tell which.
 //!
 //! * `heads`: the shortest head, at the end of the buffer or in the place of a byte.
 //! * `leaves`: strings, chunks, bignums and simple values.
@@ -30,8 +23,9 @@
 //! * `items`: what holds other items, which calls itself for each level.
 //! * `passes`: a whole input.
 //!
-//! [`is_deterministic`] walks over bytes that are deterministic as they stand: the same anatomy, with nothing written and
-//! no memory taken. `walks` has what holds other items, `walked_leaves` the rest.
+//! [`is_deterministic`] walks over bytes that are deterministic as they stand: the same anatomy,
+//! with nothing written and no memory taken. `walks` has what holds other items, `walked_leaves`
+//! the rest.
 #![tactic(auto)]
 
 mod entries;

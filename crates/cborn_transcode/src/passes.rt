@@ -36,7 +36,10 @@ fn put_all<O: KeyOrder>(alloc: Global, room: u64, bytes: &[u8]) -> Option<Vec<u8
     Some(out)
 }
 
-/// Appends the deterministic encoding of the one item at the front of the bytes to `out`, the keys of maps in the order `O` (RFC 8949 section 4.2), and answers what follows the item, which isn't looked at. None promises nothing, as with `transcode`, and leaves anything behind what stood in `out`.
+/// Appends the deterministic encoding of the one item at the front of the bytes to `out`, the keys
+/// of maps in the order `O` (RFC 8949 section 4.2), and answers what follows the item, which isn't
+/// looked at. None promises nothing, as with `transcode`, and leaves anything behind what stood in
+/// `out`.
 pub fn transcode_item<'a, O: KeyOrder>(
     alloc: Global,
     limit: Limit,

@@ -1,4 +1,5 @@
-//! Great maps whose pairs stand in the input as they are written, only out of order: they are written straight from there.
+//! Great maps whose pairs stand in the input as they are written, only out of order: they are
+//! written straight from there.
 
 ghost use Rattle.std.specs.Prelude.{◌≡◌, ◌-◌, ◌≤◌, ◌++◌, ◌∷◌, ℕ, List, [], length, drop, IsPermutation, IfSome, OnSome};
 ghost use Rattle.std.specs.declared.cmp.Ordering.{Ordering};
@@ -14,7 +15,8 @@ use crate::walked_leaves::{read_least, rises_above, walk_leaf};
 use cborn_model::KeyOrder;
 use std::cmp::Ordering;
 
-/// Where a short pair lies in the input: a span in 16 bytes, since all of them are kept until the first pair is written.
+/// Where a short pair lies in the input: a span in 16 bytes, since all of them are kept until the
+/// first pair is written.
 #[derive(Clone, Copy)]
 pub(crate) struct Place {
     /// As that of a span.
@@ -45,9 +47,10 @@ impl Place {
 /// How many places are used up before their room is given back.
 const STEP: usize = 1024;
 
-/// Finds the `n` pairs at the front of `bytes`, and answers how many bytes follow them. Where each lies joins `places`. None where
-/// a key or a value is long, isn't in its deterministic encoding, or holds other items, which aren't walked: else a nest would be
-/// walked again at each of its levels.
+/// Finds the `n` pairs at the front of `bytes`, and answers how many bytes follow them. Where each
+/// lies joins `places`. None where a key or a value is long, isn't in its deterministic encoding,
+/// or holds other items, which aren't walked: else a nest would be walked again at each of its
+/// levels.
 #[inline(never)]
 pub(crate) fn find_pairs<O: KeyOrder>(
     n: u64,
@@ -68,7 +71,8 @@ pub(crate) fn find_pairs<O: KeyOrder>(
     Some(bytes.len() - at)
 }
 
-/// Where the item ends that begins at `at`, if it stands there in its deterministic encoding and holds no others.
+/// Where the item ends that begins at `at`, if it stands there in its deterministic encoding and
+/// holds no others.
 #[inline(always)]
 fn leaf_end(bytes: &[u8], at: usize) -> Option<usize>
     requires { at ≤ length bytes.now }
@@ -85,8 +89,8 @@ fn leaf_end(bytes: &[u8], at: usize) -> Option<usize>
     Some(bytes.len() - left)
 }
 
-/// Adds the place of the pair that begins at `start`, whose value begins at `middle` and ends at `end`. None where it is long, or
-/// begins behind the first 4 GB.
+/// Adds the place of the pair that begins at `start`, whose value begins at `middle` and ends at
+/// `end`. None where it is long, or begins behind the first 4 GB.
 #[inline(always)]
 fn push_place<O: KeyOrder>(
     start: usize,
@@ -118,8 +122,9 @@ fn short_length(start: usize, end: usize) -> Option<u16>
     u16::try_from(end - start).ok()
 }
 
-/// Appends the pairs that lie in `bytes` at `places`, so arranged that their keys rise. None where two keys are equal. Room for
-/// places is given back on the way, so that what is written takes its place.
+/// Appends the pairs that lie in `bytes` at `places`, so arranged that their keys rise. None where
+/// two keys are equal. Room for places is given back on the way, so that what is written takes its
+/// place.
 #[inline(never)]
 pub(crate) fn put_places<O: KeyOrder>(
     bytes: &[u8],
@@ -143,8 +148,8 @@ pub(crate) fn put_places<O: KeyOrder>(
     Some(())
 }
 
-/// Arranges places so that their keys fall, where the hints suit the order: the last is the next to be written. The sort may do as it
-/// likes: what is written is tested.
+/// Arranges places so that their keys fall, where the hints suit the order: the last is the next to
+/// be written. The sort may do as it likes: what is written is tested.
 fn sort_falling<O: KeyOrder>(bytes: &[u8], places: &mut Vec<Place>)
     ensures { IsPermutation places.old.items places.new.items }
 {

@@ -1,6 +1,6 @@
 //! What no clause says: that the pass answers for each form of what is valid, and not for what is
-//! refused.
-//! An answer of none meets the contract everywhere, so a form that is forgotten shows here alone.
+//! refused. An answer of none meets the contract everywhere, so a form that is forgotten shows here
+//! alone.
 
 mod great_maps;
 mod maps;

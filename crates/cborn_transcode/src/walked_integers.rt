@@ -4,7 +4,8 @@ ghost use Rattle.std.specs.Prelude.{◌≡◌, ◌≤◌, ◌<◌, ℕ, List, le
 ghost use Rattle.std.specs.declared.cmp.Ordering.{Ordering};
 ghost use Rattle.cborn_transcode.specs.devices.Walking.{IsIntegerForm, top_of, ItemWalked};
 
-/// The length of the integer at the front, if its head is the shortest and nine bytes or more are left; else 0.
+/// The length of the integer at the front, if its head is the shortest and nine bytes or more are
+/// left; else 0.
 #[inline(always)]
 pub(crate) fn int_len(bytes: &[u8]) -> usize
     ensures len { result ≤ length bytes.now }
@@ -28,7 +29,8 @@ fn top(a: u8, b: u8, c: u8, d: u8) -> u32
     u32::from(a) * 16777216 + u32::from(b) * 65536 + u32::from(c) * 256 + u32::from(d)
 }
 
-/// The length of the integer with this initial byte, and the least number of the four bytes behind it with which its head is the shortest. The length is 0 where no integer begins so.
+/// The length of the integer with this initial byte, and the least number of the four bytes behind
+/// it with which its head is the shortest. The length is 0 where no integer begins so.
 #[inline(always)]
 fn form(first: u8) -> (usize, u32)
     ensures len { result.0 ≤ 9 }

@@ -12,7 +12,8 @@ use crate::leaves::is_text;
 use cborn_model::{KeyOrder, Major, shortest};
 use cborn_wire::{Argument, HeadRead, read_head};
 
-/// The major type and the argument of the head at the front, which is the shortest, and what follows it.
+/// The major type and the argument of the head at the front, which is the shortest, and what
+/// follows it.
 #[inline(always)]
 pub(crate) fn read_least(bytes: &[u8]) -> Option<(Major, u64, &[u8])>
     ensures { IfSome result (λ r. LeastHeadRead r.0 r.1 bytes.now r.2.now) }
@@ -29,8 +30,8 @@ pub(crate) fn read_least(bytes: &[u8]) -> Option<(Major, u64, &[u8])>
     Some((head.major_type(), n, &bytes[len..]))
 }
 
-/// How many bytes follow what stands behind the shortest head of the major type with the argument `n`, where that head begins no
-/// item that holds others.
+/// How many bytes follow what stands behind the shortest head of the major type with the argument
+/// `n`, where that head begins no item that holds others.
 #[inline(always)]
 pub(crate) fn walk_leaf(major: Major, n: u64, bytes: &[u8]) -> Option<usize>
     ensures { IfSome result (λ left. (order : List ℕ → List ℕ → Ordering) (room : ℕ) → Leaves (WalkedBehind order room major n bytes.now) left) }
@@ -73,7 +74,8 @@ fn is_simple(n: u64) -> bool
     n < 24 || (n >= 32 && n < 256)
 }
 
-/// How many bytes follow the byte string of a bignum, which is neither within 64 bits nor begins with a zero (RFC 8949 section 3.4.3).
+/// How many bytes follow the byte string of a bignum, which is neither within 64 bits nor begins
+/// with a zero (RFC 8949 section 3.4.3).
 #[inline(never)]
 pub(crate) fn walk_bignum(bytes: &[u8]) -> Option<usize>
     ensures { IfSome result (Leaves (BignumWalked bytes.now)) }

@@ -1,4 +1,5 @@
-//! A walk over bytes that are deterministic as they stand: nothing is written, and nothing is kept but the key before.
+//! A walk over bytes that are deterministic as they stand: nothing is written, and nothing is kept
+//! but the key before.
 
 ghost use Rattle.std.specs.Prelude.{ℕ, ◌≤◌, [], IsTrue, IfSome};
 ghost use Rattle.cborn_model.specs.declared.heads.Major.TheVariants.{Array, Map, Tag};
@@ -9,7 +10,10 @@ use crate::walked_integers::int_len;
 use crate::walked_leaves::{last, read_least, rises_above, split_before, walk_bignum, walk_leaf};
 use cborn_model::{KeyOrder, Limit, Major};
 
-/// Whether the bytes are the deterministic encodings of the items that they hold, one after another, none deeper than `limit`, the keys of maps in the order `O` (RFC 8949 section 4.2). They are walked over once, in place: no memory is taken. False promises nothing: `transcode`, or the reader that keeps a tree, tells more.
+/// Whether the bytes are the deterministic encodings of the items that they hold, one after
+/// another, none deeper than `limit`, the keys of maps in the order `O` (RFC 8949 section 4.2).
+/// They are walked over once, in place: no memory is taken. False promises nothing: `transcode`, or
+/// the reader that keeps a tree, tells more.
 pub fn is_deterministic<O: KeyOrder>(limit: Limit, bytes: &[u8]) -> bool
     ensures { IsTrue result → IsTranscoded O.order limit bytes.now bytes.now }
 {
@@ -34,7 +38,8 @@ fn walk_all<O: KeyOrder>(room: u64, bytes: &[u8]) -> bool
     rest.is_empty()
 }
 
-/// How many bytes follow the item at the front, which is no deeper than `room`. A number stays in registers, where a slice would not.
+/// How many bytes follow the item at the front, which is no deeper than `room`. A number stays in
+/// registers, where a slice would not.
 #[cycle(walked)]
 #[inline(always)]
 fn walk_item<O: KeyOrder>(room: u64, bytes: &[u8]) -> Option<usize>

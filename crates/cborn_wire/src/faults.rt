@@ -6,7 +6,8 @@ ghost use Rattle.cborn_wire.specs.declared.faults.WireFault.TheVariants.{OutOfMe
 use std::alloc::{AllocError, AllocFailed};
 use thiserror::Error;
 
-/// Why a head may not stand where it stands, or what is missing. docs/LIBRARY.md numbers the reasons in this order, and no number ever changes: a new one stands last.
+/// Why a head may not stand where it stands, or what is missing. docs/LIBRARY.md numbers the
+/// reasons in this order, and no number ever changes: a new one stands last.
 #[derive(Clone, Copy, PartialEq, Eq, Debug, Error)]
 pub enum WireReason {
     /// The additional information is 28, 29 or 30.
@@ -38,7 +39,8 @@ pub enum WireReason {
 /// Why no items were read.
 #[derive(Clone, Copy, PartialEq, Eq, Debug, Error)]
 pub enum WireFault {
-    /// The bytes are not well-formed. `place` is the offset of the head that may not stand there, in bytes from the start of the input; for `Truncated` it is the input's length.
+    /// The bytes are not well-formed. `place` is the offset of the head that may not stand there,
+    /// in bytes from the start of the input; for `Truncated` it is the input's length.
     #[error("offset {place}: {reason}")]
     Refused { place: u64, reason: WireReason },
     /// Memory was refused.

@@ -6,7 +6,10 @@ use cborn_model::{Limit, Spelled};
 use std::alloc::Global;
 use std::marker::Model;
 
-/// Reads a sequence of items (RFC 8742) that comes in pieces, cut anywhere. What it keeps of the bytes is the items to take and the unfinished item; nothing is reserved by a length or a count that the bytes declare. A piece costs time in proportion to its length, and to take an item costs no more than moving it.
+/// Reads a sequence of items (RFC 8742) that comes in pieces, cut anywhere. What it keeps of the
+/// bytes is the items to take and the unfinished item; nothing is reserved by a length or a count
+/// that the bytes declare. A piece costs time in proportion to its length, and to take an item
+/// costs no more than moving it.
 #[derive(Drop)]
 pub struct Feeder {
     fed: u64,
@@ -40,7 +43,8 @@ impl Feeder {
     ghost use Rattle.cborn_wire.specs.Faults.{Fault};
     ghost use Rattle.cborn_wire.specs.Feeding.{fresh, IsFed, Feeds};
 
-    /// A feeder to which nothing was fed, and which allows `limit` arrays, maps and tags around one another. Takes no memory.
+    /// A feeder to which nothing was fed, and which allows `limit` arrays, maps and tags around one
+    /// another. Takes no memory.
     pub fn new(alloc: Global, limit: Limit) -> Feeder
         ensures { result ≡ fresh limit }
     {
@@ -57,11 +61,16 @@ impl Feeder {
         self.fed
     }
 
-    /// Takes a piece, the next bytes of the input: all that were fed with it may be at most 2^64-1 bytes.
+    /// Takes a piece, the next bytes of the input: all that were fed with it may be at most 2^64-1
+    /// bytes.
     ///
     /// # Errors
     ///
-    /// The piece is refused, at the offset of the head in the whole input, where a head in it may stand in no well-formed input that begins so; `OutOfMemory` where memory was. After either, this and each later call answers that same fault, `fed` stays as it is, and the items that were complete before the fault's place are still to take (where memory was refused, some of them).
+    /// The piece is refused, at the offset of the head in the whole input, where a head in it may
+    /// stand in no well-formed input that begins so; `OutOfMemory` where memory was. After either,
+    /// this and each later call answers that same fault, `fed` stays as it is, and the items that
+    /// were complete before the fault's place are still to take (where memory was refused, some of
+    /// them).
     pub fn feed(&mut self, piece: &[u8]) -> Result<(), WireFault>
         requires { self.old.fed + length piece.now < 2 ^ 64 }
         ensures fed { self.old.fault ≡ None → Feeds piece.now self.old result self.new }
@@ -90,7 +99,8 @@ impl Feeder {
     ///
     /// # Errors
     ///
-    /// `Truncated`, at the input's length, where an item is unfinished, and the fault of an earlier refusal.
+    /// `Truncated`, at the input's length, where an item is unfinished, and the fault of an earlier
+    /// refusal.
     pub fn finish(self) -> Result<Vec<Spelled>, WireFault>
         ensures items { self.fault ≡ None → IfOk result (λ v. (v.items ≡ self.items) × Wellformed self.limit (trees self.items) self.held) }
         ensures cut { self.fault ≡ None → OnErr result ((result ≡ Err (Refused self.fed Truncated)) × Fault self.limit self.held (length self.held) Truncated) }

@@ -1,4 +1,6 @@
-//! What becomes of a whole item. The commonest cases are inlined where an item is read, and the others stand apart: a function pays at its start for all its locals, also for those of a case that does not come.
+//! What becomes of a whole item. The commonest cases are inlined where an item is read, and the
+//! others stand apart: a function pays at its start for all its locals, also for those of a case
+//! that does not come.
 
 ghost use Rattle.std.specs.Prelude.{◌≡◌, IsSome, vec_len};
 ghost use Rattle.cborn_model.specs.Tree.{no_item};
@@ -11,7 +13,8 @@ use crate::nests::{Nest, Outcome};
 use cborn_model::{Node, push_doubling};
 
 impl Nest {
-    /// Puts a whole item, which ends at `at`, into what is open. The most stand in an array that goes on, or have nothing around them: those are put away here, and the others apart.
+    /// Puts a whole item, which ends at `at`, into what is open. The most stand in an array that
+    /// goes on, or have nothing around them: those are put away here, and the others apart.
     #[inline(always)]
     pub(crate) fn put_in(&mut self, at: u64, node: Node) -> Result<Outcome, WireFault>
         ensures { Gives (finished at no_item (opened self.old) node) at self.new result }
@@ -48,7 +51,8 @@ impl Nest {
         Ok(Outcome::Whole(node))
     }
 
-    /// Puts a whole item into the innermost of what is open: none where that stays open, else the node that it is, which is taken off.
+    /// Puts a whole item into the innermost of what is open: none where that stays open, else the
+    /// node that it is, which is taken off.
     fn put_in_innermost(&mut self, at: u64, node: Node) -> Result<Option<Node>, WireFault>
         requires { IsSome self.old.top }
         ensures { PutLeaves (finished at no_item (opened self.old) node) at self.old self.new result }

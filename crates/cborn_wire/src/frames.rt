@@ -16,7 +16,8 @@ pub(crate) enum StringKind {
     Text,
 }
 
-/// An array, a map, a tag or an indefinite string that has begun, with its whole parts so far. `place` is the offset of its head.
+/// An array, a map, a tag or an indefinite string that has begun, with its whole parts so far.
+/// `place` is the offset of its head.
 #[derive(Drop)]
 pub(crate) enum Frame {
     Items {
@@ -66,7 +67,8 @@ pub(crate) enum Partial {
 }
 
 impl Frame {
-    /// Puts a whole item that ends at `at` into what is open: the node that is whole with it, or none where the frame stays open.
+    /// Puts a whole item that ends at `at` into what is open: the node that is whole with it, or
+    /// none where the frame stays open.
     pub(crate) fn put(
         &mut self,
         alloc: Global,
@@ -160,7 +162,7 @@ impl Frame {
     }
 }
 
-// Puts an item into an open array at `place`: the array, where it is whole with that.
+/// Puts an item into an open array at `place`: the array, where it is whole with that.
 fn put_item(
     alloc: Global,
     place: u64,
@@ -179,7 +181,8 @@ fn put_item(
     Ok(Some(Node { place, form }))
 }
 
-// Puts a key, or the value of `key`, into an open map at `place`: the map, where it is whole with that.
+/// Puts a key, or the value of `key`, into an open map at `place`: the map, where it is whole with
+/// that.
 fn put_key_or_value(
     alloc: Global,
     place: u64,

@@ -1,4 +1,5 @@
-//! Heads: an initial byte, with the major type in its high three bits and the additional information in its low five, and the bytes of an argument behind it (RFC 8949 section 3).
+//! Heads: an initial byte, with the major type in its high three bits and the additional
+//! information in its low five, and the bytes of an argument behind it (RFC 8949 section 3).
 
 ghost use Rattle.std.specs.Prelude.{◌≡◌, ◌≤◌, ◌<◌, ◌++◌, ◌+◌, ◌%◌, ◌∷◌, ◌/◌, ℕ, List, length, ◌&&◌, take, MatchOption, OnOk, OnErr};
 ghost use Rattle.cborn_model.specs.Heads.{code, major_at, WidthFits, IsHead, head_bytes};
@@ -79,7 +80,9 @@ pub enum HeadRead {
     Bad(WireReason),
 }
 
-/// The head at the front of `bytes`; what follows it isn't looked at. It is `Bad` for the reasons that hold wherever an item or a break may stand: `ReservedInfo`, `EndlessNotAllowed`, `FloatLeftOut` and `BadSimple` (RFC 8949 sections 3, 3.2.1 and 3.3).
+/// The head at the front of `bytes`; what follows it isn't looked at. It is `Bad` for the reasons
+/// that hold wherever an item or a break may stand: `ReservedInfo`, `EndlessNotAllowed`,
+/// `FloatLeftOut` and `BadSimple` (RFC 8949 sections 3, 3.2.1 and 3.3).
 #[inline]
 pub fn read_head(bytes: &[u8]) -> HeadRead
     ensures { ReadsHead bytes.now result }
@@ -114,7 +117,7 @@ fn head_of(major: Major, argument: Argument) -> Head
     Head { major, argument }
 }
 
-// A head whose argument is `rest`'s front.
+/// A head whose argument is `rest`'s front.
 fn read_wide(major: Major, width: Width, rest: &[u8]) -> HeadRead
     ensures { (first : ℕ) → first / 32 ≡ code major → info_at (first % 32) ≡ Next width → reason_alone (first ∷ rest.now) ≡ None → ReadsHead (first ∷ rest.now) result }
 {
@@ -127,7 +130,8 @@ fn read_wide(major: Major, width: Width, rest: &[u8]) -> HeadRead
     }
 }
 
-/// A head of major type 7 whose argument follows the initial byte: of a float, or of a simple value.
+/// A head of major type 7 whose argument follows the initial byte: of a float, or of a simple
+/// value.
 fn read_other(information: u8, rest: &[u8]) -> HeadRead
     requires least { 24 ≤ information }
     requires most { information ≤ 27 }
@@ -139,7 +143,7 @@ fn read_other(information: u8, rest: &[u8]) -> HeadRead
     read_simple(rest)
 }
 
-// A simple value of two bytes, the second of which is `rest`'s first (RFC 8949 section 3.3).
+/// A simple value of two bytes, the second of which is `rest`'s first (RFC 8949 section 3.3).
 fn read_simple(rest: &[u8]) -> HeadRead
     ensures { (first : ℕ) → first / 32 ≡ 7 → info_at (first % 32) ≡ Next One → ReadsHead (first ∷ rest.now) result }
 {
@@ -149,7 +153,7 @@ fn read_simple(rest: &[u8]) -> HeadRead
     }
 }
 
-// A head of an indefinite length, or the break (RFC 8949 section 3.2).
+/// A head of an indefinite length, or the break (RFC 8949 section 3.2).
 fn read_endless(major: Major) -> HeadRead
     ensures { (first : ℕ) (rest : List ℕ) → first / 32 ≡ code major → info_at (first % 32) ≡ Unended → ReadsHead (first ∷ rest) result }
 {
@@ -160,7 +164,7 @@ fn read_endless(major: Major) -> HeadRead
     HeadRead::Full(head_of(major, argument), 1)
 }
 
-// How many bytes follow the initial byte in a head of this width.
+/// How many bytes follow the initial byte in a head of this width.
 fn width_len(width: Width) -> usize
     ensures { result ≡ width_bytes width }
 {
@@ -236,7 +240,8 @@ pub(crate) fn wide_width(information: u8) -> Width
     }
 }
 
-/// The number that the first bytes make, as many as a head of this width has behind its initial byte; `None` if there are fewer.
+/// The number that the first bytes make, as many as a head of this width has behind its initial
+/// byte; `None` if there are fewer.
 pub(crate) fn read_number(width: Width, bytes: &[u8]) -> Option<u64>
     ensures { MatchOption result (length bytes.now < width_bytes width) (λ n. (width_bytes width ≤ length bytes.now) × (n ≡ number width (take (width_bytes width) bytes.now))) }
 {
@@ -249,7 +254,8 @@ pub(crate) fn read_number(width: Width, bytes: &[u8]) -> Option<u64>
     }
 }
 
-/// The head of major type `major`, from 0 to 6, with the argument `n`, which fits the width: its bytes stand first in the array, and the number is their count.
+/// The head of major type `major`, from 0 to 6, with the argument `n`, which fits the width: its
+/// bytes stand first in the array, and the number is their count.
 pub fn head_bytes(major: u8, width: Width, n: u64) -> ([u8; 9], usize)
     requires major { major ≤ 6 }
     requires fits { WidthFits width n }
@@ -259,7 +265,7 @@ pub fn head_bytes(major: u8, width: Width, n: u64) -> ([u8; 9], usize)
     first_bytes(Major::at(major), width, n)
 }
 
-// The head, of any major type.
+/// The head, of any major type.
 fn first_bytes(major: Major, width: Width, n: u64) -> ([u8; 9], usize)
     requires { WidthFits width n }
     ensures len { result.1 ≤ 9 }
@@ -288,7 +294,11 @@ fn first_bytes(major: Major, width: Width, n: u64) -> ([u8; 9], usize)
     (bytes, 1 + width_len(width))
 }
 
-/// Appends the head of the major type with the argument `n`, which fits the width (RFC 8949 section 3). An error says that memory was refused; `out` then stays as it was.
+/// Appends the head of the major type with the argument `n`, which fits the width (RFC 8949 section
+/// 3).
+///
+/// # Errors
+/// Where memory was refused; `out` then stays as it was.
 pub fn push_head(out: &mut Vec<u8>, major: Major, width: Width, n: u64) -> Result<(), AllocError>
     requires { WidthFits width n }
     ensures added { OnOk result (out.new.items ≡ out.old.items ++ head_bytes (code major) width n) }

@@ -1,4 +1,5 @@
-//! Laws of the bytes of data items. Each function does nothing; its contract is a theorem over the definitions in `specs/`.
+//! Laws of the bytes of data items. Each function does nothing; its contract is a theorem over the
+//! definitions in `specs/`.
 
 ghost use Rattle.std.specs.Prelude.{◌≡◌, ℕ, ◌<◌, ◌≤◌, List, [], ◌++◌, length, ◌⊎◌};
 ghost use Rattle.cborn_model.specs.Bytes.{AreBytes};
@@ -11,13 +12,16 @@ ghost use Rattle.cborn_wire.specs.Places.{placed_from, all_from};
 ghost use Rattle.cborn_wire.specs.Slots.{Slot, Open};
 ghost use Rattle.cborn_wire.specs.Faults.{IsWellformed, Refused, Fault};
 
-/// Bytes have at most one reading: two lists of nodes that both spell them are one list where both stand at the same place (`placed`), and else one list but for their places (`aside`: they are the same list once moved to any one place).
+/// Bytes have at most one reading: two lists of nodes that both spell them are one list where both
+/// stand at the same place (`placed`), and else one list but for their places (`aside`: they are
+/// the same list once moved to any one place).
 pub fn one_reading()
     ensures placed { (limit p : ℕ) (ts us : Trees) (x : List ℕ) → Wellformed limit ts x → Wellformed limit us x → PlacedAll p ts → PlacedAll p us → ts ≡ us }
     ensures aside { (ts us : Trees) → FitsAll ts → FitsAll us → spelled_all ts ≡ spelled_all us → (p : ℕ) → all_from p ts ≡ all_from p us }
 {}
 
-/// No item begins another: where the bytes of one begin with those of another, both are the same item, and nothing follows.
+/// No item begins another: where the bytes of one begin with those of another, both are the same
+/// item, and nothing follows.
 pub fn no_item_begins_another()
     ensures { (t u : Tree) (y : List ℕ) → Fits t → Fits u → spelled t ++ y ≡ spelled u → (y ≡ []) × ((p : ℕ) → placed_from p t ≡ placed_from p u) }
 {}
@@ -27,7 +31,8 @@ pub fn well_formed_are_bytes()
     ensures { (limit : ℕ) (ts : Trees) (x : List ℕ) → Wellformed limit ts x → AreBytes x }
 {}
 
-/// The front of an input ends at no more than one slot, inside one number of open arrays, maps and tags.
+/// The front of an input ends at no more than one slot, inside one number of open arrays, maps and
+/// tags.
 pub fn one_slot()
     ensures { (limit : ℕ) (f : List ℕ) (s t : Slot) (j k : ℕ) → Open limit f s j → Open limit f t k → (s ≡ t) × (j ≡ k) }
 {}
@@ -45,12 +50,14 @@ pub fn place_of_fault()
     ensures end { (limit : ℕ) (x : List ℕ) (p : ℕ) → Fault limit x p Truncated → p ≡ length x }
 {}
 
-/// The front of well-formed bytes is well-formed, or it is truncated at its end, and that is its one fault.
+/// The front of well-formed bytes is well-formed, or it is truncated at its end, and that is its
+/// one fault.
 pub fn fronts()
     ensures { (limit : ℕ) (x y : List ℕ) → IsWellformed limit (x ++ y) → IsWellformed limit x ⊎ (Fault limit x (length x) Truncated × ((p : ℕ) (r : WireReason) → Fault limit x p r → (p ≡ length x) × (r ≡ Truncated))) }
 {}
 
-/// A fault other than `Truncated` stays the fault, whatever bytes follow: of the same head, and so of the whole input.
+/// A fault other than `Truncated` stays the fault, whatever bytes follow: of the same head, and so
+/// of the whole input.
 pub fn faults_stay()
     ensures refused { (limit : ℕ) (x y : List ℕ) (p : ℕ) (r : WireReason) → Refused limit x p r → Refused limit (x ++ y) p r }
     ensures fault { (limit : ℕ) (x y : List ℕ) (p : ℕ) (r : WireReason) → Fault limit x p r → (r ≡ Truncated → ⊥) → Fault limit (x ++ y) p r }

@@ -26,7 +26,8 @@ pub(crate) enum Level {
 }
 
 impl Level {
-    /// What is missing once an item was put in; none where it is whole with that. An item of an indefinite string is a chunk.
+    /// What is missing once an item was put in; none where it is whole with that. An item of an
+    /// indefinite string is a chunk.
     #[inline(always)]
     pub(crate) fn with_item(self) -> Option<Level>
         ensures { result ≡ with_item self }
@@ -131,7 +132,8 @@ impl Levels {
         }
     }
 
-    /// Puts a whole item into what is open. Where that is whole with it, that is an item too. The commonest, an array that goes on, comes first.
+    /// Puts a whole item into what is open. Where that is whole with it, that is an item too. The
+    /// commonest, an array that goes on, comes first.
     #[inline(always)]
     pub(crate) fn finish(&mut self)
         requires kept { self.old.len ≤ 1025 }

@@ -47,7 +47,8 @@ impl Nest {
         }
     }
 
-    /// Takes what stands at the front of `piece`, behind the part that came before, and answers how many bytes that was. The part is then used up.
+    /// Takes what stands at the front of `piece`, behind the part that came before, and answers how
+    /// many bytes that was. The part is then used up.
     #[inline(always)]
     pub(crate) fn take(
         &mut self,
@@ -69,7 +70,8 @@ impl Nest {
         self.take_more(limit, at, part, piece)
     }
 
-    /// The same where there may be a part. It stands apart, since a head that has none would pay for its locals.
+    /// The same where there may be a part. It stands apart, since a head that has none would pay
+    /// for its locals.
     #[inline(never)]
     fn take_more(
         &mut self,
@@ -104,7 +106,8 @@ impl Nest {
         }
     }
 
-    /// A head, or the initial byte of one that ends behind the piece. The commonest, an integer that is its initial byte, is taken here, and any other apart.
+    /// A head, or the initial byte of one that ends behind the piece. The commonest, an integer
+    /// that is its initial byte, is taken here, and any other apart.
     #[inline(always)]
     fn take_head(
         &mut self,
@@ -162,7 +165,8 @@ impl Nest {
         }
     }
 
-    /// The next byte of an argument whose head began in an earlier piece: the first `len` of `bytes` came before.
+    /// The next byte of an argument whose head began in an earlier piece: the first `len` of
+    /// `bytes` came before.
     #[inline(never)]
     fn take_argument(
         &mut self,
@@ -250,7 +254,8 @@ impl Nest {
         self.put_in(at, Node { place, form })
     }
 
-    /// A head of no integer. It stands apart, so that the integers, which are the most, pay nothing for it.
+    /// A head of no integer. It stands apart, so that the integers, which are the most, pay nothing
+    /// for it.
     #[inline(never)]
     fn put_further_head(&mut self, at: u64, place: u64, head: Head) -> Result<Outcome, WireFault>
         requires further { 1 < head.major }

@@ -14,11 +14,13 @@ use crate::{Feeder, WireFault, WireReason};
 use cborn_model::{Limit, Spelled};
 use std::alloc::Global;
 
-/// The items of `bytes`, a sequence (RFC 8742) in which at most `limit` arrays, maps and tags stand around one another.
+/// The items of `bytes`, a sequence (RFC 8742) in which at most `limit` arrays, maps and tags stand
+/// around one another.
 ///
 /// # Errors
 ///
-/// Where the bytes are no such sequence, the one fault that they have (RFC 8949 section 3), at its offset in bytes from their start; `OutOfMemory` where memory was refused.
+/// Where the bytes are no such sequence, the one fault that they have (RFC 8949 section 3), at its
+/// offset in bytes from their start; `OutOfMemory` where memory was refused.
 pub fn read_all(alloc: Global, limit: Limit, bytes: &[u8]) -> Result<Vec<Spelled>, WireFault>
     ensures items { IfOk result (λ v. Wellformed limit (trees v.items) bytes.now × PlacedAll 0 (trees v.items)) }
     ensures fault { (p : ℕ) (r : WireReason) → result ≡ Err (Refused p r) → Fault limit bytes.now p r }
@@ -28,11 +30,15 @@ pub fn read_all(alloc: Global, limit: Limit, bytes: &[u8]) -> Result<Vec<Spelled
     feeder.finish()
 }
 
-/// The item that stands in `bytes` from the offset `start` on, and the offset of what follows it, which isn't judged. `start` is at most the length of `bytes`. Places and offsets are in bytes from the start of `bytes`.
+/// The item that stands in `bytes` from the offset `start` on, and the offset of what follows it,
+/// which isn't judged. `start` is at most the length of `bytes`. Places and offsets are in bytes
+/// from the start of `bytes`.
 ///
 /// # Errors
 ///
-/// Where no item within the limit stands there, the one fault that is met (RFC 8949 section 3): where the bytes end before the item does, or at `start`, it is `Truncated` at their length. `OutOfMemory` where memory was refused.
+/// Where no item within the limit stands there, the one fault that is met (RFC 8949 section 3):
+/// where the bytes end before the item does, or at `start`, it is `Truncated` at their length.
+/// `OutOfMemory` where memory was refused.
 pub fn read_one(
     alloc: Global,
     limit: Limit,

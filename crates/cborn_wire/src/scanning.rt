@@ -28,7 +28,10 @@ pub(crate) enum Step {
     Refused(WireReason),
 }
 
-/// The one fault of bytes that are no sequence of items (RFC 8742) in which at most `limit` arrays, maps and tags stand around one another (RFC 8949 section 3): its offset in bytes from their start, and its reason. None where they are such a sequence. Takes no memory, and keeps nothing of the items.
+/// The one fault of bytes that are no sequence of items (RFC 8742) in which at most `limit` arrays,
+/// maps and tags stand around one another (RFC 8949 section 3): its offset in bytes from their
+/// start, and its reason. None where they are such a sequence. Takes no memory, and keeps nothing
+/// of the items.
 pub fn scan(limit: Limit, bytes: &[u8]) -> Option<(u64, WireReason)>
     ensures { MatchOption result ((ts : Trees) × Wellformed limit ts bytes.now × PlacedAll 0 ts) (λ f. Fault limit bytes.now f.0 f.1) }
 {
@@ -87,7 +90,8 @@ impl Levels {
         Step::Taken(1)
     }
 
-    /// Takes integers that are their initial bytes, where nothing is open, or an array that goes on behind them. Answers how many they are.
+    /// Takes integers that are their initial bytes, where nothing is open, or an array that goes on
+    /// behind them. Answers how many they are.
     #[inline(always)]
     fn take_run(&mut self, piece: &[u8]) -> usize
         requires kept { self.old.len ≤ 1025 }

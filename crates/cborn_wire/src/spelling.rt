@@ -10,7 +10,10 @@ use crate::push_head;
 use cborn_model::{BREAK, ByteString, Chunk, Form, Major, Node, Size, Spelled, Width};
 use std::alloc::{AllocError, Global};
 
-/// The bytes that `item` spells. An error says that memory was refused.
+/// The bytes that `item` spells.
+///
+/// # Errors
+/// Where memory was refused.
 pub fn spell(alloc: Global, item: &Spelled) -> Result<Vec<u8>, AllocError>
     ensures { IfOk result (λ v. v.items ≡ spelled item.now) }
 {
@@ -19,7 +22,10 @@ pub fn spell(alloc: Global, item: &Spelled) -> Result<Vec<u8>, AllocError>
     Ok(bytes)
 }
 
-/// The bytes that the items spell, one after another: a sequence (RFC 8742). An error says that memory was refused.
+/// The bytes that the items spell, one after another: a sequence (RFC 8742).
+///
+/// # Errors
+/// Where memory was refused.
 pub fn spell_all(alloc: Global, items: &[Spelled]) -> Result<Vec<u8>, AllocError>
     ensures { IfOk result (λ v. v.items ≡ spelled_all (trees items.now)) }
 {
@@ -30,7 +36,7 @@ pub fn spell_all(alloc: Global, items: &[Spelled]) -> Result<Vec<u8>, AllocError
     Ok(out)
 }
 
-// Appends what `node` spells.
+/// Appends what `node` spells.
 fn push_node(out: &mut Vec<u8>, node: &Node) -> Result<(), AllocError>
     requires { Fits node.now }
     ensures { OnOk result (out.new.items ≡ out.old.items ++ spelled node.now) }
@@ -70,7 +76,7 @@ fn push_node(out: &mut Vec<u8>, node: &Node) -> Result<(), AllocError>
     }
 }
 
-// Appends a definite string.
+/// Appends a definite string.
 fn push_string(
     out: &mut Vec<u8>,
     major: Major,
@@ -85,7 +91,7 @@ fn push_string(
     out.extend_from_slice(slice)
 }
 
-// Appends an indefinite string.
+/// Appends an indefinite string.
 fn push_chunks(out: &mut Vec<u8>, major: Major, parts: &Vec<Chunk>) -> Result<(), AllocError>
     requires { ChunksFit parts.now.items }
     ensures { OnOk result (out.new.items ≡ out.old.items ++ (chunks major parts.now.items ++ ending Endless)) }
@@ -98,7 +104,7 @@ fn push_chunks(out: &mut Vec<u8>, major: Major, parts: &Vec<Chunk>) -> Result<()
     Ok(())
 }
 
-// Appends what stands before `count` items or pairs.
+/// Appends what stands before `count` items or pairs.
 fn push_opening(out: &mut Vec<u8>, major: Major, size: Size, count: usize) -> Result<(), AllocError>
     requires { SizeFits size count }
     ensures { OnOk result (out.new.items ≡ out.old.items ++ head major (argument size count)) }
@@ -112,7 +118,7 @@ fn push_opening(out: &mut Vec<u8>, major: Major, size: Size, count: usize) -> Re
     }
 }
 
-// Appends what stands behind items or pairs.
+/// Appends what stands behind items or pairs.
 fn push_ending(out: &mut Vec<u8>, size: Size) -> Result<(), AllocError>
     ensures { OnOk result (out.new.items ≡ out.old.items ++ ending size) }
 {

@@ -10,7 +10,9 @@ use std::alloc::{AllocError, Global};
 use std::collections::VecDeque;
 use std::marker::Model;
 
-/// What was read of some bytes: the whole items, what is open, and the part of a head or of a string at the end. It is what those bytes make of it until a call fails; then only the whole items count.
+/// What was read of some bytes: the whole items, what is open, and the part of a head or of a
+/// string at the end. It is what those bytes make of it until a call fails; then only the whole
+/// items count.
 #[derive(Drop)]
 pub(crate) struct Stack {
     limit: u64,
@@ -44,7 +46,8 @@ impl Stack {
     ghost use Rattle.cborn_wire.specs.devices.Machine.{start, nothing};
     ghost use Rattle.cborn_wire.specs.devices.StackView.{seen, opened, seen_partial, IsMade, Advances, Runs};
 
-    /// Nothing read, of bytes that stand at `at`, in which at most `limit` arrays, maps and tags may stand around one another.
+    /// Nothing read, of bytes that stand at `at`, in which at most `limit` arrays, maps and tags
+    /// may stand around one another.
     pub(crate) fn new(alloc: Global, limit: Limit, at: u64) -> Stack
         ensures start { seen result ≡ start at }
         ensures ready { result.items ≡ [] }
@@ -113,7 +116,8 @@ impl Stack {
         Ok(())
     }
 
-    /// Takes what stands at the front of `piece`, a head or a part of a head or of a string, and answers how many bytes that was.
+    /// Takes what stands at the front of `piece`, a head or a part of a head or of a string, and
+    /// answers how many bytes that was.
     #[inline(always)]
     pub(crate) fn advance(&mut self, piece: &[u8]) -> Result<usize, WireFault>
         requires live { self.old.fault ≡ None }

@@ -1,4 +1,6 @@
-//! Each line and answer of the program to a writer that takes all bytes and fails to flush them. Standard output itself has nothing to flush, so nothing but these tests tells a flush that is left out.
+//! Each line and answer of the program to a writer that takes all bytes and fails to flush them.
+//! Standard output itself has nothing to flush, so nothing but these tests tells a flush that is
+//! left out.
 use super::ran;
 use crate::run;
 use std::alloc::Global;

@@ -107,10 +107,6 @@ built : (h : Home) (ps : Pieces) → Some (builds h ps) ≡ Some (at_home h (Som
 built (as_item st) ps = refl
 built (as_chunk st s b) ps = refl
 
--- one part after another
-steps : (x y : List Token) (s u : State) {v : Option State} → ((z : List Token) → then (x ++ z) s ≡ then z u) → then y u ≡ v → then (x ++ y) s ≡ v
-steps x y s u p q = p y ∙ q
-
 mutual
   pub takes : (i : Item) (st : Stack) (y : List Token) → then (tokens_of i ++ y) (wants st) ≡ then y (landed st i)
   takes (number a n v m) st y = refl

@@ -43,11 +43,6 @@ empty_bytes false x at m = refl
 empty_bytes true [] at m = refl
 empty_bytes true (b ∷ x) at m = ne_eqb (suc (length x)) 0 (λ e. omega arith)
 
-first_fits : (p : Piece) → fits_kind (kind_of p) p ≡ true
-first_fits (text at x m) = refl
-first_fits (bytes at q x m) = refl
-first_fits (embedded at c end m) = refl
-
 joined-and_then : (a b : Option (List ℕ)) → joined_bytes a b ≡ and_then a (λ x. and_then b (λ y. Some (x ++ y)))
 joined-and_then None b = refl
 joined-and_then (Some x) None = refl

@@ -43,10 +43,6 @@ module _ (p : Profile) (limit : ℕ) (text bytes : List ℕ) (u : IsUtf8 text) (
         encoded = n.encoded;
       }
 
-  -- the bytes are told
-  pub as_bytes : IsShown (kind_of p) kind.Wire limit text bytes
-  as_bytes = record { nodes = s.nodes; spelled = notated; shown = sym s.spells }
-
   -- their text is told
   pub as_text : (out : Kind) → (out ≡ kind.Wire → ⊥) → (answer : List ℕ) → IsShownText limit bytes answer → length text ≤ 2 ^ 30 → IsShown (kind_of p) out limit text answer
   as_text out never answer t l =

@@ -25,17 +25,7 @@ pub refused : (k out : Kind) (limit most : ℕ) (input : List ℕ) (why : Engine
 refused k out limit most input (fault.Show w) r = absurd r.0
 refused k out limit most input _ r = r
 
--- nodes that are spelled, or not
-pub nodes_told : (k out : Kind) (limit most : ℕ) (input : List ℕ) (nodes xs : List Tree) (r : Result (Vec ℕ Global) EngineFault) → length input ≤ most → Spells k limit input nodes → xs ≡ nodes → IfOk r (λ v. IsSpelledAs out xs v.items) → IfErr r (IsUnspelledAs out xs) → TellAnswers k out limit most input r
-nodes_told k out limit most input nodes xs (Ok v) l s e g b = (l, record { nodes = nodes; spelled = s; shown = subst (λ (ns : List Tree). IsSpelledAs out ns v.items) e g })
-nodes_told k out limit most input nodes xs (Err (fault.Show w)) l s e g b = (l, record { nodes = nodes; spelled = s; unshown = subst (λ (ns : List Tree). IsUnshownAs out ns w) e b })
-nodes_told k out limit most input nodes xs (Err fault.OutOfMemory) l s e g b = (l, tt)
-nodes_told k out limit most input nodes xs (Err _) l s e g b = absurd b
-
 -- ---- bytes
-
-pub as_text : (out : Kind) → (out ≡ kind.Wire → ⊥) → (limit : ℕ) (input text : List ℕ) → IsShownText limit input text → IsShown kind.Wire out limit input text
-as_text out never limit input text s = record { nodes = s.nodes; spelled = (s.read, s.placed); shown = notation out never (λ k. IsSpelledAs k s.nodes text) s.shown s.shown }
 
 pub as_fixed : (limit : ℕ) (input text : List ℕ) → IsShownText limit input text → IsFixedText input text
 as_fixed limit input text s = record { nodes = s.nodes; fit = s.read.fit; spelled = s.read.spells; shown = s.shown }

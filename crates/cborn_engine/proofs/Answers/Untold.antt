@@ -14,11 +14,6 @@ use Rattle.cborn_engine.specs.Loading.{IsNoFlaw}
 use Rattle.cborn_engine.specs.Refusing.{IsRefused}
 use Rattle.cborn_engine.specs.devices.Encoding.{kind_of}
 
--- it isn't UTF-8
-pub garbled : (n : ℕ) (input : List ℕ) (p : Profile) (limit most : ℕ) → (IsUtf8 input → ⊥) → IsValidUpTo input n → length input ≤ most → IsRefused (kind_of p) limit most input (fault.TextInput n) × IsNoFlaw (fault.TextInput n)
-garbled n input profile.One limit most bad at l = ((l, (bad, at)), tt)
-garbled n input profile.Two limit most bad at l = ((l, (bad, at)), tt)
-
 -- it has no tokens, no tree or no meaning
 pub untold : (p : Profile) (limit most : ℕ) (input text : List ℕ) (why : EdnFault) → text ≡ input → IsUtf8 input → IsNoNotation p limit text why → length input ≤ most → IsRefused (kind_of p) limit most input (of_edn why) × IsNoFlaw (of_edn why)
 untold p limit most input text why e u r l = go p why (subst (λ (x : List ℕ). IsNoNotation p limit x why) e r)

@@ -93,11 +93,6 @@ pub transcoded : (order : List ℕ → List ℕ → Ordering) (limit : ℕ) (inp
 transcoded order limit input output n = record { items = n.items; held = transcoded_held order limit input output n; encoded = n.encoded }
 
 module _ (limit most : ℕ) (input : List ℕ) (within : length input ≤ most) where
-  -- they are not well-formed
-  pub unspelled : (why : WireFault) → ((p : ℕ) (r : WireReason) → why ≡ wire.Refused p r → Fault limit input p r) → IsRefused kind.Wire limit most input (of_wire why)
-  unspelled (wire.Refused p r) f = (within, f p r refl)
-  unspelled wire.OutOfMemory f = within
-
   pub deterministic : (order : List ℕ → List ℕ → Ordering) → IsTranscoded order limit input input → CheckAnswers order limit most input (Ok None)
   deterministic order n = (within, record { items = n.items; held = transcoded_held order limit input input n; verdict = n.encoded })
 

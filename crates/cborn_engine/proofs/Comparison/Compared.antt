@@ -25,10 +25,6 @@ pub no_flaw_held : (limit : ℕ) (bytes : List ℕ) (nodes : List Tree) (p : ℕ
 no_flaw_held limit bytes nodes p r h w f =
     flawless h.1.nodes h.0 p r h.1.meant (subst (λ (ns : List Tree). IsRefusalOfAll ns (invalid.Refused p r)) (spells_once kind.Wire limit bytes nodes h.1.nodes w h.1.spelled) f)
 
--- what was encoded was held
-pub held_whole : (order : List ℕ → List ℕ → Ordering) (k : Kind) (limit most : ℕ) (before after : Option (List ℕ)) (bytes : Vec ℕ Global) → Reads (EncodeAnswers order k limit most) before after (Ok bytes) → IsHeldWhole k limit before after
-held_whole order k limit most before after bytes h = record { input = h.input; items = h.answer.1.items; taken = h.taken; held = h.answer.1.held; at_end = h.to_end }
-
 module _ (order : List ℕ → List ℕ → Ordering) (laws : IsKeyOrder order) where
   pub its_own : (k : Kind) (limit : ℕ) (input bytes x : List ℕ) → length input ≤ 2 ^ 30 → IsEncoded order k limit input bytes → x ≡ bytes → IsEncoded order kind.Wire limit x x
   its_own k limit input bytes x short e f = subst (λ (y : List ℕ). IsEncoded order kind.Wire limit y y) (sym f) (own_bytes order laws k limit input bytes short e).own

@@ -18,12 +18,6 @@ pub record Filled (most filled : ℕ) (before after : Option (List ℕ)) (x : Li
 pub kept : (most filled : ℕ) (a b : Option (List ℕ)) (x y : List ℕ) → Filled most filled a b x → take filled y ≡ take filled x → filled ≤ length y → Filled most filled a b y
 kept most filled a b x y h e l = record { within = l; allowed = h.allowed; taken = subst (Consumes a b) (sym e) h.taken }
 
--- there was no room for more
-pub no_room : (most filled : ℕ) (a b : Option (List ℕ)) (x : List ℕ) → Filled most filled a b x → Collects most a b (Err fault.OutOfMemory)
-no_room most filled a b x h =
-    let l : length (take filled x) ≤ most = omega (arith, length-take-le filled x h.within, h.allowed) in
-    record { input = take filled x; taken = h.taken; answer = l }
-
 -- no further piece came
 pub stopped : (most filled : ℕ) (a b c : Option (List ℕ)) (x buf : List ℕ) (why : EngineFault) → Filled most filled a b x → PieceAnswers b c (most - filled) buf (Err why) → Collects most a c (Err why)
 stopped most filled a b c x buf fault.TooLong h p =
@@ -41,10 +35,3 @@ module _ (most filled n : ℕ) (a b c : Option (List ℕ)) (y : List ℕ) (h : F
   -- a piece came
   pub more : filled + n ≤ length y → Filled most (filled + n) a c y
   more l = record { within = l; allowed = omega (arith, h.allowed, p.0); taken = now }
-
-  -- the input ended
-  pub whole : (v : Vec ℕ Global) → n ≡ 0 → v.items ≡ take filled y → Collects most a c (Ok v)
-  whole v f g =
-      let same : filled + n ≡ filled = omega (arith, f) in
-      let short : length (take filled y) ≤ most = omega (arith, length-take-le filled y h.within, h.allowed) in
-      record { input = take filled y; taken = subst (λ (k : ℕ). Consumes a c (take k y)) same now; answer = (g, short, p.3 f) }

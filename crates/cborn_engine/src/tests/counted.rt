@@ -1,4 +1,5 @@
-//! Readers and writers of std under a count: what fails is a failure at once, and a flush is handed on.
+//! Readers and writers of std under a count: what fails is a failure at once, and a flush is handed
+//! on.
 use super::memory::Bytes;
 use crate::{Counted, EngineFault, Kind, Sink, Source, load, normalise};
 use cborn_model::{Bytewise, Limit};

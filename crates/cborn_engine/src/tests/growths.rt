@@ -1,6 +1,8 @@
 //! What each call answers, where each answer is compared and each fault handed on.
 //!
-//! With ample memory these tests tell the one right answer, so a call that always answers want of memory fails. `make library-growths` refuses each growth in turn; there a test may stop by want of memory, and by nothing else.
+//! With ample memory these tests tell the one right answer, so a call that always answers want of
+//! memory fails. `make library-growths` refuses each growth in turn; there a test may stop by want
+//! of memory, and by nothing else.
 
 mod large;
 mod nodes;

@@ -48,7 +48,8 @@ const NORMALISED: [(Kind, &[u8], Kind, &[u8]); 8] = [
     ),
 ];
 
-/// One that lends each input of bytes would leave loose bytes as they are, and bytes where notation is asked for.
+/// One that lends each input of bytes would leave loose bytes as they are, and bytes where notation
+/// is asked for.
 #[test]
 fn normalised(rt: HostRuntime) -> Result<(), Fail> {
     for (from, input, to, output) in NORMALISED {

@@ -40,9 +40,6 @@ number_untagged negative first x n m h k run indicator none =
     number_of negative false first (take n x) (take m (drop n x)) [] (drop m (drop n x)) x (n + m) (parts n m x) (omega (arith, length-take-le n x h, length-take-le m (drop n x) k))
     (subst (λ (y : List ℕ). IsRun is_numeral (take n x) y) (sym (take-append-drop m (drop n x))) run) indicator (refl, none)
 
-begun : (c : ℕ) (x : List ℕ) → begins (λ d. eqb d c) x ≡ true → x ≡ take 1 x ++ drop 1 x
-begun c x h = sym (take-append-drop 1 x)
-
 tag_is : (negative : Bool) (x : List ℕ) → (not negative && begins (λ c. eqb c 40) x) ≡ true → IsTag negative true (take 1 x) (drop 1 x)
 tag_is false [] h = cc
 tag_is true [] h = cc

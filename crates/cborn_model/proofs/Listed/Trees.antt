@@ -37,20 +37,6 @@ trees-injective (x ∷ xs) (y ∷ ys) e =
     let first : x ≡ y = cc in
     let others : trees xs ≡ trees ys = cc in rw (first, trees-injective xs ys others)
 
-same_pair : (a b c d : Tree) → a ≡ c → b ≡ d → let p : Tree × Tree = (a, b) in p ≡ (c, d)
-same_pair a b c d e f = rw (e, f)
-
-pub entries-injective : (xs ys : List (Tree × Tree)) → entries xs ≡ entries ys → xs ≡ ys
-entries-injective [] [] e = refl
-entries-injective [] (y ∷ ys) e = cc
-entries-injective (x ∷ xs) [] e = cc
-entries-injective (x ∷ xs) (y ∷ ys) e =
-    let first : x.0 ≡ y.0 = cc in
-    let second : x.1 ≡ y.1 = cc in
-    let others : entries xs ≡ entries ys = cc in
-    let pair : x ≡ y = same_pair x.0 x.1 y.0 y.1 first second in
-    rw (pair, entries-injective xs ys others)
-
 -- one more child, as a loop over the children meets it
 pub depth-take_more : (xs : List Tree) (i : ℕ) (x : Tree) → i < length xs → x ≡ get_or xs i x → depth_all (trees (take (i + 1) xs)) ≡ max (depth_all (trees (take i xs))) (depth x)
 depth-take_more xs i x h e =
@@ -72,7 +58,3 @@ pub depth_of_pair : (xs : List (Tree × Tree)) (i : ℕ) (x : Tree × Tree) → 
 depth_of_pair xs i x h e =
     let bound = max_bounds (λ ps. depth_entries (entries ps)) pair_depth refl (λ _ _. refl) xs i x h in
     subst (λ (y : Tree × Tree). pair_depth y ≤ depth_entries (entries xs)) (sym e) bound
-
-pub ruleset depths = (depth-take_more, pair_depth-take_more)
-
-pub ruleset spellings = (spelled_all-trees, spelled_entries-entries, count-trees, count_entries-entries)

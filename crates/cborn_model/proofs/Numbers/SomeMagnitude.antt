@@ -55,10 +55,6 @@ eight_digits a b c d e f g h = omega arith
 pub number_of_eight : (n : ℕ) → n < 2 ^ 64 → big_endian (to_be_bytes w64 n) ≡ n
 number_of_eight n h = sym (eight_digits _ _ _ _ _ _ _ _) ∙ from_be_bytes-to_be_bytes_8 n h
 
-pub are_bytes : (bs : List ℕ) → ((k : ℕ) → get_or bs k 0 < 256) → AreBytes bs
-are_bytes [] h = tt
-are_bytes (b ∷ bs) h = (h 0, are_bytes bs (λ k. h (suc k)))
-
 -- with a byte left, a number of more than 56 bits has more than 64
 pub number_above : (bs : List ℕ) (i n : ℕ) → i < length bs → 2 ^ 56 ≤ n → n * 256 ^ length (drop i bs) + big_endian (drop i bs) ≡ big_endian bs → 2 ^ 64 ≤ big_endian bs
 number_above bs i n l h e =

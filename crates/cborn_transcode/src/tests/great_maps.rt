@@ -1,4 +1,5 @@
-//! Maps of many pairs that stand in the input as they are written, and others that have one pair which doesn't.
+//! Maps of many pairs that stand in the input as they are written, and others that have one pair
+//! which doesn't.
 
 use crate::places::{Place, find_pairs};
 use crate::tests::gives;
@@ -8,7 +9,8 @@ use std::alloc::{AllocError, Global};
 use std::process::Abort;
 use std::test::Fail;
 
-/// The head of a map of 9,026 pairs: more than twice as many as are used up before room is given back.
+/// The head of a map of 9,026 pairs: more than twice as many as are used up before room is given
+/// back.
 const HEAD: &[u8] = b"\xb9\x23\x42";
 
 /// The heads of maps of 1,026 pairs, and of one more.
@@ -30,7 +32,8 @@ fn push_letters(out: &mut Vec<u8>) -> Result<(), AllocError> {
     Ok(())
 }
 
-/// A head, the pairs of that many integers, each `step` behind the one before it, and those of the letters, first or last.
+/// A head, the pairs of that many integers, each `step` behind the one before it, and those of the
+/// letters, first or last.
 fn great(
     alloc: Global,
     head: &[u8],
@@ -73,7 +76,8 @@ fn arranges_great_maps(rt: HostRuntime) -> Result<(), Fail> {
     Ok(())
 }
 
-/// One pair more, behind all others in both orders: what its value is encoded as, or none where the map is refused.
+/// One pair more, behind all others in both orders: what its value is encoded as, or none where the
+/// map is refused.
 const LAST: [(&[u8], Option<&[u8]>); 15] = [
     (b"\x63zzz\xf5", Some(b"\x63zzz\xf5")),
     (
@@ -145,7 +149,8 @@ fn behind<O: KeyOrder>(alloc: Global, n: u64, bytes: &[u8]) -> Option<usize> {
     find_pairs::<O>(n, bytes.get(3..)?, &mut places)
 }
 
-/// Catches a search for pairs that never finds them: the map would be written all the same, in more memory.
+/// Catches a search for pairs that never finds them: the map would be written all the same, in more
+/// memory.
 #[test]
 fn finds_pairs_in_place(rt: HostRuntime) -> Result<(), Fail> {
     let alloc = rt.alloc();

@@ -7,8 +7,7 @@ use std::alloc::{AllocError, Global};
 use std::test::Fail;
 
 /// One head for each key, however long: bytewise and by length first these keys stand in different
-/// orders (RFC 8949
-/// sections 4.2.1 and 4.2.3).
+/// orders (RFC 8949 sections 4.2.1 and 4.2.3).
 #[test]
 fn arranges_keys_in_each_order(rt: HostRuntime) {
     let bytes: &[u8] =

@@ -57,7 +57,8 @@ fn nested(alloc: Global, first: u8, count: usize, rest: &[u8]) -> Result<Vec<u8>
     Ok(bytes)
 }
 
-/// Catches a limit that is one too small, or that counts strings and chunks, or items beside one another.
+/// Catches a limit that is one too small, or that counts strings and chunks, or items beside one
+/// another.
 #[test]
 fn allows_as_many_as_the_limit(rt: HostRuntime) -> Result<(), Fail> {
     for (limit, first, count, rest) in DEEP {
@@ -72,7 +73,8 @@ fn allows_as_many_as_the_limit(rt: HostRuntime) -> Result<(), Fail> {
     Ok(())
 }
 
-/// Catches a limit that is one too large, and one that is told behind another fault of the same head or after the end.
+/// Catches a limit that is one too large, and one that is told behind another fault of the same
+/// head or after the end.
 #[test]
 fn refuses_more_than_the_limit(rt: HostRuntime) -> Result<(), Fail> {
     for (limit, first, count, rest, place, reason) in TOO_DEEP {

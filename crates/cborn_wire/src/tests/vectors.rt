@@ -80,7 +80,8 @@ const COLLECTIONS: [&[u8]; 18] = [
     b"\xbf\x63\x46\x75\x6e\xf5\x63\x41\x6d\x74\x21\xff",
 ];
 
-/// What no deterministic writer writes: long heads, loose bignums, indefinite lengths, keys in another order; sequences too.
+/// What no deterministic writer writes: long heads, loose bignums, indefinite lengths, keys in
+/// another order; sequences too.
 const LOOSE: [&[u8]; 29] = [
     b"\x18\x01",
     b"\x98\x02\x18\x01\x58\x01\x61",
@@ -252,7 +253,8 @@ fn reads_and_spells(rt: HostRuntime) -> Result<(), Fail> {
     Ok(())
 }
 
-/// Catches a fault told elsewhere, or by another reason, than the standard has it, and a reader that wants memory for as much as a head declares.
+/// Catches a fault told elsewhere, or by another reason, than the standard has it, and a reader
+/// that wants memory for as much as a head declares.
 #[test]
 fn refuses(rt: HostRuntime) -> Result<(), Fail> {
     for (input, place, reason) in refused(rt.alloc())? {
