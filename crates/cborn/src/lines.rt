@@ -53,6 +53,9 @@ impl Display for Answer {
 }
 
 /// Prints an answer on a line, and gives the status that goes with it.
+///
+/// # Errors
+/// Where the line can't be written.
 pub fn tell_answer<'a, W: Write + Drop>(out: W, answer: Answer) -> Result<u8, Trouble<'a>> {
     match print(out, &answer, "\n") {
         Ok(()) => Ok(status_of_answer(answer)),
@@ -68,6 +71,9 @@ fn status_of_answer(answer: Answer) -> u8 {
 }
 
 /// Prints something and an end after it, and flushes.
+///
+/// # Errors
+/// Where it can't be written.
 pub fn print<W: Write + Drop, T: Display>(out: W, text: &T, end: &str) -> io::Result<()> {
     let mut out = out;
     write!(out, "{text}{end}")?;

@@ -47,6 +47,9 @@ pub enum Purpose {
 }
 
 /// Reads the command line, of which the first word is the program's name.
+///
+/// # Errors
+/// What is wrong with the words, or a request for help or the version.
 pub fn read_task<'a>(alloc: Global, words: &'a [&'a str]) -> Result<Task<'a>, Error> {
     let mut program = program(alloc)?;
     let matches = program.try_get_matches_from_mut(words)?;

@@ -12,6 +12,9 @@ use std::io::{Read, Write};
 use std::rt::Files;
 
 /// Does a task, and gives its status.
+///
+/// # Errors
+/// What keeps the task from being done, in the words that are told of it.
 pub fn perform<'a, F: Files, I: Read + Drop, W: Write + Drop>(
     rt: &F,
     alloc: Global,

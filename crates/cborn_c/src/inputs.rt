@@ -13,6 +13,9 @@ use std::alloc::Global;
 use std::borrow::CowSlice;
 
 /// The canonical form of what the input holds, the keys of maps in the order `O`.
+///
+/// # Errors
+/// Those of the engine's call over slices.
 pub fn normalised<'a, O: KeyOrder>(
     alloc: Global,
     limit: Limit,
@@ -27,6 +30,9 @@ pub fn normalised<'a, O: KeyOrder>(
 }
 
 /// What the input spells, as bytes or as notation.
+///
+/// # Errors
+/// Those of the engine's call over slices.
 pub fn shown<'a>(
     alloc: Global,
     limit: Limit,
@@ -40,6 +46,9 @@ pub fn shown<'a>(
 }
 
 /// The first defect of the bytes, if they aren't their own canonical form under the order `O`.
+///
+/// # Errors
+/// Those of the engine's call over slices.
 pub fn checked<O: KeyOrder>(
     alloc: Global,
     limit: Limit,
@@ -52,6 +61,9 @@ pub fn checked<O: KeyOrder>(
 
 /// The least index at which the items of two inputs differ. The answer doesn't depend on the order
 /// of keys.
+///
+/// # Errors
+/// Those of the engine's call over slices.
 pub fn compared(
     alloc: Global,
     limit: Limit,

@@ -52,6 +52,9 @@ pub fn check<O: KeyOrder, R: Source>(
 }
 
 /// The first defect of these bytes, or the fault of their content. No fault is the reader's.
+///
+/// # Errors
+/// The fault of their content, or `OutOfMemory`.
 pub fn check_input<O: KeyOrder>(
     alloc: Global,
     limit: Limit,

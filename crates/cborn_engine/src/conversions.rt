@@ -97,6 +97,9 @@ fn written_as(
 }
 
 /// Bytes that hold items, in notation: in one pass that keeps no tree, or else by trees.
+///
+/// # Errors
+/// Where memory was refused.
 pub fn fixed_text(alloc: Global, limit: Limit, bytes: &[u8]) -> Result<Vec<u8>, AllocError>
     requires { (items : List Value) × Holds kinds.Wire limit bytes.now items }
     ensures { IfOk result (λ text. IsFixedText bytes.now text.items) }

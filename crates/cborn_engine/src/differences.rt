@@ -16,6 +16,9 @@ use cborn_transcode::transcode_item;
 use std::alloc::{AllocError, Global};
 
 /// The difference of what two deterministic encodings hold.
+///
+/// # Errors
+/// Where memory was refused.
 pub fn difference<O: KeyOrder>(
     alloc: Global,
     limit: Limit,

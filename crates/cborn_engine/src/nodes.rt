@@ -60,6 +60,9 @@ fn notated_nodes(
 /// The nodes of an input that are to be judged. Bytes that aren't well-formed are refused before a
 /// node is kept, and so are those with a flaw, where a search that keeps none finds it. What it
 /// finds none of may have one yet.
+///
+/// # Errors
+/// The fault of the content, or `OutOfMemory`.
 pub fn unjudged_nodes(
     alloc: Global,
     limit: Limit,
@@ -82,6 +85,9 @@ pub fn unjudged_nodes(
 }
 
 /// The nodes of bytes that hold items. These are well-formed.
+///
+/// # Errors
+/// Where memory was refused.
 pub fn held_nodes(alloc: Global, limit: Limit, bytes: &[u8]) -> Result<Vec<Spelled>, AllocError>
     requires { (items : List Value) × Holds kinds.Wire limit bytes.now items }
     ensures { IfOk result (λ nodes. Wellformed limit (trees nodes.items) bytes.now × PlacedAll 0 (trees nodes.items)) }

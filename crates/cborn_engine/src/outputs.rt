@@ -9,6 +9,9 @@ use crate::sinks::Sink;
 
 /// Sends all the bytes, and flushes once, also where there are none. After `WriteFault`, its only
 /// fault, a front of the bytes went out.
+///
+/// # Errors
+/// `WriteFault` where the writer failed; then a front of the bytes went out.
 pub fn write_answer<W: Sink>(writer: &mut W, bytes: &[u8]) -> Result<(), EngineFault>
     ensures writes { Sends (W.contents writer.old) (W.contents writer.new) bytes.now result }
     ensures failures { W.failed writer.new ≡ write_failures result (W.failed writer.old) }

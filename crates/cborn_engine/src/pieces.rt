@@ -39,6 +39,9 @@ const MOST_ROOM: usize = 1 << 18;
 
 /// Makes room for a piece behind the first `filled` bytes, which stay. A buffer that is full is
 /// doubled while it is small.
+///
+/// # Errors
+/// Where memory was refused.
 pub fn make_room(bytes: &mut Vec<u8>, filled: usize) -> Result<(), AllocError>
     requires { filled ≤ length bytes.old.items }
     ensures front { OnOk result (take filled bytes.new.items ≡ take filled bytes.old.items) }
@@ -51,6 +54,9 @@ pub fn make_room(bytes: &mut Vec<u8>, filled: usize) -> Result<(), AllocError>
 }
 
 /// What `read_piece` does, behind the first `filled` bytes, which stay.
+///
+/// # Errors
+/// Those of `read_piece`.
 pub fn read_behind<R: Source>(
     reader: &mut R,
     bytes: &mut Vec<u8>,
