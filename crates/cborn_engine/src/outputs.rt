@@ -7,8 +7,7 @@ ghost use Rattle.cborn_engine.specs.devices.Sending.{Sends};
 use crate::faults::EngineFault;
 use crate::sinks::Sink;
 
-/// Sends all the bytes, and flushes once, also where there are none. After `WriteFault`, its only
-/// fault, a front of the bytes went out.
+/// Sends all the bytes, and flushes once, also where there are none.
 ///
 /// # Errors
 /// `WriteFault` where the writer failed; then a front of the bytes went out.
