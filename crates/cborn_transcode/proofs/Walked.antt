@@ -6,7 +6,7 @@ use Rattle.cborn_model.specs.declared.heads.Width.{Width}
 use Rattle.cborn_model.specs.declared.heads.Width.TheVariants.{Direct, One, Two, Four, Eight}
 use Rattle.cborn_model.specs.Bytes.{AreBytes}
 use Rattle.cborn_model.specs.declared.heads.Major.TheVariants.{Unsigned, Negative, Other}
-use Rattle.cborn_model.specs.Heads.{WidthFits, code, least, head, Given}
+use Rattle.cborn_model.specs.Heads.{code, least, major_at}
 use Rattle.cborn_model.proofs.Numbers.Majors.{code_at}
 use Rattle.cborn_wire.specs.declared.heads.Head.{Head}
 use Rattle.cborn_wire.specs.declared.heads.HeadRead.TheVariants.{Full}
