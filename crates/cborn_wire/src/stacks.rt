@@ -3,9 +3,9 @@
 ghost use Rattle.cborn_wire.specs.devices.StackView.{Added};
 
 use crate::WireFault;
-use crate::frames::Partial;
+use crate::frames::{Frame, Partial};
 use crate::nests::{Nest, Outcome};
-use cborn_model::{Limit, Spelled};
+use cborn_model::{Form, Limit, Node, Spelled, Width, push_doubling};
 use std::alloc::{AllocError, Global};
 use std::collections::VecDeque;
 use std::marker::Model;
@@ -117,9 +117,57 @@ impl Stack {
     }
 
     /// Takes what stands at the front of `piece`, a head or a part of a head or of a string, and
-    /// answers how many bytes that was.
+    /// answers how many bytes that was. The commonest is taken here, an integer that is its initial
+    /// byte and has nothing around it or an array that goes on, and any other apart: the outcome of
+    /// a `Nest` goes through memory, which costs more than such an integer.
     #[inline(always)]
     pub(crate) fn advance(&mut self, piece: &[u8]) -> Result<usize, WireFault>
+        requires live { self.old.fault ≡ None }
+        requires some { 0 < length piece.now }
+        requires room { self.old.at + length piece.now < 2 ^ 64 }
+        ensures { Advances piece.now self.old self.new result }
+    {
+        let Partial::Nothing = self.partial else {
+            return self.advance_any(piece);
+        };
+        let first = piece[0];
+        if first >= 24 {
+            return self.advance_any(piece);
+        }
+        let form = Form::Uint(Width::Direct, first as u64);
+        let node = Node {
+            place: self.at,
+            form,
+        };
+        let Some(frame) = &mut self.nest.top else {
+            if let Err(error) = keep(&mut self.ready, Spelled::new(node)) {
+                self.fault = Some(WireFault::OutOfMemory);
+                return Err(error.into());
+            }
+            self.at += 1;
+            return Ok(1);
+        };
+        if let Frame::Items {
+            argument,
+            items,
+            ..
+        } = frame
+        {
+            if !argument.is_met(items.len() + 1) {
+                if let Err(error) = push_doubling(items, node) {
+                    self.fault = Some(WireFault::OutOfMemory);
+                    return Err(error.into());
+                }
+                self.at += 1;
+                return Ok(1);
+            }
+        }
+        self.advance_any(piece)
+    }
+
+    /// The same of anything that may stand there.
+    #[inline(never)]
+    fn advance_any(&mut self, piece: &[u8]) -> Result<usize, WireFault>
         requires live { self.old.fault ≡ None }
         requires some { 0 < length piece.now }
         requires room { self.old.at + length piece.now < 2 ^ 64 }

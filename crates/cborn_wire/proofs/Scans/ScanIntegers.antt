@@ -27,7 +27,7 @@ small_more x n some low h = subst AreSmall (sym (take_more x n 0 some)) (push (t
     push (c ∷ y) b low h = (h.0, push y b low h.1)
 
 module _ (limit : ℕ) (ready : Trees) where
-  small_step : (fed b : ℕ) (os : List Begun) → b < 24 → IsNoChunk (slot os) → step limit (Live fed ready os nothing) b ≡ finished (suc fed) ready os (Uint fed Direct b)
+  pub small_step : (fed b : ℕ) (os : List Begun) → b < 24 → IsNoChunk (slot os) → step limit (Live fed ready os nothing) b ≡ finished (suc fed) ready os (Uint fed Direct b)
   small_step fed b os low free =
       let same : b ≡ 32 * 0 + b = omega arith in
       ap (step limit (Live fed ready os nothing)) same

@@ -1,100 +1,62 @@
-use Rattle.std.proofs.Common.{◌≡◌, ◌++◌, ◌∷◌, [], ap, ◌∙◌, refl}
-use Rattle.cborn_model.specs.Tree.{trees}
+use Rattle.std.proofs.Common.{◌≡◌, ◌+◌, ◌++◌, ◌∷◌, [], refl, sym, ap, ◌∙◌, length, length-append, get_or, false, Some, arith}
+use Rattle.cborn_model.specs.declared.heads.Width.TheVariants.{Direct}
+use Rattle.cborn_model.specs.Tree.{Uint}
+use Rattle.cborn_wire.specs.declared.frames.Frame.TheVariants as frames
+use Rattle.cborn_wire.specs.declared.nests.Nest.{Nest}
+use Rattle.cborn_wire.specs.declared.nests.Outcome.TheVariants.{Open, Whole}
+use Rattle.cborn_wire.specs.HeadReading.{seen_argument}
+use Rattle.cborn_wire.specs.devices.Machine.{is_full}
 use Rattle.cborn_wire.specs.devices.Standing.{Standing}
 use Rattle.cborn_wire.specs.devices.StackKeeps.{told}
-use Rattle.cborn_wire.specs.devices.StackView.{opened, seen_partial}
 use Rattle.cborn_wire.proofs.Spelled.ByteLists.{are_bytes}
-use Rattle.cborn_wire.proofs.Machine.Reached.{reached_begun}
-use Rattle.cborn_wire.proofs.Stacked.Advancing.{part_short, advanced, made, is_open, is_part, is_whole, is_spelled, stack_fails}
+use Rattle.cborn_wire.proofs.Stacked.Advancing.{advanced, made, is_open, is_whole}
+use Rattle.cborn_wire.proofs.Stacked.SmallIntegers.{small_alone, small_within}
 use Rattle.cborn_wire.proofs.stacks.Stack.advance.Goals as goal
 
-pub take-step-requires-clause-begun : goal.take-step-requires-clause-begun
-take-step-requires-clause-begun c =
-    let f = c.self.inside in
-    let h = c.self.invariant.1 (ap (λ (s : Standing). s.fault) c.self.view_is ∙ c.requires.live) in
-    reached_begun f.limit h.0 f.at (trees f.ready.items) (opened f.nest) (seen_partial f.partial) h.1
-
-pub take-step-requires-clause-short : goal.take-step-requires-clause-short
-take-step-requires-clause-short c =
-    let f = c.self.inside in
-    let h = c.self.invariant.1 (ap (λ (s : Standing). s.fault) c.self.view_is ∙ c.requires.live) in
-    part_short f.limit h.0 f.at (trees f.ready.items) (opened f.nest) f.partial h.1
-
-pub returns-in-Err : goal.returns-in-Err
-returns-in-Err c = rw (← c.self.view_is) (record { fault = refl; limit = refl }, stack_fails (told c.self.inside) c.args.piece.now c.in-Err.fault c.in-Err.ensures.taken)
-
-pub new-requires : goal.new-requires
-new-requires c =
+pub invariant_of-self-in_default-top : goal.invariant_of-self-in_default-top
+invariant_of-self-in_default-top c =
     let f = told c.self.inside in
     let x = c.args.piece.now in
-    let new = c.take-step.new.self in
-    let n = c.in-Ok.step.0 in
-    let o = c.in-Ok.step.1 in
-    let t = c.in-Ok.ensures.taken in
+    let u = Uint f.at Direct (get_or x 0 0) in
+    let t = small_alone f.limit f.at f.partial f.nest x c.in-Nothing.is c.in_default-top.is c.requires.some (omega (arith, c.if-first-ge24.false)) in
+    let added : c.keep.new.ready.items ≡ f.items ++ u ∷ [] = c.in_default-keep.ensures ∙ ap (λ v. f.items ++ v ∷ []) c.new.ensures in
+    (c.self.invariant.0, λ live. made f x f.nest 1 (Whole u) t c.keep.new.ready.items f.partial (is_whole f x f.nest 1 (Whole u) t f.partial c.keep.new.ready.items u refl c.in-Nothing.is added) (are_bytes x c.type_inv.piece) (c.self.invariant.1 live))
+
+pub returns-in_default-top : goal.returns-in_default-top
+returns-in_default-top c =
+    let f = told c.self.inside in
+    let x = c.args.piece.now in
+    let u = Uint f.at Direct (get_or x 0 0) in
+    let t = small_alone f.limit f.at f.partial f.nest x c.in-Nothing.is c.in_default-top.is c.requires.some (omega (arith, c.if-first-ge24.false)) in
+    let added : c.keep.new.ready.items ≡ f.items ++ u ∷ [] = c.in_default-keep.ensures ∙ ap (λ v. f.items ++ v ∷ []) c.new.ensures in
     let live = ap (λ (s : Standing). s.fault) c.self.view_is ∙ c.requires.live in
-    is_spelled f x new n o t c.in-Whole.node c.in-Whole.is c.self.invariant.0 (are_bytes x c.type_inv.piece) (c.self.invariant.1 live)
+    rw (← c.self.view_is) (advanced f x f.nest 1 (Whole u) t c.keep.new.ready.items f.partial (is_whole f x f.nest 1 (Whole u) t f.partial c.keep.new.ready.items u refl c.in-Nothing.is added) live)
 
-pub invariant_of-self-in-Open : goal.invariant_of-self-in-Open
-invariant_of-self-in-Open c =
+pub invariant_of-self-then-not-is_met : goal.invariant_of-self-then-not-is_met
+invariant_of-self-then-not-is_met c =
     let f = told c.self.inside in
     let x = c.args.piece.now in
-    let new = c.take-step.new.self in
-    let n = c.in-Ok.step.0 in
-    let o = c.in-Ok.step.1 in
-    let t = c.in-Ok.ensures.taken in
-    (c.self.invariant.0, λ live. made f x new n o t f.items c.take-step.new.part (is_open f x new n o t c.take-step.new.part c.in-Open.is c.in-Ok.ensures.used) (are_bytes x c.type_inv.piece) (c.self.invariant.1 live))
+    let a = c.in-Items.argument in
+    let xs = c.in-Items.items in
+    let ys = c.push_doubling.new.list in
+    let new : Nest = record f.nest { top = Some (frames.Items c.in-Items.place a ys) } in
+    let added = c.in_default-push_doubling.ensures.added in
+    let many : length ys.items ≡ c.len.result + 1 = omega (arith, ap length added, length-append xs.items (Uint f.at Direct (get_or x 0 0) ∷ []), c.len.ensures, xs.ok.0) in
+    let room : is_full (seen_argument a) (length ys.items) ≡ false = ap (is_full (seen_argument a)) many ∙ sym c.is_met.ensures ∙ c.if-not-is_met.true in
+    let t = small_within f.limit f.at f.partial f.nest new x c.in-Items.place a xs ys c.in-Nothing.is (c.in-Some.is ∙ ap Some c.in-Items.is) refl refl c.requires.some (omega (arith, c.if-first-ge24.false)) added room in
+    (c.self.invariant.0, λ live. made f x new 1 Open t f.items f.partial (is_open f x new 1 Open t f.partial refl c.in-Nothing.is) (are_bytes x c.type_inv.piece) (c.self.invariant.1 live))
 
-pub returns-in-Open : goal.returns-in-Open
-returns-in-Open c =
+pub returns-then-not-is_met : goal.returns-then-not-is_met
+returns-then-not-is_met c =
     let f = told c.self.inside in
     let x = c.args.piece.now in
-    let new = c.take-step.new.self in
-    let n = c.in-Ok.step.0 in
-    let o = c.in-Ok.step.1 in
-    let t = c.in-Ok.ensures.taken in
+    let a = c.in-Items.argument in
+    let xs = c.in-Items.items in
+    let ys = c.push_doubling.new.list in
+    let new : Nest = record f.nest { top = Some (frames.Items c.in-Items.place a ys) } in
+    let added = c.in_default-push_doubling.ensures.added in
+    let many : length ys.items ≡ c.len.result + 1 = omega (arith, ap length added, length-append xs.items (Uint f.at Direct (get_or x 0 0) ∷ []), c.len.ensures, xs.ok.0) in
+    let room : is_full (seen_argument a) (length ys.items) ≡ false = ap (is_full (seen_argument a)) many ∙ sym c.is_met.ensures ∙ c.if-not-is_met.true in
+    let t = small_within f.limit f.at f.partial f.nest new x c.in-Items.place a xs ys c.in-Nothing.is (c.in-Some.is ∙ ap Some c.in-Items.is) refl refl c.requires.some (omega (arith, c.if-first-ge24.false)) added room in
     let live = ap (λ (s : Standing). s.fault) c.self.view_is ∙ c.requires.live in
-    rw (← c.self.view_is) (advanced f x new n o t f.items c.take-step.new.part (is_open f x new n o t c.take-step.new.part c.in-Open.is c.in-Ok.ensures.used) live)
-
-pub invariant_of-self-in-Part : goal.invariant_of-self-in-Part
-invariant_of-self-in-Part c =
-    let f = told c.self.inside in
-    let x = c.args.piece.now in
-    let new = c.take-step.new.self in
-    let n = c.in-Ok.step.0 in
-    let o = c.in-Ok.step.1 in
-    let t = c.in-Ok.ensures.taken in
-    (c.self.invariant.0, λ live. made f x new n o t f.items c.in-Part.part (is_part f x new n o t c.in-Part.part c.in-Part.is) (are_bytes x c.type_inv.piece) (c.self.invariant.1 live))
-
-pub returns-in-Part : goal.returns-in-Part
-returns-in-Part c =
-    let f = told c.self.inside in
-    let x = c.args.piece.now in
-    let new = c.take-step.new.self in
-    let n = c.in-Ok.step.0 in
-    let o = c.in-Ok.step.1 in
-    let t = c.in-Ok.ensures.taken in
-    let live = ap (λ (s : Standing). s.fault) c.self.view_is ∙ c.requires.live in
-    rw (← c.self.view_is) (advanced f x new n o t f.items c.in-Part.part (is_part f x new n o t c.in-Part.part c.in-Part.is) live)
-
-pub invariant_of-self-in-Ok-keep : goal.invariant_of-self-in-Ok-keep
-invariant_of-self-in-Ok-keep c =
-    let f = told c.self.inside in
-    let x = c.args.piece.now in
-    let new = c.take-step.new.self in
-    let n = c.in-Ok.step.0 in
-    let o = c.in-Ok.step.1 in
-    let t = c.in-Ok.ensures.taken in
-    let added : c.keep.new.ready.items ≡ f.items ++ c.in-Whole.node ∷ [] = c.in-Ok-keep.ensures ∙ ap (λ u. f.items ++ u ∷ []) c.new.ensures in
-    (c.self.invariant.0, λ live. made f x new n o t c.keep.new.ready.items c.take-step.new.part (is_whole f x new n o t c.take-step.new.part c.keep.new.ready.items c.in-Whole.node c.in-Whole.is c.in-Ok.ensures.used added) (are_bytes x c.type_inv.piece) (c.self.invariant.1 live))
-
-pub returns-in-Ok-keep : goal.returns-in-Ok-keep
-returns-in-Ok-keep c =
-    let f = told c.self.inside in
-    let x = c.args.piece.now in
-    let new = c.take-step.new.self in
-    let n = c.in-Ok.step.0 in
-    let o = c.in-Ok.step.1 in
-    let t = c.in-Ok.ensures.taken in
-    let added : c.keep.new.ready.items ≡ f.items ++ c.in-Whole.node ∷ [] = c.in-Ok-keep.ensures ∙ ap (λ u. f.items ++ u ∷ []) c.new.ensures in
-    let live = ap (λ (s : Standing). s.fault) c.self.view_is ∙ c.requires.live in
-    rw (← c.self.view_is) (advanced f x new n o t c.keep.new.ready.items c.take-step.new.part (is_whole f x new n o t c.take-step.new.part c.keep.new.ready.items c.in-Whole.node c.in-Whole.is c.in-Ok.ensures.used added) live)
+    rw (← c.self.view_is) (advanced f x new 1 Open t f.items f.partial (is_open f x new 1 Open t f.partial refl c.in-Nothing.is) live)
