@@ -166,7 +166,7 @@ impl Stack {
     }
 
     /// The same of anything that may stand there.
-    #[inline(never)]
+    #[inline(always)]
     fn advance_any(&mut self, piece: &[u8]) -> Result<usize, WireFault>
         requires live { self.old.fault ≡ None }
         requires some { 0 < length piece.now }
