@@ -5,6 +5,7 @@ use Rattle.std.specs.List.{AllByRecursion, AllZip}
 use Rattle.std.proofs.lemmas.List.Sorted.{length_permutation, IsPermutation-sym, IsPermutation-trans}
 use Rattle.std.proofs.lemmas.Bool.{cases_lt}
 use Rattle.cborn_model.proofs.Numbers.OneHead.{one_head, least_holds}
+use Rattle.cborn_model.proofs.Numbers.Simples.{simple_below}
 use Rattle.cborn_model.proofs.SameItems.Rearranging.{All_moved, carried, carried_left}
 use Rattle.cborn_det.proofs.Rising.{one_arrangement, arranged}
 use Rattle.cborn_det.proofs.Reading.{small, reads, EntryReads, pairs_read, arranged_reads}
@@ -14,9 +15,8 @@ use Rattle.cborn_model.proofs.Listed.Values.{listed-pairs_of}
 use Rattle.cborn_model.specs.Bytes.{big_endian}
 use Rattle.cborn_model.specs.Valid.{IsProper, AreProper, HasProperPairs, IsNew, HasNewKeys}
 use Rattle.cborn_model.specs.declared.heads.Width.{Width}
-use Rattle.cborn_model.specs.declared.heads.Width.TheVariants.{Direct, One}
 use Rattle.cborn_model.specs.Heads.{information, following, IsHead, least, IsLeastHead}
-use Rattle.cborn_det.specs.Det.{IsString, IsInteger, IsSimple, Det, DetValues, DetPairs, DetSeq, DetMap, Entry, joined, major_of, bignum_tag}
+use Rattle.cborn_det.specs.Det.{IsString, IsInteger, Det, DetValues, DetPairs, DetSeq, DetMap, Entry, joined, major_of, bignum_tag}
 use Rattle.cborn_det.specs.devices.Writing.{HasDistinctKeys}
 use Rattle.cborn_model.specs.Orders.{IsKeyOrder}
 
@@ -120,12 +120,8 @@ integer_one s t m n x p q =
       ]
     ]
 
-simple_one : (n m : ℕ) (x : List ℕ) → IsSimple n x → IsSimple m x → n ≡ m
-simple_one n m x p q =
-    elim p [
-      | inl a ↦ elim q [ inl b ↦ (one_head {m = 7} {j = 7} Direct Direct [] [] a.1 b.1 refl).argument | inr b ↦ (one_head {m = 7} {j = 7} Direct One [] [] a.1 b.2 refl).argument ]
-      | inr a ↦ elim q [ inl b ↦ (one_head {m = 7} {j = 7} One Direct [] [] a.2 b.1 refl).argument | inr b ↦ (one_head {m = 7} {j = 7} One One [] [] a.2 b.2 refl).argument ]
-    ]
+simple_one : (n m : ℕ) (x : List ℕ) → IsLeastHead 7 n x → IsLeastHead 7 m x → n ≡ m
+simple_one n m x p q = (one_head {m = 7} {j = 7} (least n) (least m) [] [] p q refl).argument
 
 abbrev IsProperPair : Value × Value → Type 0
 IsProperPair p = IsProper p.0 × IsProper p.1
@@ -146,11 +142,7 @@ module _ (order : List ℕ → List ℕ → Ordering) where
   led (array vs) x d = record { major = 4; width = least (value_count vs); argument = value_count vs; head = d.0; content = d.1; is_head = d.2; is = d.4; leads = refl }
   led (dict ps) x d = record { major = 5; width = least (pair_count ps); argument = pair_count ps; head = d.0; content = joined d.2; is_head = d.3; is = d.7; leads = refl }
   led (tagged t v) x d = record { major = 6; width = least t; argument = t; head = d.0; content = d.1; is_head = d.2; is = d.4; leads = (refl, refl) }
-  led (simple n) x d =
-      elim d [
-        | inl p ↦ record { major = 7; width = Direct; argument = n; head = x; content = []; is_head = p.1; is = sym (append-nil x); leads = refl }
-        | inr p ↦ record { major = 7; width = One; argument = n; head = x; content = []; is_head = p.2; is = sym (append-nil x); leads = refl }
-      ]
+  led (simple n) x d = record { major = 7; width = least n; argument = n; head = x; content = []; is_head = d.1; is = sym (append-nil x); leads = refl }
 
   one_kind : (a b : Value) (x : List ℕ) → Det order a x → Det order b x → IsProper a → IsProper b → Alike a b
   one_kind a b x d e p q =
@@ -199,7 +191,7 @@ module _ (order : List ℕ → List ℕ → Ordering) where
     same_of_one (tagged t v) (tagged u w) x p q d e =
         let o = two_heads 6 6 (least t) (least u) t u d.0 e.0 d.1 e.1 x x d.2 e.2 d.4 e.4 refl in
         (o.argument, same_of_one v w d.1 p.3 q.3 d.3 (subst (Det order w) (sym o.content) e.3))
-    same_of_one (simple n) (simple m) x p q d e = simple_one n m x d e
+    same_of_one (simple n) (simple m) x p q d e = simple_one n m x d.1 e.1
     same_of_one a b x p q d e = absurd (one_kind a b x d e p q)
 
     values_of_one : (vs ws : Values) (c : List ℕ) → AreProper vs → AreProper ws → value_count vs ≡ value_count ws → DetValues order vs c → DetValues order ws c → SameValues vs ws
@@ -241,13 +233,6 @@ integer_same s t m n x y e f p q =
       ]
     ]
 
-simple_same : (n m : ℕ) (x y : List ℕ) → n ≡ m → IsSimple n x → IsSimple m y → x ≡ y
-simple_same n m x y e p q =
-    elim p [
-      | inl a ↦ elim q [ inl b ↦ a.1.1 ∙ ap (λ z. (32 * 7 + information Direct z) ∷ following Direct z) e ∙ sym b.1.1 | inr b ↦ absurd (omega arith) ]
-      | inr a ↦ elim q [ inl b ↦ absurd (omega arith) | inr b ↦ a.2.1 ∙ ap (λ z. (32 * 7 + information One z) ∷ following One z) e ∙ sym b.2.1 ]
-    ]
-
 values_count : (vs ws : Values) → SameValues vs ws → value_count vs ≡ value_count ws
 values_count no_values no_values h = refl
 values_count (value v vs) (value w ws) h = ap suc (values_count vs ws h.1)
@@ -273,7 +258,7 @@ module _ (order : List ℕ → List ℕ → Ordering) (laws : IsKeyOrder order) 
         d.7 ∙ (λ i. head_same 5 (pair_count ps) (pair_count qs) d.0 e.0 counts d.3 e.3 i ++ joined (arranged_one i)) ∙ sym e.7
     one_of_same (tagged t v) (tagged u w) x y p q h d e =
         d.4 ∙ (λ i. head_same 6 t u d.0 e.0 h.0 d.2 e.2 i ++ one_of_same v w d.1 e.1 p.3 q.3 h.1 d.3 e.3 i) ∙ sym e.4
-    one_of_same (simple n) (simple m) x y p q h d e = simple_same n m x y h d e
+    one_of_same (simple n) (simple m) x y p q h d e = head_same 7 n m x y h d.1 e.1
     one_of_same _ _ x y p q h d e = absurd h
 
     one_of_values : (vs ws : Values) (c d : List ℕ) → AreProper vs → AreProper ws → SameValues vs ws → DetValues order vs c → DetValues order ws d → c ≡ d
@@ -311,13 +296,6 @@ integer_exists s m l =
           (t.0 ++ u.0, inr (k, t.0, u.0, t.1, u.1, refl))
     ]
 
-simple_exists : (n : ℕ) → (n < 24) ⊎ ((32 ≤ n) × (n < 256)) → (x : List ℕ) × IsSimple n x
-simple_exists n p =
-    elim p [
-      | inl l ↦ ((32 * 7 + information Direct n) ∷ following Direct n, inl (l, (l, refl)))
-      | inr k ↦ ((32 * 7 + information One n) ∷ following One n, inr (k.0, k.1, (k.1, refl)))
-    ]
-
 module _ (order : List ℕ → List ℕ → Ordering) (laws : IsKeyOrder order) where
   -- a key that is the same as none of these has an encoding of its own
   new_apart : (k : Value) (c : List ℕ) (ps : Couples) (es : List Entry) → IsProper k → Det order k c → HasProperPairs ps → IsNew k ps → DetPairs order ps es → AllByRecursion (λ (g : Entry). c ≡ g.0 → ⊥) es
@@ -351,7 +329,10 @@ module _ (order : List ℕ → List ℕ → Ordering) (laws : IsKeyOrder order) 
         let h = least_head 6 t p.2 in
         let u = det_exists v p.3 in
         (h.0 ++ u.0, (h.0, u.0, h.1, u.1, refl))
-    det_exists (simple n) p = simple_exists n p
+    det_exists (simple n) p =
+        let l = simple_below n p in
+        let t = least_head 7 n (omega (arith, l)) in
+        (t.0, (p, t.1))
 
     values_exist : (vs : Values) → AreProper vs → (x : List ℕ) × DetValues order vs x
     values_exist no_values p = ([], refl)

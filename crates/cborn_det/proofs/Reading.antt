@@ -46,11 +46,7 @@ module _ (order : List ℕ → List ℕ → Ordering) where
   seen (array vs) x d = record { major = 4; width = least (value_count vs); argument = value_count vs; head = d.0; content = d.1; is_head = d.2; follows = items refl vs refl d.3; is = d.4 }
   seen (dict ps) x d = record { major = 5; width = least (pair_count ps); argument = pair_count ps; head = d.0; content = joined d.2; is_head = d.3; follows = entries refl ps d.1 d.2 refl d.4 d.5 refl; is = d.7 }
   seen (tagged t v) x d = record { major = 6; width = least t; argument = t; head = d.0; content = d.1; is_head = d.2; follows = inner refl v d.3; is = d.4 }
-  seen (simple n) x d =
-      elim d [
-        | inl p ↦ record { major = 7; width = Direct; argument = n; head = x; content = []; is_head = p.1; follows = bare (inr refl) refl; is = sym (append-nil x) }
-        | inr p ↦ record { major = 7; width = One; argument = n; head = x; content = []; is_head = p.2; follows = bare (inr refl) refl; is = sym (append-nil x) }
-      ]
+  seen (simple n) x d = record { major = 7; width = least n; argument = n; head = x; content = []; is_head = d.1; follows = bare (inr refl) refl; is = sym (append-nil x) }
 
   -- no other encoding stands where x stands
   abbrev pub Reads : List ℕ → Type 0
@@ -164,11 +160,7 @@ module _ (order : List ℕ → List ℕ → Ordering) where
         reads_from 5 (least (pair_count ps)) (pair_count ps) d.0 (joined d.2) x d.3 d.7
         (entries_read (pair_count ps) d.2 (length_permutation d.1 d.2 d.5 ∙ (are_entries ps d.1 d.4).1) (All_moved EntryReads d.1 d.2 d.5 (pairs_read ps d.1 d.4)))
     reads (tagged t v) x d = reads_from 6 (least t) t d.0 d.1 x d.2 d.4 (inner_reads t d.1 (reads v d.1 d.3))
-    reads (simple n) x d =
-        elim d [
-          | inl p ↦ reads_from 7 Direct n x [] x p.1 (sym (append-nil x)) (bare_reads 7 n (inr refl))
-          | inr p ↦ reads_from 7 One n x [] x p.2 (sym (append-nil x)) (bare_reads 7 n (inr refl))
-        ]
+    reads (simple n) x d = reads_from 7 (least n) n x [] x d.1 (sym (append-nil x)) (bare_reads 7 n (inr refl))
 
     values_read : (vs : Values) (c : List ℕ) → DetValues order vs c → ValuesRead vs c
     values_read no_values c e no_values d r s l g q = (e ∙ sym g, sym (ap (λ l. l ++ r) e) ∙ q ∙ ap (λ l. l ++ s) g)

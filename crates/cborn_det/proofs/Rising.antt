@@ -25,11 +25,11 @@ module _ (order : List ℕ → List ℕ → Ordering) (laws : IsKeyOrder order) 
   not_itself : (e : Entry) → Above e e → ⊥
   not_itself e p = cc (laws.itself e.0)
 
-  rises_after : (e : Entry) (es : List Entry) → Rising order (keys (e ∷ es)) → AllByRecursion (Above e) es
+  pub rises_after : (e : Entry) (es : List Entry) → Rising order (keys (e ∷ es)) → AllByRecursion (Above e) es
   rises_after e [] h = tt
   rises_after e (f ∷ fs) h = (h.0, weaker (Above f) (Above e) (λ z q. laws.along e.0 f.0 z.0 h.0 q) fs (rises_after f fs h.1))
 
-  rising_tail : (e : Entry) (es : List Entry) → Rising order (keys (e ∷ es)) → Rising order (keys es)
+  pub rising_tail : (e : Entry) (es : List Entry) → Rising order (keys (e ∷ es)) → Rising order (keys es)
   rising_tail e [] h = tt
   rising_tail e (f ∷ fs) h = h.1
 

@@ -15,11 +15,11 @@ use Rattle.cborn_model.specs.Bytes.{AreBytes, big_endian, IsShortest}
 use Rattle.cborn_model.specs.declared.heads.Major.{Major}
 use Rattle.cborn_model.specs.declared.heads.Major.TheVariants.{Unsigned, Negative, ByteString, TextString, Array, Map, Tag, Other}
 use Rattle.cborn_model.specs.Heads.{WidthFits, following, least, IsLeastHead, Given, Unbounded, head, argument}
-use Rattle.cborn_model.specs.Spelled.{ending, string, chunk_bytes, chunks, simple_width, spelled, spelled_all, spelled_entries, ChunksFit, Fits, FitsAll, FitsEntries}
+use Rattle.cborn_model.specs.Spelled.{ending, string, chunk_bytes, chunks, spelled, spelled_all, spelled_entries, ChunksFit, Fits, FitsAll, FitsEntries}
 use Rattle.cborn_model.specs.Tree.{Tree, Uint, Nint, Bytes, Text, ByteChunks, TextChunks, Items, Pairs, Tagged, Simple, Trees, no_item, more, Entries, no_entry, entry, trees, count, count_entries}
 use Rattle.cborn_model.specs.Meaning.{joined_chunks, IsNumber, IsBignum, Means, AllMean, EntriesMean}
-use Rattle.cborn_model.specs.Value.{Value, Values, Couples, array, dict, tagged, no_values, value, no_pairs, pair, value_count, pair_count}
-use Rattle.cborn_det.specs.Det.{IsString, IsInteger, IsSimple, Det, DetValues, DetPairs, DetSeq, Entry, joined, major_of, bignum_tag}
+use Rattle.cborn_model.specs.Value.{Value, Values, Couples, array, dict, tagged, simple, no_values, value, no_pairs, pair, value_count, pair_count}
+use Rattle.cborn_det.specs.Det.{IsString, IsInteger, Det, DetValues, DetPairs, DetSeq, Entry, joined, major_of, bignum_tag}
 
 -- ---- heads
 
@@ -99,7 +99,7 @@ length_of_string m w b =
     let e : length (string m w b) ≡ length (head m (Given w (length b))) + length b = length-append (head m (Given w (length b))) b in
     omega (arith, e, length_of_head m w (length b))
 
-length_of_chunks : (m : Major) (cs : List Chunk) → length (joined_chunks cs) ≤ length (flat_map (chunk_bytes m) cs)
+pub length_of_chunks : (m : Major) (cs : List Chunk) → length (joined_chunks cs) ≤ length (flat_map (chunk_bytes m) cs)
 length_of_chunks m [] = omega arith
 length_of_chunks m (c ∷ cs) =
     let rest = length_of_chunks m cs in
@@ -151,7 +151,7 @@ tag_is_short true = refl
 tag_is_short false = refl
 
 -- without leading zeros a number has no more bytes than with them
-no_more : (m b : List ℕ) → AreBytes b → IsShortest m → big_endian m ≡ big_endian b → length m ≤ length b
+pub no_more : (m b : List ℕ) → AreBytes b → IsShortest m → big_endian m ≡ big_endian b → length m ≤ length b
 no_more m b h s e = elim (cases_lt (length b) (length m)) [ inl k ↦ absurd (let f = fewer b m h s k in omega (arith, f, e)) | inr k ↦ k ]
 
 -- a bignum of these bytes, in a spelling that has a head for the tag and one for the string
@@ -167,29 +167,18 @@ bignum_room order s b v x h m d =
           omega (arith, l, length_of_least 6 (bignum_tag s) p.1 p.3, tag_is_short s, string_room 2 m.0 p.2 p.4, no_more m.0 b h m.2 m.3)
     ]
 
-wide : (n : ℕ) → 32 ≤ n → bytes_in (simple_width n) ≡ 1
-unfolding bytes_in
-wide n h = by_cond (λ v. bytes_in v ≡ 1) (ltb n 24) Direct One (λ e. absurd (let l = ltb-true n 24 e in omega (arith, l, h))) (λ e. refl)
-
-simple_room : (n : ℕ) (x : List ℕ) → IsSimple n x → IsRoomFor (head Other (Given (simple_width n) n)) x
-simple_room n x d =
-    elim d [
-      | inl p ↦ let e : length x ≡ 1 = ap length p.1.1 in omega (arith, e, length_of_head Other (simple_width n) n)
-      | inr p ↦
-          let e : length x ≡ 2 = ap length p.2.1 in
-          let w : bytes_in (simple_width n) ≡ 1 = wide n p.0 in
-          omega (arith, e, w, length_of_head Other (simple_width n) n)
-    ]
+simple_room : (n : ℕ) (x : List ℕ) → IsLeastHead 7 n x → IsRoomFor (head Other (Given (least n) n)) x
+simple_room n x d = omega (arith, length_of_least 7 n x d, length_of_head Other (least n) n)
 
 -- ---- what holds items
 
-counted : (ts : Trees) (vs : Values) → AllMean ts vs → value_count vs ≡ count ts
+pub counted : (ts : Trees) (vs : Values) → AllMean ts vs → value_count vs ≡ count ts
 counted no_item no_values m = refl
 counted no_item (value v vs) m = absurd m
 counted (more t ts) no_values m = absurd m
 counted (more t ts) (value v vs) m = ap suc (counted ts vs m.1)
 
-counted_pairs : (es : Entries) (ps : Couples) → EntriesMean es ps → pair_count ps ≡ count_entries es
+pub counted_pairs : (es : Entries) (ps : Couples) → EntriesMean es ps → pair_count ps ≡ count_entries es
 counted_pairs no_entry no_pairs m = refl
 counted_pairs no_entry (pair a b ps) m = absurd m
 counted_pairs (entry k v es) no_pairs m = absurd m
@@ -267,7 +256,9 @@ module _ (order : List ℕ → List ℕ → Ordering) where
                 omega (arith, l, inner, whole, length_of_least 6 n e.0 e.2, length_of_head Tag w n, least_is_least w n f.0)
           ]
         ]
-    item_room (Simple p n) v x f m d = simple_room n x (subst (λ (u : Value). Det order u x) m d)
+    item_room (Simple p n) v x f m d =
+        let e : Det order (simple n) x = subst (λ (u : Value). Det order u x) m d in
+        simple_room n x e.1
 
     values_room : (ts : Trees) (vs : Values) (x : List ℕ) → FitsAll ts → AllMean ts vs → DetValues order vs x → 3 * length x + count ts ≤ 4 * length (spelled_all ts)
     values_room no_item no_values x f m d = let e : length x ≡ 0 = ap length d in omega (arith, e)

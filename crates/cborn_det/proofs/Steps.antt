@@ -81,14 +81,19 @@ laid es lengths slice start front out s e a =
     }
 
 module _ (order : List ℕ → List ℕ → Ordering) where
-  det_values : (vs : List Value) (x : List ℕ) → DetSeq order vs x → DetValues order (values_of vs) x
-  det_values [] x d = d
-  det_values (v ∷ vs) x d = (d.0, d.1, d.2, det_values vs d.1 d.3, d.4)
+  -- a sequence is written as the items of an array are
+  pub values_of_seq : (vs : List Value) (x : List ℕ) → DetSeq order vs x → DetValues order (values_of vs) x
+  values_of_seq [] x d = d
+  values_of_seq (v ∷ vs) x d = (d.0, d.1, d.2, values_of_seq vs d.1 d.3, d.4)
+
+  pub seq_of_values : (vs : List Value) (x : List ℕ) → DetValues order (values_of vs) x → DetSeq order vs x
+  seq_of_values [] x d = d
+  seq_of_values (v ∷ vs) x d = (d.0, d.1, d.2, seq_of_values vs d.1 d.3, d.4)
 
   pub items_done : (vs : List Value) (n : ℕ) (old mid new : List ℕ) → n ≡ length vs → Appends (IsLeastHead 4 n) old mid → Appends (DetSeq order vs) mid new → Appends (Det order (array (values_of vs))) old new
   items_done vs n old mid new l h d = (
     h.0 ++ d.0,
-    (h.0, d.0, subst (λ k. IsLeastHead 4 k h.0) (l ∙ sym (value_count-values_of vs)) h.1, det_values vs d.0 d.1, refl),
+    (h.0, d.0, subst (λ k. IsLeastHead 4 k h.0) (l ∙ sym (value_count-values_of vs)) h.1, values_of_seq vs d.0 d.1, refl),
     d.2 ∙ ap (λ z. z ++ d.0) h.2 ∙ append_assoc old h.0 d.0,
   )
 
@@ -116,7 +121,7 @@ module _ (order : List ℕ → List ℕ → Ordering) where
   abbrev pub AppendsPairs : List (Value × Value) → List (ℕ × ℕ) → List ℕ → List ℕ → Type 0
   AppendsPairs ps lengths old new = (es : List Entry) × DetPairs order (pairs_of ps) es × Appends (IsWritten es lengths) old new
 
-  pairs_push : (ps : List (Value × Value)) (p : Value × Value) (es : List Entry) (e : Entry) → DetPairs order (pairs_of ps) es → Det order p.0 e.0 → Det order p.1 e.1 → DetPairs order (pairs_of (ps ++ p ∷ [])) (es ++ e ∷ [])
+  pub pairs_push : (ps : List (Value × Value)) (p : Value × Value) (es : List Entry) (e : Entry) → DetPairs order (pairs_of ps) es → Det order p.0 e.0 → Det order p.1 e.1 → DetPairs order (pairs_of (ps ++ p ∷ [])) (es ++ e ∷ [])
   pairs_push [] p [] e d k v = (k, v, tt)
   pairs_push [] p (f ∷ es) e d k v = absurd d
   pairs_push (q ∷ ps) p [] e d k v = absurd d

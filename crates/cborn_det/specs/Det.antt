@@ -1,9 +1,8 @@
 -- The deterministic encoding of an item (RFC 8949 section 4.2).
-use Rattle.std.specs.Prelude.{◌≡◌, ℕ, ◌^◌, ◌<◌, ◌≤◌, ◌⊎◌, Bool, true, false, List, [], ◌∷◌, ◌++◌, map, flat_map, length, IsPermutation, ⊤}
+use Rattle.std.specs.Prelude.{◌≡◌, ℕ, ◌^◌, ◌<◌, ◌≤◌, ◌⊎◌, Bool, true, false, List, [], ◌∷◌, ◌++◌, map, flat_map, length, IsPermutation, IsTrue, ⊤}
 use Rattle.std.specs.declared.cmp.Ordering.{Ordering}
-use Rattle.cborn_model.specs.declared.heads.Width.TheVariants.{Direct, One}
 use Rattle.cborn_model.specs.Bytes.{big_endian}
-use Rattle.cborn_model.specs.Heads.{IsHead, IsLeastHead}
+use Rattle.cborn_model.specs.Heads.{IsLeastHead, is_simple_value}
 use Rattle.cborn_model.specs.Orders.{Rising}
 use Rattle.cborn_model.specs.Value.{Value, Values, Couples, integer, bytes, text, array, dict, tagged, simple, no_values, value, no_pairs, pair, value_count, pair_count, pairs_of, listed}
 
@@ -37,10 +36,6 @@ IsInteger s m x =
     ((big_endian m < 2 ^ 64) × IsLeastHead (major_of s) (big_endian m) x)
     ⊎ ((2 ^ 64 ≤ big_endian m) × (h : List ℕ) × (c : List ℕ) × IsLeastHead 6 (bignum_tag s) h × IsString 2 m c × (x ≡ h ++ c))
 
--- a simple value below 24 stands in the initial byte, and one from 32 on in the byte after it (RFC 8949 section 3.3)
-abbrev pub IsSimple : ℕ → List ℕ → Type 0
-IsSimple n x = ((n < 24) × IsHead 7 Direct n x) ⊎ ((32 ≤ n) × (n < 256) × IsHead 7 One n x)
-
 -- x is the deterministic encoding. Of a map it is a head and the pairs' encodings, so arranged that those of the keys rise (RFC 8949 sections 4.2.1 and 4.2.3).
 abbrev mutual
   pub Det : (List ℕ → List ℕ → Ordering) → Value → List ℕ → Type 0
@@ -52,7 +47,7 @@ abbrev mutual
       (h : List ℕ) × (written : List Entry) × (arranged : List Entry) × IsLeastHead 5 (pair_count ps) h
       × DetPairs order ps written × IsPermutation written arranged × Rising order (keys arranged) × (x ≡ h ++ joined arranged)
   Det order (tagged t v) x = (h : List ℕ) × (c : List ℕ) × IsLeastHead 6 t h × Det order v c × (x ≡ h ++ c)
-  Det order (simple n) x = IsSimple n x
+  Det order (simple n) x = IsTrue (is_simple_value n) × IsLeastHead 7 n x
 
   -- x is the encodings one after another
   pub DetValues : (List ℕ → List ℕ → Ordering) → Values → List ℕ → Type 0

@@ -5,7 +5,8 @@
 //! An item is written to the end of one buffer: `encoding` goes over what is inside it, `parts`
 //! appends heads, strings and numbers, and `entries` arranges the pairs of a map where they lie,
 //! once all are written. Where the keys of a map rise as its pairs stand, nothing is moved; another
-//! map is copied once, with all that is in it.
+//! map is copied once, with all that is in it. `heads` has the shortest head alone, for who writes
+//! an encoding without an item.
 //!
 //! `laws` says what follows from the definitions: two valid items have one encoding exactly if they
 //! are the same.
@@ -13,10 +14,12 @@
 
 mod encoding;
 mod entries;
+mod heads;
 pub mod laws;
 mod parts;
 
 pub use encoding::{encode, encode_all, equal_bytes, push_encoding};
+pub use heads::{put_head, set_head};
 
 #[cfg(test)]
 mod tests;

@@ -1,11 +1,13 @@
 //! What an encoding is made of, at the end of a buffer: heads, strings, integers and simple values.
 
-ghost use Rattle.std.specs.Prelude.{◌≡◌, ◌<◌, ◌≤◌, ◌⊎◌};
-ghost use Rattle.cborn_model.specs.Heads.{code, IsLeastHead};
+ghost use Rattle.std.specs.Prelude.{◌≡◌, ℕ, List, IsTrue};
+ghost use Rattle.std.specs.declared.cmp.Ordering.{Ordering};
+ghost use Rattle.cborn_model.specs.Heads.{code, IsLeastHead, is_simple_value};
+ghost use Rattle.cborn_model.specs.Value.{simple};
 ghost use Rattle.cborn_det.specs.devices.Writing.{Writes};
-ghost use Rattle.cborn_det.specs.Det.{IsInteger, IsSimple, IsString, major_of};
+ghost use Rattle.cborn_det.specs.Det.{Det, IsInteger, IsString, major_of};
 
-use cborn_model::{Magnitude, Major, Number, Width, shortest};
+use cborn_model::{Magnitude, Major, Number, shortest};
 use cborn_wire::push_head;
 use std::alloc::AllocError;
 
@@ -59,11 +61,11 @@ fn major_of(negative: bool) -> Major
     }
 }
 
-/// Appends a simple value: the head alone below 24, and otherwise a byte of its own.
+/// Appends a simple value.
 pub(crate) fn push_simple(n: u8, out: &mut Vec<u8>) -> Result<(), AllocError>
-    requires { (n < 24) ⊎ (32 ≤ n) }
-    ensures { Writes result (IsSimple n) out.old.items out.new.items }
+    requires { IsTrue (is_simple_value n) }
+    ensures { (order : List ℕ → List ℕ → Ordering) → Writes result (Det order (simple n)) out.old.items out.new.items }
 {
-    let width = if n < 24 { Width::Direct } else { Width::One };
-    push_head(out, Major::Other, width, u64::from(n))
+    push_shortest(Major::Other, u64::from(n), out)?;
+    Ok(())
 }

@@ -1,6 +1,6 @@
 use super::*;
 use cborn_model::{
-    ByteString, Bytewise, Item, ItemBox, ItemList, LengthFirst, Magnitude, PairList, Valid,
+    ByteString, Bytewise, Item, ItemBox, ItemList, LengthFirst, Magnitude, Major, PairList, Valid,
     is_valid,
 };
 use std::alloc::{AllocError, Global};
@@ -170,6 +170,41 @@ fn encodes_many_keys(rt: HostRuntime) -> Result<(), Fail> {
     assert_eq!(rt; encoding.len(), 3723);
     assert!(rt; encoding.starts_with(b"\xb9\x03\xe8\x00\x00\x01\x00\x02\x00"));
     assert!(rt; encoding.ends_with(b"\x19\x03\xe7\x00"));
+    Ok(())
+}
+
+#[test]
+fn puts_heads(rt: HostRuntime) -> Result<(), Fail> {
+    let alloc = rt.alloc();
+    let cases = [
+        (Major::Unsigned, 23, b"\x17".as_slice()),
+        (Major::Unsigned, 24, b"\x18\x18"),
+        (Major::Negative, 999, b"\x39\x03\xe7"),
+        (Major::Unsigned, 1000000, b"\x1a\x00\x0f\x42\x40"),
+        (
+            Major::Unsigned,
+            1000000000000,
+            b"\x1b\x00\x00\x00\xe8\xd4\xa5\x10\x00",
+        ),
+        (Major::Tag, 32, b"\xd8\x20"),
+    ];
+    for (major, n, want) in cases {
+        let mut out = Vec::new(alloc);
+        assert_eq!(rt; put_head(major, n, &mut out), Some(()));
+        assert_eq!(rt; out.as_slice(), want);
+    }
+    Ok(())
+}
+
+#[test]
+fn sets_heads(rt: HostRuntime) -> Result<(), Fail> {
+    let alloc = rt.alloc();
+    let mut out = Vec::from_slice(alloc, b"\x07\x00\x01")?;
+    assert_eq!(rt; set_head(alloc, Major::Array, 1, 1, &mut out), Some(()));
+    assert_eq!(rt; out.as_slice(), b"\x07\x81\x01".as_slice());
+    assert_eq!(rt; set_head(alloc, Major::Array, 25, 1, &mut out), Some(()));
+    assert_eq!(rt; out.as_slice(), b"\x07\x98\x19\x01".as_slice());
+    assert_eq!(rt; set_head(alloc, Major::Array, 1, 4, &mut out), None);
     Ok(())
 }
 

@@ -1,5 +1,5 @@
 -- What a tree says: the nodes, and the faults of what says nothing.
-use Rattle.std.specs.Prelude.{◌≡◌, ◌⊎◌, ℕ, suc, ◌^◌, List, [], ◌∷◌, ◌++◌, length, Bool, true, false, ◌&&◌, ◌||◌, not, nat_lt, nat_le, if◌then◌else◌, Option, Some, None}
+use Rattle.std.specs.Prelude.{◌≡◌, ◌⊎◌, ℕ, suc, ◌^◌, List, [], ◌∷◌, ◌++◌, length, Bool, true, false, ◌&&◌, not, nat_lt, if◌then◌else◌, Option, Some, None}
 use Rattle.cborn_edn.specs.declared.faults.EdnReason.{EdnReason}
 use Rattle.cborn_edn.specs.declared.faults.EdnReason.TheVariants.{UnexpectedToken, UnexpectedEnd, TooDeep, IndicatorTooNarrow, IndicatorNotAllowed, MixedString, MixedChunks, TextNotUtf8, BadSimple, TagTooLarge}
 use Rattle.cborn_edn.specs.declared.slips.Slip.{Slip}
@@ -13,7 +13,7 @@ use Rattle.cborn_model.specs.declared.heads.Size.{Size}
 use Rattle.cborn_model.specs.declared.heads.Size.TheVariants.{Fixed, Endless as Unending}
 use Rattle.cborn_model.specs.declared.nodes.Chunk.{Chunk}
 use Rattle.cborn_model.specs.Tree.{Tree, Uint, Nint, Bytes as ByteNode, Text as TextNode, ByteChunks, TextChunks, Items, Pairs as PairNode, Tagged, Simple, Trees, no_item as no_node, more, Entries, no_entry, entry, count, count_entries}
-use Rattle.cborn_model.specs.Heads.{holds, least}
+use Rattle.cborn_model.specs.Heads.{holds, least, is_simple_value}
 use Rattle.cborn_model.specs.First.{IsFirst}
 use Rattle.cborn_model.specs.Spelled.{spelled_all}
 use Rattle.cborn_lex.specs.declared.classes.Mark.{Mark}
@@ -68,9 +68,9 @@ means_number p n v m =
     if is_small n v then and_then (width_for m (argument_of n v)) (λ w. Some (integer p n v w))
     else when (is_absent m) (bignum p n v)
 
--- 0 to 23 and 32 to 255
+-- a simple value, which isn't below zero
 abbrev pub is_simple : Bool → ℕ → Bool
-is_simple n v = not (is_below n v) && (nat_lt v 24 || (nat_le 32 v && nat_lt v 256))
+is_simple n v = not (is_below n v) && is_simple_value v
 
 -- Strings.
 

@@ -13,7 +13,7 @@ ghost use Rattle.cborn_edn.specs.devices.Draft.{slip_at, simple_slip, first_slip
 use crate::EdnReason;
 use crate::slips::{Slip, earlier, slip_unless};
 use cborn_lex::Mark;
-use cborn_model::{ByteString, Form, Node, Size, Width, shortest};
+use cborn_model::{ByteString, Form, Node, Size, Width, is_simple_value, shortest};
 use std::alloc::{AllocError, Global};
 
 /// The width of a head with the argument `n` under an indicator, where the head can't be
@@ -181,5 +181,5 @@ fn is_simple(negative: bool, magnitude: u128) -> bool
     ensures small { result ≡ true → magnitude < 256 }
 {
     let below = is_below(negative, magnitude);
-    !below && (magnitude < 24 || magnitude >= 32 && magnitude < 256)
+    !below && magnitude < 256 && is_simple_value(magnitude as u64)
 }

@@ -1,6 +1,6 @@
 -- The first of two faults, and of what two searches found. The key of a fault is its place and the number of its reason.
 use Rattle.std.specs.Prelude.{◌≡◌, ℕ, ◌⊎◌, Option, None, Some}
-use Rattle.cborn_model.specs.First.{NoLater}
+use Rattle.cborn_model.specs.First.{IsFirst, NoLater}
 
 module _ {X : Type 0} (key : X → ℕ × ℕ) where
   -- z is one of the two, and neither comes before it
@@ -13,3 +13,9 @@ module _ {X : Type 0} (key : X → ℕ × ℕ) where
   IsEarliest (Some x) None o = o ≡ Some x
   IsEarliest (Some x) (Some y) None = ⊥
   IsEarliest (Some x) (Some y) (Some z) = IsEarlier x y z
+
+module _ {X R : Type 0} (rank : R → ℕ) (place_of : X → ℕ) (reason_of : X → R) where
+  -- o is the first of these faults, if there is one
+  abbrev pub Finds : (ℕ → R → Type 0) → Option X → Type 0
+  Finds fault None = (p : ℕ) (r : R) → fault p r → ⊥
+  Finds fault (Some x) = IsFirst rank fault (place_of x) (reason_of x)

@@ -2,14 +2,14 @@
 
 ghost use Rattle.std.specs.Prelude.{◌≡◌, ◌≤◌, ℕ, IfOk, length};
 ghost use Rattle.cborn_model.specs.declared.heads.Width.{Width};
-ghost use Rattle.cborn_model.specs.Bytes.{AreBytes, IsShortest, big_endian};
+ghost use Rattle.cborn_model.specs.Bytes.{AreBytes, big_endian};
 ghost use Rattle.cborn_model.specs.ItemView.{item_value};
 ghost use Rattle.cborn_model.specs.Meaning.{IsNumber};
 ghost use Rattle.cborn_model.specs.Spelled.{Fits};
 ghost use Rattle.cborn_judge.specs.devices.Judged.{IsBignumItem, IsMagnitudeOf};
 
 use crate::strings::join;
-use cborn_model::{Form, Item, Magnitude, Node};
+use cborn_model::{Form, Item, Magnitude, Node, without_zeros};
 use std::alloc::{AllocError, Global};
 
 /// The integer `n`, or -1 - `n`.
@@ -64,20 +64,6 @@ fn magnitude_of(alloc: Global, bytes: &[u8]) -> Result<Magnitude, AllocError>
     }
     let digits = digits.to_vec(alloc)?;
     Ok(Magnitude::new(digits))
-}
-
-/// The bytes behind the leading zeros.
-fn without_zeros(bytes: &[u8]) -> &[u8]
-    requires { AreBytes bytes.now }
-    ensures bytes { AreBytes result.now }
-    ensures shortest { IsShortest result.now }
-    ensures number { big_endian result.now ≡ big_endian bytes.now }
-{
-    let mut rest = bytes;
-    while let [0, after @ ..] = rest {
-        rest = after;
-    }
-    rest
 }
 
 /// The big-endian number of at most eight bytes.

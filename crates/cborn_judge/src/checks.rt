@@ -8,15 +8,16 @@ ghost use Rattle.cborn_model.specs.Tree.{trees, entries};
 ghost use Rattle.cborn_model.specs.declared.heads.Width.{Width};
 ghost use Rattle.cborn_model.specs.Valid.{IsProper, AreProper, HasProperPairs};
 ghost use Rattle.cborn_model.specs.Value.{Values, Couples, array, dict, values_of, pairs_of};
-ghost use Rattle.cborn_judge.specs.devices.Checked.{FindsDefect, DefectIn, DefectInAll, DescentAt, NotAboveAt, MapDefect, TagDefect};
+ghost use Rattle.cborn_judge.specs.Departures.{FindsDefect};
+ghost use Rattle.cborn_judge.specs.devices.Checked.{DefectIn, DefectInAll, DescentAt, MapDefect, TagDefect};
 ghost use Rattle.cborn_judge.specs.Defects.{IsCheck, IsDeterministic};
 ghost use Rattle.cborn_judge.specs.Flaws.{IsRefusal};
 
-use crate::defects::{Defect, DefectReason};
+use crate::defects::Defect;
 use crate::faults::Invalid;
 use crate::judgments::judge;
 use crate::precedence::earliest;
-use crate::spellings::{bignum_defect, chunks_defect, head_defect, size_defect};
+use crate::spellings::{bignum_defect, chunks_defect, head_defect, order_defect, size_defect};
 use cborn_det::push_encoding;
 use cborn_model::{Form, Item, KeyOrder, Node, Spelled};
 use std::alloc::{AllocError, Global};
@@ -173,17 +174,6 @@ fn descent<O: KeyOrder>(
         previous = Some(start);
     }
     Ok(first)
-}
-
-/// The defect of a key at `place` whose encoding follows that of the key before it.
-fn order_defect<O: KeyOrder>(place: u64, previous: &[u8], encoding: &[u8]) -> Option<Defect>
-    ensures { FindsDefect (NotAboveAt O.order place previous.now encoding.now) result }
-{
-    if O::compare(previous, encoding).is_lt() {
-        return None;
-    }
-    let reason = DefectReason::KeyOrder;
-    Some(Defect { place, reason })
 }
 
 /// The items of an array.

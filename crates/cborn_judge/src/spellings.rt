@@ -1,19 +1,22 @@
-//! The defects of heads, of strings and of bignums.
+//! The defects of heads, strings, bignums and keys. Those of one head, one bignum's bytes and one
+//! key are also told to who keeps no node.
 
 ghost use Rattle.std.specs.Prelude.{◌≡◌, ◌⊎◌, ◌↔◌, IfOk, IsTrue, List, ℕ, length};
 ghost use Rattle.std.proofs.Common.{Ordering};
 ghost use Rattle.cborn_model.specs.Meaning.{IsByteString};
-ghost use Rattle.cborn_judge.specs.devices.Checked.{FindsDefect, LongAt, SizeAt, LooseBytesAt, TagDefect};
+ghost use Rattle.cborn_judge.specs.Departures.{FindsDefect, LongAt, LooseBytesAt, NotAboveAt};
+ghost use Rattle.cborn_judge.specs.devices.Checked.{SizeAt, TagDefect};
 ghost use Rattle.cborn_judge.specs.Defects.{ChunksDefect, IsLoose};
 
 use crate::defects::{Defect, DefectReason};
 use crate::precedence::earliest;
 use crate::strings::join;
-use cborn_model::{Chunk, Form, Node, Size, Width, shortest};
+use cborn_model::{Chunk, Form, KeyOrder, Node, Size, Width, shortest};
 use std::alloc::{AllocError, Global};
 
-/// The defect of a head at `place` with the argument `n`.
-pub(crate) fn head_defect(place: u64, width: Width, n: u64) -> Option<Defect>
+/// The defect of a head at `place` with the argument `n`, if it has one.
+#[inline]
+pub fn head_defect(place: u64, width: Width, n: u64) -> Option<Defect>
     ensures { FindsDefect (LongAt place width n) result }
 {
     if width == shortest(n) {
@@ -77,8 +80,9 @@ pub(crate) fn bignum_defect(
     }
 }
 
-/// The defect of a bignum at `place` of these bytes.
-fn loose_defect(place: u64, bytes: &[u8]) -> Option<Defect>
+/// The defect of a bignum at `place` of these bytes, if it has one.
+#[inline]
+pub fn loose_defect(place: u64, bytes: &[u8]) -> Option<Defect>
     ensures { FindsDefect (LooseBytesAt place bytes.now) result }
 {
     if is_loose(bytes) {
@@ -89,8 +93,21 @@ fn loose_defect(place: u64, bytes: &[u8]) -> Option<Defect>
 }
 
 /// Whether these bytes begin with 0 or are at most eight.
+#[inline]
 fn is_loose(bytes: &[u8]) -> bool
     ensures { IsTrue result ↔ IsLoose bytes.now }
 {
     bytes.len() <= 8 || bytes[0] == 0
+}
+
+/// The defect of a key at `place` whose encoding follows that of the key before it, if it has one.
+#[inline]
+pub fn order_defect<O: KeyOrder>(place: u64, previous: &[u8], encoding: &[u8]) -> Option<Defect>
+    ensures { FindsDefect (NotAboveAt O.order place previous.now encoding.now) result }
+{
+    if O::compare(previous, encoding).is_lt() {
+        return None;
+    }
+    let reason = DefectReason::KeyOrder;
+    Some(Defect { place, reason })
 }

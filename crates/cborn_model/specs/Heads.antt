@@ -1,5 +1,5 @@
 -- Heads (RFC 8949 section 3): an initial byte with the major type in its high three bits and the additional information in its low five, and the bytes of an argument that follows it.
-use Rattle.std.specs.Prelude.{◌≡◌, ℕ, zero, suc, ◌+◌, ◌*◌, ◌^◌, ◌<◌, List, [], ◌∷◌, Bool, if◌then◌else◌, nat_lt}
+use Rattle.std.specs.Prelude.{◌≡◌, ℕ, zero, suc, ◌+◌, ◌*◌, ◌^◌, ◌<◌, List, [], ◌∷◌, Bool, ◌&&◌, ◌||◌, if◌then◌else◌, nat_lt, nat_le}
 use Rattle.std.specs.Int.{w16, w32, w64, to_be_bytes}
 use Rattle.cborn_model.specs.declared.heads.Width.{Width}
 use Rattle.cborn_model.specs.declared.heads.Width.TheVariants.{Direct, One, Two, Four, Eight}
@@ -82,6 +82,10 @@ least n =
 -- x is the shortest head of the major type with the argument n (RFC 8949 section 4.2.1)
 abbrev pub IsLeastHead : ℕ → ℕ → List ℕ → Type 0
 IsLeastHead major n x = IsHead major (least n) n x
+
+-- whether n is a simple value: 0 to 23 stand in the initial byte, 32 to 255 in the byte behind it, and there are no others (RFC 8949 section 3.3)
+abbrev pub is_simple_value : ℕ → Bool
+is_simple_value n = nat_lt n 24 || (nat_le 32 n && nat_lt n 256)
 
 -- what a head says beside its major type: an argument, or that the length is indefinite
 pub data Argument : Type 0 where

@@ -1,15 +1,14 @@
 -- The bytes that a node spells (RFC 8949 sections 3.1 to 3.4), and which bytes are well-formed under a nesting limit.
-use Rattle.std.specs.Prelude.{◌≡◌, ℕ, ◌<◌, ◌≤◌, List, [], ◌∷◌, ◌++◌, length, ◌⊎◌, if◌then◌else◌, nat_lt}
+use Rattle.std.specs.Prelude.{◌≡◌, ℕ, ◌≤◌, List, [], ◌∷◌, ◌++◌, length, IsTrue}
 use Rattle.std.specs.List.{flat_map}
 use Rattle.cborn_model.specs.declared.heads.Width.{Width}
-use Rattle.cborn_model.specs.declared.heads.Width.TheVariants.{Direct, One}
 use Rattle.cborn_model.specs.declared.heads.Size.{Size}
 use Rattle.cborn_model.specs.declared.heads.Size.TheVariants.{Fixed, Endless}
 use Rattle.cborn_model.specs.declared.nodes.Chunk.{Chunk}
 use Rattle.cborn_model.specs.Bytes.{AreBytes}
 use Rattle.cborn_model.specs.declared.heads.Major.{Major}
 use Rattle.cborn_model.specs.declared.heads.Major.TheVariants.{Unsigned, Negative, ByteString, TextString, Array, Map, Tag, Other}
-use Rattle.cborn_model.specs.Heads.{WidthFits, Given, Unbounded, head, argument, SizeFits}
+use Rattle.cborn_model.specs.Heads.{WidthFits, least, is_simple_value, Given, Unbounded, head, argument, SizeFits}
 use Rattle.cborn_model.specs.Tree.{Tree, Uint, Nint, Bytes, Text, ByteChunks, TextChunks, Items, Pairs, Tagged, Simple, Trees, no_item, more, Entries, no_entry, entry, count, count_entries, depth, depth_all}
 
 -- what stands behind the contents of an array or a map: the break, where its length is indefinite
@@ -27,10 +26,6 @@ chunk_bytes m c = string m c.width c.bytes
 abbrev pub chunks : Major → List Chunk → List ℕ
 chunks m cs = head m Unbounded ++ flat_map (chunk_bytes m) cs
 
--- up to 23 in the initial byte, else in the byte behind it
-abbrev pub simple_width : ℕ → Width
-simple_width n = if nat_lt n 24 then Direct else One
-
 abbrev mutual
   pub spelled : Tree → List ℕ
   spelled (Uint p w n) = head Unsigned (Given w n)
@@ -42,7 +37,7 @@ abbrev mutual
   spelled (Items p s ts) = head Array (argument s (count ts)) ++ spelled_all ts ++ ending s
   spelled (Pairs p s es) = head Map (argument s (count_entries es)) ++ spelled_entries es ++ ending s
   spelled (Tagged p w n t) = head Tag (Given w n) ++ spelled t
-  spelled (Simple p n) = head Other (Given (simple_width n) n)
+  spelled (Simple p n) = head Other (Given (least n) n)
 
   pub spelled_all : Trees → List ℕ
   spelled_all no_item = []
@@ -56,7 +51,7 @@ abbrev pub ChunksFit : List Chunk → Type 0
 ChunksFit [] = Unit {0}
 ChunksFit (c ∷ cs) = (WidthFits c.width (length c.bytes) × AreBytes c.bytes) × ChunksFit cs
 
--- The node spells bytes: each argument, length and count fits its width, and no simple value is from 24 to 31.
+-- The node spells bytes: each argument, length and count fits its width, and each simple value is one that there is.
 abbrev mutual
   pub Fits : Tree → Type 0
   Fits (Uint p w n) = WidthFits w n
@@ -68,7 +63,7 @@ abbrev mutual
   Fits (Items p s ts) = SizeFits s (count ts) × FitsAll ts
   Fits (Pairs p s es) = SizeFits s (count_entries es) × FitsEntries es
   Fits (Tagged p w n t) = WidthFits w n × Fits t
-  Fits (Simple p n) = (n < 24) ⊎ ((32 ≤ n) × (n < 256))
+  Fits (Simple p n) = IsTrue (is_simple_value n)
 
   pub FitsAll : Trees → Type 0
   FitsAll no_item = Unit {0}

@@ -1,6 +1,7 @@
 -- Which items are valid (RFC 8949 sections 3.4.3 and 5.3): what a `Valid` holds.
-use Rattle.std.specs.Prelude.{◌≢◌, ℕ, suc, max, ◌^◌, ◌<◌, ◌≤◌, ◌⊎◌, length, IsUtf8, ⊤, if◌then◌else◌, nat_lt}
+use Rattle.std.specs.Prelude.{◌≢◌, ℕ, suc, max, ◌^◌, ◌<◌, ◌≤◌, length, IsTrue, IsUtf8, ⊤, if◌then◌else◌, nat_lt}
 use Rattle.cborn_model.specs.Bytes.{AreBytes, big_endian, IsShortest}
+use Rattle.cborn_model.specs.Heads.{is_simple_value}
 use Rattle.cborn_model.specs.Value.{Value, Values, Couples, integer, bytes, text, array, dict, tagged, simple, no_values, value, no_pairs, pair, Same, value_count, pair_count}
 
 -- the key is the same as none of these
@@ -22,7 +23,7 @@ abbrev mutual
   IsProper (array vs) = AreProper vs × (value_count vs < 2 ^ 64)
   IsProper (dict ps) = HasProperPairs ps × HasNewKeys ps × (pair_count ps < 2 ^ 64)
   IsProper (tagged t v) = (t ≢ 2) × (t ≢ 3) × (t < 2 ^ 64) × IsProper v
-  IsProper (simple n) = (n < 24) ⊎ ((32 ≤ n) × (n < 256))
+  IsProper (simple n) = IsTrue (is_simple_value n)
 
   pub AreProper : Values → Type 0
   AreProper no_values = ⊤

@@ -1,7 +1,7 @@
 //! Major types and widths of heads (RFC 8949 section 3).
 
 ghost use Rattle.std.specs.Prelude.{◌≡◌, ◌+◌, ◌*◌, ◌/◌, ◌<◌};
-ghost use Rattle.cborn_model.specs.Heads.{code, major_at, least};
+ghost use Rattle.cborn_model.specs.Heads.{code, major_at, least, is_simple_value};
 
 /// The major type of a data item (RFC 8949 section 3.1).
 #[derive(Clone, Copy, PartialEq, Eq, Debug)]
@@ -115,8 +115,8 @@ pub enum Size {
 }
 
 impl Width {
-    ghost use Rattle.std.specs.Prelude.{◌≡◌, ◌↔◌, IsTrue};
-    ghost use Rattle.cborn_model.specs.Heads.{WidthFits, holds};
+    ghost use Rattle.std.specs.Prelude.{◌≡◌, ◌↔◌, ◌≤◌, ◌<◌, ◌^◌, ℕ, IsTrue};
+    ghost use Rattle.cborn_model.specs.Heads.{WidthFits, holds, least};
 
     /// Whether a head of this width has room for the argument `n`.
     #[inline]
@@ -130,6 +130,30 @@ impl Width {
             Width::Two => n < 65536,
             Width::Four => n < 4294967296,
             Width::Eight => true,
+        }
+    }
+
+    /// Whether no narrower width has room for `n`, and this one has (RFC 8949 section 4.2.1).
+    #[inline(always)]
+    pub fn is_shortest_for(self, n: u64) -> bool
+        ensures { IsTrue result ↔ (self ≡ least n) }
+    {
+        let (least, most) = self.shortest_range();
+        least <= n && n <= most
+    }
+
+    /// The least and the greatest number for which it is the shortest. Numbers of mixed sizes are
+    /// looked up, where `shortest` would compare one after another.
+    #[inline(always)]
+    fn shortest_range(self) -> (u64, u64)
+        ensures { (n : ℕ) → n < 2 ^ 64 → (result.0 ≤ n) × (n ≤ result.1) ↔ (self ≡ least n) }
+    {
+        match self {
+            Width::Direct => (0, 23),
+            Width::One => (24, 255),
+            Width::Two => (256, 65535),
+            Width::Four => (65536, 4294967295),
+            Width::Eight => (4294967296, u64::MAX),
         }
     }
 }
@@ -149,4 +173,13 @@ pub fn shortest(n: u64) -> Width
     } else {
         Width::Eight
     }
+}
+
+/// Whether there is a simple value `n`: 0 to 23 stand in the initial byte, 32 to 255 in the byte
+/// behind it, and there are no others (RFC 8949 section 3.3).
+#[inline]
+pub fn is_simple_value(n: u64) -> bool
+    ensures { result ≡ is_simple_value n }
+{
+    n < 24 || n >= 32 && n < 256
 }

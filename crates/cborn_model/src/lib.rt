@@ -48,10 +48,10 @@ mod validity;
 
 pub use comparisons::same;
 pub use growth::push_doubling;
-pub use heads::{BREAK, Major, Size, Width, shortest};
+pub use heads::{BREAK, Major, Size, Width, is_simple_value, shortest};
 pub use items::{Item, ItemBox, ItemList, PairList};
 pub use limits::Limit;
-pub use magnitudes::{Magnitude, Number};
+pub use magnitudes::{Magnitude, Number, without_zeros};
 pub use nodes::{Chunk, Form, Node};
 pub use orders::{Bytewise, KeyOrder, LengthFirst};
 pub use spellings::{Spelled, depth, fits};

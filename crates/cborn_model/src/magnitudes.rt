@@ -128,8 +128,8 @@ fn word_of(bytes: &[u8]) -> Option<u64>
     Some(n)
 }
 
-/// The bytes behind the leading zeros.
-fn without_zeros(bytes: &[u8]) -> &[u8]
+/// The bytes behind the leading zeros, which are of the same number.
+pub fn without_zeros(bytes: &[u8]) -> &[u8]
     ensures bytes { AreBytes result.now }
     ensures shortest { IsShortest result.now }
     ensures number { big_endian result.now ≡ big_endian bytes.now }

@@ -5,7 +5,7 @@ ghost use Rattle.cborn_model.specs.Heads.{WidthFits, SizeFits};
 ghost use Rattle.cborn_model.specs.Tree.{depth, depth_all, depth_entries, trees, entries};
 ghost use Rattle.cborn_model.specs.Spelled.{Fits, FitsAll, FitsEntries, ChunksFit, IsSpelled};
 
-use crate::{Chunk, Form, Node, Size, Width};
+use crate::{Chunk, Form, Node, Size, Width, is_simple_value};
 use std::marker::Model;
 
 /// A node that spells some bytes and is at most 1,024 deep.
@@ -115,7 +115,7 @@ fn has_room(node: &Node) -> bool
         Form::Items(size, items) => size_fits(*size, items.len() as u64) && items_have_room(items),
         Form::Pairs(size, pairs) => size_fits(*size, pairs.len() as u64) && pairs_have_room(pairs),
         Form::Tagged(width, n, item) => width.holds(*n) && has_room(item),
-        Form::Simple(n) => *n < 24 || *n >= 32,
+        Form::Simple(n) => is_simple_value(u64::from(*n)),
     }
 }
 

@@ -74,6 +74,7 @@ fn keeps_magnitudes(rt: HostRuntime) -> Result<(), Fail> {
     assert!(rt; !padded.is_shortest());
     assert!(rt; matches!(padded.number(), Number::Word(1)));
     assert_eq!(rt; padded.into_vec(alloc)?.as_slice(), [0, 0, 1].as_slice());
+    assert_eq!(rt; without_zeros(&[0, 0, 1, 0]), [1, 0].as_slice());
     Ok(())
 }
 
@@ -215,4 +216,6 @@ fn tells_what_fits(rt: HostRuntime) {
     assert!(rt; Width::Two.holds(65535));
     assert!(rt; !Width::Two.holds(65536));
     assert!(rt; Width::Eight.holds(18446744073709551615));
+    assert!(rt; is_simple_value(23) && is_simple_value(32) && is_simple_value(255));
+    assert!(rt; !is_simple_value(24) && !is_simple_value(31) && !is_simple_value(256));
 }

@@ -7,7 +7,7 @@ ghost use Rattle.cborn_model.specs.Value.{values_of, pairs_of};
 ghost use Rattle.cborn_model.specs.Valid.{HasNewKeys, IsProper, AreProper, HasProperPairs, IsValid, value_depth, values_depth, pairs_depth};
 
 use crate::comparisons::value_of;
-use crate::{ByteString, Item, Magnitude, Number};
+use crate::{ByteString, Item, Magnitude, Number, is_simple_value};
 use std::marker::Model;
 
 /// A valid item (RFC 8949 section 5.3), at most 1,024 deep.
@@ -84,7 +84,7 @@ fn is_proper(item: &Item) -> bool
             has_proper_pairs(pairs) && has_new_keys(pairs)
         }
         Item::Tagged(tag, content) => *tag != 2 && *tag != 3 && is_proper(content.get()),
-        Item::Simple(n) => *n < 24 || *n >= 32,
+        Item::Simple(n) => is_simple_value(u64::from(*n)),
     }
 }
 

@@ -1,7 +1,8 @@
 -- From the defects that a walk found to what is said of a whole input.
 use Rattle.std.proofs.Common.{◌≡◌, ℕ, List, length, Option, None, Some, Ordering}
 use Rattle.cborn_model.specs.Tree.{Tree, trees}
-use Rattle.cborn_judge.specs.devices.Checked.{FindsDefect, DefectInAll}
+use Rattle.cborn_judge.specs.Departures.{FindsDefect}
+use Rattle.cborn_judge.specs.devices.Checked.{DefectInAll}
 use Rattle.cborn_judge.specs.Defects.{SequenceDefect}
 use Rattle.cborn_judge.specs.declared.defects.Defect.{Defect}
 use Rattle.cborn_judge.proofs.FirstDefect.Departing.{alike}

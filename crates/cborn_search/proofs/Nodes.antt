@@ -1,6 +1,5 @@
 -- What is read of single nodes, of chunks, of arrays, maps and tags, whatever is found of them.
-use Rattle.std.proofs.Common.{◌≡◌, ℕ, suc, ◌+◌, ◌-◌, ◌≤◌, List, [], ◌∷◌, ◌++◌, length, refl, sym, ap, ◌∙◌, subst, arith, append_assoc, append-nil, length-append, drop, Option, None, Some}
-use Rattle.std.specs.Prelude.{IfSome}
+use Rattle.std.proofs.Common.{◌≡◌, ℕ, suc, ◌+◌, ◌-◌, ◌≤◌, List, [], ◌∷◌, ◌++◌, length, refl, sym, ap, ◌∙◌, subst, arith, append_assoc, append-nil, length-append, drop}
 use Rattle.std.specs.List.{flat_map}
 use Rattle.cborn_model.specs.declared.heads.Width.{Width}
 use Rattle.cborn_model.specs.declared.heads.Size.TheVariants.{Fixed, Endless}
@@ -9,12 +8,13 @@ use Rattle.cborn_model.specs.declared.heads.Major.{Major}
 use Rattle.cborn_model.specs.declared.heads.Major.TheVariants.{Unsigned, Negative, ByteString, TextString, Array, Tag, Other}
 use Rattle.cborn_model.specs.Heads.{Given, Unbounded, head, WidthFits}
 use Rattle.cborn_model.specs.Tree.{Tree, Uint, Nint, Bytes, Text, ByteChunks, TextChunks, Items, Tagged, Simple, trees, depth_all, count}
-use Rattle.cborn_model.specs.Spelled.{spelled, spelled_all, Fits, FitsAll, ChunksFit, chunk_bytes, ending}
+use Rattle.cborn_model.specs.Spelled.{spelled, spelled_all, Fits, FitsAll, chunk_bytes, ending}
 use Rattle.cborn_model.specs.Placed.{Placed, PlacedAll, ChunksPlaced}
 use Rattle.cborn_wire.specs.declared.heads.Argument.{Argument}
 use Rattle.cborn_wire.specs.declared.heads.Argument.TheVariants as arguments
 use Rattle.cborn_wire.specs.declared.heads.Head.{Head}
 use Rattle.cborn_wire.specs.HeadReading.{major_at, IsHeadOf, seen_argument, ArgumentFits}
+use Rattle.cborn_wire.proofs.Machine.SoundItems.{fits_chunks-snoc, placed_chunks-snoc, chunk_bytes-snoc}
 use Rattle.cborn_transcode.proofs.Heading.{head_split}
 use Rattle.cborn_transcode.specs.devices.Walking.{Leaves}
 use Rattle.cborn_search.specs.Reading.{StringRead, IsSimpleArgument, ChunkRead, ChunksRead, NodeRead, NodesRead}
@@ -66,20 +66,6 @@ module _ (P : Tree → Type 0) (room total place : ℕ) where
 
 -- ---- chunks
 
-bytes_one : (m : Major) (cs : List Chunk) (c : Chunk) → flat_map (chunk_bytes m) (cs ++ c ∷ []) ≡ flat_map (chunk_bytes m) cs ++ chunk_bytes m c
-bytes_one m [] c = append-nil (chunk_bytes m c)
-bytes_one m (d ∷ cs) c = ap (λ l. chunk_bytes m d ++ l) (bytes_one m cs c) ∙ sym (append_assoc (chunk_bytes m d) (flat_map (chunk_bytes m) cs) (chunk_bytes m c))
-
-chunks_fit_one : (cs : List Chunk) (c : Chunk) → ChunksFit cs → ChunksFit (c ∷ []) → ChunksFit (cs ++ c ∷ [])
-chunks_fit_one [] c f g = g
-chunks_fit_one (d ∷ cs) c f g = (f.0, chunks_fit_one cs c f.1 g)
-
-chunks_placed_one : (m : Major) (p : ℕ) (cs : List Chunk) (c : Chunk) → ChunksPlaced m p cs → c.place ≡ p + length (flat_map (chunk_bytes m) cs) → ChunksPlaced m p (cs ++ c ∷ [])
-chunks_placed_one m p [] c h e = (let z : p + 0 ≡ p = omega arith in e ∙ z, tt)
-chunks_placed_one m p (d ∷ cs) c h e =
-    let z : p + length (chunk_bytes m d ++ flat_map (chunk_bytes m) cs) ≡ (p + length (chunk_bytes m d)) + length (flat_map (chunk_bytes m) cs) = omega (arith, length-append (chunk_bytes m d) (flat_map (chunk_bytes m) cs)) in
-    (h.0, chunks_placed_one m (p + length (chunk_bytes m d)) cs c h.1 (e ∙ z))
-
 pub no_chunk : (P : List Chunk → Type 0) (major : Major) (total : ℕ) (input : List ℕ) → P [] → ChunksRead P major total input input
 no_chunk P major total input h = record { chunks = []; read = refl; fits = tt; placed = tt; holds = h }
 
@@ -90,9 +76,9 @@ chunk_more P Q R major total input mid rest l x y f =
     let p : total - length mid ≡ (total - length input) + length laid = behind total input laid mid l x.read in
     record {
       chunks = x.chunks ++ y.chunk ∷ [];
-      read = x.read ∙ ap (λ z. laid ++ z) y.read ∙ sym (append_assoc laid (chunk_bytes major y.chunk) rest) ∙ ap (λ z. z ++ rest) (sym (bytes_one major x.chunks y.chunk));
-      fits = chunks_fit_one x.chunks y.chunk x.fits (y.fits, tt);
-      placed = chunks_placed_one major (total - length input) x.chunks y.chunk x.placed (y.placed ∙ p);
+      read = x.read ∙ ap (λ z. laid ++ z) y.read ∙ sym (append_assoc laid (chunk_bytes major y.chunk) rest) ∙ ap (λ z. z ++ rest) (sym (chunk_bytes-snoc major x.chunks y.chunk));
+      fits = fits_chunks-snoc x.chunks y.chunk x.fits y.fits.0 y.fits.1;
+      placed = placed_chunks-snoc major x.chunks y.chunk (total - length input) x.placed (y.placed ∙ p);
       holds = f x.chunks y.chunk x.holds y.holds;
     }
 
@@ -264,7 +250,3 @@ head_before P room total place x tail left h n major a t i e f l p done = read_f
 -- the bytes that are left are those behind the node
 pub node_last : (P : Tree → Type 0) (room total : ℕ) (x rest : List ℕ) (left : ℕ) → Leaves (NodeRead P room total x) left → ((front back : List ℕ) → x ≡ front ++ back → length back ≡ left → rest ≡ back) → NodeRead P room total x rest
 node_last P room total x rest left s last = subst (NodeRead P room total x) (sym (last (spelled s.2.node) s.0 s.2.read s.1)) s.2
-
-pub under : {A : Type 0} {P Q : A → Type 0} (r : Option A) → ((x : A) → P x → Q x) → IfSome r P → IfSome r Q
-under None f h = h
-under (Some x) f h = f x h

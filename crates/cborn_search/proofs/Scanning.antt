@@ -1,6 +1,6 @@
 -- The first flaw of single nodes, of chunks, of arrays and of tags.
 use Rattle.std.proofs.Common.{◌≡◌, ◌≢◌, ℕ, ◌+◌, ◌-◌, ◌⊎◌, ◌≤◌, inl, inr, List, [], ◌∷◌, ◌++◌, length, Bool, true, false, refl, sym, ap, subst, arith, drop, Option, None, Some}
-use Rattle.std.specs.Prelude.{◌↔◌, IsUtf8}
+use Rattle.std.specs.Prelude.{◌↔◌}
 use Rattle.cborn_model.specs.declared.heads.Major.{Major}
 use Rattle.cborn_model.specs.declared.heads.Width.{Width}
 use Rattle.cborn_model.specs.declared.heads.Size.TheVariants.{Fixed, Endless}
@@ -13,12 +13,13 @@ use Rattle.cborn_model.specs.Tree.{Tree, Text, TextChunks, Items, Tagged, trees}
 use Rattle.cborn_wire.specs.declared.heads.Argument.{Argument}
 use Rattle.cborn_wire.specs.HeadReading.{major_at, IsHeadOf, seen_argument, ArgumentFits}
 use Rattle.cborn_wire.specs.declared.heads.Head.{Head}
-use Rattle.cborn_judge.specs.Flaws.{FlawAt, Flaw, HasBadChunk, flaw_rank}
+use Rattle.cborn_judge.specs.Flaws.{FlawAt, Flaw, flaw_rank}
 use Rattle.cborn_judge.specs.devices.Judged.{FlawIn, ChunkFlaw}
 use Rattle.cborn_judge.specs.declared.faults.InvalidReason.{InvalidReason}
 use Rattle.cborn_judge.specs.declared.faults.InvalidReason.TheVariants.{BadBignum}
 use Rattle.cborn_judge.proofs.Loops.Firsts.{Either, found_both, found_alike}
 use Rattle.cborn_judge.proofs.FirstFlaw.Steps.{flaw_items, flaw_tagged}
+use Rattle.cborn_judge.proofs.FirstFlaw.Texts.{bad_after, bad_before, bad_last}
 use Rattle.cborn_judge.proofs.FirstFlaw.Walking.{one_more}
 use Rattle.cborn_search.specs.Reading.{StringRead, IsSimpleArgument}
 use Rattle.cborn_search.specs.Flawed.{Told, told_place, told_reason, IsEarliestTold, FindsTold, TextFlaw, BadChunk, ChunkSeen, ChunksSeen, IsKind, HasFlaw, Scanned, HaveFlaw, ScannedAll}
@@ -52,21 +53,6 @@ module _ (room total : ℕ) where
   simple_seen a rest s = simple_read (HasFlaw None false) room total (total - length (head Other (seen_argument a) ++ rest)) a rest refl s ((λ p r f. subst (λ z. FlawAt z p r) f.1 f.2), (λ b k. k))
 
 -- ---- chunks
-
-bad_after : (cs : List Chunk) (c : Chunk) (p : ℕ) → HasBadChunk (cs ++ c ∷ []) p → HasBadChunk cs p ⊎ ((p ≡ c.place) × (IsUtf8 c.bytes → ⊥))
-bad_after [] c p (inl h) = inr h
-bad_after [] c p (inr h) = absurd h
-bad_after (d ∷ cs) c p (inl h) = inl (inl h)
-bad_after (d ∷ cs) c p (inr h) = elim (bad_after cs c p h) [ inl k ↦ inl (inr k) | inr k ↦ inr k ]
-
-bad_before : (cs : List Chunk) (c : Chunk) (p : ℕ) → HasBadChunk cs p → HasBadChunk (cs ++ c ∷ []) p
-bad_before [] c p h = absurd h
-bad_before (d ∷ cs) c p (inl h) = inl h
-bad_before (d ∷ cs) c p (inr h) = inr (bad_before cs c p h)
-
-bad_last : (cs : List Chunk) (c : Chunk) (p : ℕ) → (p ≡ c.place) × (IsUtf8 c.bytes → ⊥) → HasBadChunk (cs ++ c ∷ []) p
-bad_last [] c p h = inl h
-bad_last (d ∷ cs) c p h = inr (bad_last cs c p h)
 
 one_chunk : (cs : List Chunk) (c : Chunk) (p : ℕ) (r : InvalidReason) → Either (ChunkFlaw cs) (BadChunk c) p r ↔ ChunkFlaw (cs ++ c ∷ []) p r
 one_chunk cs c p r = (to, (λ h. elim (bad_after cs c p h.1) [ inl k ↦ inl (h.0, k) | inr k ↦ inr (k.0, h.0, k.1) ]))

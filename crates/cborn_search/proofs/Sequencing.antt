@@ -11,16 +11,11 @@ use Rattle.cborn_judge.specs.Flaws.{Flaw, IsRefusal, IsRefusalOfAll}
 use Rattle.cborn_judge.specs.declared.faults.Invalid.TheVariants.{Refused, OutOfMemory}
 use Rattle.cborn_judge.specs.declared.faults.InvalidReason.{InvalidReason}
 use Rattle.cborn_judge.proofs.Meaning.Judging.{meaning}
+use Rattle.cborn_judge.proofs.FirstFlaw.Sequences.{mean_more}
 use Rattle.cborn_search.specs.Flawed.{Told, FindsTold, HasFlaw, Scanned}
 use Rattle.cborn_search.specs.Reading.{NodesRead}
 use Rattle.cborn_search.specs.Searching.{FlawVerdict, IsFirstFlawOf}
 use Rattle.cborn_search.proofs.Nodes.{no_node, node_more}
-
-mean_more : (ts : List Tree) (vs : List Value) (t : Tree) (v : Value) → AllZip Means ts vs → Means t v → AllZip Means (ts ++ t ∷ []) (vs ++ v ∷ [])
-mean_more [] [] t v h m = (m, tt)
-mean_more [] (w ∷ ws) t v h m = absurd h
-mean_more (s ∷ ts) [] t v h m = absurd h
-mean_more (s ∷ ts) (w ∷ ws) t v h m = (h.0, mean_more ts ws t v h.1 m)
 
 refused_last : (ts : List Tree) (vs : List Value) (t : Tree) (f : Told) → AllZip Means ts vs → IsRefusal t (Refused f.0 f.1) → IsRefusalOfAll (ts ++ t ∷ []) (Refused f.0 f.1)
 refused_last [] [] t f h r = inl r

@@ -1,5 +1,5 @@
 -- The first defect of single nodes, of chunks, of arrays, maps and tags.
-use Rattle.std.proofs.Common.{◌≡◌, ◌≢◌, ◌⊎◌, ℕ, ◌+◌, ◌-◌, ◌<◌, ◌≤◌, ◌^◌, inl, inr, List, [], ◌∷◌, ◌++◌, length, get_or, take, drop, refl, sym, ap, subst, arith, length-append, Option, None, Some, Ordering, append_assoc, append-nil, ◌∙◌}
+use Rattle.std.proofs.Common.{◌≡◌, ◌≢◌, ◌⊎◌, ℕ, ◌+◌, ◌-◌, ◌<◌, ◌≤◌, ◌^◌, inl, inr, List, [], ◌∷◌, ◌++◌, length, get_or, take, drop, refl, sym, ap, subst, arith, length-append, Option, None, Some, Ordering, ◌∙◌}
 use Rattle.std.specs.Prelude.{◌↔◌}
 use Rattle.std.proofs.Math.Seq.{drop-append_seam, take-append_seam}
 use Rattle.std.proofs.lemmas.List.{take_all}
@@ -18,7 +18,8 @@ use Rattle.cborn_det.specs.Det.{Det}
 use Rattle.cborn_wire.specs.declared.heads.Argument.{Argument}
 use Rattle.cborn_wire.specs.declared.heads.Head.{Head}
 use Rattle.cborn_wire.specs.HeadReading.{major_at, IsHeadOf, seen_argument, ArgumentFits}
-use Rattle.cborn_judge.specs.devices.Checked.{IsEarliestDefect, FindsDefect, LongAt, SizeAt, DefectIn, DefectAmong, DescentAt, NotAboveAt, TagDefect, LooseBytesAt}
+use Rattle.cborn_judge.specs.Departures.{FindsDefect, LongAt, NotAboveAt, LooseBytesAt}
+use Rattle.cborn_judge.specs.devices.Checked.{IsEarliestDefect, SizeAt, DefectIn, DefectAmong, DescentAt, TagDefect}
 use Rattle.cborn_judge.specs.Defects.{defect_rank, ChunksDefect, DefectAt, IsLoose}
 use Rattle.cborn_judge.specs.declared.defects.Defect.{Defect}
 use Rattle.cborn_judge.specs.declared.defects.DefectReason.{DefectReason}
@@ -28,6 +29,7 @@ use Rattle.cborn_judge.proofs.FirstDefect.Descending.{item-take_more, Seen, Afte
 use Rattle.cborn_judge.proofs.Loops.Firsts.{Either}
 use Rattle.cborn_judge.proofs.FirstFlaw.Pairing.{after, before, last_key, last_value}
 use Rattle.cborn_transcode.specs.Transcoding.{IsTranscoded}
+use Rattle.cborn_transcode.proofs.Heading.{joined_more}
 use Rattle.cborn_search.specs.Reading.{Pair, StringRead, IsSimpleArgument, NodeRead, PairsRead}
 use Rattle.cborn_search.specs.devices.Digits.{AreDigits, BeginsWith, DigitsWalked}
 use Rattle.cborn_search.specs.declared.departures.Digits.{Digits}
@@ -65,10 +67,6 @@ chunks_more q major total input mid content rest a b o l x y e =
 
 -- ---- the digits of a bignum
 
-joined_one : (cs : List Chunk) (c : Chunk) → joined_chunks (cs ++ c ∷ []) ≡ joined_chunks cs ++ c.bytes
-joined_one [] c = append-nil c.bytes
-joined_one (d ∷ cs) c = ap (λ l. d.bytes ++ l) (joined_one cs c) ∙ sym (append_assoc d.bytes (joined_chunks cs) c.bytes)
-
 abbrev pub Digital : ℕ → Option Defect → Digits → List Chunk → Type 0
 Digital q o d cs = HaveLongChunk q o cs × AreDigits d (joined_chunks cs)
 
@@ -81,7 +79,7 @@ digits_more q total input mid content rest a b o d e l x y m f =
     chunk_more (Digital q a d) (Digital q o e) (λ c. LongChunk b c × (c.bytes ≡ content)) ByteString total input mid rest l x y
     (λ cs c g h. (
       by_steps (HaveLongChunk q a) (HaveLongChunk q o) cs c (λ ys i n at k. chunk-take_more q ys i c a b o n at k h.0 m) g.0,
-      subst (AreDigits e) (sym (joined_one cs c ∙ ap (λ z. joined_chunks cs ++ z) h.1)) (f (joined_chunks cs) g.1),
+      subst (AreDigits e) (sym (joined_more cs c ∙ ap (λ z. joined_chunks cs ++ z) h.1)) (f (joined_chunks cs) g.1),
     ))
 
 -- the digits and those that follow

@@ -3,9 +3,9 @@ use Rattle.std.specs.Prelude.{◌≡◌, ℕ, ◌-◌, ◌≤◌, List, ◌++◌
 use Rattle.std.specs.List.{flat_map}
 use Rattle.cborn_model.specs.Bytes.{AreBytes}
 use Rattle.cborn_model.specs.declared.heads.Major.{Major}
-use Rattle.cborn_model.specs.Heads.{WidthFits}
+use Rattle.cborn_model.specs.Heads.{WidthFits, least}
 use Rattle.cborn_model.specs.Placed.{Placed, PlacedAll, PlacedEntries, ChunksPlaced}
-use Rattle.cborn_model.specs.Spelled.{spelled, spelled_all, spelled_entries, Fits, FitsAll, FitsEntries, ChunksFit, chunk_bytes, simple_width}
+use Rattle.cborn_model.specs.Spelled.{spelled, spelled_all, spelled_entries, Fits, FitsAll, FitsEntries, ChunksFit, chunk_bytes}
 use Rattle.cborn_model.specs.Tree.{Tree, trees, entries, depth, depth_all, depth_entries, Simple}
 use Rattle.cborn_model.specs.declared.nodes.Chunk.{Chunk}
 use Rattle.cborn_wire.specs.declared.heads.Argument.{Argument}
@@ -23,7 +23,7 @@ pub record StringRead (n : ℕ) (input content rest : List ℕ) : Type 0 where
 
 -- the head of a simple value
 abbrev pub IsSimpleArgument : Argument → Type 0
-IsSimpleArgument a = (n : ℕ) × (a ≡ arguments.Given (simple_width n) n) × Fits (Simple 0 n)
+IsSimpleArgument a = (n : ℕ) × (a ≡ arguments.Given (least n) n) × Fits (Simple 0 n)
 
 -- a chunk of which P holds, whose place is the number of bytes before the input
 pub record ChunkRead (P : Chunk → Type 0) (major : Major) (total : ℕ) (input rest : List ℕ) : Type 0 where

@@ -37,3 +37,7 @@ pub record IsFirstDefectOf (order : List ℕ → List ℕ → Ordering) (limit :
   pub read : Wellformed limit (trees nodes) input
   pub placed : PlacedAll 0 (trees nodes)
   pub verdict : DefectVerdict order nodes defect
+
+-- of whatever nodes the bytes spell under the limit, each at its offset, this is the first defect if they mean items
+abbrev pub IsFirstDefectOfItems : (List ℕ → List ℕ → Ordering) → ℕ → List ℕ → Defect → Type 0
+IsFirstDefectOfItems order limit input d = (nodes : List Tree) (items : Values) → Wellformed limit (trees nodes) input → PlacedAll 0 (trees nodes) → AllMean (trees nodes) items → IsFirstOfSequence order (trees nodes) d.place d.reason

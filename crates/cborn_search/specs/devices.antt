@@ -1,3 +1,4 @@
 pub mod Departed
 pub mod Digits
 pub mod Marks
+pub mod Stopping

@@ -2,17 +2,18 @@
 //! written to one place.
 
 ghost use Rattle.std.specs.Prelude.{◌≡◌, ◌≤◌, ◌-◌, ◌++◌, length, IfSome};
-ghost use Rattle.cborn_judge.specs.devices.Checked.{FindsDefect, TagDefect};
+ghost use Rattle.cborn_judge.specs.Departures.{FindsDefect};
+ghost use Rattle.cborn_judge.specs.devices.Checked.{TagDefect};
 ghost use Rattle.cborn_model.specs.declared.heads.Major.TheVariants.{Array, Map};
 ghost use Rattle.cborn_model.specs.Heads.{Unbounded, head};
 ghost use Rattle.cborn_transcode.specs.devices.Walking.{Leaves};
 ghost use Rattle.cborn_search.specs.devices.Departed.{PairsWalked, Walked, WalkedAll};
 ghost use Rattle.cborn_search.specs.Reading.{NodeRead};
 
-use crate::departures::{add_head, head_defect, walk_bignum_content, walk_long_string};
+use crate::departures::{add_head, walk_bignum_content, walk_long_string};
 use crate::leaves::{behind_break, is_bignum, is_done, is_simple, last, string_at};
 use crate::walked_maps::WalkedMap;
-use cborn_judge::{Defect, DefectReason, earliest};
+use cborn_judge::{Defect, DefectReason, earliest, head_defect};
 use cborn_model::{KeyOrder, Major};
 use cborn_wire::{Argument, HeadRead, read_head};
 use std::alloc::Global;

@@ -1,27 +1,16 @@
 //! The defects of heads, strings, bignums and keys.
 
-ghost use Rattle.std.specs.Prelude.{◌≡◌, ◌≢◌, ◌<◌, ◌≤◌, ◌++◌, ◌∷◌, ◌⊎◌, ◌↔◌, ℕ, List, Option, length, IsTrue, IfSome, MatchBool};
-ghost use Rattle.cborn_judge.specs.devices.Checked.{FindsDefect, LongAt, LooseBytesAt, IsEarliestDefect};
-ghost use Rattle.cborn_judge.specs.Defects.{ChunksDefect, IsLoose};
+ghost use Rattle.std.specs.Prelude.{◌≡◌, ◌≢◌, ◌<◌, ◌≤◌, ◌++◌, ◌∷◌, ◌⊎◌, ℕ, List, Option, length, IfSome, MatchBool};
+ghost use Rattle.cborn_judge.specs.Departures.{FindsDefect, LongAt, LooseBytesAt};
+ghost use Rattle.cborn_judge.specs.devices.Checked.{IsEarliestDefect};
 ghost use Rattle.cborn_judge.specs.declared.defects.Defect.{Defect};
 ghost use Rattle.cborn_search.specs.devices.Departed.{AfterKey, BignumWalked, ChunkWalked, ChunksWalked};
 ghost use Rattle.cborn_search.specs.devices.Digits.{AreDigits, BeginsWith, DigitsWalked};
 
 use crate::leaves::{behind_break, string_at};
-use cborn_judge::{Defect, DefectReason, earliest};
-use cborn_model::{KeyOrder, Major, Width, shortest};
+use cborn_judge::{Defect, DefectReason, earliest, head_defect, loose_defect, order_defect};
+use cborn_model::{KeyOrder, Major, Width};
 use cborn_wire::{Argument, HeadRead, read_head};
-
-/// The defect of a head at `place` with the argument `n`.
-pub(crate) fn head_defect(place: u64, width: Width, n: u64) -> Option<Defect>
-    ensures { FindsDefect (LongAt place width n) result }
-{
-    if width == shortest(n) {
-        return None;
-    }
-    let reason = DefectReason::LongHead;
-    Some(Defect { place, reason })
-}
 
 /// Finds the first of what was found and the defect of a head at `place` with the argument `n`.
 #[inline(never)]
@@ -34,7 +23,7 @@ pub(crate) fn add_head(place: u64, width: Width, n: u64, found: &mut Option<Defe
 
 /// The defect of a key at `place` whose encoding follows that of the key before it, if it is not
 /// the first.
-pub(crate) fn order_defect<O: KeyOrder>(
+pub(crate) fn key_defect<O: KeyOrder>(
     count: u64,
     place: u64,
     before: &[u8],
@@ -45,11 +34,7 @@ pub(crate) fn order_defect<O: KeyOrder>(
     if count == 0 {
         return None;
     }
-    if O::compare(before, encoding).is_lt() {
-        return None;
-    }
-    let reason = DefectReason::KeyOrder;
-    Some(Defect { place, reason })
+    order_defect::<O>(place, before, encoding)
 }
 
 /// The chunks of a string at `place`, up to a break: what follows them, and the first defect of the
@@ -232,22 +217,4 @@ fn loose_digits(place: u64, digits: Digits) -> Option<Defect>
         return Some(Defect { place, reason });
     }
     None
-}
-
-/// The defect of a bignum at `place` of these bytes.
-fn loose_defect(place: u64, bytes: &[u8]) -> Option<Defect>
-    ensures { FindsDefect (LooseBytesAt place bytes.now) result }
-{
-    if is_loose(bytes) {
-        let reason = DefectReason::LooseBignum;
-        return Some(Defect { place, reason });
-    }
-    None
-}
-
-/// Whether these bytes begin with 0 or are at most eight.
-fn is_loose(bytes: &[u8]) -> bool
-    ensures { IsTrue result ↔ IsLoose bytes.now }
-{
-    bytes.len() <= 8 || bytes[0] == 0
 }

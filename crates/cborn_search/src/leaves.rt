@@ -11,7 +11,7 @@ ghost use Rattle.cborn_search.specs.Reading.{StringRead, IsSimpleArgument};
 
 use crate::told::Finding;
 use cborn_judge::{InvalidReason, earliest};
-use cborn_model::{Major, Width};
+use cborn_model::{Major, is_simple_value, shortest};
 use cborn_wire::{Argument, HeadRead, read_head};
 
 /// Whether no more is to be taken: all that there may be is taken, or a break ends it.
@@ -80,9 +80,8 @@ pub(crate) fn is_simple(argument: Argument) -> bool
     ensures { IsTrue result → IsSimpleArgument argument }
 {
     match argument {
-        Argument::Given(Width::Direct, _) => true,
-        Argument::Given(Width::One, n) => n >= 32,
-        _ => false,
+        Argument::Given(width, n) => is_simple_value(n) && width == shortest(n),
+        Argument::Endless => false,
     }
 }
 

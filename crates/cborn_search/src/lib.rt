@@ -4,7 +4,8 @@
 //! [`first_defect`] tells where bytes that hold items depart from their deterministic encodings.
 //! Each goes through the bytes once, writes nothing, and keeps no more than the encodings of the
 //! keys of the maps that it is in. Where they answer none, the reader and the judge, which keep
-//! trees, answer.
+//! trees, answer. [`defect_of_items`] is for bytes that are known to hold items: it tells the first
+//! defect, and reads no further.
 //!
 //! A reader of the definitions starts at `specs/Searching.antt`.
 #![tactic(auto)]
@@ -16,10 +17,12 @@ mod keys;
 mod leaves;
 mod scanned_maps;
 mod sequences;
+mod stops;
 mod told;
 mod walked_maps;
 
 pub use sequences::{first_defect, first_flaw};
+pub use stops::defect_of_items;
 
 #[cfg(test)]
 mod tests;

@@ -1,6 +1,6 @@
 //! Examples of the first flaw and the first defect of bytes, and of bytes without one.
 
-use crate::{first_defect, first_flaw};
+use crate::{defect_of_items, first_defect, first_flaw};
 use cborn_judge::{Defect, DefectReason, InvalidReason};
 use cborn_model::{Bytewise, LengthFirst, Limit};
 
@@ -137,7 +137,7 @@ fn tells_the_first_defect(rt: HostRuntime) {
     let endless = DefectReason::EndlessLength;
     let loose = DefectReason::LooseBignum;
     let order = DefectReason::KeyOrder;
-    let cases: [(&[u8], Option<Defect>, Option<Defect>); 26] = [
+    let cases: [(&[u8], Option<Defect>, Option<Defect>); 31] = [
         (&[], None, None),
         (&[0, 0x20, 0xf4, 0xf8, 0xff], None, None),
         (&[0x18, 0x01], defect(0, long), defect(0, long)),
@@ -212,11 +212,33 @@ fn tells_the_first_defect(rt: HostRuntime) {
             defect(3, order),
             defect(3, order),
         ),
+        // behind items that are in order, and before others that aren't
+        (
+            &[0x83, 0x81, 0, 0x82, 1, 0x18, 2, 0x18, 3],
+            defect(5, long),
+            defect(5, long),
+        ),
+        (
+            &[0x82, 0xa1, 1, 2, 0x9f, 0xff, 0x18, 1],
+            defect(4, endless),
+            defect(4, endless),
+        ),
+        (
+            &[0x80, 0x81, 0x80, 0x81, 0xc2, 0x41, 1, 0x18, 1],
+            defect(4, loose),
+            defect(4, loose),
+        ),
+        (&[0x81, 0x98, 1, 0x18, 1], defect(1, long), defect(1, long)),
+        (&[0x82, 0x80, 0x82, 0x61, 0x61, 0xf6], None, None),
     ];
     for (bytes, bytewise, length_first) in cases {
         let found = first_defect::<Bytewise>(rt.alloc(), Limit::USUAL, bytes);
         assert!(rt; found == Some(bytewise), "bytewise {bytes:?}");
         let found = first_defect::<LengthFirst>(rt.alloc(), Limit::USUAL, bytes);
         assert!(rt; found == Some(length_first), "length-first {bytes:?}");
+        let stopped = defect_of_items::<Bytewise>(rt.alloc(), Limit::USUAL, bytes);
+        assert!(rt; stopped == bytewise, "stops, bytewise {bytes:?}");
+        let stopped = defect_of_items::<LengthFirst>(rt.alloc(), Limit::USUAL, bytes);
+        assert!(rt; stopped == length_first, "stops, length-first {bytes:?}");
     }
 }

@@ -4,7 +4,7 @@ ghost use Rattle.std.specs.Prelude.{◌≡◌, ◌≤◌, None, length, OnSome};
 ghost use Rattle.cborn_judge.specs.devices.Checked.{IsEarliestDefect};
 ghost use Rattle.cborn_search.specs.devices.Departed.{TakesNext};
 
-use crate::departures::order_defect;
+use crate::departures::key_defect;
 use crate::keys::encoded;
 use cborn_judge::{Defect, earliest};
 use cborn_model::KeyOrder;
@@ -48,7 +48,7 @@ impl WalkedMap {
     {
         let encoding = encoded::<O>(alloc, bytes, rest)?;
         let place = total - bytes.len() as u64;
-        let next = order_defect::<O>(count, place, &self.last, &encoding);
+        let next = key_defect::<O>(count, place, &self.last, &encoding);
         self.descent = earliest(self.descent, next);
         self.last = encoding;
         Some(())

@@ -1,7 +1,9 @@
--- Digits that are copied as a block, and cut off.
+-- Digits that are copied as a block, with what is of no use cut off or written over.
 use Rattle.std.specs.Prelude.{OnSome, IfSome}
-use Rattle.std.proofs.Common.{Option, None, Some, ◌≡◌, ◌≤◌, ◌<◌, ℕ, suc, ◌+◌, ◌-◌, Bool, true, false, if◌then◌else◌, nat_lt, zero, length-append, ltb-true, lt-ltb, List, [], ◌∷◌, ◌++◌, length, take, refl, sym, ap, ◌∙◌, codes, decimal, arith, take_at, append_assoc}
-use Rattle.std.proofs.lemmas.List.{take-take}
+use Rattle.std.proofs.Common.{Option, None, Some, ◌≡◌, ◌≤◌, ◌<◌, ℕ, suc, ◌+◌, ◌-◌, Bool, true, false, if◌then◌else◌, nat_lt, zero, length-append, ltb-true, lt-ltb, List, [], ◌∷◌, ◌++◌, length, take, drop, refl, sym, ap, ◌∙◌, codes, decimal, arith, take_at, append_assoc}
+use Rattle.std.proofs.lemmas.List.{take-take, length-take-le, length-drop}
+use borrow.Rule.Slice.PartMut.{put_mid}
+use Rattle.std.proofs.lemmas.Slice.{take-put_mid}
 use Rattle.std.proofs.Math.Seq.{take-append-add}
 use Rattle.std.proofs.lemmas.Fmt.{length-decimal-le}
 use Rattle.cborn_edn.specs.devices.Between.{between}
@@ -71,3 +73,15 @@ one_less p q byte least wanted l e = omega (arith, l, e, one_at_most wanted byte
 pub shown_short : (below : Bool) (n shown : ℕ) → n < 18446744073709551615 → shown ≡ (if below then suc n else n) → length (decimal shown) ≤ 20
 shown_short true n shown l e = length-decimal-le 20 shown (omega arith) (omega arith) (omega (arith, l, e))
 shown_short false n shown l e = length-decimal-le 20 shown (omega arith) (omega arith) (omega (arith, l, e))
+
+-- the block, behind the texts before it
+pub behind_texts : (start end k : ℕ) (texts block part text z : List ℕ) → length texts ≡ 256 → end ≤ 224 → length block ≡ 64 → part ≡ take 32 (drop start block) → drop start block ≡ text ++ z → start + length text ≡ 32
+    → take (end + (32 - start)) (put_mid end k texts part) ≡ take end texts ++ text
+behind_texts start end k texts block part text z len room whole p b s =
+    let long : length part ≡ 32 = ap length p ∙ length-take-le 32 (drop start block) (omega (arith, whole, length-drop start block, s)) in
+    let all : take (end + 32) (put_mid end k texts part) ≡ take end texts ++ part = take-put_mid end k texts part (end + 32) (omega (arith, long)) (omega (arith, len)) in
+    let front : take (32 - start) part ≡ text =
+    ap (take (32 - start)) p ∙ take-take (32 - start) 32 (drop start block) (omega arith) ∙ ap (take (32 - start)) b ∙ take_at text z (32 - start) (omega (arith, s)) in
+    let before : length (take end texts) ≡ end = length-take-le end texts (omega (arith, len)) in
+    sym (take-take (end + (32 - start)) (end + 32) (put_mid end k texts part) (omega arith)) ∙ ap (take (end + (32 - start))) all ∙ ap (λ k. take (k + (32 - start)) (take end texts ++ part)) (sym before)
+    ∙ take-append-add (take end texts) part (32 - start) ∙ ap (λ l. take end texts ++ l) front

@@ -13,7 +13,7 @@ use Rattle.cborn_wire.specs.declared.heads.Head.{Head}
 use Rattle.cborn_wire.specs.HeadReading.{major_at, IsHeadOf, seen_argument, ArgumentFits}
 use Rattle.cborn_wire.specs.devices.Scanning.{content_of}
 use Rattle.cborn_show.specs.declared.bad_texts.Look.TheVariants.{Passed}
-use Rattle.cborn_show.specs.devices.Pieces.{Piece, PieceFits, piece_bytes, IsBadPiece, all_bytes, AllFit, BadAt, IsFirstBad, Looks, Remaining}
+use Rattle.cborn_show.specs.devices.Pieces.{HeadedContent, PieceFits, piece_bytes, IsBadPiece, all_bytes, AllFit, BadAt, IsFirstBad, Looks, Remaining}
 use Rattle.cborn_show.proofs.Heading.{head_split}
 
 -- Only a definite string has content.
@@ -77,7 +77,7 @@ same_head m j Unbounded Unbounded r s p q e =
     let major : m ≡ j = one_code m j (omega arith) in
     record { major = major; content = ap (λ (o : Major). content_of o Unbounded) major; len = refl; rest = cc }
 
-module _ (x : List ℕ) (h : Head) (len : ℕ) (i : IsHeadOf x h len) (c : Piece) (more : List ℕ) (fit : PieceFits c) (e : x ≡ piece_bytes c ++ more) where
+module _ (x : List ℕ) (h : Head) (len : ℕ) (i : IsHeadOf x h len) (c : HeadedContent) (more : List ℕ) (fit : PieceFits c) (e : x ≡ piece_bytes c ++ more) where
   same : SameHead (major_at h.major) c.major (seen_argument h.argument) c.argument (drop len x) (c.content ++ more)
   same = same_head (major_at h.major) c.major (seen_argument h.argument) c.argument (drop len x) (c.content ++ more) i.fits fit.0 (sym (head_split x h len i) ∙ e ∙ append_assoc (head c.major c.argument) c.content more)
 
@@ -99,15 +99,15 @@ module _ (x : List ℕ) (h : Head) (len : ℕ) (i : IsHeadOf x h len) (c : Piece
 
 -- ---- the pieces so far
 
-pub remaining_all : (cs : List Piece) (x : List ℕ) → AllFit cs → x ≡ all_bytes cs → Remaining cs 0 x
+pub remaining_all : (cs : List HeadedContent) (x : List ℕ) → AllFit cs → x ≡ all_bytes cs → Remaining cs 0 x
 remaining_all cs x f e = record { pieces = cs; read = e; fits = f; all = λ q b. b; back = λ q b. b }
 
-pub remaining_more : (cs : List Piece) (at n : ℕ) (bytes rest : List ℕ) → rest ≡ drop at bytes → 0 < n → n ≤ length rest
-    → ((c : Piece) (more : List ℕ) → PieceFits c → rest ≡ piece_bytes c ++ more → Looks c (Passed n))
+pub remaining_more : (cs : List HeadedContent) (at n : ℕ) (bytes rest : List ℕ) → rest ≡ drop at bytes → 0 < n → n ≤ length rest
+    → ((c : HeadedContent) (more : List ℕ) → PieceFits c → rest ≡ piece_bytes c ++ more → Looks c (Passed n))
     → Remaining cs at (drop at bytes) → Remaining cs (at + n) (drop (at + n) bytes)
 remaining_more cs at n bytes rest d some most looks s = go s.pieces refl
   where
-    go : (ps : List Piece) → s.pieces ≡ ps → Remaining cs (at + n) (drop (at + n) bytes)
+    go : (ps : List HeadedContent) → s.pieces ≡ ps → Remaining cs (at + n) (drop (at + n) bytes)
     go [] e = let none : length rest ≡ 0 = ap length (d ∙ s.read ∙ ap all_bytes e) in absurd (omega arith)
     go (c ∷ ps) e =
         let fits : AllFit (c ∷ ps) = subst AllFit e s.fits in
@@ -118,27 +118,27 @@ remaining_more cs at n bytes rest d some most looks s = go s.pieces refl
           pieces = ps;
           read = sym (drop-drop n at bytes) ∙ ap (drop n) here ∙ drop_at (piece_bytes c) (all_bytes ps) n (sym told.0);
           fits = fits.1;
-          all = λ q b. subst (λ (k : ℕ). BadAt k ps q) far (later q told.1 (subst (λ (ds : List Piece). BadAt at ds q) e (s.all q b)));
-          back = λ q b. s.back q (subst (λ (ds : List Piece). BadAt at ds q) (sym e) (inr (subst (λ (k : ℕ). BadAt k ps q) (sym far) b)));
+          all = λ q b. subst (λ (k : ℕ). BadAt k ps q) far (later q told.1 (subst (λ (ds : List HeadedContent). BadAt at ds q) e (s.all q b)));
+          back = λ q b. s.back q (subst (λ (ds : List HeadedContent). BadAt at ds q) (sym e) (inr (subst (λ (k : ℕ). BadAt k ps q) (sym far) b)));
         }
       where
         later : (q : ℕ) → (IsBadPiece c → ⊥) → BadAt at (c ∷ ps) q → BadAt (at + length (piece_bytes c)) ps q
         later q good (inl b) = absurd (good b.1)
         later q good (inr b) = b
 
-above : (cs : List Piece) (p q : ℕ) → BadAt p cs q → p ≤ q
+above : (cs : List HeadedContent) (p q : ℕ) → BadAt p cs q → p ≤ q
 above [] p q b = absurd b
 above (c ∷ cs) p q (inl b) = omega (arith, b.0)
 above (c ∷ cs) p q (inr b) = omega (arith, above cs (p + length (piece_bytes c)) q b)
 
-pub found_first : (cs : List Piece) (at : ℕ) (bytes rest : List ℕ) → rest ≡ drop at bytes → 0 < length rest
-    → ((c : Piece) (more : List ℕ) → PieceFits c → rest ≡ piece_bytes c ++ more → IsBadPiece c)
+pub found_first : (cs : List HeadedContent) (at : ℕ) (bytes rest : List ℕ) → rest ≡ drop at bytes → 0 < length rest
+    → ((c : HeadedContent) (more : List ℕ) → PieceFits c → rest ≡ piece_bytes c ++ more → IsBadPiece c)
     → Remaining cs at (drop at bytes) → IsFirstBad cs at
 found_first cs at bytes rest d some bad s = go s.pieces refl
   where
-    go : (ps : List Piece) → s.pieces ≡ ps → IsFirstBad cs at
+    go : (ps : List HeadedContent) → s.pieces ≡ ps → IsFirstBad cs at
     go [] e = let none : length rest ≡ 0 = ap length (d ∙ s.read ∙ ap all_bytes e) in absurd (omega arith)
     go (c ∷ ps) e =
         let fits : AllFit (c ∷ ps) = subst AllFit e s.fits in
         let is : IsBadPiece c = bad c (all_bytes ps) fits.0 (d ∙ s.read ∙ ap all_bytes e) in
-        record { is = s.back at (subst (λ (ds : List Piece). BadAt at ds at) (sym e) (inl (refl, is))); lowest = λ q b. above s.pieces at q (s.all q b) }
+        record { is = s.back at (subst (λ (ds : List HeadedContent). BadAt at ds at) (sym e) (inl (refl, is))); lowest = λ q b. above s.pieces at q (s.all q b) }

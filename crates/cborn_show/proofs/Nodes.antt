@@ -1,12 +1,13 @@
 -- Nodes, one after another and inside one another.
-use Rattle.std.proofs.Common.{◌≡◌, ℕ, suc, ◌+◌, ◌-◌, ◌≤◌, List, [], ◌∷◌, ◌++◌, length, drop, codes, decimal, refl, sym, ap, ◌∙◌, subst, arith, append_assoc, append-nil, length-append, true, false, zero, Bool, ◌==◌}
+use Rattle.std.proofs.Common.{◌≡◌, ℕ, suc, ◌+◌, ◌-◌, ◌≤◌, List, [], ◌∷◌, ◌++◌, length, drop, codes, decimal, refl, sym, ap, ◌∙◌, subst, arith, append_assoc, append-nil, length-append, true, false, Bool}
+use Rattle.std.proofs.lemmas.Bool.{eq-eqb}
 use Rattle.std.specs.List.{flat_map}
 use Rattle.cborn_model.specs.declared.heads.Width.{Width}
 use Rattle.cborn_model.specs.declared.heads.Size.TheVariants.{Fixed, Endless}
 use Rattle.cborn_model.specs.declared.nodes.Chunk.{Chunk}
 use Rattle.cborn_model.specs.declared.heads.Major.{Major}
 use Rattle.cborn_model.specs.declared.heads.Major.TheVariants.{Unsigned, Negative, ByteString, TextString, Array, Map, Tag, Other}
-use Rattle.cborn_model.specs.Heads.{Given, Unbounded, head, WidthFits}
+use Rattle.cborn_model.specs.Heads.{Given, Unbounded, head, WidthFits, following, least}
 use Rattle.cborn_model.specs.Spelled.{spelled, spelled_all, spelled_entries, Fits, FitsAll, FitsEntries, chunk_bytes, ending}
 use Rattle.cborn_model.specs.Tree.{Tree, Uint, Nint, Bytes, Text, ByteChunks, TextChunks, Items, Pairs, Tagged, Simple, trees, entries, depth, depth_all, depth_entries, count, count_entries}
 use Rattle.cborn_model.proofs.Listed.Trees.{count-trees, count_entries-entries}
@@ -80,11 +81,10 @@ module _ (room : ℕ) where
   pub simple_done : (a : Argument) (rest old new : List ℕ) → SimpleShown a old new → NodeShown room (head Other (seen_argument a) ++ rest) rest old new
   simple_done a rest old new s = record { node = Simple 0 s.0; read = ap (λ (b : Argument). head Other (seen_argument b) ++ rest) s.1; fits = s.2; shallow = omega arith; showable = tt; written = s.3 }
 
--- an integer, behind what stands before it
-pub next_leaving : (x tail : List ℕ) (h : Head) (len index n left : ℕ) (w : Width) (below : Bool) (old new : List ℕ) → tail ≡ drop len x → IsHeadOf x h len → major_at h.major ≡ integer_major below → h.argument ≡ arguments.Given w n
-    → new ≡ old ++ (between (codes ", ") index ++ (signed below n ++ indicator (mark_for w n))) → length tail ≡ left
-    → (rest : List ℕ) × (length rest ≡ left) × ((room : ℕ) → NextShown room index x rest old new)
-next_leaving x tail h len index n left w below old new t i b f e s = (tail, s, λ room. go room below b e)
+-- an integer with the shortest head, behind what stands before it
+pub next_shown : (x tail : List ℕ) (h : Head) (len index n room : ℕ) (w : Width) (below : Bool) (old : List ℕ) → tail ≡ drop len x → IsHeadOf x h len → major_at h.major ≡ integer_major below → h.argument ≡ arguments.Given w n → w ≡ least n
+    → NextShown room index x tail old (old ++ (between (codes ", ") index ++ signed below n))
+next_shown x tail h len index n room w below old t i b f short = go below b
   where
     fits : WidthFits w n
     fits = subst (λ (a : Argument). ArgumentFits (seen_argument a)) f i.fits
@@ -92,14 +92,17 @@ next_leaving x tail h len index n left w below old new t i b f e s = (tail, s, �
     split : (m : Major) → major_at h.major ≡ m → x ≡ head m (Given w n) ++ tail
     split m q = head_split x h len i ∙ (λ j. head (q j) (seen_argument (f j)) ++ sym t j)
 
-    text : (s : Bool) → new ≡ old ++ (between (codes ", ") index ++ (signed s n ++ indicator (mark_for w n))) → new ≡ (old ++ between (codes ", ") index) ++ (signed s n ++ indicator (mark_for w n))
-    text s e = e ∙ sym (append_assoc old (between (codes ", ") index) (signed s n ++ indicator (mark_for w n)))
+    bare : (y : List ℕ) → y ++ indicator (mark_for w n) ≡ y
+    bare y = rw (short, eq-eqb (length (following (least n) n)) (length (following (least n) n)) refl) (append-nil y)
 
-    go : (room : ℕ) (s : Bool) → major_at h.major ≡ integer_major s → new ≡ old ++ (between (codes ", ") index ++ (signed s n ++ indicator (mark_for w n))) → NextShown room index x tail old new
-    go room false q e = subst (λ (y : List ℕ). NodeShown room y tail (old ++ between (codes ", ") index) new) (sym (split Unsigned q)) (uint_done room w n tail (old ++ between (codes ", ") index) new fits (text false e))
-    go room true q e =
-        subst (λ (y : List ℕ). NodeShown room y tail (old ++ between (codes ", ") index) new) (sym (split Negative q))
-        (nint_done room w n tail (old ++ between (codes ", ") index) new fits (text true e ∙ ap (λ y. (old ++ between (codes ", ") index) ++ y) (append_assoc (codes "-") (decimal (suc n)) (indicator (mark_for w n)))))
+    text : (s : Bool) → old ++ (between (codes ", ") index ++ signed s n) ≡ (old ++ between (codes ", ") index) ++ (signed s n ++ indicator (mark_for w n))
+    text s = sym (append_assoc old (between (codes ", ") index) (signed s n)) ∙ ap (λ l. (old ++ between (codes ", ") index) ++ l) (sym (bare (signed s n)))
+
+    go : (s : Bool) → major_at h.major ≡ integer_major s → NextShown room index x tail old (old ++ (between (codes ", ") index ++ signed s n))
+    go false q = subst (λ (y : List ℕ). NodeShown room y tail (old ++ between (codes ", ") index) (old ++ (between (codes ", ") index ++ signed false n))) (sym (split Unsigned q)) (uint_done room w n tail (old ++ between (codes ", ") index) _ fits (text false))
+    go true q =
+        subst (λ (y : List ℕ). NodeShown room y tail (old ++ between (codes ", ") index) (old ++ (between (codes ", ") index ++ signed true n))) (sym (split Negative q))
+        (nint_done room w n tail (old ++ between (codes ", ") index) _ fits (text true ∙ ap (λ y. (old ++ between (codes ", ") index) ++ y) (append_assoc (codes "-") (decimal (suc n)) (indicator (mark_for w n)))))
 
 -- ---- one after another
 
@@ -255,3 +258,9 @@ module _ (room : ℕ) where
     where
       parts : (x y p t z : List ℕ) → o1 ≡ old ++ (x ++ y) → o2 ≡ o1 ++ p → o3 ≡ o2 ++ t → new ≡ o3 ++ z → new ≡ old ++ (x ++ (y ++ (p ++ (t ++ z))))
       parts x y p t z a b c d = d ∙ ap (λ l. l ++ z) (c ∙ ap (λ l. l ++ t) (b ∙ ap (λ l. l ++ p) a)) ∙ simp append_assoc
+
+-- an integer more, of those whose texts are gathered
+pub one_more : (room k : ℕ) (input mid rest old out x y s : List ℕ) → NodesShown (codes ", ") room k input mid old (out ++ x) → NextShown room k mid rest (out ++ x) ((out ++ x) ++ s) → y ≡ x ++ s → NodesShown (codes ", ") room (k + 1) input rest old (out ++ y)
+one_more room k input mid rest old out x y s n t e =
+    subst (λ (l : List ℕ). NodesShown (codes ", ") room (k + 1) input rest old l) (append_assoc out x s ∙ ap (λ l. out ++ l) (sym e))
+    (nodes_more room (codes ", ") k input mid rest old (out ++ x) ((out ++ x) ++ between (codes ", ") k) ((out ++ x) ++ s) n refl t)

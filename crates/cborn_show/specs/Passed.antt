@@ -9,9 +9,9 @@ use Rattle.cborn_model.specs.declared.nodes.Chunk.{Chunk}
 use Rattle.cborn_model.specs.Bytes.{AreBytes}
 use Rattle.cborn_model.specs.declared.heads.Major.{Major}
 use Rattle.cborn_model.specs.declared.heads.Major.TheVariants.{Unsigned, Negative, ByteString, TextString}
-use Rattle.cborn_model.specs.Heads.{WidthFits}
+use Rattle.cborn_model.specs.Heads.{WidthFits, least}
 use Rattle.cborn_model.specs.Placed.{PlacedAll}
-use Rattle.cborn_model.specs.Spelled.{Wellformed, spelled, spelled_all, spelled_entries, Fits, FitsAll, FitsEntries, ChunksFit, chunk_bytes, simple_width}
+use Rattle.cborn_model.specs.Spelled.{Wellformed, spelled, spelled_all, spelled_entries, Fits, FitsAll, FitsEntries, ChunksFit, chunk_bytes}
 use Rattle.cborn_model.specs.Tree.{Tree, trees, entries, depth, depth_all, depth_entries, Simple}
 use Rattle.hex.specs.Hex.{encode_lower}
 use Rattle.cborn_edn.specs.declared.strings.StringKind.{StringKind}
@@ -81,7 +81,7 @@ pub record LongStringShown (text : Bool) (input rest old new : List ℕ) : Type 
 
 -- a simple value's head; the value is written
 abbrev pub SimpleShown : Argument → List ℕ → List ℕ → Type 0
-SimpleShown a old new = (n : ℕ) × (a ≡ arguments.Given (simple_width n) n) × Fits (Simple 0 n) × (new ≡ old ++ shown_simple n)
+SimpleShown a old new = (n : ℕ) × (a ≡ arguments.Given (least n) n) × Fits (Simple 0 n) × (new ≡ old ++ shown_simple n)
 
 -- n, or -1-n, in decimal
 abbrev pub signed : Bool → ℕ → List ℕ

@@ -10,7 +10,7 @@ ghost use Rattle.cborn_model.specs.Tree.{Trees};
 ghost use Rattle.cborn_edn.specs.Shown.{LowestBadText};
 ghost use Rattle.cborn_wire.specs.HeadReading.{major_at, seen_argument};
 ghost use Rattle.cborn_wire.specs.devices.Scanning.{content_of};
-ghost use Rattle.cborn_show.specs.devices.Pieces.{Piece, PieceFits, piece_bytes, Looks, Steps, all_bytes, AllFit, IsFirstBad};
+ghost use Rattle.cborn_show.specs.devices.Pieces.{HeadedContent, PieceFits, piece_bytes, Looks, Steps, all_bytes, AllFit, IsFirstBad};
 
 use crate::leaves::is_text;
 use cborn_model::Major;
@@ -27,7 +27,7 @@ pub fn first_bad_text(bytes: &[u8]) -> Option<u64>
 
 /// The same of pieces one after another.
 fn first_bad_piece(bytes: &[u8]) -> Option<u64>
-    ensures { IfSome result (λ place. (pieces : List Piece) → AllFit pieces → bytes.now ≡ all_bytes pieces → IsFirstBad pieces place) }
+    ensures { IfSome result (λ place. (pieces : List HeadedContent) → AllFit pieces → bytes.now ≡ all_bytes pieces → IsFirstBad pieces place) }
 {
     let mut at = 0;
     while at < bytes.len() {
@@ -56,7 +56,7 @@ pub(crate) enum Look {
 #[inline(always)]
 pub(crate) fn look_at(bytes: &[u8]) -> Look
     ensures steps { Steps bytes.now result }
-    ensures looks { (piece : Piece) (rest : List ℕ) → PieceFits piece → bytes.now ≡ piece_bytes piece ++ rest → Looks piece result }
+    ensures looks { (piece : HeadedContent) (rest : List ℕ) → PieceFits piece → bytes.now ≡ piece_bytes piece ++ rest → Looks piece result }
 {
     let HeadRead::Full(head, len) = read_head(bytes) else {
         return Look::Ended;

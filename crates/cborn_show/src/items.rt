@@ -7,9 +7,10 @@ ghost use Rattle.cborn_edn.specs.Shown.{mark_for, opened};
 ghost use Rattle.cborn_show.specs.Passed.{NodeShown, NodeLeaves, NextShown, NodesShown, PairShown, PairsShown, integer_major};
 
 use crate::leaves::{behind_break, put_long_string_leaving, put_simple, put_string_leaving};
-use crate::numbers::{put_below, put_between, put_indicator, put_next_number, put_number};
+use crate::numbers::{put_below, put_between, put_indicator, put_number};
 use crate::prospects::Outlook;
-use cborn_model::{Major, Width, shortest};
+use crate::runs::put_integers;
+use cborn_model::{Major, Width};
 use cborn_wire::{Argument, HeadRead, read_head};
 use std::alloc::Global;
 
@@ -125,7 +126,7 @@ fn put_fixed_array(
 fn put_opened(width: Width, n: u64, out: &mut Vec<u8>) -> Option<()>
     ensures { OnSome result (out.new.items ≡ out.old.items ++ opened (mark_for width n)) }
 {
-    if width != shortest(n) {
+    if !width.is_shortest_for(n) {
         put_indicator(width, n, out)?;
         out.push(b' ').ok()?;
     }
@@ -174,6 +175,9 @@ fn put_items<'a>(
     let mut rest = bytes;
     let mut count = 0;
     'items: for _ in 0..bytes.len() {
+        let (len, more) = put_integers(count, most - count, rest, out)?;
+        rest = &rest[len..];
+        count += more;
         if is_done(count, most, may_end, rest) {
             break;
         }
@@ -200,49 +204,8 @@ fn put_next<'a>(
     requires { room ≤ 1024 }
     ensures { IfSome result (λ rest. NextShown room index bytes.now rest.now out.old.items out.new.items) }
 {
-    if let [0..64, ..] = bytes {
-        return put_next_integer(index, bytes, out);
-    }
     put_between(index, out)?;
     put_item(alloc, room, outlook, bytes, out)
-}
-
-/// The same of an integer, which is most of what arrays hold. None for any other item.
-#[inline(always)]
-fn put_next_integer<'a>(index: u64, bytes: &'a [u8], out: &mut Vec<u8>) -> Option<&'a [u8]>
-    ensures { IfSome result (λ rest. (room : ℕ) → NextShown room index bytes.now rest.now out.old.items out.new.items) }
-{
-    let left = put_next_leaving(index, bytes, out)?;
-    last(bytes, left)
-}
-
-/// What `put_next_integer` does; answers how many bytes are left.
-#[inline(never)]
-fn put_next_leaving(index: u64, bytes: &[u8], out: &mut Vec<u8>) -> Option<usize>
-    ensures { IfSome result (λ left. (rest : List ℕ) × (length rest ≡ left) × ((room : ℕ) → NextShown room index bytes.now rest out.old.items out.new.items)) }
-{
-    let HeadRead::Full(head, len) = read_head(bytes) else {
-        return None;
-    };
-    let Argument::Given(width, n) = head.argument else {
-        return None;
-    };
-    let below = is_below(head.major_type())?;
-    let rest = &bytes[len..];
-    put_next_number(index, below, width, n, out)?;
-    Some(rest.len())
-}
-
-/// Whether integers of the major type are below zero. None where it is of no integers.
-#[inline(always)]
-fn is_below(major: Major) -> Option<bool>
-    ensures { IfSome result (λ below. major ≡ integer_major below) }
-{
-    match major {
-        Major::Unsigned => Some(false),
-        Major::Negative => Some(true),
-        _ => None,
-    }
 }
 
 /// Whether no more is to be taken: all that there may be is taken, or a break ends it.

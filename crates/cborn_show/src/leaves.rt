@@ -9,7 +9,7 @@ ghost use Rattle.cborn_show.specs.Passed.{StringShown, ChunkShown, ChunksShown, 
 
 use crate::numbers::put_indicator;
 use cborn_edn::{push_between, push_escaped, push_simple};
-use cborn_model::{Major, Width};
+use cborn_model::{Major, Width, is_simple_value, shortest};
 use cborn_wire::{Argument, HeadRead, read_head};
 use std::alloc::Global;
 
@@ -274,18 +274,12 @@ pub(crate) fn put_simple(argument: Argument, out: &mut Vec<u8>) -> Option<()>
     requires { ArgumentFits (seen_argument argument) }
     ensures { OnSome result (SimpleShown argument out.old.items out.new.items) }
 {
-    match argument {
-        Argument::Given(Width::Direct, n) => {
-            push_simple(out, n as u8).ok()?;
-            Some(())
-        }
-        Argument::Given(Width::One, n) => {
-            if n < 32 {
-                return None;
-            }
-            push_simple(out, n as u8).ok()?;
-            Some(())
-        }
-        _ => None,
+    let Argument::Given(width, n) = argument else {
+        return None;
+    };
+    if !is_simple_value(n) || width != shortest(n) {
+        return None;
     }
+    push_simple(out, n as u8).ok()?;
+    Some(())
 }

@@ -20,16 +20,18 @@
 //! head.
 //!
 //! In the code start with `passes`; `items` has a function for each kind of item that holds others,
-//! `leaves` the strings and simple values, `numbers` decimals and indicators; `prospects` looks
-//! over what is left where a text grows long.
+//! `leaves` the strings and simple values, `numbers` decimals and indicators, `runs` integers in a
+//! row, with the digits of `digits`; `prospects` looks over what is left where a text grows long.
 #![tactic(auto)]
 
 mod bad_texts;
+mod digits;
 mod items;
 mod leaves;
 mod numbers;
 mod passes;
 mod prospects;
+mod runs;
 
 pub use bad_texts::first_bad_text;
 pub use passes::show_bytes;

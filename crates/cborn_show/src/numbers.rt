@@ -5,9 +5,10 @@ ghost use Rattle.cborn_edn.specs.devices.Between.{between};
 ghost use Rattle.cborn_edn.specs.Shown.{mark_for, indicator};
 ghost use Rattle.cborn_show.specs.Passed.{signed};
 
+use crate::digits::write_number;
 use cborn_edn::push_indicator;
-use cborn_model::{Width, shortest};
-use itoa::{Buffer, write_digits};
+use cborn_model::Width;
+use itoa::Buffer;
 
 /// A number, and its indicator.
 #[inline(never)]
@@ -47,7 +48,7 @@ fn put_successor(n: u64, out: &mut Vec<u8>) -> Option<()>
 pub(crate) fn put_indicator(width: Width, n: u64, out: &mut Vec<u8>) -> Option<()>
     ensures { OnSome result (out.new.items ≡ out.old.items ++ indicator (mark_for width n)) }
 {
-    if width == shortest(n) {
+    if width.is_shortest_for(n) {
         return Some(());
     }
     push_indicator(out, width, n).ok()
@@ -59,7 +60,7 @@ fn put_decimal(n: u64, out: &mut Vec<u8>) -> Option<()>
     ensures { OnSome result (out.new.items ≡ out.old.items ++ decimal n) }
 {
     let mut digits = [0; 64];
-    let start = write_digits(n, &mut digits, 32);
+    let start = write_number(n, &mut digits);
     put_block(&digits, start, out)
 }
 
@@ -76,69 +77,6 @@ fn put_block(block: &[u8; 64], start: usize, out: &mut Vec<u8>) -> Option<()>
     Some(())
 }
 
-/// What stands before the number at `index` of an array, a sign, the digits, and the indicator: one
-/// text where each would be an append of its own, written from its end and with nothing to choose
-/// between.
-#[inline(always)]
-pub(crate) fn put_next_number(
-    index: u64,
-    below: bool,
-    width: Width,
-    n: u64,
-    out: &mut Vec<u8>,
-) -> Option<()>
-    ensures { OnSome result (out.new.items ≡ out.old.items ++ (between (codes ", ") index ++ (signed below n ++ indicator (mark_for width n)))) }
-{
-    put_next_digits(index, below, n, out)?;
-    put_indicator(width, n, out)
-}
-
-/// The same without the indicator.
-#[inline(always)]
-fn put_next_digits(index: u64, below: bool, n: u64, out: &mut Vec<u8>) -> Option<()>
-    ensures { OnSome result (out.new.items ≡ out.old.items ++ (between (codes ", ") index ++ signed below n)) }
-{
-    if n == u64::MAX {
-        return put_next_greatest(index, below, n, out);
-    }
-    let mut block = [0; 64];
-    let digits = write_digits(shown_number(below, n), &mut block, 32);
-    let number = put_before(&mut block, digits, b'-', below);
-    let space = put_before(&mut block, number, b' ', index > 0);
-    let start = put_before(&mut block, space, b',', index > 0);
-    put_block(&block, start, out)
-}
-
-/// The number whose digits are shown.
-#[inline(always)]
-fn shown_number(below: bool, n: u64) -> u64
-    requires { n < 18446744073709551615 }
-    ensures { result ≡ (if below then suc n else n) }
-{
-    n + below as u64
-}
-
-/// The same in parts, of any number: `n` + 1 may be 2^64.
-#[inline(never)]
-fn put_next_greatest(index: u64, below: bool, n: u64, out: &mut Vec<u8>) -> Option<()>
-    ensures { OnSome result (out.new.items ≡ out.old.items ++ (between (codes ", ") index ++ signed below n)) }
-{
-    put_between(index, out)?;
-    put_signed(below, n, out)
-}
-
-/// -1-n, or `n`.
-fn put_signed(below: bool, n: u64, out: &mut Vec<u8>) -> Option<()>
-    ensures { OnSome result (out.new.items ≡ out.old.items ++ signed below n) }
-{
-    if below {
-        out.push(b'-').ok()?;
-        put_successor(n, out)
-    } else {
-        put_decimal(n, out)
-    }
-}
-
 /// What stands before the item or the pair with this index.
 #[inline(always)]
 pub(crate) fn put_between(index: u64, out: &mut Vec<u8>) -> Option<()>
@@ -148,16 +86,4 @@ pub(crate) fn put_between(index: u64, out: &mut Vec<u8>) -> Option<()>
         out.extend_from_slice(b", ").ok()?;
     }
     Some(())
-}
-
-/// Writes a byte before `at`, and answers where it stands, if it is wanted; else `at`.
-#[inline(always)]
-fn put_before(block: &mut [u8; 64], at: usize, byte: u8, wanted: bool) -> usize
-    requires some { 0 < at }
-    requires within { at ≤ 64 }
-    ensures place { result + length (if wanted then byte ∷ [] else []) ≡ at }
-    ensures written { drop result block.new ≡ (if wanted then byte ∷ [] else []) ++ drop at block.old }
-{
-    block[at - 1] = byte;
-    at - wanted as usize
 }

@@ -1,16 +1,20 @@
 -- Items from tokens, and rows and pairs from items.
-use Rattle.std.proofs.Common.{◌≡◌, refl, sym, ap, ◌∙◌, subst, ℕ, zero, suc, ◌+◌, ◌-◌, ◌<◌, ◌≤◌, ◌^◌, List, [], ◌∷◌, ◌++◌, length, take, drop, Bool, true, false, ◌&&◌, Some, cond, inl, inr, ◌⊎◌, arith, append_assoc, append-nil, length-append, take_at, drop_at}
+use Rattle.std.proofs.Common.{◌≡◌, refl, sym, ap, ◌∙◌, subst, ℕ, zero, suc, ◌+◌, ◌*◌, ◌-◌, ◌<◌, ◌≤◌, ◌^◌, List, [], ◌∷◌, ◌++◌, length, take, drop, Bool, true, false, ◌&&◌, Option, Some, cond, inl, inr, ◌⊎◌, arith, append_assoc, append-nil, length-append, take_at, drop_at}
 use Rattle.std.proofs.lemmas.Bool.{cond-true, cond-false, lt-ltb}
 use Rattle.std.specs.Int.Digits.{digits_of}
 use Rattle.std.proofs.lemmas.Int.Digits.{length-digits_of-le}
+use Rattle.cborn_model.specs.declared.heads.Major.{Major}
+use Rattle.cborn_model.specs.declared.heads.Major.TheVariants.{Array, Map}
 use Rattle.cborn_model.specs.declared.heads.Width.TheVariants.{Direct}
 use Rattle.cborn_model.specs.declared.heads.Width.{Width}
+use Rattle.cborn_model.specs.declared.heads.Size.{Size}
 use Rattle.cborn_model.specs.declared.heads.Size.TheVariants.{Fixed, Endless as Unending}
-use Rattle.cborn_model.specs.Heads.{holds, head_bytes, least}
+use Rattle.cborn_model.specs.Heads.{code, argument, head, holds, head_bytes, least, IsLeastHead}
 use Rattle.cborn_model.specs.Tree.{Tree, Uint, Nint, Bytes as ByteNode, Items, Pairs as PairNode, Tagged, Simple, Trees, no_item as no_node, more, Entries, no_entry, entry, count, count_entries}
-use Rattle.cborn_model.specs.Spelled.{spelled, spelled_all, spelled_entries}
+use Rattle.cborn_model.specs.Spelled.{ending, spelled, spelled_all, spelled_entries}
 use Rattle.cborn_lex.specs.declared.classes.Profile.{Profile}
 use Rattle.cborn_lex.specs.declared.classes.Profile.TheVariants.{Two}
+use Rattle.cborn_det.specs.Appending.{Appends}
 use Rattle.cborn_wire.proofs.Spelled.TreeLists.{tree_list, trees-tree_list}
 use Rattle.cborn_lex.specs.declared.classes.Mark.{Mark}
 use Rattle.cborn_lex.specs.declared.classes.Mark.TheVariants.{Absent, Endless, Wide}
@@ -23,7 +27,7 @@ use Rattle.cborn_edn.specs.Syntax.{Span, depth_of_number, tokens_of_content, dep
 use Rattle.cborn_edn.specs.devices.Commas.{commas_of_content, commas_of_fields, AllowsCount}
 use Rattle.std.specs.Prelude.{nat_lt}
 use Rattle.cborn_edn.specs.Meaning.{integer, bignum, means_content, means_fields, and_then, when, means, snoc, snoc_entry, width_for, size_for}
-use Rattle.cborn_spell.specs.Descent.{AddsHead, SetsHead, AddsMarked, AddsNumber, AddsBignum, AddsSimple, Opens, Closes, TokenAt, Ends, ItemTaken, RowTaken, BeforeTaken, PairsTaken, PairsBeforeTaken, IsSpelling}
+use Rattle.cborn_spell.specs.Descent.{SetsHead, AddsMarked, AddsNumber, AddsBignum, AddsSimple, Opens, Closes, SpellsNode, TokenAt, Ends, ItemTaken, RowTaken, BeforeTaken, PairsTaken, PairsBeforeTaken, IsSpelling}
 use Rattle.cborn_spell.proofs.Allowing.{allows_none, allows_sum, allows_any}
 
 spelled-snoc : (ts : Trees) (t : Tree) → spelled_all (snoc ts t) ≡ spelled_all ts ++ spelled t
@@ -37,6 +41,10 @@ spelled-snoc_entry (entry l w es) k v = ap (λ z. (spelled l ++ spelled w) ++ z)
 small : (n : ℕ) → n < 2 ^ 64 → width_for Absent n ≡ Some (least n)
 small n h = ap (λ b. when b (Some (least n))) (lt-ltb n (2 ^ 64) h)
 
+-- the shortest head, at the end
+pub head_added : (major n : ℕ) (old new : List ℕ) → Appends (IsLeastHead major n) old new → new ≡ old ++ head_bytes major (least n) n
+head_added major n old new a = a.2 ∙ ap (λ l. old ++ l) a.1.1
+
 -- a head in the place of a byte before a content
 pub set_head_done : (major k start : ℕ) (w : Width) (old one two new content : List ℕ) → start ≡ length old → one ≡ old ++ 0 ∷ [] → two ≡ one ++ content → SetsHead major w k start two new → new ≡ old ++ (head_bytes major w k ++ content)
 set_head_done major k start w old one two new content st o t h =
@@ -44,7 +52,7 @@ set_head_done major k start w old one two new content st o t h =
     let laid : two ≡ old ++ (0 ∷ content) = split ∙ append_assoc old (0 ∷ []) content in
     let front : take start two ≡ old = ap (take start) laid ∙ take_at old (0 ∷ content) start (sym st) in
     let behind : drop (start + 1) two ≡ content = ap (drop (start + 1)) split ∙ drop_at (old ++ 0 ∷ []) content (start + 1) (length-append old (0 ∷ []) ∙ ap (λ j. j + 1) (sym st)) in
-    let put : new ≡ (old ++ head_bytes major w k) ++ content = h ∙ (λ i. (front i ++ head_bytes major w k) ++ behind i) in
+    let put : new ≡ (old ++ head_bytes major w k) ++ content = h.2 ∙ (λ i. (front i ++ h.1.1 i) ++ behind i) in
     put ∙ append_assoc old (head_bytes major w k) content
 
 set_done : (major k start : ℕ) (w : Width) (old one two new content : List ℕ) → start ≡ length old → one ≡ old ++ 0 ∷ [] → two ≡ one ++ content → SetsHead major w k start two new → new ≡ old ++ ((head_bytes major w k ++ content) ++ [])
@@ -65,19 +73,42 @@ endless_done : (h : ℕ) (old one two new content : List ℕ) → one ≡ old ++
 endless_done h old one two new content o t e =
     e ∙ ap (λ l. l ++ 255 ∷ []) (t ∙ ap (λ l. l ++ content) o ∙ append_assoc old (h ∷ []) content) ∙ append_assoc old (h ∷ content) (255 ∷ [])
 
+-- The content c of an array or a map, of k entries, between what opens and what closes it: make gives the node.
+module _ {T : Type 0} (major : Major) (number : T → ℕ) (inside : T → List ℕ) (make : Size → T → Tree) (is : (s : Size) (c : T) → spelled (make s c) ≡ (head major (argument s (number c)) ++ inside c) ++ ending s) where
+  -- the node that the content says under the mark
+  abbrev held : Mark → Option T → Option Tree
+  held mark said = and_then said (λ c. and_then (size_for mark (number c)) (λ s. Some (make s c)))
+
+  module _ (k start : ℕ) (old one two new : List ℕ) (said : Option T) (c : T) where
+    held_fixed : (mark : Mark) (w : Width) → width_for mark k ≡ Some w → start ≡ length old → one ≡ old ++ 0 ∷ [] → said ≡ Some c → number c ≡ k → two ≡ one ++ inside c → SetsHead (code major) w k start two new → SpellsNode (held mark said) old new
+    held_fixed mark w e st o s n t z = (
+      make (Fixed w) c,
+      ap (held mark) s ∙ ap (λ x. and_then x (λ z. Some (make z c))) (ap (size_for mark) n ∙ size_from mark k w e),
+      set_done (code major) (number c) start w old one two new (inside c) st o t (subst (λ (j : ℕ). SetsHead (code major) w j start two new) (sym n) z) ∙ ap (λ l. old ++ l) (sym (is (Fixed w) c)),
+    )
+
+    held_done : (mark : Mark) → k < 2 ^ 64 → start ≡ length old → Opens (code major) mark old one → said ≡ Some c → number c ≡ k → two ≡ one ++ inside c → Closes (code major) mark k start two new → SpellsNode (held mark said) old new
+    held_done (Wide v) h st o s n t z = held_fixed (Wide v) z.0 z.1 st o s n t z.3
+    held_done Absent h st o s n t z = held_fixed Absent (least k) (small k h) st o s n t z
+    held_done Endless h st o s n t z = (
+      make Unending c,
+      ap (held Endless) s,
+      endless_done (32 * code major + 31) old one two new (inside c) o t z ∙ ap (λ l. old ++ l) (sym (is Unending c)),
+    )
+
 integer_spelled : (b : Bool) (p : ℕ) (w : Width) (a : ℕ) → spelled (cond b (Nint p w a) (Uint p w a)) ≡ head_bytes (cond b 1 0) w a
 integer_spelled true p w a = refl
 integer_spelled false p w a = refl
 
-pub plain_number : (v : ℕ) (old new : List ℕ) → v < 2 ^ 64 → AddsHead 0 v old new → AddsNumber false v Absent old new
-plain_number v old new h a = (lt-ltb v (2 ^ 64) h, (least v, small v h, a))
+pub plain_number : (v : ℕ) (old new : List ℕ) → v < 2 ^ 64 → Appends (IsLeastHead 0 v) old new → AddsNumber false v Absent old new
+plain_number v old new h a = (lt-ltb v (2 ^ 64) h, (least v, small v h, head_added 0 v old new a))
 
-pub below_number : (v : ℕ) (old new : List ℕ) → 0 < v → v < 2 ^ 64 → AddsHead 1 (v - 1) old new → AddsNumber true v Absent old new
+pub below_number : (v : ℕ) (old new : List ℕ) → 0 < v → v < 2 ^ 64 → Appends (IsLeastHead 1 (v - 1)) old new → AddsNumber true v Absent old new
 below_number zero old new some h a = absurd (omega arith)
 below_number (suc v) old new some h a =
     let e : suc v - 1 ≡ v = omega arith in
     let l : v < 2 ^ 64 = omega arith in
-    (lt-ltb v (2 ^ 64) l, (least v, small v l, subst (λ (j : ℕ). AddsHead 1 j old new) e a))
+    (lt-ltb v (2 ^ 64) l, (least v, small v l, head_added 1 v old new (subst (λ (j : ℕ). Appends (IsLeastHead 1 j) old new) e a)))
 
 module _ (profile : Profile) (text : List ℕ) where
   pub gap_item : (n m l room : ℕ) (old new : List ℕ) → Between profile text n m [] → ItemTaken profile text m l room old new → ItemTaken profile text n l room old new
@@ -158,7 +189,7 @@ module _ (profile : Profile) (text : List ℕ) where
     lexed = t.1;
     allowed = allows_none profile;
     shallow = omega arith;
-    written = (Simple t.0 k, refl, a.1);
+    written = (Simple t.0 k, refl, head_added 7 k old new a.1);
   }
 
   pub simple_done : (n at last end room v : ℕ) (old new : List ℕ) → v < 2 ^ 64 → TokenAt profile text n at SimpleOpen → TokenAt profile text at last (Number false v Absent) → TokenAt profile text last end ParenClose → AddsSimple v old new → ItemTaken profile text n end room old new
@@ -169,7 +200,7 @@ module _ (profile : Profile) (text : List ℕ) where
         lexed = joins profile text n at end _ _ o.1 (joins profile text at last end _ _ b.1 c.1);
         allowed = allows_none profile;
         shallow = omega (arith, flat);
-        written = (Simple o.0 v, ap (λ x. when (x && true) (Some (Simple o.0 v))) a.0, a.1);
+        written = (Simple o.0 v, ap (λ x. when (x && true) (Some (Simple o.0 v))) a.0, head_added 7 v old new a.1);
       }
 
   -- Arrays.
@@ -196,33 +227,13 @@ module _ (profile : Profile) (text : List ℕ) where
       record { content = loose b.row; lexed = b.lexed; allowed = allows_any profile _ e; shallow = b.shallow; nodes = b.nodes; says = b.says; counted = b.counted; written = b.written }
 
   module _ (n at last end room k start : ℕ) (old one two new : List ℕ) where
-    array_fixed : (mark : Mark) (w : Width) → 1 ≤ room → width_for mark k ≡ Some w → start ≡ length old → TokenAt profile text n at (ArrayOpen mark) → one ≡ old ++ 0 ∷ [] → Inner at last (room - 1) k one two → TokenAt profile text last end ArrayClose → SetsHead 4 w k start two new → ItemTaken profile text n end room old new
-    array_fixed mark w r e st o a c b z = record {
+    array_from : (mark : Mark) → 1 ≤ room → k < 2 ^ 64 → start ≡ length old → TokenAt profile text n at (ArrayOpen mark) → Opens 4 mark old one → Inner at last (room - 1) k one two → TokenAt profile text last end ArrayClose → Closes 4 mark k start two new → ItemTaken profile text n end room old new
+    array_from mark r h st o a c b z = record {
       item = array (record { start = o.0; stop = at }) mark c.content (record { start = b.0; stop = end });
       lexed = joins profile text n at end _ _ o.1 (joins profile text at last end (tokens_of_content c.content) _ c.lexed b.1);
       allowed = c.allowed;
       shallow = omega (arith, c.shallow);
-      written = (
-        Items o.0 (Fixed w) c.nodes,
-        ap (λ x. and_then x (λ ts. and_then (size_for mark (count ts)) (λ s. Some (Items o.0 s ts)))) c.says
-            ∙ ap (λ x. and_then x (λ s. Some (Items o.0 s c.nodes))) (ap (size_for mark) c.counted ∙ size_from mark k w e),
-        set_done 4 (count c.nodes) start w old one two new (spelled_all c.nodes) st a c.written (subst (λ (j : ℕ). SetsHead 4 w j start two new) (sym c.counted) z),
-      );
-    }
-
-    array_from : (mark : Mark) → 1 ≤ room → k < 2 ^ 64 → start ≡ length old → TokenAt profile text n at (ArrayOpen mark) → Opens 4 mark old one → Inner at last (room - 1) k one two → TokenAt profile text last end ArrayClose → Closes 4 mark k start two new → ItemTaken profile text n end room old new
-    array_from (Wide v) r h st o a c b z = array_fixed (Wide v) z.0 r z.1 st o a c b z.3
-    array_from Absent r h st o a c b z = array_fixed Absent (least k) r (small k h) st o a c b z
-    array_from Endless r h st o a c b z = record {
-      item = array (record { start = o.0; stop = at }) Endless c.content (record { start = b.0; stop = end });
-      lexed = joins profile text n at end _ _ o.1 (joins profile text at last end (tokens_of_content c.content) _ c.lexed b.1);
-      allowed = c.allowed;
-      shallow = omega (arith, c.shallow);
-      written = (
-        Items o.0 Unending c.nodes,
-        ap (λ x. and_then x (λ ts. and_then (size_for Endless (count ts)) (λ s. Some (Items o.0 s ts)))) c.says,
-        endless_done 159 old one two new (spelled_all c.nodes) a c.written z,
-      );
+      written = held_done Array count spelled_all (Items o.0) (λ s t. refl) k start old one two new (means_content c.content) c.nodes mark h st a c.says c.counted c.written z;
     }
 
   pub array_done : (n at last end room k start : ℕ) (old one two new : List ℕ) (mark : Mark) → 1 ≤ room → k < 2 ^ 64 → start ≡ length old → TokenAt profile text n at (ArrayOpen mark) → Opens 4 mark old one → RowTaken profile text at last (room - 1) k one two → Ends profile text last end ArrayClose → Closes 4 mark k start two new → ItemTaken profile text n end room old new
@@ -293,33 +304,13 @@ module _ (profile : Profile) (text : List ℕ) where
       record { content = loose_fields b.pairs; lexed = b.lexed; allowed = allows_any profile _ e; shallow = b.shallow; nodes = b.nodes; says = b.says; counted = b.counted; written = b.written }
 
   module _ (n at last end room k start : ℕ) (old one two new : List ℕ) where
-    map_fixed : (mark : Mark) (w : Width) → 1 ≤ room → width_for mark k ≡ Some w → start ≡ length old → TokenAt profile text n at (MapOpen mark) → one ≡ old ++ 0 ∷ [] → InnerPairs at last (room - 1) k one two → TokenAt profile text last end MapClose → SetsHead 5 w k start two new → ItemTaken profile text n end room old new
-    map_fixed mark w r e st o a c b z = record {
+    map_from : (mark : Mark) → 1 ≤ room → k < 2 ^ 64 → start ≡ length old → TokenAt profile text n at (MapOpen mark) → Opens 5 mark old one → InnerPairs at last (room - 1) k one two → TokenAt profile text last end MapClose → Closes 5 mark k start two new → ItemTaken profile text n end room old new
+    map_from mark r h st o a c b z = record {
       item = map (record { start = o.0; stop = at }) mark c.content (record { start = b.0; stop = end });
       lexed = joins profile text n at end _ _ o.1 (joins profile text at last end (tokens_of_fields c.content) _ c.lexed b.1);
       allowed = c.allowed;
       shallow = omega (arith, c.shallow);
-      written = (
-        PairNode o.0 (Fixed w) c.nodes,
-        ap (λ x. and_then x (λ ts. and_then (size_for mark (count_entries ts)) (λ s. Some (PairNode o.0 s ts)))) c.says
-            ∙ ap (λ x. and_then x (λ s. Some (PairNode o.0 s c.nodes))) (ap (size_for mark) c.counted ∙ size_from mark k w e),
-        set_done 5 (count_entries c.nodes) start w old one two new (spelled_entries c.nodes) st a c.written (subst (λ (j : ℕ). SetsHead 5 w j start two new) (sym c.counted) z),
-      );
-    }
-
-    map_from : (mark : Mark) → 1 ≤ room → k < 2 ^ 64 → start ≡ length old → TokenAt profile text n at (MapOpen mark) → Opens 5 mark old one → InnerPairs at last (room - 1) k one two → TokenAt profile text last end MapClose → Closes 5 mark k start two new → ItemTaken profile text n end room old new
-    map_from (Wide v) r h st o a c b z = map_fixed (Wide v) z.0 r z.1 st o a c b z.3
-    map_from Absent r h st o a c b z = map_fixed Absent (least k) r (small k h) st o a c b z
-    map_from Endless r h st o a c b z = record {
-      item = map (record { start = o.0; stop = at }) Endless c.content (record { start = b.0; stop = end });
-      lexed = joins profile text n at end _ _ o.1 (joins profile text at last end (tokens_of_fields c.content) _ c.lexed b.1);
-      allowed = c.allowed;
-      shallow = omega (arith, c.shallow);
-      written = (
-        PairNode o.0 Unending c.nodes,
-        ap (λ x. and_then x (λ ts. and_then (size_for Endless (count_entries ts)) (λ s. Some (PairNode o.0 s ts)))) c.says,
-        endless_done 191 old one two new (spelled_entries c.nodes) a c.written z,
-      );
+      written = held_done Map count_entries spelled_entries (PairNode o.0) (λ s t. refl) k start old one two new (means_fields c.content) c.nodes mark h st a c.says c.counted c.written z;
     }
 
   pub map_done : (n at last end room k start : ℕ) (old one two new : List ℕ) (mark : Mark) → 1 ≤ room → k < 2 ^ 64 → start ≡ length old → TokenAt profile text n at (MapOpen mark) → Opens 5 mark old one → PairsTaken profile text at last (room - 1) k one two → Ends profile text last end MapClose → Closes 5 mark k start two new → ItemTaken profile text n end room old new

@@ -16,10 +16,11 @@ use Rattle.cborn_lex.specs.devices.Letters.{Letter, is_letter, meant, written as
 use Rattle.cborn_lex.specs.devices.Scan.{is_raw}
 use Rattle.cborn_model.specs.declared.heads.Major.{Major}
 use Rattle.cborn_model.specs.declared.heads.Major.TheVariants.{ByteString, TextString}
-use Rattle.cborn_model.specs.Heads.{head_bytes, least}
+use Rattle.cborn_model.specs.Heads.{head_bytes, least, IsHead, IsLeastHead}
 use Rattle.cborn_model.specs.declared.nodes.Chunk.{Chunk}
+use Rattle.cborn_det.specs.Appending.{Appends, Replaces}
 use Rattle.cborn_model.specs.Tree.{Tree, Trees, Entries, trees, count, count_entries}
-use Rattle.cborn_model.specs.Spelled.{string, chunk_bytes, simple_width, spelled, spelled_all, spelled_entries}
+use Rattle.cborn_model.specs.Spelled.{string, chunk_bytes, spelled, spelled_all, spelled_entries}
 use Rattle.cborn_lex.specs.declared.classes.Profile.{Profile}
 use Rattle.cborn_lex.specs.declared.classes.Profile.TheVariants.{Two}
 use Rattle.cborn_lex.specs.declared.classes.Class.TheVariants.{Comma}
@@ -32,13 +33,9 @@ use Rattle.cborn_edn.specs.declared.strings.StringKind.{StringKind}
 use Rattle.cborn_edn.specs.declared.strings.StringKind.TheVariants.{Bytes as OfBytes, Text as OfText}
 use Rattle.cborn_edn.specs.Notates.{Notates}
 
--- the shortest head of the major type with the argument n is added
-abbrev pub AddsHead : ℕ → ℕ → List ℕ → List ℕ → Type 0
-AddsHead major n old new = new ≡ old ++ head_bytes major (least n) n
-
 -- the head of this width stands in the place of the byte at start
 abbrev pub SetsHead : ℕ → Width → ℕ → ℕ → List ℕ → List ℕ → Type 0
-SetsHead major w n start old new = new ≡ (take start old ++ head_bytes major w n) ++ drop (start + 1) old
+SetsHead major w n = Replaces (IsHead major w n)
 
 -- the head that the indicator asks for is added
 abbrev pub AddsMarked : ℕ → Mark → ℕ → List ℕ → List ℕ → Type 0
@@ -105,7 +102,7 @@ AddsBignum room negative v mark old new = (is_small negative v ≡ false) × (ar
 
 -- a simple value
 abbrev pub AddsSimple : ℕ → List ℕ → List ℕ → Type 0
-AddsSimple n old new = (is_simple false n ≡ true) × (new ≡ old ++ head_bytes 7 (simple_width n) n)
+AddsSimple n old new = (is_simple false n ≡ true) × Appends (IsLeastHead 7 n) old new
 
 -- the meaning is some node, which is written
 abbrev pub SpellsNode : Option Tree → List ℕ → List ℕ → Type 0

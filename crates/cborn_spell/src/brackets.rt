@@ -1,20 +1,21 @@
 //! What opens and closes arrays, maps, strings and embedded items.
 
 ghost use Rattle.std.specs.Prelude.{◌≡◌, ◌≤◌, ◌<◌, length, IfSome, OnSome, IsTrue, IsUtf8};
-ghost use Rattle.cborn_model.specs.Heads.{code};
+ghost use Rattle.cborn_model.specs.Heads.{WidthFits, code};
 ghost use Rattle.cborn_lex.specs.declared.classes.Class.{Class};
 ghost use Rattle.cborn_lex.specs.declared.classes.Class.TheVariants as classes;
 ghost use Rattle.cborn_lex.specs.Forms.{start_of, single};
 ghost use Rattle.cborn_edn.specs.declared.strings.StringKind.TheVariants as kinds;
-ghost use Rattle.cborn_spell.specs.Descent.{TokenAt, Ends, Opens, Closes, ClosesFixed, ClosesString, ClosesChunks, major_of};
+ghost use Rattle.cborn_spell.specs.Descent.{TokenAt, Ends, Opens, Closes, ClosesFixed, ClosesString, ClosesChunks, SetsHead, major_of};
 
-use crate::heads::{set_head, set_wide_head};
 use crate::leaves::is_text;
 use crate::scans::{behind, skip};
 use crate::tokens::next_token;
+use cborn_det::set_head;
 use cborn_edn::StringKind;
 use cborn_lex::{Class, Mark, Profile};
-use cborn_model::{BREAK, Major};
+use cborn_model::{BREAK, Major, Width};
+use cborn_wire::push_head;
 use std::alloc::Global;
 
 /// A byte in the place of the head, or the head of an indefinite length.
@@ -69,6 +70,28 @@ pub(crate) fn close_fixed(
             set_wide_head(alloc, major, width, n, start, out)
         }
     }
+}
+
+/// Puts the head of the major type with the argument `n`, which fits the width, in the place of the
+/// byte at `start`.
+fn set_wide_head(
+    alloc: Global,
+    major: Major,
+    width: Width,
+    n: u64,
+    start: usize,
+    out: &mut Vec<u8>,
+) -> Option<()>
+    requires { WidthFits width n }
+    ensures { OnSome result ((start < length out.old.items) × SetsHead (code major) width n start out.old.items out.new.items) }
+{
+    if start >= out.len() {
+        return None;
+    }
+    let content = Vec::from_slice(alloc, &out[start + 1..]).ok()?;
+    out.truncate(start);
+    push_head(out, major, width, n).ok()?;
+    out.extend_from_slice(&content).ok()
 }
 
 /// The head of a string in the place of the byte at `start`, behind which its bytes stand.

@@ -4,13 +4,13 @@ ghost use Rattle.std.specs.Prelude.{◌≤◌, ◌<◌, length, IfSome};
 ghost use Rattle.cborn_spell.specs.Descent.{ItemTaken};
 
 use crate::guesses::{is_chunkless, is_joined, is_tag, joins};
-use crate::heads::put_head;
 use crate::numerals::{below_zero, decimal};
 use crate::pieces::{put_chunked, put_embedded_item, put_pieces_item};
 use crate::rows::{put_array, put_map};
 use crate::scans::{behind, skip};
 use crate::strings::{plain_len, put_plain};
 use crate::tokens::{put_leaf, put_tag_head};
+use cborn_det::put_head;
 use cborn_lex::Profile;
 use cborn_model::Major;
 use std::alloc::Global;

@@ -8,12 +8,12 @@ ghost use Rattle.cborn_lex.specs.declared.classes.Class.TheVariants as classes;
 ghost use Rattle.cborn_edn.specs.Meaning.{width_for, is_simple, is_absent};
 ghost use Rattle.cborn_spell.specs.Descent.{AddsMarked, AddsString, AddsEmpty, AddsSimple, TokenAt, ItemTaken, suits};
 
-use crate::heads::put_head;
 use crate::numerals::decimal;
 use crate::scans::{behind, skip};
+use cborn_det::put_head;
 use cborn_edn::StringKind;
 use cborn_lex::{Mark, Profile};
-use cborn_model::{BREAK, Major, Width};
+use cborn_model::{BREAK, Major, Width, is_simple_value};
 use cborn_wire::push_head;
 
 /// Appends the head that the indicator asks for.
@@ -90,14 +90,10 @@ pub(crate) fn is_text(bytes: &[u8]) -> bool
 pub(crate) fn put_simple(n: u64, out: &mut Vec<u8>) -> Option<()>
     ensures { OnSome result (AddsSimple n out.old.items out.new.items) }
 {
-    if n < 24 {
-        out.push(Major::Other.initial_byte(n as u8)).ok()
-    } else if 32 <= n && n < 256 {
-        let first = Major::Other.initial_byte(24);
-        out.extend_from_slice(&[first, n as u8]).ok()
-    } else {
-        None
+    if !is_simple_value(n) {
+        return None;
     }
+    put_head(Major::Other, n, out)
 }
 
 /// Whether there is no indicator.

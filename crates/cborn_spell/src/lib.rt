@@ -19,14 +19,13 @@
 //!
 //! In the code start with `passes`; `items`, `rows` (arrays and maps) and `pieces` (strings of
 //! several pieces) have the descent, `brackets` and `marks` what opens and closes, `scans` what
-//! stands between tokens, `tokens` what is read by `cborn_lex`, and `numerals`, `numbers`,
-//! `strings`, `leaves` and `heads` what has no items inside; `letters` and `units` have the letters
-//! of text strings, which are copied by sixteen at a time, and their escapes.
+//! stands between tokens, `tokens` what is read by `cborn_lex`, and `numerals`, `numbers`, `strings`
+//! and `leaves` what has no items inside; `letters` and `units` have the letters of text strings,
+//! which are copied by sixteen at a time, and their escapes.
 #![tactic(auto)]
 
 mod brackets;
 mod guesses;
-mod heads;
 mod items;
 mod leaves;
 mod letters;

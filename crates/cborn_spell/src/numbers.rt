@@ -6,8 +6,8 @@ ghost use Rattle.cborn_edn.specs.Syntax as syntax;
 ghost use Rattle.cborn_model.specs.Heads.{code};
 ghost use Rattle.cborn_spell.specs.Descent.{AddsNumber, AddsBignum, IsBignum};
 
-use crate::heads::set_head;
 use crate::leaves::{is_bare, put_marked};
+use cborn_det::set_head;
 use cborn_lex::Mark;
 use cborn_model::Major;
 use std::alloc::Global;

@@ -112,7 +112,7 @@ module _ (order : List ℕ → List ℕ → Ordering) (room : ℕ) where
     fits = s.2;
     shallow = omega arith;
     meant = refl;
-    written = s.3;
+    written = (s.3.0, (s.2, s.3.1), s.3.2);
   }
 
   pub bignum_done : (w : Width) (negative : Bool) (n : ℕ) (input rest old new : List ℕ) → 1 ≤ room → WidthFits w n → ((negative ≡ false) × (n ≡ 2)) ⊎ ((negative ≡ true) × (n ≡ 3)) → BignumTaken negative input rest old new

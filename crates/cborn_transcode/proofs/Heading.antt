@@ -12,12 +12,14 @@ use Rattle.cborn_model.specs.declared.nodes.Chunk.{Chunk}
 use Rattle.cborn_model.specs.declared.heads.Major.{Major}
 use Rattle.cborn_model.specs.declared.heads.Major.TheVariants.{ByteString}
 use Rattle.cborn_model.specs.Heads.{code, Given, head, WidthFits, IsLeastHead}
-use Rattle.cborn_model.specs.Spelled.{chunk_bytes, ChunksFit}
-use Rattle.cborn_model.specs.Meaning.{joined_chunks, ChunksAreText}
+use Rattle.cborn_model.specs.Spelled.{chunk_bytes}
+use Rattle.cborn_model.specs.Meaning.{joined_chunks}
 use Rattle.cborn_wire.specs.declared.heads.Head.{Head}
 use Rattle.cborn_wire.specs.declared.heads.Argument.{Argument}
 use Rattle.cborn_wire.specs.declared.heads.Argument.TheVariants as arguments
 use Rattle.cborn_wire.specs.HeadReading.{major_at, IsHeadOf, seen_argument, ArgumentFits}
+use Rattle.cborn_wire.proofs.Machine.SoundItems.{fits_chunks-snoc, chunk_bytes-snoc}
+use Rattle.cborn_judge.proofs.FirstFlaw.Texts.{are_text}
 use Rattle.cborn_transcode.specs.Transcoding.{ContentTaken, ChunkTaken, ChunksTaken, LongStringTaken, BignumTaken}
 
 pub head_split : (x : List ℕ) (h : Head) (n : ℕ) → IsHeadOf x h n → x ≡ head (major_at h.major) (seen_argument h.argument) ++ drop n x
@@ -39,28 +41,16 @@ chunk_taken x tail rest old new h n k major w t i e f c =
 pub chunks_none : (major : Major) (input old : List ℕ) → ChunksTaken major input input old old
 chunks_none major input old = record { chunks = []; read = refl; fits = tt; text = λ e. tt; written = sym (append-nil old) }
 
-bytes_more : (m : Major) (cs : List Chunk) (c : Chunk) → flat_map (chunk_bytes m) (cs ++ c ∷ []) ≡ flat_map (chunk_bytes m) cs ++ chunk_bytes m c
-bytes_more m [] c = append-nil (chunk_bytes m c)
-bytes_more m (d ∷ cs) c = ap (λ l. chunk_bytes m d ++ l) (bytes_more m cs c) ∙ sym (append_assoc (chunk_bytes m d) (flat_map (chunk_bytes m) cs) (chunk_bytes m c))
-
-joined_more : (cs : List Chunk) (c : Chunk) → joined_chunks (cs ++ c ∷ []) ≡ joined_chunks cs ++ c.bytes
+pub joined_more : (cs : List Chunk) (c : Chunk) → joined_chunks (cs ++ c ∷ []) ≡ joined_chunks cs ++ c.bytes
 joined_more [] c = append-nil c.bytes
 joined_more (d ∷ cs) c = ap (λ l. d.bytes ++ l) (joined_more cs c) ∙ sym (append_assoc d.bytes (joined_chunks cs) c.bytes)
-
-fit_more : (cs : List Chunk) (c : Chunk) → ChunksFit cs → ChunksFit (c ∷ []) → ChunksFit (cs ++ c ∷ [])
-fit_more [] c f g = g
-fit_more (d ∷ cs) c f g = (f.0, fit_more cs c f.1 g)
-
-text_more : (cs : List Chunk) (c : Chunk) → ChunksAreText cs → ChunksAreText (c ∷ []) → ChunksAreText (cs ++ c ∷ [])
-text_more [] c f g = g
-text_more (d ∷ cs) c f g = (f.0, text_more cs c f.1 g)
 
 pub chunks_more : (major : Major) (input mid rest old half new : List ℕ) → ChunksTaken major input mid old half → ChunkTaken major mid rest half new → ChunksTaken major input rest old new
 chunks_more major input mid rest old half new s c = record {
   chunks = s.chunks ++ c.chunk ∷ [];
-  read = s.read ∙ ap (λ l. flat_map (chunk_bytes major) s.chunks ++ l) c.read ∙ sym (append_assoc (flat_map (chunk_bytes major) s.chunks) (chunk_bytes major c.chunk) rest) ∙ ap (λ l. l ++ rest) (sym (bytes_more major s.chunks c.chunk));
-  fits = fit_more s.chunks c.chunk s.fits (c.fits, tt);
-  text = λ e. text_more s.chunks c.chunk (s.text e) (c.text e, tt);
+  read = s.read ∙ ap (λ l. flat_map (chunk_bytes major) s.chunks ++ l) c.read ∙ sym (append_assoc (flat_map (chunk_bytes major) s.chunks) (chunk_bytes major c.chunk) rest) ∙ ap (λ l. l ++ rest) (sym (chunk_bytes-snoc major s.chunks c.chunk));
+  fits = fits_chunks-snoc s.chunks c.chunk s.fits c.fits.0 c.fits.1;
+  text = λ e. are_text s.chunks c.chunk (s.text e) (c.text e);
   written = c.written ∙ ap (λ l. l ++ c.chunk.bytes) s.written ∙ append_assoc old (joined_chunks s.chunks) c.chunk.bytes ∙ ap (λ l. old ++ l) (sym (joined_more s.chunks c.chunk));
 }
 

@@ -6,7 +6,7 @@ use Rattle.cborn_det.specs.Det.{Entry, keys, joined}
 use Rattle.cborn_det.proofs.Cutting.{EndsIn, Below, rise_more}
 use Rattle.cborn_transcode.specs.declared.entries.Span.{Span}
 use Rattle.std.proofs.lemmas.List.Sorted.{IsPermutation-map, IsPermutation-reverse, IsPermutation-trans}
-use Rattle.cborn_transcode.specs.declared.places.Place.{Place}
+use Rattle.cborn_transcode.specs.declared.places.PairPlace.{PairPlace}
 use Rattle.cborn_transcode.specs.Transcoding.{spanned, all_spanned, AreSpans}
 use Rattle.cborn_transcode.specs.devices.Walking.{span_of, spans_of}
 
@@ -67,17 +67,17 @@ one_spanned es fs ss b a e c f = sym (spanned_all [] es ss 0 refl a) ∙ ap (λ 
 -- ---- pairs that are written from where they stand, the last place first
 
 -- what was written of all places, when these are left
-pub record WrittenUpTo (order : List ℕ → List ℕ → Ordering) (b : List ℕ) (before : Option (Bor (List ℕ))) (left all : List Place) (old now : List ℕ) : Type 0 where
+pub record WrittenUpTo (order : List ℕ → List ℕ → Ordering) (b : List ℕ) (before : Option (Bor (List ℕ))) (left all : List PairPlace) (old now : List ℕ) : Type 0 where
   pub es : List Entry
   pub others : es ++ all_spanned b (spans_of (reverse left)) ≡ all_spanned b (spans_of (reverse all))
   pub rises : Rising order (keys es)
   pub last : EndsIn before (keys es)
   pub written : now ≡ old ++ joined es
 
-pub written_none : (order : List ℕ → List ℕ → Ordering) (b : List ℕ) (all : List Place) (old : List ℕ) → WrittenUpTo order b None all all old old
+pub written_none : (order : List ℕ → List ℕ → Ordering) (b : List ℕ) (all : List PairPlace) (old : List ℕ) → WrittenUpTo order b None all all old old
 written_none order b all old = record { es = []; others = refl; rises = tt; last = refl; written = sym (append-nil old) }
 
-pub written_more : (order : List ℕ → List ℕ → Ordering) (b : List ℕ) (before : Option (Bor (List ℕ))) (key : Bor (List ℕ)) (left rest all : List Place) (p : Place) (pair old half new : List ℕ) → WrittenUpTo order b before left all old half
+pub written_more : (order : List ℕ → List ℕ → Ordering) (b : List ℕ) (before : Option (Bor (List ℕ))) (key : Bor (List ℕ)) (left rest all : List PairPlace) (p : PairPlace) (pair old half new : List ℕ) → WrittenUpTo order b before left all old half
     → left ≡ rest ++ p ∷ [] → key.now ≡ (spanned b (span_of p)).0 → pair ≡ (spanned b (span_of p)).0 ++ (spanned b (span_of p)).1 → Below order before key.now → new ≡ half ++ pair
     → WrittenUpTo order b (Some key) rest all old new
 written_more order b before key left rest all p pair old half new s l k q h n =
@@ -91,7 +91,7 @@ written_more order b before key left rest all p pair old half new s l k q h n =
       written = n ∙ (λ i. s.written i ++ q i) ∙ append_assoc old (joined s.es) (e.0 ++ e.1) ∙ ap (λ z. old ++ z) (sym (joined_more s.es e));
     }
 
-pub written_all : (order : List ℕ → List ℕ → Ordering) (b : List ℕ) (before : Option (Bor (List ℕ))) (places all : List Place) (old new : List ℕ) → IsPermutation places all → WrittenUpTo order b before [] all old new
+pub written_all : (order : List ℕ → List ℕ → Ordering) (b : List ℕ) (before : Option (Bor (List ℕ))) (places all : List PairPlace) (old new : List ℕ) → IsPermutation places all → WrittenUpTo order b before [] all old new
     → (fs : List Entry) × IsPermutation (all_spanned b (spans_of places)) fs × Rising order (keys fs) × (new ≡ old ++ joined fs)
 written_all order b before places all old new m s =
     let turned : IsPermutation places (reverse all) = IsPermutation-trans places all (reverse all) m (IsPermutation-reverse all) in

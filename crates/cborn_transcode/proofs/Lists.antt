@@ -11,9 +11,9 @@ use Rattle.cborn_model.specs.Spelled.{spelled, spelled_all, FitsAll, ending}
 use Rattle.cborn_model.specs.Value.{Value, values_of, array}
 use Rattle.cborn_model.specs.Meaning.{Means, AllMean}
 use Rattle.cborn_det.specs.Det.{DetSeq}
-use Rattle.cborn_det.specs.Appending.{Appends}
+use Rattle.cborn_det.specs.Appending.{Appends, Replaces}
 use Rattle.cborn_det.proofs.Steps.{items_done}
-use Rattle.cborn_transcode.specs.Transcoding.{ItemTranscoded, ItemsTranscoded, SetsHead, IsTranscoded}
+use Rattle.cborn_transcode.specs.Transcoding.{ItemTranscoded, ItemsTranscoded, IsTranscoded}
 
 spelled_append : (ts us : List Tree) → spelled_all (trees (ts ++ us)) ≡ spelled_all (trees ts) ++ spelled_all (trees us)
 spelled_append [] us = refl
@@ -114,7 +114,7 @@ module _ (order : List ℕ → List ℕ → Ordering) where
         written = items_done order s.items n old mid new (sym s.count ∙ zip_count s.nodes s.items s.meant) a s.written;
       }
 
-  pub endless_array_done : (room : ℕ) (n start : ℕ) (input after rest old half new : List ℕ) → 1 ≤ room → start ≡ length old → after ≡ 255 ∷ rest → ItemsTranscoded order (room - 1) n input after (old ++ 0 ∷ []) half → SetsHead 4 n start half new
+  pub endless_array_done : (room : ℕ) (n start : ℕ) (input after rest old half new : List ℕ) → 1 ≤ room → start ≡ length old → after ≡ 255 ∷ rest → ItemsTranscoded order (room - 1) n input after (old ++ 0 ∷ []) half → Replaces (IsLeastHead 4 n) start half new
       → ItemTranscoded order room (head Array Unbounded ++ input) rest old new
   endless_array_done room n start input after rest old half new r st e s h =
       let laid : half ≡ old ++ (0 ∷ s.written.0) = s.written.2 ∙ append_assoc old (0 ∷ []) s.written.0 in

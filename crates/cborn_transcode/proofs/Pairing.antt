@@ -8,21 +8,23 @@ use Rattle.cborn_model.specs.declared.heads.Width.{Width}
 use Rattle.cborn_model.specs.declared.heads.Size.TheVariants.{Fixed, Endless}
 use Rattle.cborn_model.specs.declared.heads.Major.TheVariants.{Map}
 use Rattle.cborn_model.specs.Heads.{Given, Unbounded, head, WidthFits, IsLeastHead}
-use Rattle.cborn_model.specs.Tree.{Tree, Entries, no_entry, entry, entries, depth, depth_entries, count_entries, Pairs}
+use Rattle.cborn_model.specs.Tree.{Tree, entries, depth, depth_entries, count_entries, Pairs}
 use Rattle.cborn_model.specs.Spelled.{spelled, spelled_entries, Fits, FitsEntries, ending}
 use Rattle.cborn_model.specs.Value.{Value, Couples, no_pairs, pair, pairs_of, dict}
 use Rattle.cborn_model.specs.Valid.{IsProper, HasProperPairs, IsNew, HasNewKeys}
 use Rattle.cborn_model.specs.Meaning.{Means, EntriesMean}
 use Rattle.cborn_model.specs.Orders.{IsKeyOrder, Rising}
 use Rattle.cborn_model.proofs.Listed.Values.{pair_count-pairs_of}
-use Rattle.cborn_judge.proofs.Meaning.Meanings.{Short, left, right, meaning_valid, same_count_entries}
+use Rattle.cborn_judge.proofs.Meaning.Meanings.{Short, left, entries_valid}
 use Rattle.cborn_det.specs.Det.{Det, DetPairs, Entry, joined, keys}
 use Rattle.cborn_det.specs.devices.Writing.{HasDistinctKeys}
-use Rattle.cborn_det.specs.Appending.{Appends}
+use Rattle.cborn_det.specs.Appending.{Appends, Replaces}
 use Rattle.cborn_det.proofs.Canon.{one_of_same}
-use Rattle.cborn_det.proofs.Steps.{map_done}
+use Rattle.cborn_det.proofs.Room.{counted_pairs}
+use Rattle.cborn_det.proofs.Steps.{map_done, pairs_push}
+use Rattle.cborn_det.proofs.Rising.{rises_after, rising_tail}
 use Rattle.cborn_transcode.specs.declared.entries.Span.{Span}
-use Rattle.cborn_transcode.specs.Transcoding.{ItemTranscoded, PairsTranscoded, MapTranscoded, SetsHead, AreSpans}
+use Rattle.cborn_transcode.specs.Transcoding.{ItemTranscoded, PairsTranscoded, MapTranscoded, AreSpans}
 use Rattle.cborn_transcode.proofs.Keying.{spans_more, joined_more}
 
 -- ---- one pair more
@@ -46,12 +48,6 @@ mean_more (n ∷ ns) [] k v a b m f g = absurd m
 mean_more (n ∷ ns) (p ∷ ps) k v a b m f g = (m.0, m.1, mean_more ns ps k v a b m.2 f g)
 
 module _ (order : List ℕ → List ℕ → Ordering) where
-  det_more : (ps : List (Value × Value)) (p : Value × Value) (es : List Entry) (e : Entry) → DetPairs order (pairs_of ps) es → Det order p.0 e.0 → Det order p.1 e.1 → DetPairs order (pairs_of (ps ++ p ∷ [])) (es ++ e ∷ [])
-  det_more [] p [] e d k v = (k, v, tt)
-  det_more [] p (f ∷ es) e d k v = absurd d
-  det_more (q ∷ ps) p [] e d k v = absurd d
-  det_more (q ∷ ps) p (f ∷ es) e d k v = (d.0, d.1, det_more ps p es e d.2 k v)
-
   pub pairs_none : (room : ℕ) (input old : List ℕ) → PairsTranscoded order room 0 [] input input old old
   pairs_none room input old = record {
     nodes = [];
@@ -87,7 +83,7 @@ module _ (order : List ℕ → List ℕ → Ordering) where
         fits = fits_more s.nodes k.node v.node s.fits k.fits v.fits;
         shallow = depth_more s.nodes k.node v.node room s.shallow k.shallow v.shallow;
         meant = mean_more s.nodes s.items k.node v.node k.item v.item s.meant k.meant v.meant;
-        det = det_more s.items (k.item, v.item) s.es e s.det x.1 y.1;
+        det = pairs_push order s.items (k.item, v.item) s.es e s.det x.1 y.1;
         laid = spans_more (length old) s.es spans e span s.laid (o ∙ ap length s.written ∙ length-append old (joined s.es)) first second;
         written = y.2 ∙ ap (λ l. l ++ y.0) (x.2 ∙ ap (λ l. l ++ x.0) s.written) ∙ append_assoc (old ++ joined s.es) x.0 y.0 ∙ append_assoc old (joined s.es) (x.0 ++ y.0) ∙ ap (λ l. old ++ l) (sym (joined_more s.es e));
         count = length-append s.nodes ((k.node, v.node) ∷ []) ∙ ap (λ i. i + 1) s.count;
@@ -107,18 +103,6 @@ module _ (order : List ℕ → List ℕ → Ordering) where
         by Equal = refl
         by Greater = refl
 
-    all_above : (e : Entry) (es : List Entry) → Rising order (keys (e ∷ es)) → AllByRecursion (λ (f : Entry). order e.0 f.0 ≡ Less) es
-    all_above e [] r = tt
-    all_above e (f ∷ es) r = (r.0, further es (all_above f es r.1))
-      where
-        further : (gs : List Entry) → AllByRecursion (λ (g : Entry). order f.0 g.0 ≡ Less) gs → AllByRecursion (λ (g : Entry). order e.0 g.0 ≡ Less) gs
-        further [] h = tt
-        further (g ∷ gs) h = (laws.along e.0 f.0 g.0 r.0 h.0, further gs h.1)
-
-    tail_rises : (e : Entry) (es : List Entry) → Rising order (keys (e ∷ es)) → Rising order (keys es)
-    tail_rises e [] r = tt
-    tail_rises e (f ∷ es) r = r.1
-
     untied : (e : Entry) (es : List Entry) → AllByRecursion (λ (f : Entry). order e.0 f.0 ≡ Less) es → AllByRecursion (λ (f : Entry). Tied e f ≡ false) es
     untied e [] h = tt
     untied e (f ∷ es) h = (ap is_eq h.0, untied e es h.1)
@@ -126,7 +110,7 @@ module _ (order : List ℕ → List ℕ → Ordering) where
     distinct_rising : (es : List Entry) → Rising order (keys es) → IsDistinct Tied es
     unfolding IsDistinct
     distinct_rising [] r = tt
-    distinct_rising (e ∷ es) r = (untied e es (all_above e es r), distinct_rising es (tail_rises e es r))
+    distinct_rising (e ∷ es) r = (untied e es (rises_after order laws e es r), distinct_rising es (rising_tail order laws e es r))
 
     apart_all : (e : Entry) (es : List Entry) → AllByRecursion (λ (f : Entry). Tied e f ≡ false) es → AllByRecursion (λ (f : Entry). e.0 ≡ f.0 → ⊥) es
     apart_all e [] h = tt
@@ -150,17 +134,6 @@ module _ (order : List ℕ → List ℕ → Ordering) where
     new_keys (pair k v ps) [] q h a = absurd h
     new_keys (pair k v ps) (e ∷ es) q h a = (new_key k e.0 ps es q.0 h.0 q.2 h.2 a.0, new_keys ps es q.2 h.2 a.1)
 
-    proper_entries : (es : Entries) (ps : Couples) → FitsEntries es → Short (spelled_entries es) → EntriesMean es ps → HasProperPairs ps
-    proper_entries no_entry no_pairs f l h = tt
-    proper_entries no_entry (pair a b ps) f l h = absurd h
-    proper_entries (entry k v es) no_pairs f l h = absurd h
-    proper_entries (entry k v es) (pair a b ps) f l h =
-        let m : Short (spelled k ++ spelled v) = left (spelled k ++ spelled v) (spelled_entries es) l in (
-          meaning_valid k a f.0 (left (spelled k) (spelled v) m) h.0,
-          meaning_valid v b f.1 (right (spelled k) (spelled v) m) h.1,
-          proper_entries es ps f.2 (right (spelled k ++ spelled v) (spelled_entries es) l) h.2,
-        )
-
     count-entries : (ns : List (Tree × Tree)) → count_entries (entries ns) ≡ length ns
     count-entries [] = refl
     count-entries (n ∷ ns) = ap suc (count-entries ns)
@@ -173,9 +146,9 @@ module _ (order : List ℕ → List ℕ → Ordering) where
     map_of room n input rest old new l s =
         let c : count_entries (entries s.nodes) ≡ n = count-entries s.nodes ∙ s.count in
         let short : Short (spelled_entries (entries s.nodes)) = left (spelled_entries (entries s.nodes)) rest (subst Short s.read l) in (
-          sym c ∙ sym (same_count_entries (entries s.nodes) (pairs_of s.items) s.meant) ∙ pair_count-pairs_of s.items,
+          sym c ∙ sym (counted_pairs (entries s.nodes) (pairs_of s.items) s.meant) ∙ pair_count-pairs_of s.items,
           c,
-          new_keys (pairs_of s.items) s.es (proper_entries (entries s.nodes) (pairs_of s.items) s.fits short s.meant) s.det (distinct_moved s.es s.arranged s.moved s.rises),
+          new_keys (pairs_of s.items) s.es (entries_valid (entries s.nodes) (pairs_of s.items) s.fits short s.meant) s.det (distinct_moved s.es s.arranged s.moved s.rises),
         )
 
     pub map_fused : (room : ℕ) (w : Width) (n : ℕ) (input rest old mid new : List ℕ) → 1 ≤ room → Short input → WidthFits w n → Appends (IsLeastHead 5 n) old mid → MapTranscoded order (room - 1) n input rest mid new
@@ -194,7 +167,7 @@ module _ (order : List ℕ → List ℕ → Ordering) where
           written = map_done order s.items s.es s.arranged n old mid new m.0 s.det s.moved s.rises a s.written;
         }
 
-    pub endless_map_fused : (room : ℕ) (n start : ℕ) (input after rest old half new : List ℕ) → 1 ≤ room → Short input → start ≡ length old → after ≡ 255 ∷ rest → MapTranscoded order (room - 1) n input after (old ++ 0 ∷ []) half → SetsHead 5 n start half new
+    pub endless_map_fused : (room : ℕ) (n start : ℕ) (input after rest old half new : List ℕ) → 1 ≤ room → Short input → start ≡ length old → after ≡ 255 ∷ rest → MapTranscoded order (room - 1) n input after (old ++ 0 ∷ []) half → Replaces (IsLeastHead 5 n) start half new
         → ItemTranscoded order room (head Map Unbounded ++ input) rest old new
     endless_map_fused room n start input after rest old half new r l st e s h =
         let m = map_of (room - 1) n input after (old ++ 0 ∷ []) half l s in

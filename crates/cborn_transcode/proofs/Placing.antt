@@ -39,7 +39,7 @@ bignum-from : (negative : Bool) (t : Tree) (p : ℕ) (v : Value) → IsBignum ne
 bignum-from negative t p v h = (h.0, string-from t p h.0 h.1, h.2)
 
 mutual
-  means-from : (t : Tree) (p : ℕ) (v : Value) → Means t v → Means (placed_from p t) v
+  pub means-from : (t : Tree) (p : ℕ) (v : Value) → Means t v → Means (placed_from p t) v
   means-from (Uint q w n) p v h = h
   means-from (Nint q w n) p v h = h
   means-from (Bytes q w b) p v h = h

@@ -1,6 +1,6 @@
 -- Items that stand as they are encoded.
 use Rattle.std.proofs.Common.{◌≡◌, ◌≢◌, ℕ, ◌+◌, ◌-◌, ◌⊎◌, ◌<◌, ◌≤◌, inl, inr, List, [], ◌∷◌, ◌++◌, length, take, drop, drop_at, IsPermutation, Bool, true, false, refl, sym, ap, ◌∙◌, subst, arith, append_assoc, append-nil, length-append, Option, Some, None, Bor, Ordering, Equal}
-use Rattle.std.specs.Prelude.{IfSome}
+use Rattle.std.specs.Prelude.{IfSome, IsTrue}
 use Rattle.std.proofs.lemmas.List.{map-append, take-append-drop, length-take-le, length-drop}
 use Rattle.std.proofs.lemmas.List.Sorted.{IsPermutation-refl}
 use Rattle.std.proofs.lemmas.Bool.{lt-ltb, le-ltb}
@@ -9,14 +9,14 @@ use Rattle.cborn_model.specs.declared.heads.Width.TheVariants.{Direct, One}
 use Rattle.cborn_model.specs.Bytes.{AreBytes, IsShortest}
 use Rattle.cborn_model.specs.declared.heads.Major.{Major}
 use Rattle.cborn_model.specs.declared.heads.Major.TheVariants.{Unsigned, Negative, ByteString, TextString, Array, Map, Tag, Other}
-use Rattle.cborn_model.specs.Heads.{code, Given, head, head_bytes, WidthFits, least, IsLeastHead}
+use Rattle.cborn_model.specs.Heads.{code, Given, head, head_bytes, WidthFits, least, IsLeastHead, is_simple_value}
 use Rattle.cborn_model.specs.Tree.{Simple, Bytes}
-use Rattle.cborn_model.specs.Spelled.{Fits, simple_width}
+use Rattle.cborn_model.specs.Spelled.{Fits}
 use Rattle.cborn_model.specs.Value.{simple}
 use Rattle.cborn_model.specs.Orders.{IsKeyOrder, Rising}
 use Rattle.cborn_model.proofs.Numbers.OneHead.{append_same}
 use Rattle.cborn_judge.proofs.Meaning.Meanings.{Short}
-use Rattle.cborn_det.specs.Det.{IsSimple, bignum_tag, Entry, joined, keys}
+use Rattle.cborn_det.specs.Det.{bignum_tag, Entry, joined, keys}
 use Rattle.cborn_det.proofs.Cutting.{EndsIn, Below, rise_more}
 use Rattle.cborn_wire.specs.declared.heads.Head.{Head}
 use Rattle.cborn_wire.specs.declared.heads.Argument.{Argument}
@@ -53,11 +53,6 @@ bignum_found x tail content rest major n h e c r long l b s =
       shortest = s;
       long = omega (arith, len);
     }
-
--- the simple values have one width each
-simple_least : (n : ℕ) → Fits (Simple 0 n) → least n ≡ simple_width n
-simple_least n (inl s) = rw (lt-ltb n 24 s) refl
-simple_least n (inr s) = rw (le-ltb n 24 (omega (arith, s.0)), lt-ltb n 256 s.1) refl
 
 module _ (order : List ℕ → List ℕ → Ordering) (room : ℕ) where
   pub walked_from : (x tail rest : List ℕ) (major : Major) (n : ℕ) (k : Major) → LeastHeadRead major n x tail → major ≡ k → WalkedBehind order room k n tail rest → ItemWalked order room x rest
@@ -98,29 +93,20 @@ module _ (order : List ℕ → List ℕ → Ordering) (room : ℕ) where
     item = text_done order room (least n) n input rest [] (head TextString (Given (least n) n) ++ s.content) h (string_taken TextString n input rest h s);
   }
 
-  is_simple_head : (n : ℕ) → Fits (Simple 0 n) → IsSimple n (head Other (Given (simple_width n) n))
-  is_simple_head n (inl s) =
-      let w : simple_width n ≡ Direct = rw (lt-ltb n 24 s) refl in
-      inl (s, (s, ap (λ v. head Other (Given v n)) w))
-  is_simple_head n (inr s) =
-      let w : simple_width n ≡ One = rw (le-ltb n 24 (omega (arith, s.0))) refl in
-      inr (s.0, s.1, (s.1, ap (λ v. head Other (Given v n)) w))
-
-  pub simple_walked : (n : ℕ) (rest : List ℕ) → Fits (Simple 0 n) → WalkedBehind order room Other n rest rest
-  simple_walked n rest s h =
-      subst (λ w. ItemWalked order room (head Other (Given w n) ++ rest) rest) (sym (simple_least n s)) (record {
-        front = head Other (Given (simple_width n) n);
-        read = refl;
-        item = record {
-          node = Simple 0 n;
-          item = simple n;
-          read = refl;
-          fits = s;
-          shallow = omega arith;
-          meant = refl;
-          written = (head Other (Given (simple_width n) n), is_simple_head n s, refl);
-        };
-      })
+  pub simple_walked : (n : ℕ) (rest : List ℕ) → IsTrue (is_simple_value n) → WalkedBehind order room Other n rest rest
+  simple_walked n rest s h = record {
+    front = head Other (Given (least n) n);
+    read = refl;
+    item = record {
+      node = Simple 0 n;
+      item = simple n;
+      read = refl;
+      fits = s;
+      shallow = omega arith;
+      meant = refl;
+      written = (head Other (Given (least n) n), (s, (h, refl)), refl);
+    };
+  }
 
   -- ---- items with children
 

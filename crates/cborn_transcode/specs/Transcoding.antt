@@ -8,19 +8,15 @@ use Rattle.cborn_model.specs.declared.heads.Major.{Major}
 use Rattle.cborn_model.specs.declared.heads.Major.TheVariants.{Unsigned, Negative, TextString}
 use Rattle.cborn_model.specs.Heads.{code, WidthFits, least, IsLeastHead}
 use Rattle.cborn_model.specs.Tree.{Tree, trees, entries, depth, depth_all, depth_entries, Simple}
-use Rattle.cborn_model.specs.Spelled.{Wellformed, spelled, spelled_all, spelled_entries, Fits, FitsAll, FitsEntries, ChunksFit, chunk_bytes, simple_width}
+use Rattle.cborn_model.specs.Spelled.{Wellformed, spelled, spelled_all, spelled_entries, Fits, FitsAll, FitsEntries, ChunksFit, chunk_bytes}
 use Rattle.cborn_model.specs.Value.{Value, integer, pairs_of}
 use Rattle.cborn_model.specs.Meaning.{Means, EntriesMean, ChunksAreText, IsBignum, joined_chunks}
 use Rattle.cborn_model.specs.Orders.{Rising}
-use Rattle.cborn_det.specs.Det.{Det, DetSeq, DetPairs, IsString, IsInteger, IsSimple, Entry, joined, keys}
+use Rattle.cborn_det.specs.Det.{Det, DetSeq, DetPairs, IsString, IsInteger, Entry, joined, keys}
 use Rattle.cborn_det.specs.Appending.{Appends}
 use Rattle.cborn_transcode.specs.declared.entries.Span.{Span}
 use Rattle.cborn_wire.specs.declared.heads.Argument.{Argument}
 use Rattle.cborn_wire.specs.declared.heads.Argument.TheVariants as arguments
-
--- the head of the major type, the shortest for n, stands in the place of a byte
-abbrev pub SetsHead : ℕ → ℕ → ℕ → List ℕ → List ℕ → Type 0
-SetsHead major n start old new = (h : List ℕ) × IsLeastHead major n h × (new ≡ (take start old ++ h) ++ drop (start + 1) old)
 
 -- the content of a string of n bytes, which is copied
 pub record ContentTaken (major : Major) (n : ℕ) (input rest old new : List ℕ) : Type 0 where
@@ -76,7 +72,7 @@ pub record BignumTaken (negative : Bool) (input rest old new : List ℕ) : Type 
 
 -- a simple value's head, which is written
 abbrev pub SimpleTaken : Argument → List ℕ → List ℕ → Type 0
-SimpleTaken a old new = (n : ℕ) × (a ≡ arguments.Given (simple_width n) n) × Fits (Simple 0 n) × Appends (IsSimple n) old new
+SimpleTaken a old new = (n : ℕ) × (a ≡ arguments.Given (least n) n) × Fits (Simple 0 n) × Appends (IsLeastHead 7 n) old new
 
 -- the key and the value of a pair that lies in a buffer
 abbrev pub spanned : List ℕ → Span → Entry

@@ -7,12 +7,12 @@ ghost use Rattle.cborn_model.specs.Heads.{Given, Unbounded, head, WidthFits};
 ghost use Rattle.cborn_transcode.specs.Transcoding.{ItemTranscoded, ItemLeaves, ItemsTranscoded, PairsTranscoded};
 
 use crate::entries::{Span, arrange, push_span};
-use crate::heads::{put_head, set_head};
 use crate::leaves::{
     behind_break, put_bignum, put_long_string_leaving, put_simple, put_string_leaving,
 };
 use crate::places::{find_pairs, put_places};
 use crate::runs::put_run;
+use cborn_det::{put_head, set_head};
 use cborn_model::{KeyOrder, Major};
 use cborn_wire::{Argument, HeadRead, read_head};
 use std::alloc::Global;

@@ -8,8 +8,8 @@ ghost use Rattle.cborn_model.specs.Heads.{code, IsLeastHead};
 ghost use Rattle.cborn_wire.specs.HeadReading.{ArgumentFits, seen_argument};
 ghost use Rattle.cborn_transcode.specs.Transcoding.{ContentTaken, StringTaken, ChunkTaken, ChunksTaken, LongStringTaken, BignumTaken, SimpleTaken};
 
-use crate::heads::put_head;
-use cborn_model::{Major, Width};
+use cborn_det::put_head;
+use cborn_model::{Major, Width, without_zeros};
 use cborn_wire::{Argument, HeadRead, read_head};
 
 /// A string of the major type of `n` bytes.
@@ -215,20 +215,6 @@ fn put_tag(negative: bool, out: &mut Vec<u8>) -> Option<()>
     } else {
         put_head(Major::Tag, 2, out)
     }
-}
-
-/// The bytes behind the leading zeros.
-fn without_zeros(bytes: &[u8]) -> &[u8]
-    requires { AreBytes bytes.now }
-    ensures bytes { AreBytes result.now }
-    ensures shortest { IsShortest result.now }
-    ensures number { big_endian result.now ≡ big_endian bytes.now }
-{
-    let mut rest = bytes;
-    while let [0, after @ ..] = rest {
-        rest = after;
-    }
-    rest
 }
 
 /// The big-endian number of at most eight bytes.

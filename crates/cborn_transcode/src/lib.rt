@@ -15,7 +15,6 @@
 //! their encoding. No answer says nothing. The bytes may be at fault, or hold a flaw, or memory may
 //! be wanting; the reader and the judge, which keep trees, tell which.
 //!
-//! * `heads`: the shortest head, at the end of the buffer or in the place of a byte.
 //! * `leaves`: strings, chunks, bignums and simple values.
 //! * `runs`: integers that are copied as they stand.
 //! * `entries`: the pairs of a map, and their order.
@@ -29,7 +28,6 @@
 #![tactic(auto)]
 
 mod entries;
-mod heads;
 #[cfg(test)]
 mod item_tests;
 mod items;

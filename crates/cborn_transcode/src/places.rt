@@ -5,7 +5,7 @@ ghost use Rattle.std.specs.Prelude.{◌≡◌, ◌-◌, ◌≤◌, ◌++◌, ◌
 ghost use Rattle.std.specs.declared.cmp.Ordering.{Ordering};
 ghost use Rattle.cborn_det.specs.Det.{Entry, joined, keys};
 ghost use Rattle.cborn_model.specs.Orders.{Rising};
-ghost use Rattle.cborn_transcode.specs.declared.places.Place.{Place};
+ghost use Rattle.cborn_transcode.specs.declared.places.PairPlace.{PairPlace};
 ghost use Rattle.cborn_transcode.specs.Transcoding.{all_spanned};
 ghost use Rattle.cborn_transcode.specs.devices.Walking.{Leaves, ItemWalked, PairsFound, span_of, spans_of};
 
@@ -18,7 +18,7 @@ use std::cmp::Ordering;
 /// Where a short pair lies in the input: a span in 16 bytes, since all of them are kept until the
 /// first pair is written.
 #[derive(Clone, Copy)]
-pub(crate) struct Place {
+pub(crate) struct PairPlace {
     /// As that of a span.
     pub hint: (u32, u32),
     /// How many bytes stand before the key.
@@ -29,7 +29,7 @@ pub(crate) struct Place {
     pub value_len: u16,
 }
 
-impl Place {
+impl PairPlace {
     /// The same place as a span.
     #[inline(always)]
     fn span(self) -> Span
@@ -55,7 +55,7 @@ const STEP: usize = 1024;
 pub(crate) fn find_pairs<O: KeyOrder>(
     n: u64,
     bytes: &[u8],
-    places: &mut Vec<Place>,
+    places: &mut Vec<PairPlace>,
 ) -> Option<usize>
     ensures { IfSome result (λ left. places.old.items ≡ [] → (room : ℕ) → Leaves (PairsFound O.order room n (spans_of places.new.items) bytes.now) left) }
 {
@@ -97,11 +97,11 @@ fn push_place<O: KeyOrder>(
     middle: usize,
     end: usize,
     bytes: &[u8],
-    places: &mut Vec<Place>,
+    places: &mut Vec<PairPlace>,
 ) -> Option<()>
-    ensures { OnSome result ((p : Place) × (places.new.items ≡ places.old.items ++ p ∷ []) × (p.start ≡ start) × (p.key_len ≡ middle - start) × (p.value_len ≡ end - middle)) }
+    ensures { OnSome result ((p : PairPlace) × (places.new.items ≡ places.old.items ++ p ∷ []) × (p.start ≡ start) × (p.key_len ≡ middle - start) × (p.value_len ≡ end - middle)) }
 {
-    let place = Place {
+    let place = PairPlace {
         hint: hint_at::<O>(bytes, start, middle),
         start: u32::try_from(start).ok()?,
         key_len: short_length(start, middle)?,
@@ -128,7 +128,7 @@ fn short_length(start: usize, end: usize) -> Option<u16>
 #[inline(never)]
 pub(crate) fn put_places<O: KeyOrder>(
     bytes: &[u8],
-    places: &mut Vec<Place>,
+    places: &mut Vec<PairPlace>,
     out: &mut Vec<u8>,
 ) -> Option<()>
     ensures { OnSome result ((fs : List Entry) × IsPermutation (all_spanned bytes.now (spans_of places.old.items)) fs × Rising O.order (keys fs) × (out.new.items ≡ out.old.items ++ joined fs)) }
@@ -150,7 +150,7 @@ pub(crate) fn put_places<O: KeyOrder>(
 
 /// Arranges places so that their keys fall, where the hints suit the order: the last is the next to
 /// be written. The sort may do as it likes: what is written is tested.
-fn sort_falling<O: KeyOrder>(bytes: &[u8], places: &mut Vec<Place>)
+fn sort_falling<O: KeyOrder>(bytes: &[u8], places: &mut Vec<PairPlace>)
     ensures { IsPermutation places.old.items places.new.items }
 {
     places.sort_unstable_by(|a, b| match whole(b.hint).cmp(&whole(a.hint)) {
@@ -161,7 +161,7 @@ fn sort_falling<O: KeyOrder>(bytes: &[u8], places: &mut Vec<Place>)
 
 /// Gives back the room of places that are used up, now and then.
 #[inline(always)]
-fn give_back(places: &mut Vec<Place>)
+fn give_back(places: &mut Vec<PairPlace>)
     ensures { places.new.items ≡ places.old.items }
 {
     if places.len() % STEP == 0 {

@@ -4,12 +4,10 @@ ghost use Rattle.std.specs.Prelude.{◌≡◌, ◌≤◌, ◌++◌, ℕ, List, f
 ghost use Rattle.std.specs.declared.cmp.Ordering.{Ordering};
 ghost use Rattle.cborn_det.proofs.Cutting.{Below};
 ghost use Rattle.cborn_model.specs.Bytes.{IsShortest};
-ghost use Rattle.cborn_model.specs.Tree.{Simple};
-ghost use Rattle.cborn_model.specs.Spelled.{Fits};
 ghost use Rattle.cborn_transcode.specs.devices.Walking.{Leaves, IsLast, LeastHeadRead, ContentWalked, BignumWalked, WalkedBehind};
 
 use crate::leaves::is_text;
-use cborn_model::{KeyOrder, Major, shortest};
+use cborn_model::{KeyOrder, Major, is_simple_value, shortest};
 use cborn_wire::{Argument, HeadRead, read_head};
 
 /// The major type and the argument of the head at the front, which is the shortest, and what
@@ -42,7 +40,7 @@ pub(crate) fn walk_leaf(major: Major, n: u64, bytes: &[u8]) -> Option<usize>
         Major::ByteString => walk_content(Major::ByteString, n, bytes),
         Major::TextString => walk_content(Major::TextString, n, bytes),
         Major::Other => {
-            if !is_simple(n) {
+            if !is_simple_value(n) {
                 return None;
             }
             Some(bytes.len())
@@ -64,14 +62,6 @@ fn walk_content(major: Major, n: u64, bytes: &[u8]) -> Option<usize>
         return None;
     }
     Some(rest.len())
-}
-
-/// A simple value that has a head (RFC 8949 section 3.3).
-#[inline(always)]
-fn is_simple(n: u64) -> bool
-    ensures { IsTrue result → Fits (Simple 0 n) }
-{
-    n < 24 || (n >= 32 && n < 256)
 }
 
 /// How many bytes follow the byte string of a bignum, which is neither within 64 bits nor begins

@@ -3,4 +3,4 @@ pub mod Opening
 pub mod Putting
 pub mod Settling
 pub mod Advancing
-pub mod SmallIntegers
+pub mod Integers

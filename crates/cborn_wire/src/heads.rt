@@ -1,11 +1,14 @@
 //! Heads: an initial byte, with the major type in its high three bits and the additional
 //! information in its low five, and the bytes of an argument behind it (RFC 8949 section 3).
 
-ghost use Rattle.std.specs.Prelude.{◌≡◌, ◌≤◌, ◌<◌, ◌++◌, ◌+◌, ◌%◌, ◌∷◌, ◌/◌, ℕ, List, length, ◌&&◌, take, MatchOption, OnOk, OnErr};
+ghost use Rattle.std.specs.Prelude.{◌≡◌, ◌≤◌, ◌<◌, ◌++◌, ◌+◌, ◌*◌, ◌%◌, [], ◌∷◌, ◌/◌, ℕ, List, length, ◌&&◌, take, MatchOption, OnOk, OnErr};
+ghost use Rattle.std.specs.Int.{w64, from_be_bytes};
+ghost use Rattle.cborn_model.specs.Bytes.{AreBytes};
 ghost use Rattle.cborn_model.specs.Heads.{code, major_at, WidthFits, IsHead, head_bytes};
 ghost use Rattle.cborn_wire.specs.devices.InitialBytes.{Next, Unended, info_at, is_reserved, is_unended, is_always_bounded, is_break, is_other, is_float, is_container};
 ghost use Rattle.cborn_wire.specs.devices.Machine.{width_bytes, number, is_full};
 ghost use Rattle.cborn_wire.specs.HeadReading.{ReadsHead, reason_alone, seen_argument, seen_bounded, seen_size};
+ghost use Rattle.cborn_model.specs.declared.heads.Width.{Width};
 ghost use Rattle.cborn_model.specs.declared.heads.Width.TheVariants.{One};
 
 use crate::WireReason;
@@ -87,6 +90,24 @@ pub enum HeadRead {
 pub fn read_head(bytes: &[u8]) -> HeadRead
     ensures { ReadsHead bytes.now result }
 {
+    read_head_by(false, bytes)
+}
+
+/// The same, quicker where heads of several widths follow one another, as in an array of integers
+/// of mixed sizes, and slower elsewhere: an argument is shifted out of eight bytes, where
+/// `read_head` branches by its width.
+#[inline]
+pub fn read_mixed_head(bytes: &[u8]) -> HeadRead
+    ensures { ReadsHead bytes.now result }
+{
+    read_head_by(true, bytes)
+}
+
+/// Both of them. `mixed` is a constant where it is called.
+#[inline(always)]
+fn read_head_by(mixed: bool, bytes: &[u8]) -> HeadRead
+    ensures { ReadsHead bytes.now result }
+{
     let [first, rest @ ..] = bytes else {
         return HeadRead::Short;
     };
@@ -104,7 +125,10 @@ pub fn read_head(bytes: &[u8]) -> HeadRead
     }
     match major {
         Major::Other => read_other(information, rest),
-        _ => read_wide(major, wide_width(information), rest),
+        _ => {
+            let len = wide_len(information);
+            read_wide(mixed, major, wide_width(information), len, rest)
+        }
     }
 }
 
@@ -117,14 +141,16 @@ fn head_of(major: Major, argument: Argument) -> Head
     Head { major, argument }
 }
 
-/// A head whose argument is `rest`'s front.
-fn read_wide(major: Major, width: Width, rest: &[u8]) -> HeadRead
+/// A head whose argument is the first `len` bytes of `rest`.
+#[inline(always)]
+fn read_wide(mixed: bool, major: Major, width: Width, len: usize, rest: &[u8]) -> HeadRead
+    requires { len ≡ width_bytes width }
     ensures { (first : ℕ) → first / 32 ≡ code major → info_at (first % 32) ≡ Next width → reason_alone (first ∷ rest.now) ≡ None → ReadsHead (first ∷ rest.now) result }
 {
-    match read_number(width, rest) {
+    match argument_of(mixed, width, len, rest) {
         Some(n) => {
             let argument = Argument::Given(width, n);
-            HeadRead::Full(head_of(major, argument), 1 + width_len(width))
+            HeadRead::Full(head_of(major, argument), 1 + len)
         }
         None => HeadRead::Short,
     }
@@ -149,7 +175,7 @@ fn read_simple(rest: &[u8]) -> HeadRead
 {
     match rest {
         [0..32, ..] => HeadRead::Bad(WireReason::BadSimple),
-        _ => read_wide(Major::Other, Width::One, rest),
+        _ => read_wide(false, Major::Other, Width::One, 1, rest),
     }
 }
 
@@ -240,6 +266,16 @@ pub(crate) fn wide_width(information: u8) -> Width
     }
 }
 
+/// How many bytes follow an initial byte with this additional information, from 24 to 27.
+#[inline(always)]
+fn wide_len(information: u8) -> usize
+    requires least { 24 ≤ information }
+    requires most { information ≤ 27 }
+    ensures { (width : Width) → info_at information ≡ Next width → result ≡ width_bytes width }
+{
+    1 << (information - 24)
+}
+
 /// The number that the first bytes make, as many as a head of this width has behind its initial
 /// byte; `None` if there are fewer.
 pub(crate) fn read_number(width: Width, bytes: &[u8]) -> Option<u64>
@@ -252,6 +288,46 @@ pub(crate) fn read_number(width: Width, bytes: &[u8]) -> Option<u64>
         Width::Four => Some(u64::from(u32::from_be_bytes(*bytes.first_chunk::<4>()?))),
         Width::Eight => Some(u64::from_be_bytes(*bytes.first_chunk::<8>()?)),
     }
+}
+
+/// The same of an argument of `len` bytes, which may be one of mixed widths.
+#[inline(always)]
+fn argument_of(mixed: bool, width: Width, len: usize, bytes: &[u8]) -> Option<u64>
+    requires { len ≡ width_bytes width }
+    ensures { MatchOption result (length bytes.now < width_bytes width) (λ n. (width_bytes width ≤ length bytes.now) × (n ≡ number width (take (width_bytes width) bytes.now))) }
+{
+    if mixed {
+        return number_of(width, len, bytes);
+    }
+    read_number(width, bytes)
+}
+
+/// The same of one of mixed widths.
+#[inline(always)]
+fn number_of(width: Width, len: usize, bytes: &[u8]) -> Option<u64>
+    requires { len ≡ width_bytes width }
+    ensures { MatchOption result (length bytes.now < width_bytes width) (λ n. (width_bytes width ≤ length bytes.now) × (n ≡ number width (take (width_bytes width) bytes.now))) }
+{
+    match bytes {
+        [a, b, c, d, e, f, g, h, ..] => {
+            let word = u64::from_be_bytes([*a, *b, *c, *d, *e, *f, *g, *h]);
+            Some(front_number(width, len, word))
+        }
+        _ => read_number(width, bytes),
+    }
+}
+
+/// The number that the first `len` of eight bytes make, of which `word` is the number: shifted and
+/// not branched to, since widths of integers can't be foretold.
+#[inline(always)]
+fn front_number(width: Width, len: usize, word: u64) -> u64
+    requires { len ≡ width_bytes width }
+    ensures { (a b c d e f g h : ℕ) → AreBytes (a ∷ b ∷ c ∷ d ∷ e ∷ f ∷ g ∷ h ∷ []) → word ≡ from_be_bytes w64 (a ∷ b ∷ c ∷ d ∷ e ∷ f ∷ g ∷ h ∷ []) → result ≡ number width (take (width_bytes width) (a ∷ b ∷ c ∷ d ∷ e ∷ f ∷ g ∷ h ∷ [])) }
+{
+    if len == 0 {
+        return 0;
+    }
+    word >> (64 - 8 * len)
 }
 
 /// The head of major type `major`, from 0 to 6, with the argument `n`, which fits the width: its

@@ -3,8 +3,8 @@
 //! The reader is the [`Feeder`], which is fed an input by pieces, cut anywhere, and gives its items
 //! as they become whole; [`read_all`] feeds it an input that is held whole, and [`read_one`] reads
 //! a single item from an offset on. All keep what was read on one stack (`stacks`), which has no
-//! recursion and takes a head or a part of a string at a time. Contracts see a stack as what it
-//! holds, and until a call fails that is what some bytes make. What is open is its nest (`nests`),
+//! recursion and takes a head, a string or a part of one at a time. Contracts see a stack as what
+//! it holds, and until a call fails that is what some bytes make. What is open is its nest (`nests`),
 //! which knows neither the items that are whole nor where the input began: `refusals` tells where a
 //! head may not stand, `frames` has what an open array, map, tag or indefinite string is made of,
 //! and `finishing` puts what is whole into what stands around it. The writer is [`spell`], which
@@ -35,7 +35,7 @@ mod stacks;
 
 pub use faults::{WireFault, WireReason};
 pub use feeders::Feeder;
-pub use heads::{Argument, Head, HeadRead, head_bytes, push_head, read_head};
+pub use heads::{Argument, Head, HeadRead, head_bytes, push_head, read_head, read_mixed_head};
 pub use readers::{read_all, read_one};
 pub use scanning::scan;
 pub use spelling::{spell, spell_all};

@@ -1,17 +1,17 @@
 //! What is open around the next byte, and what a head there comes to.
 
-ghost use Rattle.std.specs.Prelude.{◌≡◌, ◌∷◌, ◌+◌, ◌<◌, ◌^◌, ℕ, [], length, take};
+ghost use Rattle.std.specs.Prelude.{◌≡◌, ◌∷◌, ◌+◌, ◌<◌, ◌≤◌, ◌^◌, ℕ, [], length, take};
 ghost use Rattle.cborn_model.specs.Tree.{no_item, no_entry};
 ghost use Rattle.cborn_model.specs.declared.heads.Major.TheVariants as heads;
 ghost use Rattle.cborn_wire.specs.Slots.{major_of, AreBegun};
-ghost use Rattle.cborn_wire.specs.devices.Machine.{nothing, content_of, gathering, width_bytes, items_at, pairs_at, string_done, ended, after_head, Live};
+ghost use Rattle.cborn_wire.specs.devices.Machine.{nothing, content_of, gathering, width_bytes, items_at, pairs_at, string_done, ended, after_head, run, Live};
 ghost use Rattle.cborn_wire.specs.HeadReading.{major_at, seen_argument, ArgumentFits};
 ghost use Rattle.cborn_wire.specs.devices.StackView.{seen_kind, seen_frame, opened, seen_partial, IsShort, Gives, Takes};
 
 use crate::frames::{Frame, Partial, StringKind};
 use crate::heads::{read_number, wide_width};
 use crate::{Argument, Head, HeadRead, WireFault, WireReason, read_head};
-use cborn_model::{ByteString, Chunk, Form, Node, Width, push_doubling};
+use cborn_model::{ByteString, Chunk, Form, Major, Node, Width, push_doubling};
 use std::alloc::Global;
 
 /// What is open, one inside another.
@@ -147,10 +147,14 @@ impl Nest {
             return Err(WireFault::Refused { place: at, reason });
         }
         match read_head(piece) {
-            HeadRead::Full(head, len) => {
-                let outcome = self.put_head(at + len as u64, at, head)?;
-                Ok((len, outcome))
-            }
+            HeadRead::Full(head, len) => match Major::of_initial_byte(first) {
+                Major::ByteString => self.take_string(at, StringKind::Bytes, head, len, piece),
+                Major::TextString => self.take_string(at, StringKind::Text, head, len, piece),
+                _ => {
+                    let outcome = self.put_head(at + len as u64, at, head)?;
+                    Ok((len, outcome))
+                }
+            },
             HeadRead::Short => {
                 let part = Partial::Argument {
                     place: at,
@@ -163,6 +167,35 @@ impl Nest {
             }
             HeadRead::Bad(reason) => Err(WireFault::Refused { place: at, reason }),
         }
+    }
+
+    /// A head of a string, the first `len` bytes of `piece`, and the content with it where all of
+    /// that stands in the piece. Such a string is never kept as a part.
+    #[inline(never)]
+    fn take_string(
+        &mut self,
+        at: u64,
+        kind: StringKind,
+        head: Head,
+        len: usize,
+        piece: &[u8],
+    ) -> Result<(usize, Outcome), WireFault>
+        requires some { 0 < len }
+        requires within { len ≤ length piece.now }
+        requires room { at + length piece.now < 2 ^ 64 }
+        ensures { (limit : ℕ) → run limit (Live at no_item (opened self.old) nothing) (take len piece.now) ≡ after_head (at + len) at no_item (opened self.old) (major_of (seen_kind kind)) (seen_argument head.argument) → Takes limit at nothing piece.now self.old self.new result }
+    {
+        if let Argument::Given(width, count) = head.argument {
+            let rest = &piece[len..];
+            if count <= rest.len() as u64 {
+                let taken = len + count as usize;
+                let bytes = Vec::from_slice(self.alloc, &rest[..count as usize])?;
+                let outcome = self.put_string(at + taken as u64, at, kind, width, bytes)?;
+                return Ok((taken, outcome));
+            }
+        }
+        let outcome = self.begin_string(at + len as u64, at, kind, head.argument)?;
+        Ok((len, outcome))
     }
 
     /// The next byte of an argument whose head began in an earlier piece: the first `len` of
@@ -240,10 +273,10 @@ impl Nest {
         requires { ArgumentFits (seen_argument head.argument) }
         ensures { Gives (after_head at place no_item (opened self.old) (major_at head.major) (seen_argument head.argument)) at self.new result }
     {
-        let form = match (head.major, head.argument) {
-            (0, Argument::Given(width, n)) => Form::Uint(width, n),
-            (1, Argument::Given(width, n)) => Form::Nint(width, n),
-            (0 | 1, Argument::Endless) => {
+        let form = match (head.major_type(), head.argument) {
+            (Major::Unsigned, Argument::Given(width, n)) => Form::Uint(width, n),
+            (Major::Negative, Argument::Given(width, n)) => Form::Nint(width, n),
+            (Major::Unsigned | Major::Negative, Argument::Endless) => {
                 return Err(WireFault::Refused {
                     place,
                     reason: WireReason::EndlessNotAllowed,
@@ -262,12 +295,22 @@ impl Nest {
         requires fits { ArgumentFits (seen_argument head.argument) }
         ensures { Gives (after_head at place no_item (opened self.old) (major_at head.major) (seen_argument head.argument)) at self.new result }
     {
-        match (head.major, head.argument) {
-            (2, argument) => self.begin_string(at, place, StringKind::Bytes, argument),
-            (3, argument) => self.begin_string(at, place, StringKind::Text, argument),
-            (4, argument) => self.begin_items(at, place, argument),
-            (5, argument) => self.begin_pairs(at, place, argument),
-            (6, Argument::Given(width, number)) => self.begin(
+        match (head.major_type(), head.argument) {
+            (Major::ByteString, argument) => self.begin_string(
+                at,
+                place,
+                StringKind::Bytes,
+                argument,
+            ),
+            (Major::TextString, argument) => self.begin_string(
+                at,
+                place,
+                StringKind::Text,
+                argument,
+            ),
+            (Major::Array, argument) => self.begin_items(at, place, argument),
+            (Major::Map, argument) => self.begin_pairs(at, place, argument),
+            (Major::Tag, Argument::Given(width, number)) => self.begin(
                 at,
                 Frame::Tag {
                     place,
@@ -275,7 +318,7 @@ impl Nest {
                     number,
                 },
             ),
-            (6, Argument::Endless) => Err(WireFault::Refused {
+            (Major::Tag, Argument::Endless) => Err(WireFault::Refused {
                 place,
                 reason: WireReason::EndlessNotAllowed,
             }),

@@ -1,16 +1,17 @@
 //! Which initial bytes may stand where a reader is.
 
 ghost use Rattle.std.specs.Prelude.{◌≡◌, ◌<◌, ◌%◌, ◌/◌, [], length, nat_le};
-ghost use Rattle.cborn_wire.specs.Slots.{slot, open_depth, AreBegun};
+ghost use Rattle.cborn_wire.specs.Slots.{chunk, slot, open_depth, AreBegun};
 ghost use Rattle.cborn_wire.specs.Faults.{needs_item};
 ghost use Rattle.cborn_wire.specs.devices.InitialBytes.{info_at, is_bad_chunk, head_reason};
 ghost use Rattle.cborn_wire.specs.HeadReading.{major_at};
-ghost use Rattle.cborn_wire.specs.devices.StackView.{opened};
+ghost use Rattle.cborn_wire.specs.devices.StackView.{seen_kind, opened};
 
 use crate::WireReason;
 use crate::frames::{Frame, StringKind};
 use crate::heads::{is_always_bounded, is_break, is_container, is_endless, is_float, is_reserved};
 use crate::nests::Nest;
+use cborn_model::Major;
 
 impl Nest {
     /// Why a head with this initial byte may not stand here, as far as that byte tells.
@@ -64,13 +65,7 @@ impl Nest {
         ensures { result ≡ is_bad_chunk (slot (opened self.now)) (major_at major) (info_at information) }
     {
         match &self.top {
-            Some(Frame::Chunks { kind, .. }) => {
-                let wanted = match kind {
-                    StringKind::Bytes => 2,
-                    StringKind::Text => 3,
-                };
-                !is_break(major, information) && (major != wanted || is_endless(information))
-            }
+            Some(Frame::Chunks { kind, .. }) => is_bad_chunk_of(*kind, major, information),
             _ => false,
         }
     }
@@ -94,4 +89,16 @@ impl Nest {
             Some(_) => self.outer.len() as u64 + 1,
         }
     }
+}
+
+/// In an indefinite string of this kind, neither a break nor a definite string of it.
+pub(crate) fn is_bad_chunk_of(kind: StringKind, major: u8, information: u8) -> bool
+    requires { information < 32 }
+    ensures { result ≡ is_bad_chunk (chunk (seen_kind kind)) (major_at major) (info_at information) }
+{
+    let is_of_kind = match kind {
+        StringKind::Bytes => Major::at(major) == Major::ByteString,
+        StringKind::Text => Major::at(major) == Major::TextString,
+    };
+    !is_break(major, information) && (!is_of_kind || is_endless(information))
 }

@@ -14,8 +14,9 @@ ghost use Rattle.cborn_wire.specs.declared.scanning.Step.TheVariants.{Taken};
 use crate::frames::StringKind;
 use crate::heads::{is_always_bounded, is_break, is_container, is_endless, is_float, is_reserved};
 use crate::levels::{Level, Levels};
+use crate::refusals::is_bad_chunk_of;
 use crate::{Argument, Head, HeadRead, WireReason, read_head};
-use cborn_model::Limit;
+use cborn_model::{Limit, Major};
 
 /// What a step of a scan came to.
 #[derive(Clone, Copy, PartialEq, Eq, Debug)]
@@ -197,13 +198,7 @@ impl Levels {
         ensures { result ≡ is_bad_chunk (slot_at (levels self.now)) (major_at major) (info_at information) }
     {
         match self.top {
-            Some(Level::Chunks(kind)) => {
-                let wanted = match kind {
-                    StringKind::Bytes => 2,
-                    StringKind::Text => 3,
-                };
-                !is_break(major, information) && (major != wanted || is_endless(information))
-            }
+            Some(Level::Chunks(kind)) => is_bad_chunk_of(kind, major, information),
             _ => false,
         }
     }
@@ -223,17 +218,16 @@ impl Levels {
     fn take_head(&mut self, head: Head)
         requires kept { self.old.len ≤ 1025 }
         requires room { length (levels self.old) ≤ 1025 }
-        requires major { head.major < 8 }
         ensures open { levels self.new ≡ take_head (levels self.old) (major_at head.major) (seen_argument head.argument) }
         ensures kept { self.new.len ≤ 1025 }
     {
-        match (head.major, head.argument) {
-            (2, Argument::Endless) => self.begin(Level::Chunks(StringKind::Bytes)),
-            (3, Argument::Endless) => self.begin(Level::Chunks(StringKind::Text)),
-            (4, argument) => self.begin_items(argument),
-            (5, argument) => self.begin_pairs(argument),
-            (6, _) => self.begin(Level::Tag),
-            (7, Argument::Endless) => {
+        match (head.major_type(), head.argument) {
+            (Major::ByteString, Argument::Endless) => self.begin(Level::Chunks(StringKind::Bytes)),
+            (Major::TextString, Argument::Endless) => self.begin(Level::Chunks(StringKind::Text)),
+            (Major::Array, argument) => self.begin_items(argument),
+            (Major::Map, argument) => self.begin_pairs(argument),
+            (Major::Tag, _) => self.begin(Level::Tag),
+            (Major::Other, Argument::Endless) => {
                 self.leave();
                 self.finish();
             }
@@ -245,11 +239,10 @@ impl Levels {
 /// How many bytes of a string follow its head.
 #[inline(always)]
 fn content_len(head: Head) -> u64
-    requires { head.major < 8 }
     ensures { result ≡ content_of (major_at head.major) (seen_argument head.argument) }
 {
-    match (head.major, head.argument) {
-        (2 | 3, Argument::Given(_, n)) => n,
+    match (head.major_type(), head.argument) {
+        (Major::ByteString | Major::TextString, Argument::Given(_, n)) => n,
         _ => 0,
     }
 }

@@ -7,7 +7,7 @@ ghost use Rattle.cborn_model.specs.Spelled.{spelled, spelled_all, chunks, ending
 ghost use Rattle.cborn_model.specs.declared.heads.Size.TheVariants.{Endless};
 
 use crate::push_head;
-use cborn_model::{BREAK, ByteString, Chunk, Form, Major, Node, Size, Spelled, Width};
+use cborn_model::{BREAK, ByteString, Chunk, Form, Major, Node, Size, Spelled, Width, shortest};
 use std::alloc::{AllocError, Global};
 
 /// The bytes that `item` spells.
@@ -70,8 +70,8 @@ fn push_node(out: &mut Vec<u8>, node: &Node) -> Result<(), AllocError>
             push_node(out, item)
         }
         Form::Simple(n) => {
-            let width = if *n < 24 { Width::Direct } else { Width::One };
-            push_head(out, Major::Other, width, *n as u64)
+            let n = u64::from(*n);
+            push_head(out, Major::Other, shortest(n), n)
         }
     }
 }

@@ -1,11 +1,12 @@
 //! The stack that a reader keeps.
 
-ghost use Rattle.cborn_wire.specs.devices.StackView.{Added};
+ghost use Rattle.std.specs.Prelude.{◌≤◌, ◌<◌, length, IfSome};
+ghost use Rattle.cborn_wire.specs.devices.StackView.{Added, StandsFirst};
 
-use crate::WireFault;
 use crate::frames::{Frame, Partial};
 use crate::nests::{Nest, Outcome};
-use cborn_model::{Form, Limit, Node, Spelled, Width, push_doubling};
+use crate::{Argument, HeadRead, WireFault, read_head};
+use cborn_model::{Form, Limit, Major, Node, Spelled, Width, push_doubling};
 use std::alloc::{AllocError, Global};
 use std::collections::VecDeque;
 use std::marker::Model;
@@ -41,10 +42,10 @@ impl Model for Stack {
 }
 
 impl Stack {
-    ghost use Rattle.std.specs.Prelude.{◌≡◌, ◌+◌, ◌<◌, ◌^◌, ◌++◌, [], length, None, true, false};
+    ghost use Rattle.std.specs.Prelude.{◌≡◌, ◌+◌, ◌<◌, ◌≤◌, ◌^◌, ◌++◌, [], length, None, true, false};
     ghost use Rattle.std.specs.Option.{option_to_list};
     ghost use Rattle.cborn_wire.specs.devices.Machine.{start, nothing};
-    ghost use Rattle.cborn_wire.specs.devices.StackView.{seen, opened, seen_partial, IsMade, Advances, Runs};
+    ghost use Rattle.cborn_wire.specs.devices.StackView.{seen, opened, seen_partial, IsMade, StandsFirst, Advances, Runs};
 
     /// Nothing read, of bytes that stand at `at`, in which at most `limit` arrays, maps and tags
     /// may stand around one another.
@@ -116,10 +117,9 @@ impl Stack {
         Ok(())
     }
 
-    /// Takes what stands at the front of `piece`, a head or a part of a head or of a string, and
-    /// answers how many bytes that was. The commonest is taken here, an integer that is its initial
-    /// byte and has nothing around it or an array that goes on, and any other apart: the outcome of
-    /// a `Nest` goes through memory, which costs more than such an integer.
+    /// Takes what stands at the front of `piece`, a head, a string or a part of either, and
+    /// answers how many bytes that was. The commonest, an integer, is read here: what a `Nest`
+    /// answers goes through memory, which costs more than such an item.
     #[inline(always)]
     pub(crate) fn advance(&mut self, piece: &[u8]) -> Result<usize, WireFault>
         requires live { self.old.fault ≡ None }
@@ -128,24 +128,45 @@ impl Stack {
         ensures { Advances piece.now self.old self.new result }
     {
         let Partial::Nothing = self.partial else {
-            return self.advance_any(piece);
+            return self.advance_apart(piece);
         };
-        let first = piece[0];
-        if first >= 24 {
-            return self.advance_any(piece);
+        if piece[0] < 24 {
+            let form = Form::Uint(Width::Direct, piece[0] as u64);
+            let node = Node {
+                place: self.at,
+                form,
+            };
+            return self.advance_integer(node, 1, piece);
         }
-        let form = Form::Uint(Width::Direct, first as u64);
-        let node = Node {
-            place: self.at,
-            form,
-        };
+        match Major::of_initial_byte(piece[0]) {
+            Major::Unsigned | Major::Negative => match integer_at(self.at, piece) {
+                Some((node, len)) => self.advance_integer(node, len, piece),
+                None => self.advance_apart(piece),
+            },
+            Major::ByteString | Major::TextString => self.advance_apart(piece),
+            _ => self.advance_any(piece),
+        }
+    }
+
+    /// The same where `node` comes first, whose head is `len` bytes. It is put away here where it
+    /// has nothing around it, or an array that goes on.
+    #[inline(always)]
+    fn advance_integer(&mut self, node: Node, len: usize, piece: &[u8]) -> Result<usize, WireFault>
+        requires live { self.old.fault ≡ None }
+        requires some { 0 < length piece.now }
+        requires room { self.old.at + length piece.now < 2 ^ 64 }
+        requires within { len ≤ length piece.now }
+        requires first { StandsFirst self.old.at piece.now node len }
+        requires alone { self.old.partial ≡ Partial.Nothing }
+        ensures { Advances piece.now self.old self.new result }
+    {
         let Some(frame) = &mut self.nest.top else {
             if let Err(error) = keep(&mut self.ready, Spelled::new(node)) {
                 self.fault = Some(WireFault::OutOfMemory);
                 return Err(error.into());
             }
-            self.at += 1;
-            return Ok(1);
+            self.at += len as u64;
+            return Ok(len);
         };
         if let Frame::Items {
             argument,
@@ -158,10 +179,22 @@ impl Stack {
                     self.fault = Some(WireFault::OutOfMemory);
                     return Err(error.into());
                 }
-                self.at += 1;
-                return Ok(1);
+                self.at += len as u64;
+                return Ok(len);
             }
         }
+        self.advance_any(piece)
+    }
+
+    /// The same where it stands apart, as for a string or a part: any other head would pay for the
+    /// locals of those.
+    #[inline(never)]
+    fn advance_apart(&mut self, piece: &[u8]) -> Result<usize, WireFault>
+        requires live { self.old.fault ≡ None }
+        requires some { 0 < length piece.now }
+        requires room { self.old.at + length piece.now < 2 ^ 64 }
+        ensures { Advances piece.now self.old self.new result }
+    {
         self.advance_any(piece)
     }
 
@@ -198,6 +231,29 @@ impl Stack {
                 }
             },
         }
+    }
+}
+
+/// The integer at the front of `piece`, which stands at `at`, and the length of its head. None
+/// where no whole head of an integer stands there.
+#[inline(always)]
+fn integer_at(at: u64, piece: &[u8]) -> Option<(Node, usize)>
+    ensures within { IfSome result (λ r. r.1 ≤ length piece.now) }
+    ensures first { IfSome result (λ r. StandsFirst at piece.now r.0 r.1) }
+{
+    let HeadRead::Full(head, len) = read_head(piece) else {
+        return None;
+    };
+    match (head.major_type(), head.argument) {
+        (Major::Unsigned, Argument::Given(width, n)) => {
+            let form = Form::Uint(width, n);
+            Some((Node { place: at, form }, len))
+        }
+        (Major::Negative, Argument::Given(width, n)) => {
+            let form = Form::Nint(width, n);
+            Some((Node { place: at, form }, len))
+        }
+        _ => None,
     }
 }
 

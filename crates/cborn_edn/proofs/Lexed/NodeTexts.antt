@@ -16,7 +16,8 @@ use Rattle.cborn_edn.specs.declared.strings.StringKind.{StringKind}
 use Rattle.cborn_edn.specs.declared.strings.StringKind.TheVariants.{Bytes as OfBytes, Text as OfText}
 use Rattle.cborn_edn.specs.ReadingBack.{nowhere, chunk_pieces, chunk_row, chunk_item, notated, notated_content, notated_fields, notated_input}
 use Rattle.cborn_edn.specs.Shown.{mark_for, mark_for_size, indicator, opened, shown_string, shown_chunks, shown_more_chunks, shown, shown_all, shown_more, shown_entries, shown_more_entries, shown_lines, shown_more_lines}
-use Rattle.cborn_edn.proofs.RoundTrip.Back.{below, simple_below}
+use Rattle.cborn_model.proofs.Numbers.Simples.{simple_below}
+use Rattle.cborn_edn.proofs.RoundTrip.Back.{below}
 use Rattle.cborn_edn.proofs.Lexed.Chained.{Chained, no_text, both, retell}
 use Rattle.cborn_edn.proofs.Lexed.Joined.{more_tokens, more_pair_tokens, more_chunk_tokens, row_tokens, chunk_tokens, pair_tokens}
 use Rattle.cborn_edn.proofs.Lexed.MarkTexts.{Closes, comma_closes, colon_closes, paren_closes, bracket_closes, brace_closes, line_closes, is_mark, is_size_mark, comma_space, comma_line, colon_space, bracket_close, brace_close, paren_close, line, chunks_open, array_open, map_open}

@@ -12,9 +12,9 @@ use Rattle.cborn_model.specs.declared.nodes.Chunk.{Chunk}
 use Rattle.cborn_model.specs.Bytes.{AreBytes}
 use Rattle.cborn_model.specs.declared.heads.Major.{Major}
 use Rattle.cborn_model.specs.declared.heads.Major.TheVariants.{ByteString, TextString, Array, Map, Tag, Unsigned, Negative, Other}
-use Rattle.cborn_model.specs.Heads.{Argument, Given, Unbounded, head, argument}
+use Rattle.cborn_model.specs.Heads.{Argument, Given, Unbounded, least, head, argument}
 use Rattle.cborn_model.specs.Tree.{Tree, Uint, Nint, Bytes as ByteNode, Items, Pairs as PairNode, Tagged, Simple, Trees, no_item as no_node, more, Entries, no_entry, entry, count, count_entries}
-use Rattle.cborn_model.specs.Spelled.{ending, chunk_bytes, simple_width, spelled, spelled_all, spelled_entries}
+use Rattle.cborn_model.specs.Spelled.{ending, chunk_bytes, spelled, spelled_all, spelled_entries}
 use Rattle.cborn_lex.specs.declared.classes.Profile.{Profile}
 use Rattle.cborn_lex.specs.declared.classes.Mark.{Mark}
 use Rattle.cborn_lex.specs.declared.classes.Mark.TheVariants.{Absent, Endless, Wide}
@@ -176,7 +176,7 @@ pairs_short p n s es h =
 mutual
   item_short : (i : Item) (t : Tree) → AreModest (tokens_of i) → means i ≡ Some t → length (spelled t) ≤ 64 * weigh (tokens_of i)
   item_short (number at n v m) t h e = omega (arith, number_short at.start n v m t h.0 e)
-  item_short (word at n) t h e = subst (λ u. length (spelled u) ≤ 64) (some_is e) (omega (arith, head_short Other (Given (simple_width n) n)))
+  item_short (word at n) t h e = subst (λ u. length (spelled u) ≤ 64) (some_is e) (omega (arith, head_short Other (Given (least n) n)))
   item_short (tag at n m i end) t h e =
       let a = made (width_for m n) (λ w. and_then (means i) (λ u. Some (Tagged at.start w n u))) t e in
       let b = made (means i) (λ u. Some (Tagged at.start a.first n u)) t a.then in
@@ -186,7 +186,7 @@ mutual
       (omega (arith, inner, head_short Tag (Given a.first n), length-append top (spelled b.first), weigh-append (tokens_of i) (token end ParenClose ∷ [])))
   item_short (simple at b n v m end) t h e =
       let c = chosen (is_simple n v && is_absent m) (Some (Simple at.start v)) t e in
-      subst (λ u. length (spelled u) ≤ 192) (some_is c.then) (omega (arith, head_short Other (Given (simple_width v) v)))
+      subst (λ u. length (spelled u) ≤ 192) (some_is c.then) (omega (arith, head_short Other (Given (least v) v)))
   item_short (string ps) t h e =
       let a = made (joined ps) (means_string ps) t e in
       let c = chosen (is_string ps a.first) (marked_string (mark_of (last_piece ps)) ps a.first) t a.then in

@@ -1,14 +1,16 @@
 -- The nodes that a tree says fit their widths, and are no deeper than the tree.
-use Rattle.std.proofs.Common.{◌≡◌, refl, subst, ℕ, suc, ◌^◌, ◌<◌, ◌≤◌, List, [], ◌∷◌, ◌++◌, length, Bool, true, false, ◌&&◌, ◌||◌, not, cond, ltb, leb, Option, Some, None, ◌⊎◌, inl, inr, arith}
+use Rattle.std.proofs.Common.{◌≡◌, refl, subst, ℕ, suc, ◌^◌, ◌<◌, ◌≤◌, List, [], ◌∷◌, ◌++◌, length, Bool, true, false, ◌&&◌, not, cond, ltb, Option, Some, None, inl, arith}
 use Rattle.std.specs.Int.Digits.{digits_of}
-use Rattle.std.proofs.lemmas.Bool.{ltb-true, leb-true}
+use Rattle.std.proofs.lemmas.Bool.{ltb-true, and_parts}
+use Rattle.std.specs.Prelude.{IsTrue}
 use Rattle.cborn_model.specs.declared.heads.Width.{Width}
 use Rattle.cborn_model.specs.declared.heads.Width.TheVariants.{Direct, One, Two, Four, Eight}
 use Rattle.cborn_model.specs.declared.heads.Size.{Size}
 use Rattle.cborn_model.specs.declared.heads.Size.TheVariants.{Fixed}
 use Rattle.cborn_model.specs.declared.nodes.Chunk.{Chunk}
 use Rattle.cborn_model.specs.Tree.{Tree, Uint, Nint, Bytes as ByteNode, Items, Pairs as PairNode, Tagged, Simple, Trees, no_item as no_node, more, Entries, no_entry, entry, count, count_entries, depth as node_depth, depth_all, depth_entries}
-use Rattle.cborn_model.specs.Heads.{holds, least, WidthFits, SizeFits}
+use Rattle.cborn_model.specs.Heads.{holds, least, is_simple_value, WidthFits, SizeFits}
+use Rattle.cborn_model.proofs.Numbers.Simples.{simple_value}
 use Rattle.cborn_model.specs.Spelled.{ChunksFit, Fits, FitsAll, FitsEntries}
 use Rattle.cborn_lex.specs.declared.classes.Mark.{Mark}
 use Rattle.cborn_lex.specs.declared.classes.Mark.TheVariants.{Absent, Endless, Wide}
@@ -140,15 +142,8 @@ snoc_entry_sound j k l n (entry v w es) t u p q s a b c =
     let r = snoc_entry_sound j k l n es t u p q s (record { fits = a.fits.2; low = omega (arith, a.low) }) b c in
     record { fits = (a.fits.0, a.fits.1, r.fits); low = omega (arith, a.low, r.low) }
 
-simple_fits : (n : Bool) (v : ℕ) (b : Bool) → (is_simple n v && b) ≡ true → (v < 24) ⊎ ((32 ≤ v) × (v < 256))
-simple_fits n v b e = go (is_below n v) (ltb v 24) refl (leb 32 v) refl (ltb v 256) refl e
-  where
-    go : (s : Bool) (c : Bool) → ltb v 24 ≡ c → (d : Bool) → leb 32 v ≡ d → (f : Bool) → ltb v 256 ≡ f → ((not s && (c || (d && f))) && b) ≡ true → (v < 24) ⊎ ((32 ≤ v) × (v < 256))
-    go true c p d q f r z = absurd (let y : false ≡ true = z in cc)
-    go false true p d q f r z = inl (ltb-true _ _ p)
-    go false false p true q true r z = inr (leb-true _ _ q, ltb-true _ _ r)
-    go false false p true q false r z = absurd (let y : false ≡ true = z in cc)
-    go false false p false q f r z = absurd (let y : false ≡ true = z in cc)
+simple_fits : (n : Bool) (v : ℕ) (b : Bool) → (is_simple n v && b) ≡ true → IsTrue (is_simple_value v)
+simple_fits n v b e = (and_parts (not (is_below n v)) (is_simple_value v) (and_parts (is_simple n v) b e).0).1
 
 said_string : (ps : Pieces) (d : ℕ) (t : Tree) → ((x : List ℕ) → joined ps ≡ Some x → AreBytes x) → means (string ps) ≡ Some t → Sound d t
 said_string ps d t are e =
@@ -158,7 +153,7 @@ said_string ps d t are e =
 mutual
   pub sound : (i : Item) (t : Tree) → Counted i → means i ≡ Some t → Sound (depth i) t
   sound (number at n v m) t h e = number_sound at.start n v m t e
-  sound (word at n) t h e = subst (Sound 0) (some_is e) (record { fits = inl h; low = omega arith })
+  sound (word at n) t h e = subst (Sound 0) (some_is e) (record { fits = simple_value n (inl h); low = omega arith })
   sound (tag at n m i end) t h e =
       let a = made (width_for m n) (λ w. and_then (means i) (λ u. Some (Tagged at.start w n u))) t e in
       let b = made (means i) (λ u. Some (Tagged at.start a.first n u)) t a.then in

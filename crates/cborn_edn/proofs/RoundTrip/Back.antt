@@ -1,9 +1,9 @@
 -- The tree of the fixed notation of nodes says these nodes, places aside, and is as deep as they are.
-use Rattle.std.proofs.Common.{◌≡◌, refl, sym, ap, ◌∙◌, ℕ, suc, ◌^◌, ◌<◌, ◌≤◌, List, [], ◌∷◌, ◌++◌, length, Bool, true, false, ◌&&◌, ltb, ◌==◌, cond, Some, None, ◌⊎◌, inl, inr, arith, append_assoc}
-use Rattle.std.specs.Prelude.{max}
+use Rattle.std.proofs.Common.{◌≡◌, refl, sym, ap, ◌∙◌, ℕ, suc, ◌^◌, ◌<◌, List, [], ◌∷◌, ◌++◌, length, Bool, true, false, ◌&&◌, ltb, ◌==◌, cond, Some, None, arith, append_assoc}
+use Rattle.std.specs.Prelude.{max, IsTrue}
 use Rattle.std.specs.List.{flat_map}
 use Rattle.std.proofs.lemmas.Str.{is_utf8-from_IsUtf8}
-use Rattle.std.proofs.lemmas.Bool.{lt-ltb, le-ltb, le-leb}
+use Rattle.std.proofs.lemmas.Bool.{lt-ltb}
 use Rattle.cborn_model.specs.declared.heads.Width.{Width}
 use Rattle.cborn_model.specs.declared.heads.Width.TheVariants.{Direct, One, Two, Four, Eight}
 use Rattle.cborn_model.specs.declared.heads.Size.{Size}
@@ -11,12 +11,13 @@ use Rattle.cborn_model.specs.declared.heads.Size.TheVariants.{Fixed, Endless as 
 use Rattle.cborn_model.specs.declared.nodes.Chunk.{Chunk}
 use Rattle.cborn_model.specs.Tree.{Tree, Uint, Nint, Bytes as ByteNode, Text as TextNode, ByteChunks, TextChunks, Items, Pairs as PairNode, Tagged, Simple, Trees, no_item as no_node, more, Entries, no_entry, entry, count, count_entries, depth as node_depth, depth_all, depth_entries}
 use Rattle.cborn_model.specs.declared.heads.Major.TheVariants.{ByteString, TextString}
-use Rattle.cborn_model.specs.Heads.{holds, following, least, WidthFits, SizeFits}
+use Rattle.cborn_model.specs.Heads.{holds, following, least, is_simple_value, WidthFits, SizeFits}
+use Rattle.cborn_model.proofs.Numbers.Simples.{simple_below}
 use Rattle.cborn_model.specs.Spelled.{ChunksFit, Fits, FitsAll, FitsEntries, spelled, spelled_all, spelled_entries, chunk_bytes}
 use Rattle.cborn_lex.specs.declared.classes.Mark.{Mark}
 use Rattle.cborn_lex.specs.declared.classes.Mark.TheVariants.{Absent, Endless, Wide}
 use Rattle.cborn_edn.specs.Syntax.{Item, word, simple, string, Pieces, strings, StringsBefore, no_string, after_strings, row, RowBefore, no_item, after_row, pairs, PairsBefore, no_pair, after_pairs, depth, depth_of_strings, depth_of_strings_before, depth_of_row, depth_of_row_before, depth_of_content, depth_of_pairs, depth_of_pairs_before, depth_of_fields, depth_of_input}
-use Rattle.cborn_edn.specs.Meaning.{and_then, when, width_for, size_for, snoc, snoc_entry, is_simple, kind, place, is_good, string_node, chunked_node, marked_string, means_chunk, kind_of_strings, kind_after, same_kind, means, joined, means_strings, means_strings_before, means_row, means_row_before, means_content, means_pairs, means_pairs_before, means_fields, Says}
+use Rattle.cborn_edn.specs.Meaning.{and_then, when, width_for, size_for, snoc, snoc_entry, kind, place, is_good, string_node, chunked_node, marked_string, means_chunk, kind_of_strings, kind_after, same_kind, means, joined, means_strings, means_strings_before, means_row, means_row_before, means_content, means_pairs, means_pairs_before, means_fields, Says}
 use Rattle.cborn_edn.specs.declared.strings.StringKind.{StringKind}
 use Rattle.cborn_edn.specs.declared.strings.StringKind.TheVariants.{Bytes as OfBytes, Text as OfText}
 use Rattle.cborn_edn.specs.ReadingBack.{nowhere, one_piece, chunk_pieces, chunk_row, chunk_item, simple_item, notated, notated_content, notated_row, notated_fields, notated_pairs, notated_input, unplaced_chunks, unplaced, unplaced_all, unplaced_entries}
@@ -36,10 +37,6 @@ below One n h = omega arith
 below Two n h = omega arith
 below Four n h = omega arith
 below Eight n h = h
-
-pub simple_below : (n : ℕ) → (n < 24) ⊎ ((32 ≤ n) × (n < 256)) → n < 256
-simple_below n (inl h) = omega arith
-simple_below n (inr h) = h.1
 
 abbrev as_long : Width → Width → ℕ → Bool
 as_long w v n = length (following w n) == length (following v n)
@@ -144,15 +141,11 @@ chunk_item_back k (c ∷ cs) fits good =
     let r = chunks_back k cs no_string c [] refl refl fits.0.0 good.0 fits.1 good.1 in
     rw (r.0, r.1) refl
 
-simple_back : (n : ℕ) → ((n < 24) ⊎ ((32 ≤ n) × (n < 256))) → means (simple_item n) ≡ Some (Simple 0 n)
+simple_back : (n : ℕ) → IsTrue (is_simple_value n) → means (simple_item n) ≡ Some (Simple 0 n)
 simple_back n h = go (ltb n 20) (ltb n 24)
   where
-    ok : ((n < 24) ⊎ ((32 ≤ n) × (n < 256))) → is_simple false n ≡ true
-    ok (inl low) = rw (lt-ltb n 24 low) refl
-    ok (inr high) = rw (le-ltb n 24 (omega (arith, high.0)), le-leb 32 n high.0, lt-ltb n 256 high.1) refl
-
     said : means (simple nowhere nowhere false n Absent nowhere) ≡ Some (Simple 0 n)
-    said = ap (λ b. when (b && true) (Some (Simple 0 n))) (ok h)
+    said = ap (λ b. when (b && true) (Some (Simple 0 n))) h
 
     go : (b c : Bool) → means (cond b (simple nowhere nowhere false n Absent nowhere) (cond c (word nowhere n) (simple nowhere nowhere false n Absent nowhere))) ≡ Some (Simple 0 n)
     go true c = said
@@ -269,9 +262,8 @@ depth-simple n h = go (ltb n 20) (ltb n 24)
     go false true = refl
     go false false = said
 
-small_simple : (n : ℕ) → ((n < 24) ⊎ ((32 ≤ n) × (n < 256))) → n < 2 ^ 64
-small_simple n (inl h) = omega arith
-small_simple n (inr h) = omega (arith, h.1)
+small_simple : (n : ℕ) → IsTrue (is_simple_value n) → n < 2 ^ 64
+small_simple n h = let l = simple_below n h in omega (arith, l)
 
 mutual
   pub same_depth : (t : Tree) → Fits t → depth (notated t) ≡ node_depth t

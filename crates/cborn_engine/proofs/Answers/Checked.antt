@@ -10,7 +10,8 @@ use Rattle.cborn_model.specs.Placed.{PlacedAll}
 use Rattle.cborn_model.specs.Value.{Value, Values, values_of, no_values, value}
 use Rattle.cborn_model.specs.Valid.{IsProper, AreProper}
 use Rattle.cborn_model.specs.Meaning.{Means, AllMean}
-use Rattle.cborn_det.specs.Det.{DetValues, DetSeq}
+use Rattle.cborn_det.specs.Det.{DetValues}
+use Rattle.cborn_det.proofs.Steps.{values_of_seq, seq_of_values}
 use Rattle.cborn_judge.specs.declared.defects.Defect.{Defect as Found}
 use Rattle.cborn_judge.specs.declared.defects.DefectReason.{DefectReason}
 use Rattle.cborn_judge.specs.declared.faults.Invalid.{Invalid}
@@ -31,14 +32,6 @@ are_proper [] h = tt
 are_proper (v ∷ vs) h = (h.0, are_proper vs h.1)
 
 module _ (order : List ℕ → List ℕ → Ordering) where
-  seq_of_values : (vs : List Value) (x : List ℕ) → DetValues order (values_of vs) x → DetSeq order vs x
-  seq_of_values [] x d = d
-  seq_of_values (v ∷ vs) x d = (d.0, d.1, d.2, seq_of_values vs d.1 d.3, d.4)
-
-  values_of_seq : (vs : List Value) (x : List ℕ) → DetSeq order vs x → DetValues order (values_of vs) x
-  values_of_seq [] x d = d
-  values_of_seq (v ∷ vs) x d = (d.0, d.1, d.2, values_of_seq vs d.1 d.3, d.4)
-
   -- ---- a walk that goes on
 
   checked_more : (ns : List Tree) (n : Tree) (d : Option Found) → AreChecked order ns → IsCheck order n d → AreChecked order (ns ++ n ∷ [])

@@ -7,6 +7,7 @@ use Rattle.cborn_model.specs.Spelled.{Wellformed}
 use Rattle.cborn_model.specs.Placed.{PlacedAll}
 use Rattle.cborn_model.specs.Orders.{IsKeyOrder}
 use Rattle.cborn_model.specs.Value.{Value, values_of}
+use Rattle.cborn_judge.specs.Defects.{IsFirstOfSequence}
 use Rattle.cborn_judge.specs.declared.defects.Defect.{Defect}
 use Rattle.cborn_wire.specs.declared.faults.WireFault.{WireFault}
 use Rattle.cborn_wire.specs.declared.faults.WireFault.TheVariants as wire
@@ -27,7 +28,7 @@ use Rattle.cborn_engine.specs.devices.Pieces.{Collects, CollectAnswers, Reads}
 use Rattle.cborn_engine.specs.devices.Encoding.{IsEncoded}
 use Rattle.cborn_engine.specs.Checking.{CheckAnswers, Checks, Verdict}
 use Rattle.cborn_engine.specs.devices.Defects.{Finds}
-use Rattle.cborn_search.specs.Searching.{IsFirstFlawOf, IsFirstDefectOf, DefectVerdict}
+use Rattle.cborn_search.specs.Searching.{IsFirstFlawOf, IsFirstDefectOf, IsFirstDefectOfItems, DefectVerdict}
 use Rattle.cborn_engine.proofs.Held.Meant.{spells_once}
 use Rattle.cborn_engine.proofs.Answers.Checked.{mean_found, verdict, without_defect, with_defect}
 
@@ -105,6 +106,12 @@ module _ (limit most : ℕ) (input : List ℕ) (within : length input ≤ most) 
       verdict_searched : (order : List ℕ → List ℕ → Ordering) → IsKeyOrder order → (items : List Value) (held : Holds kind.Wire limit input items) (o : Option Defect) → length input < 2 ^ 64 → DefectVerdict order held.nodes o → Verdict order limit input items held o
       verdict_searched order laws items held None l none = without_defect order laws limit input items held none
       verdict_searched order laws items held (Some d) l first = with_defect order laws limit input items held d l (first (values_of items) (all_mean held.nodes items held.meant))
+
+  pub checked_held : (order : List ℕ → List ℕ → Ordering) → IsKeyOrder order → most ≤ 2 ^ 30 → (output : List ℕ) (d : Defect) → IsTranscoded order limit input output → IsFirstDefectOfItems order limit input d → CheckAnswers order limit most input (Ok (Some d))
+  checked_held order laws bounded output d n first =
+      let held : Holds kind.Wire limit input n.items = transcoded_held order limit input output n in
+      let is : IsFirstOfSequence order (trees held.nodes) d.place d.reason = first held.nodes (values_of n.items) held.spelled.0 held.spelled.1 (all_mean held.nodes n.items held.meant) in
+      (within, record { items = n.items; held = held; verdict = with_defect order laws limit input n.items held d (omega (arith, within, bounded)) is })
 
   pub checked_trees : (order : List ℕ → List ℕ → Ordering) → IsKeyOrder order → most ≤ 2 ^ 30 → (nodes xs : List Tree) (o : Option Defect) → Wellformed limit (trees nodes) input × PlacedAll 0 (trees nodes) → xs ≡ nodes → Finds order xs o → CheckAnswers order limit most input (Ok o)
   checked_trees order laws bounded nodes xs o s e f =

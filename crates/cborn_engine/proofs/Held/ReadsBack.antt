@@ -2,12 +2,13 @@
 use Rattle.std.proofs.Common.{◌≡◌, ◌≤◌, ◌<◌, ℕ, suc, ◌+◌, ◌^◌, inl, inr, Bool, true, false, ltb, List, [], ◌∷◌, ◌++◌, length, refl, sym, ap, ◌∙◌, subst, arith, Ordering, append-nil}
 use Rattle.std.specs.declared.cmp.Ordering.TheVariants.{Less}
 use Rattle.std.specs.List.{AllZip, AllByRecursion}
-use Rattle.std.proofs.lemmas.Bool.{lt-ltb, le-ltb}
+use Rattle.std.proofs.lemmas.Bool.{le-ltb}
+use Rattle.std.specs.Prelude.{IsTrue}
 use Rattle.std.proofs.lemmas.List.Sorted.{length_permutation}
 use Rattle.cborn_model.specs.declared.heads.Size.TheVariants.{Fixed}
 use Rattle.cborn_model.specs.Bytes.{big_endian}
 use Rattle.cborn_model.specs.declared.heads.Major.TheVariants.{Array, Map, Tag}
-use Rattle.cborn_model.specs.Heads.{WidthFits, Given, head, least}
+use Rattle.cborn_model.specs.Heads.{WidthFits, Given, head, least, IsLeastHead, is_simple_value}
 use Rattle.cborn_model.specs.Tree.{Tree, Uint, Nint, Bytes, Text, Items, Pairs, Tagged, Simple, Trees, no_item, more, trees, Entries, no_entry, entry, count, count_entries, depth, depth_all, depth_entries}
 use Rattle.cborn_model.specs.Spelled.{spelled, spelled_all, spelled_entries, Fits, FitsAll, FitsEntries}
 use Rattle.cborn_model.specs.Placed.{Placed, PlacedAll, PlacedEntries}
@@ -17,7 +18,7 @@ use Rattle.cborn_model.specs.Meaning.{Means, AllMean, EntriesMean}
 use Rattle.cborn_model.specs.Orders.{IsKeyOrder, Rising}
 use Rattle.cborn_model.proofs.SameItems.Rearranging.{carried, weaker}
 use Rattle.cborn_model.proofs.SameItems.Sameness.{same_turned, same_chained}
-use Rattle.cborn_det.specs.Det.{Entry, IsInteger, IsSimple, Det, DetValues, DetPairs, DetSeq, joined, keys}
+use Rattle.cborn_det.specs.Det.{Entry, IsInteger, Det, DetValues, DetPairs, DetSeq, joined, keys}
 use Rattle.cborn_det.proofs.Canon.{one_of_seq}
 use Rattle.cborn_lex.proofs.WholeTexts.Weights.{utf8_bytes}
 
@@ -117,13 +118,9 @@ integer_back p true m x h (inr d) = record {
   shallow = deep_integer true m d.0;
 }
 
-simple_back : (p n : ℕ) (x : List ℕ) → IsSimple n x → ReadsBack p (simple n) x
-simple_back p n x (inl d) =
-    let e : ltb n 24 ≡ true = lt-ltb n 24 d.0 in
-    record { node = Simple p n; item = simple n; spells = rw e (sym d.1.1); fits = inl d.0; placed = refl; means = refl; same = refl; proper = inl d.0; shallow = omega arith }
-simple_back p n x (inr d) =
-    let e : ltb n 24 ≡ false = le-ltb n 24 (omega (arith, d.0)) in
-    record { node = Simple p n; item = simple n; spells = rw e (sym d.2.1); fits = inr (d.0, d.1); placed = refl; means = refl; same = refl; proper = inr (d.0, d.1); shallow = omega arith }
+simple_back : (p n : ℕ) (x : List ℕ) → IsTrue (is_simple_value n) → IsLeastHead 7 n x → ReadsBack p (simple n) x
+simple_back p n x v d =
+    record { node = Simple p n; item = simple n; spells = sym d.1; fits = v; placed = refl; means = refl; same = refl; proper = v; shallow = omega arith }
 
 module _ (order : List ℕ → List ℕ → Ordering) (laws : IsKeyOrder order) where
   -- ---- maps
@@ -250,7 +247,7 @@ module _ (order : List ℕ → List ℕ → Ordering) (laws : IsKeyOrder order) 
           proper = (h.0, h.1, h.2, inner.proper);
           shallow = omega (arith, inner.shallow);
         }
-    reads_back p (simple n) x h d = simple_back p n x d
+    reads_back p (simple n) x h d = simple_back p n x d.0 d.1
 
     pub all_read_back : (p : ℕ) (vs : Values) (x : List ℕ) → AreProper vs → DetValues order vs x → AllReadBack p vs x
     all_read_back p no_values x h d = record { nodes = no_item; items = no_values; spells = sym d; counted = refl; fits = tt; placed = tt; mean = tt; same = tt; proper = tt; as_many = refl; shallow = omega arith }

@@ -7,7 +7,7 @@ use Rattle.cborn_judge.specs.declared.defects.DefectReason.TheVariants.{LongHead
 use Rattle.cborn_judge.proofs.Encoded.Tidy.{spelled_pairs, SizeIsTidy, IsTidy, AllTidy, EntriesTidy}
 use Rattle.cborn_det.proofs.Canon.{one_of_same}
 use Rattle.cborn_model.proofs.SameItems.Sameness.{same_itself}
-use Rattle.cborn_judge.proofs.Meaning.Meanings.{same_count}
+use Rattle.cborn_det.proofs.Room.{counted}
 use Rattle.cborn_judge.proofs.Encoded.Tidying.{tidy_proper}
 use Rattle.cborn_judge.proofs.Meaning.Judging.{inner_means, within_itself}
 use Rattle.cborn_judge.proofs.Encoded.Tidying.{tidy_det, det_tidy, all_det, all_tidy}
@@ -230,5 +230,5 @@ module _ (order : List ℕ → List ℕ → Ordering) (laws : IsKeyOrder order) 
 
   pub check_sequence_whole : (ts : Trees) (vs : Values) → FitsAll ts → AreProper vs → AllMean ts vs → DetValues order vs (spelled_all ts) → (p : ℕ) (r : DefectReason) → SequenceDefect order ts p r → ⊥
   check_sequence_whole ts vs f g m d p r (ws, n, q, i, h) =
-      let u = all_tidy order ts vs (spelled_all ts) [] [] (same_count ts vs m) f g d refl in
+      let u = all_tidy order ts vs (spelled_all ts) [] [] (counted ts vs m) f g d refl in
       tidy_node q p r (within_all q ts (record { fits = f; tidy = u.2 }) i) h

@@ -1,16 +1,18 @@
 -- A tidy node spells the encoding of what it means, and what spells an encoding is tidy.
-use Rattle.std.proofs.Common.{◌≡◌, ◌≢◌, ℕ, suc, ◌+◌, ◌*◌, ◌<◌, ◌≤◌, ◌^◌, ◌⊎◌, inl, inr, List, [], ◌∷◌, ◌++◌, length, refl, sym, ap, ◌∙◌, subst, arith, true, false, Bool, append_assoc, append-nil, Ordering, cond, lt-ltb, ltb}
+use Rattle.std.proofs.Common.{◌≡◌, ◌≢◌, ℕ, suc, ◌+◌, ◌*◌, ◌<◌, ◌≤◌, ◌^◌, ◌⊎◌, inl, inr, List, [], ◌∷◌, ◌++◌, length, refl, sym, ap, ◌∙◌, subst, arith, true, false, Bool, append_assoc, append-nil, Ordering}
 use Rattle.std.specs.List.{AllByRecursion}
-use Rattle.std.proofs.lemmas.Bool.{cases_lt, le-ltb}
+use Rattle.std.proofs.lemmas.Bool.{cases_lt}
 use Rattle.std.proofs.lemmas.List.Sorted.{length_permutation, IsPermutation-refl}
 use Rattle.cborn_judge.specs.Defects.{IsLoose}
 use Rattle.cborn_judge.proofs.Encoded.Tidy.{spelled_pairs, SizeIsTidy, IsTidy, AllTidy, EntriesTidy}
 use Rattle.cborn_model.proofs.Numbers.OneHead.{one_head, append_same}
+use Rattle.cborn_model.proofs.Numbers.Simples.{simple_fits}
 use Rattle.cborn_model.proofs.SameItems.Rearranging.{All_moved}
 use Rattle.cborn_det.proofs.Canon.{string_one}
 use Rattle.cborn_det.proofs.Reading.{small}
 use Rattle.cborn_model.proofs.Numbers.OneMagnitude.{one_magnitude, large, fits_in, below_power}
-use Rattle.cborn_judge.proofs.Meaning.Meanings.{holds_below, same_count, same_count_entries, number_valid, bignum_below}
+use Rattle.cborn_judge.proofs.Meaning.Meanings.{holds_below, number_valid}
+use Rattle.cborn_det.proofs.Room.{no_more, counted, counted_pairs}
 use Rattle.cborn_model.specs.Value.{Value, Values, Couples, integer, bytes, text, array, dict, tagged, simple, no_values, value, no_pairs, pair, value_count, pair_count}
 use Rattle.cborn_model.specs.Bytes.{big_endian, AreBytes, IsShortest}
 use Rattle.cborn_model.specs.Valid.{IsProper, AreProper, HasProperPairs}
@@ -19,14 +21,14 @@ use Rattle.cborn_model.specs.declared.heads.Width.TheVariants.{Direct, One, Two,
 use Rattle.cborn_model.specs.declared.heads.Major.{Major}
 use Rattle.cborn_model.specs.declared.heads.Major.TheVariants.{Unsigned, Negative, ByteString, TextString, Array, Map, Tag, Other}
 use Rattle.cborn_model.specs.Heads.{WidthFits, information, following, least, IsHead, IsLeastHead, Given, Unbounded, code, head}
-use Rattle.cborn_det.specs.Det.{IsString, IsInteger, IsSimple, Det, DetValues, DetPairs, Entry, keys, joined, major_of, bignum_tag}
+use Rattle.cborn_det.specs.Det.{IsString, IsInteger, Det, DetValues, DetPairs, Entry, keys, joined, major_of, bignum_tag}
 use Rattle.cborn_model.specs.Orders.{Rising}
 use Rattle.cborn_model.specs.declared.nodes.Chunk.{Chunk}
 use Rattle.cborn_model.specs.Tree.{Tree, Uint, Nint, Bytes, Text, ByteChunks, TextChunks, Items, Pairs, Tagged, Simple, Trees, no_item, more, Entries, no_entry, entry, count, count_entries}
 use Rattle.cborn_model.specs.declared.heads.Size.{Size}
 use Rattle.cborn_model.specs.declared.heads.Size.TheVariants.{Fixed, Endless}
 use Rattle.cborn_model.specs.Heads.{SizeFits}
-use Rattle.cborn_model.specs.Spelled.{ending, simple_width, chunks, spelled, spelled_all, spelled_entries, Fits, FitsAll, FitsEntries}
+use Rattle.cborn_model.specs.Spelled.{ending, chunks, spelled, spelled_all, spelled_entries, Fits, FitsAll, FitsEntries}
 use Rattle.cborn_model.specs.Meaning.{IsNumber, IsByteString, IsBignum, Means, AllMean, EntriesMean}
 
 pub joined_spelled : (es : Entries) → spelled_entries es ≡ joined (spelled_pairs es)
@@ -86,12 +88,12 @@ module _ (order : List ℕ → List ℕ → Ordering) where
     tidy_det (Items p (Fixed w) ts) v f h d =
         let k = head Array (Given w (count ts)) in
         subst (λ z. Det order z (spelled (Items p (Fixed w) ts))) (sym h.2)
-        (k, spelled_all ts, is_least_head Array w (count ts) (value_count h.0) f.0 d.0 (same_count ts h.0 h.1), all_det ts h.0 f.1 h.1 d.1, append-nil (k ++ spelled_all ts))
+        (k, spelled_all ts, is_least_head Array w (count ts) (value_count h.0) f.0 d.0 (counted ts h.0 h.1), all_det ts h.0 f.1 h.1 d.1, append-nil (k ++ spelled_all ts))
     tidy_det (Items p Endless ts) v f h d = absurd d.0
     tidy_det (Pairs p (Fixed w) es) v f h d =
         let k = head Map (Given w (count_entries es)) in
         subst (λ z. Det order z (spelled (Pairs p (Fixed w) es))) (sym h.3)
-        (k, spelled_pairs es, spelled_pairs es, is_least_head Map w (count_entries es) (pair_count h.0) f.0 d.0 (same_count_entries es h.0 h.1), entries_det es h.0 f.1 h.1 d.1, IsPermutation-refl (spelled_pairs es), d.2, append-nil (k ++ spelled_entries es) ∙ ap (λ l. k ++ l) (joined_spelled es))
+        (k, spelled_pairs es, spelled_pairs es, is_least_head Map w (count_entries es) (pair_count h.0) f.0 d.0 (counted_pairs es h.0 h.1), entries_det es h.0 f.1 h.1 d.1, IsPermutation-refl (spelled_pairs es), d.2, append-nil (k ++ spelled_entries es) ∙ ap (λ l. k ++ l) (joined_spelled es))
     tidy_det (Pairs p Endless es) v f h d = absurd d.0
     tidy_det (Tagged p w n t) v f (inl h) d = bignum_det false w n t v h.0 h.1 f.0 d.0 f.1 d.1 (λ b i l. d.2 b (inl h.0) i l)
     tidy_det (Tagged p w n t) v f (inr (inl h)) d = bignum_det true w n t v h.0 h.1 f.0 d.0 f.1 d.1 (λ b i l. d.2 b (inr h.0) i l)
@@ -99,14 +101,7 @@ module _ (order : List ℕ → List ℕ → Ordering) where
         subst (λ z. Det order z (spelled (Tagged p w n t))) (sym h.4)
         (head Tag (Given w n), spelled t, is_least_head Tag w n n f.0 d.0 refl, tidy_det t h.2 f.1 h.3 d.1, refl)
     tidy_det (Simple p n) v f h d =
-        subst (λ z. Det order z (spelled (Simple p n))) (sym h) (simple_det n f)
-      where
-        width_at : (b : Bool) (n : ℕ) → ltb n 24 ≡ b → head Other (Given (simple_width n) n) ≡ head Other (Given (cond b Direct One) n)
-        width_at b n e = ap (λ c. head Other (Given (cond c Direct One) n)) e
-
-        simple_det : (n : ℕ) → (n < 24) ⊎ ((32 ≤ n) × (n < 256)) → IsSimple n (head Other (Given (simple_width n) n))
-        simple_det n (inl l) = inl (l, (l, width_at true n (lt-ltb n 24 l)))
-        simple_det n (inr k) = inr (k.0, k.1, (k.1, width_at false n (le-ltb n 24 (omega arith))))
+        subst (λ z. Det order z (spelled (Simple p n))) (sym h) (f, (simple_fits n f, refl))
 
     pub all_det : (ts : Trees) (vs : Values) → FitsAll ts → AllMean ts vs → AllTidy order ts → DetValues order vs (spelled_all ts)
     all_det no_item no_values f h d = refl
@@ -133,14 +128,6 @@ same_width _ _ n k h g e = absurd (omega arith)
 bits_low : (w : Width) (n : ℕ) → WidthFits w n → information w n < 31
 bits_low Direct n h = omega arith
 bits_low _ n h = omega arith
-
-least_direct : (n : ℕ) → n < 24 → least n ≡ Direct
-least_direct n h = ap (λ c. cond c Direct (cond (ltb n 256) One (cond (ltb n (2 ^ 16)) Two (cond (ltb n (2 ^ 32)) Four Eight)))) (lt-ltb n 24 h)
-
-least_one : (n : ℕ) → 24 ≤ n → n < 256 → least n ≡ One
-least_one n h k =
-    ap (λ c. cond c Direct (cond (ltb n 256) One (cond (ltb n (2 ^ 16)) Two (cond (ltb n (2 ^ 32)) Four Eight)))) (le-ltb n 24 h)
-    ∙ ap (λ c. cond c One (cond (ltb n (2 ^ 16)) Two (cond (ltb n (2 ^ 32)) Four Eight))) (lt-ltb n 256 k)
 
 module _ (order : List ℕ → List ℕ → Ordering) where
   -- the entry is what some valid pair encodes to
@@ -186,11 +173,7 @@ module _ (order : List ℕ → List ℕ → Ordering) where
       let n : length d.2 ≡ pair_count ps = length_permutation d.1 d.2 d.5 ∙ t.1 in
       record { major = 5; argument = pair_count ps; front = d.0; content = joined d.2; is_head = d.3; follows = entries refl d.2 n (All_moved IsEntry d.1 d.2 d.5 t.0) d.6 refl; is = d.7 }
   seen (tagged t v) x p d = record { major = 6; argument = t; front = d.0; content = d.1; is_head = d.2; follows = inner refl p.0 p.1 v p.3 d.3; is = d.4 }
-  seen (simple n) x p d =
-      elim d [
-        | inl h ↦ record { major = 7; argument = n; front = x; content = []; is_head = subst (λ w. IsHead 7 w n x) (sym (least_direct n h.0)) h.1; follows = bare (inr refl) refl; is = sym (append-nil x) }
-        | inr h ↦ record { major = 7; argument = n; front = x; content = []; is_head = subst (λ w. IsHead 7 w n x) (sym (least_one n (omega arith) h.1)) h.2; follows = bare (inr refl) refl; is = sym (append-nil x) }
-      ]
+  seen (simple n) x p d = record { major = 7; argument = n; front = x; content = []; is_head = d.1; follows = bare (inr refl) refl; is = sym (append-nil x) }
 
   -- a head and what follows it, where an encoding stands
   record Meets (m : Major) (w : Width) (n : ℕ) (c r x s : List ℕ) : Type 0 where
@@ -331,13 +314,9 @@ module _ (order : List ℕ → List ℕ → Ordering) where
         let u = inner_tidy t n z.content r s f.1 (λ v r x s p d e. det_tidy t v r x s f.1 p d e) z.follows z.rest in
         (ap (λ l. head Tag (Given w n) ++ l) u.0 ∙ sym z.is, u.1, (z.least_width, u.2, u.3))
     det_tidy (Simple p n) v r x s f g d e =
-        let z = meets Other (simple_width n) n [] r x s (simple_holds n f) (seen v x g d) (ap (λ l. l ++ r) (append-nil (head Other (Given (simple_width n) n))) ∙ e) in
-        let t = bare_spelt Other (simple_width n) n r x s (inr refl) z in
+        let z = meets Other (least n) n [] r x s (simple_fits n f) (seen v x g d) (ap (λ l. l ++ r) (append-nil (head Other (Given (least n) n))) ∙ e) in
+        let t = bare_spelt Other (least n) n r x s (inr refl) z in
         (t.0, t.1, tt)
-      where
-        simple_holds : (n : ℕ) → (n < 24) ⊎ ((32 ≤ n) × (n < 256)) → WidthFits (simple_width n) n
-        simple_holds n (inl l) = subst (λ c. WidthFits (cond c Direct One) n) (sym (lt-ltb n 24 l)) l
-        simple_holds n (inr k) = subst (λ c. WidthFits (cond c Direct One) n) (sym (le-ltb n 24 (omega arith))) k.1
 
     pub all_tidy : (ts : Trees) (vs : Values) (c r s : List ℕ) → value_count vs ≡ count ts → FitsAll ts → AreProper vs → DetValues order vs c → spelled_all ts ++ r ≡ c ++ s → Spelt (spelled_all ts) r c s (AllTidy order ts)
     all_tidy no_item no_values c r s n f p d e = (sym d, e ∙ ap (λ l. l ++ s) d, tt)
@@ -369,7 +348,7 @@ count_fits Endless n k h f e = absurd h
 
 tidy_bignum : (order : List ℕ → List ℕ → Ordering) (s : Bool) (t : Tree) (v : Value) → Fits t → IsTidy order t → IsBignum s t v → IsProper v
 tidy_bignum order s (Bytes p w c) v f y (b, h, (m, k, l, e, i)) =
-    let below : length m ≤ length b = bignum_below m b (subst AreBytes (sym h) f.1) l e in
+    let below : length m ≤ length b = no_more m b (subst AreBytes (sym h) f.1) l e in
     let short : length c < 2 ^ 64 = holds_below w (length c) f.0 in
     let same = ap length h in
     subst IsProper (sym i) (k, l, omega arith)
@@ -385,9 +364,9 @@ mutual
   tidy_proper order (ByteChunks p cs) v f y h = absurd y
   tidy_proper order (TextChunks p cs) v f y h = absurd y
   tidy_proper order (Items p s ts) v f y h =
-      subst IsProper (sym h.2) (all_proper order ts h.0 f.1 y.1 h.1, count_fits s (count ts) (value_count h.0) y.0 f.0 (same_count ts h.0 h.1))
+      subst IsProper (sym h.2) (all_proper order ts h.0 f.1 y.1 h.1, count_fits s (count ts) (value_count h.0) y.0 f.0 (counted ts h.0 h.1))
   tidy_proper order (Pairs p s es) v f y h =
-      subst IsProper (sym h.3) (entries_proper order es h.0 f.1 y.1 h.1, h.2, count_fits s (count_entries es) (pair_count h.0) y.0 f.0 (same_count_entries es h.0 h.1))
+      subst IsProper (sym h.3) (entries_proper order es h.0 f.1 y.1 h.1, h.2, count_fits s (count_entries es) (pair_count h.0) y.0 f.0 (counted_pairs es h.0 h.1))
   tidy_proper order (Tagged p w n t) v f y (inl h) = tidy_bignum order false t v f.1 y.1 h.1
   tidy_proper order (Tagged p w n t) v f y (inr (inl h)) = tidy_bignum order true t v f.1 y.1 h.1
   tidy_proper order (Tagged p w n t) v f y (inr (inr h)) = subst IsProper (sym h.4) (h.0, h.1, holds_below w n f.0, tidy_proper order t h.2 f.1 y.1 h.3)

@@ -11,7 +11,7 @@ use Rattle.cborn_judge.specs.declared.faults.Invalid.{Invalid}
 use Rattle.cborn_judge.specs.declared.faults.Invalid.TheVariants.{OutOfMemory}
 use Rattle.cborn_judge.proofs.Loops.Passing.{passed_one}
 
-mean_more : (ts : List Tree) (vs : List Value) (t : Tree) (v : Value) → AllZip Means ts vs → Means t v → AllZip Means (ts ++ t ∷ []) (vs ++ v ∷ [])
+pub mean_more : (ts : List Tree) (vs : List Value) (t : Tree) (v : Value) → AllZip Means ts vs → Means t v → AllZip Means (ts ++ t ∷ []) (vs ++ v ∷ [])
 mean_more [] [] t v h m = (m, tt)
 mean_more [] (w ∷ ws) t v h m = absurd h
 mean_more (s ∷ ts) [] t v h m = absurd h

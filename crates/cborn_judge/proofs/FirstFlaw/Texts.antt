@@ -26,18 +26,18 @@ AreChunksJudged cs o b = Settles flaw_rank (λ f. f.place) (λ f. f.reason) (Chu
 abbrev OneBad : Chunk → ℕ → InvalidReason → Type 0
 OneBad c p r = (r ≡ NotUtf8) × (p ≡ c.place) × (IsUtf8 c.bytes → ⊥)
 
-bad_after : (cs : List Chunk) (c : Chunk) (p : ℕ) → HasBadChunk (cs ++ c ∷ []) p → HasBadChunk cs p ⊎ ((p ≡ c.place) × (IsUtf8 c.bytes → ⊥))
+pub bad_after : (cs : List Chunk) (c : Chunk) (p : ℕ) → HasBadChunk (cs ++ c ∷ []) p → HasBadChunk cs p ⊎ ((p ≡ c.place) × (IsUtf8 c.bytes → ⊥))
 bad_after [] c p (inl h) = inr h
 bad_after [] c p (inr h) = absurd h
 bad_after (d ∷ cs) c p (inl h) = inl (inl h)
 bad_after (d ∷ cs) c p (inr h) = elim (bad_after cs c p h) [ inl k ↦ inl (inr k) | inr k ↦ inr k ]
 
-bad_before : (cs : List Chunk) (c : Chunk) (p : ℕ) → HasBadChunk cs p → HasBadChunk (cs ++ c ∷ []) p
+pub bad_before : (cs : List Chunk) (c : Chunk) (p : ℕ) → HasBadChunk cs p → HasBadChunk (cs ++ c ∷ []) p
 bad_before [] c p h = absurd h
 bad_before (d ∷ cs) c p (inl h) = inl h
 bad_before (d ∷ cs) c p (inr h) = inr (bad_before cs c p h)
 
-bad_last : (cs : List Chunk) (c : Chunk) (p : ℕ) → (p ≡ c.place) × (IsUtf8 c.bytes → ⊥) → HasBadChunk (cs ++ c ∷ []) p
+pub bad_last : (cs : List Chunk) (c : Chunk) (p : ℕ) → (p ≡ c.place) × (IsUtf8 c.bytes → ⊥) → HasBadChunk (cs ++ c ∷ []) p
 bad_last [] c p h = inl h
 bad_last (d ∷ cs) c p h = inr (bad_last cs c p h)
 
@@ -51,7 +51,7 @@ one_more cs c p r = (to, from)
     from : ChunkFlaw (cs ++ c ∷ []) p r → Either (ChunkFlaw cs) (OneBad c) p r
     from h = elim (bad_after cs c p h.1) [ inl k ↦ inl (h.0, k) | inr k ↦ inr (h.0, k.0, k.1) ]
 
-are_text : (cs : List Chunk) (c : Chunk) → ChunksAreText cs → IsUtf8 c.bytes → ChunksAreText (cs ++ c ∷ [])
+pub are_text : (cs : List Chunk) (c : Chunk) → ChunksAreText cs → IsUtf8 c.bytes → ChunksAreText (cs ++ c ∷ [])
 are_text [] c h u = (u, tt)
 are_text (d ∷ cs) c h u = (h.0, are_text cs c h.1 u)
 

@@ -3,8 +3,7 @@ use Rattle.std.proofs.Common.{◌≡◌, ℕ, ◌⊎◌, inl, inr, refl, sym, �
 use Rattle.std.specs.Prelude.{◌↔◌}
 use Rattle.cborn_model.specs.First.{IsFirst}
 use Rattle.cborn_model.proofs.Firsts.{no_later_on}
-use Rattle.cborn_judge.specs.Earliest.{IsEarlier, IsEarliest}
-use Rattle.cborn_judge.specs.devices.Judged.{Finds}
+use Rattle.cborn_judge.specs.Earliest.{IsEarlier, IsEarliest, Finds}
 
 abbrev pub Either : {R : Type 0} → (ℕ → R → Type 0) → (ℕ → R → Type 0) → ℕ → R → Type 0
 Either F G p r = F p r ⊎ G p r

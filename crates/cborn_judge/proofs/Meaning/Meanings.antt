@@ -5,12 +5,11 @@ use Rattle.std.specs.List.{flat_map}
 use Rattle.std.proofs.lemmas.Bool.{cases_lt}
 use Rattle.std.proofs.lemmas.Str.{IsUtf8-append, IsUtf8-nil}
 use Rattle.cborn_model.proofs.Numbers.OneMagnitude.{one_magnitude, fewer, large}
-use Rattle.cborn_model.specs.Value.{Value, Values, Couples, integer, bytes, text, array, dict, tagged, simple, no_values, value, no_pairs, pair, value_count, pair_count}
+use Rattle.cborn_model.specs.Value.{Value, Values, Couples, integer, bytes, text, array, dict, tagged, simple, no_values, value, no_pairs, pair}
 use Rattle.cborn_model.specs.Bytes.{big_endian, AreBytes, IsShortest}
 use Rattle.cborn_model.specs.Valid.{IsProper, AreProper, HasProperPairs, value_depth, values_depth, pairs_depth}
 use Rattle.cborn_model.specs.declared.heads.Width.{Width}
 use Rattle.cborn_model.specs.declared.heads.Width.TheVariants.{Direct, One, Two, Four, Eight}
-use Rattle.cborn_model.specs.declared.heads.Major.{Major}
 use Rattle.cborn_model.specs.declared.heads.Major.TheVariants.{ByteString, TextString, Array, Map, Tag}
 use Rattle.cborn_model.specs.Heads.{WidthFits, Given, Unbounded, head, argument}
 use Rattle.cborn_model.specs.declared.nodes.Chunk.{Chunk}
@@ -18,6 +17,7 @@ use Rattle.cborn_model.specs.Tree.{Tree, Uint, Nint, Bytes, Text, ByteChunks, Te
 use Rattle.cborn_model.specs.declared.heads.Size.TheVariants.{Fixed, Endless}
 use Rattle.cborn_model.specs.Spelled.{ending, chunk_bytes, spelled, spelled_all, spelled_entries, Fits, FitsAll, FitsEntries, ChunksFit}
 use Rattle.cborn_judge.specs.Flaws.{Within, WithinAll, WithinEntries, IsWord}
+use Rattle.cborn_det.proofs.Room.{length_of_chunks, no_more, counted, counted_pairs}
 use Rattle.cborn_model.specs.Meaning.{joined_chunks, IsNumber, IsByteString, IsBignum, ChunksAreText, Means, AllMean, EntriesMean}
 
 -- ---- at most one
@@ -105,11 +105,6 @@ count_entries_below : (es : Entries) → count_entries es ≤ length (spelled_en
 count_entries_below no_entry = omega arith
 count_entries_below (entry k v es) = omega (arith, length-append (spelled k ++ spelled v) (spelled_entries es), length-append (spelled k) (spelled v), some_bytes k, count_entries_below es)
 
-chunks_below : (m : Major) (cs : List Chunk) → length (joined_chunks cs) ≤ length (flat_map (chunk_bytes m) cs)
-chunks_below m [] = omega arith
-chunks_below m (c ∷ cs) =
-    omega (arith, length-append c.bytes (joined_chunks cs), length-append (chunk_bytes m c) (flat_map (chunk_bytes m) cs), length-append (head m (Given c.width (length c.bytes))) c.bytes, chunks_below m cs)
-
 inside : (x y z : List ℕ) → length y ≤ length (x ++ y ++ z)
 inside x y z = omega (arith, length-append x y, length-append (x ++ y) z)
 
@@ -121,9 +116,6 @@ Short x = length x < 2 ^ 64
 
 pub shortest_below : (m : List ℕ) (n : ℕ) → IsShortest m → big_endian m ≡ n → n < 2 ^ 64 → length m < 2 ^ 64
 shortest_below m n s e l = elim (cases_lt 8 (length m)) [ inl k ↦ absurd (let g = large m s k in omega arith) | inr k ↦ omega arith ]
-
-pub bignum_below : (m b : List ℕ) → AreBytes b → IsShortest m → big_endian m ≡ big_endian b → length m ≤ length b
-bignum_below m b h s e = elim (cases_lt (length b) (length m)) [ inl k ↦ absurd (let g = fewer b m h s k in omega arith) | inr k ↦ k ]
 
 pub joined_bytes : (cs : List Chunk) → ChunksFit cs → AreBytes (joined_chunks cs)
 joined_bytes [] h = tt
@@ -146,7 +138,7 @@ content_below : (t : Tree) (b : List ℕ) → IsByteString t b → Short (spelle
 content_below (Bytes p w c) b h l = let e = ap length h in omega (arith, length-append (head ByteString (Given w (length c))) c)
 content_below (ByteChunks p cs) b h l =
     let e = ap length h in
-    omega (arith, chunks_below ByteString cs, length-append (head ByteString Unbounded) (flat_map (chunk_bytes ByteString) cs), length-append (head ByteString Unbounded ++ flat_map (chunk_bytes ByteString) cs) (ending Endless))
+    omega (arith, length_of_chunks ByteString cs, length-append (head ByteString Unbounded) (flat_map (chunk_bytes ByteString) cs), length-append (head ByteString Unbounded ++ flat_map (chunk_bytes ByteString) cs) (ending Endless))
 content_below _ b h l = absurd h
 
 pub number_valid : (s : Bool) (n : ℕ) (v : Value) → IsNumber s n v → n < 2 ^ 64 → IsProper v
@@ -155,7 +147,7 @@ number_valid s n v h l = subst IsProper (sym h.4) (h.1, h.2, shortest_below h.0 
 bignum_valid : (s : Bool) (t : Tree) (v : Value) → IsBignum s t v → Fits t → Short (spelled t) → IsProper v
 bignum_valid s t v h f l =
     let k = h.2 in
-    let below : length k.0 ≤ length h.0 = bignum_below k.0 h.0 (content_fits t h.0 h.1 f) k.2 k.3 in
+    let below : length k.0 ≤ length h.0 = no_more k.0 h.0 (content_fits t h.0 h.1 f) k.2 k.3 in
     subst IsProper (sym k.4) (k.1, k.2, (let m = content_below t h.0 h.1 l in omega arith))
 
 pub left : (x y : List ℕ) → Short (x ++ y) → Short x
@@ -175,13 +167,13 @@ mutual
   meaning_valid (Text p w b) v f l h = subst IsProper (sym h.1) (h.0, holds_below w (length b) f.0)
   meaning_valid (ByteChunks p cs) v f l h = subst IsProper (sym h) (joined_bytes cs f, content_below (ByteChunks p cs) (joined_chunks cs) refl l)
   meaning_valid (TextChunks p cs) v f l h =
-      subst IsProper (sym h.1) (joined_text cs h.0, omega (arith, chunks_below TextString cs, length-append (head TextString Unbounded) (flat_map (chunk_bytes TextString) cs), length-append (head TextString Unbounded ++ flat_map (chunk_bytes TextString) cs) (ending Endless)))
+      subst IsProper (sym h.1) (joined_text cs h.0, omega (arith, length_of_chunks TextString cs, length-append (head TextString Unbounded) (flat_map (chunk_bytes TextString) cs), length-append (head TextString Unbounded ++ flat_map (chunk_bytes TextString) cs) (ending Endless)))
   meaning_valid (Items p s ts) v f l h =
       let m : Short (spelled_all ts) = middle (head Array (argument s (count ts))) (spelled_all ts) (ending s) l in
-      subst IsProper (sym h.2) (all_valid ts h.0 f.1 m h.1, (let e = same_count ts h.0 h.1 in omega (arith, count_below ts)))
+      subst IsProper (sym h.2) (all_valid ts h.0 f.1 m h.1, (let e = counted ts h.0 h.1 in omega (arith, count_below ts)))
   meaning_valid (Pairs p s es) v f l h =
       let m : Short (spelled_entries es) = middle (head Map (argument s (count_entries es))) (spelled_entries es) (ending s) l in
-      subst IsProper (sym h.3) (entries_valid es h.0 f.1 m h.1, h.2, (let e = same_count_entries es h.0 h.1 in omega (arith, count_entries_below es)))
+      subst IsProper (sym h.3) (entries_valid es h.0 f.1 m h.1, h.2, (let e = counted_pairs es h.0 h.1 in omega (arith, count_entries_below es)))
   meaning_valid (Tagged p w n t) v f l (inl h) = bignum_valid false t v h.1 f.1 (right (head Tag (Given w n)) (spelled t) l)
   meaning_valid (Tagged p w n t) v f l (inr (inl h)) = bignum_valid true t v h.1 f.1 (right (head Tag (Given w n)) (spelled t) l)
   meaning_valid (Tagged p w n t) v f l (inr (inr h)) = subst IsProper (sym h.4) (h.0, h.1, holds_below w n f.0, meaning_valid t h.2 f.1 (right (head Tag (Given w n)) (spelled t) l) h.3)
@@ -194,7 +186,7 @@ mutual
   all_valid (more t ts) (value v vs) f l h =
       (meaning_valid t v f.0 (left (spelled t) (spelled_all ts) l) h.0, all_valid ts vs f.1 (right (spelled t) (spelled_all ts) l) h.1)
 
-  entries_valid : (es : Entries) (ps : Couples) → FitsEntries es → Short (spelled_entries es) → EntriesMean es ps → HasProperPairs ps
+  pub entries_valid : (es : Entries) (ps : Couples) → FitsEntries es → Short (spelled_entries es) → EntriesMean es ps → HasProperPairs ps
   entries_valid no_entry no_pairs f l h = tt
   entries_valid no_entry (pair a b ps) f l h = absurd h
   entries_valid (entry k v es) no_pairs f l h = absurd h
@@ -204,18 +196,6 @@ mutual
         meaning_valid v b f.1 (right (spelled k) (spelled v) m) h.1,
         entries_valid es ps f.2 (right (spelled k ++ spelled v) (spelled_entries es) l) h.2,
       )
-
-  pub same_count : (ts : Trees) (vs : Values) → AllMean ts vs → value_count vs ≡ count ts
-  same_count no_item no_values h = refl
-  same_count no_item (value v vs) h = absurd h
-  same_count (more t ts) no_values h = absurd h
-  same_count (more t ts) (value v vs) h = ap suc (same_count ts vs h.1)
-
-  pub same_count_entries : (es : Entries) (ps : Couples) → EntriesMean es ps → pair_count ps ≡ count_entries es
-  same_count_entries no_entry no_pairs h = refl
-  same_count_entries no_entry (pair a b ps) h = absurd h
-  same_count_entries (entry k v es) no_pairs h = absurd h
-  same_count_entries (entry k v es) (pair a b ps) h = ap suc (same_count_entries es ps h.2)
 
 -- ---- no deeper
 

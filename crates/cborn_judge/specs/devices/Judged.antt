@@ -8,7 +8,7 @@ use Rattle.cborn_model.specs.Tree.{Tree, Trees, Entries}
 use Rattle.cborn_model.specs.Spelled.{Fits}
 use Rattle.cborn_model.specs.Valid.{IsProper}
 use Rattle.cborn_model.specs.declared.items.Item.{Item}
-use Rattle.cborn_judge.specs.Earliest.{IsEarlier, IsEarliest}
+use Rattle.cborn_judge.specs.Earliest.{IsEarlier, IsEarliest, Finds}
 use Rattle.cborn_judge.specs.Flaws.{WithinAll, WithinEntries, flaw_rank, HasRepeat, HasBadChunk, FlawAt, Flaw, IsFirstFlaw}
 use Rattle.cborn_judge.specs.declared.faults.Flaw as flaw
 use Rattle.cborn_judge.specs.declared.faults.InvalidReason.{InvalidReason}
@@ -20,12 +20,6 @@ use Rattle.cborn_judge.specs.declared.judgments.JudgedPair.{JudgedPair}
 use Rattle.cborn_judge.specs.declared.judgments.JudgedPair.TheVariants as judged_pair
 
 -- ---- what was found
-
-module _ {X R : Type 0} (rank : R → ℕ) (place_of : X → ℕ) (reason_of : X → R) where
-  -- o is the first of these faults, if there is one
-  abbrev pub Finds : (ℕ → R → Type 0) → Option X → Type 0
-  Finds fault None = (p : ℕ) (r : R) → fault p r → ⊥
-  Finds fault (Some x) = IsFirst rank fault (place_of x) (reason_of x)
 
 abbrev pub IsEarlierFlaw : flaw.Flaw → flaw.Flaw → flaw.Flaw → Type 0
 IsEarlierFlaw = IsEarlier (λ f. (f.place, flaw_rank f.reason))

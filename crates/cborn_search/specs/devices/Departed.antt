@@ -4,7 +4,8 @@ use Rattle.std.specs.declared.cmp.Ordering.{Ordering}
 use Rattle.cborn_model.specs.Tree.{Tree, trees, entries}
 use Rattle.cborn_model.specs.declared.heads.Major.{Major}
 use Rattle.cborn_model.specs.declared.nodes.Chunk.{Chunk}
-use Rattle.cborn_judge.specs.devices.Checked.{FindsDefect, IsEarliestDefect, LongAt, DefectIn, DefectInAll, NotAboveAt, MapDefect, TagDefect}
+use Rattle.cborn_judge.specs.Departures.{FindsDefect, LongAt, NotAboveAt}
+use Rattle.cborn_judge.specs.devices.Checked.{IsEarliestDefect, DefectIn, DefectInAll, MapDefect, TagDefect}
 use Rattle.cborn_judge.specs.Defects.{ChunksDefect}
 use Rattle.cborn_judge.specs.declared.defects.Defect.{Defect}
 use Rattle.cborn_judge.specs.declared.defects.DefectReason.{DefectReason}

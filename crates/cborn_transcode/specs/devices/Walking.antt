@@ -10,14 +10,14 @@ use Rattle.cborn_model.specs.Orders.{Rising}
 use Rattle.cborn_det.specs.Det.{Entry, joined, keys}
 use Rattle.cborn_det.proofs.Cutting.{EndsIn}
 use Rattle.cborn_transcode.specs.declared.entries.Span.{Span}
-use Rattle.cborn_transcode.specs.declared.places.Place.{Place}
+use Rattle.cborn_transcode.specs.declared.places.PairPlace.{PairPlace}
 use Rattle.cborn_transcode.specs.Transcoding.{ItemTranscoded, ItemsTranscoded, PairsTranscoded, AreSpans}
 
 -- a place as a span
-abbrev pub span_of : Place → Span
+abbrev pub span_of : PairPlace → Span
 span_of p = record { hint = p.hint; start = p.start; key_len = p.key_len; value_len = p.value_len }
 
-abbrev pub spans_of : List Place → List Span
+abbrev pub spans_of : List PairPlace → List Span
 spans_of = map span_of
 
 -- P holds of some rest, which has so many bytes

@@ -1,7 +1,7 @@
 //! Maps of many pairs that stand in the input as they are written, and others that have one pair
 //! which doesn't.
 
-use crate::places::{Place, find_pairs};
+use crate::places::{PairPlace, find_pairs};
 use crate::tests::gives;
 use crate::transcode;
 use cborn_model::{Bytewise, KeyOrder, LengthFirst, Limit};
@@ -145,7 +145,7 @@ fn goes_on_behind_great_maps(rt: HostRuntime) -> Result<(), Fail> {
 
 /// How many bytes are found to follow the pairs behind a head of three bytes.
 fn behind<O: KeyOrder>(alloc: Global, n: u64, bytes: &[u8]) -> Option<usize> {
-    let mut places: Vec<Place> = Vec::new(alloc);
+    let mut places: Vec<PairPlace> = Vec::new(alloc);
     find_pairs::<O>(n, bytes.get(3..)?, &mut places)
 }
 

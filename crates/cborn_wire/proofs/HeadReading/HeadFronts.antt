@@ -2,6 +2,7 @@
 use Rattle.std.proofs.Common.{◌≡◌, refl, sym, ap, ◌∙◌, subst, ℕ, zero, suc, ◌+◌, ◌-◌, ◌*◌, ◌/◌, ◌%◌, ◌<◌, ◌≤◌, List, [], ◌∷◌, ◌++◌, length, take, drop, get_or, true, false, None, arith, length-append}
 use Rattle.std.proofs.lemmas.List.{take-append-drop, length-take-le, length-replicate}
 use Rattle.std.proofs.Math.ListN.{replicate}
+use Rattle.std.specs.Int.{w64, from_be_bytes}
 use Rattle.cborn_model.specs.Bytes.{AreBytes}
 use Rattle.cborn_model.specs.declared.heads.Width.{Width}
 use Rattle.cborn_model.specs.declared.heads.Width.TheVariants.{Direct, One, Two, Four, Eight}
@@ -190,3 +191,31 @@ short_front (b ∷ x) some f = go f.argument f.whole
     go (heads.Given Four n) e = let first : b ≡ 32 * code f.major + 26 = cc in (omega (arith, first), omega (arith, first))
     go (heads.Given Eight n) e = let first : b ≡ 32 * code f.major + 27 = cc in (omega (arith, first), omega (arith, first))
     go heads.Unbounded e = absurd (omega (arith, ap length e, length-append x f.missing, f.some))
+
+-- what is said of the number of eight bytes, of the eight at the front of more
+pub number_first : (w : Width) (x : List ℕ) (n : ℕ) → 8 ≤ length x → AreBytes x
+    → ((a b c d e f g h : ℕ) → AreBytes (a ∷ b ∷ c ∷ d ∷ e ∷ f ∷ g ∷ h ∷ []) → from_be_bytes w64 x ≡ from_be_bytes w64 (a ∷ b ∷ c ∷ d ∷ e ∷ f ∷ g ∷ h ∷ []) → n ≡ number w (take (width_bytes w) (a ∷ b ∷ c ∷ d ∷ e ∷ f ∷ g ∷ h ∷ [])))
+    → (width_bytes w ≤ length x) × (n ≡ number w (take (width_bytes w) x))
+number_first w (a ∷ b ∷ c ∷ d ∷ e ∷ f ∷ g ∷ h ∷ x) n l are says = (wide w, go w (says a b c d e f g h (are.0, (are.1.0, (are.1.1.0, (are.1.1.1.0, (are.1.1.1.1.0, (are.1.1.1.1.1.0, (are.1.1.1.1.1.1.0, (are.1.1.1.1.1.1.1.0, tt)))))))) refl))
+  where
+    wide : (w : Width) → width_bytes w ≤ length (a ∷ b ∷ c ∷ d ∷ e ∷ f ∷ g ∷ h ∷ x)
+    wide Direct = omega arith
+    wide One = omega arith
+    wide Two = omega arith
+    wide Four = omega arith
+    wide Eight = omega arith
+
+    go : (w : Width) → n ≡ number w (take (width_bytes w) (a ∷ b ∷ c ∷ d ∷ e ∷ f ∷ g ∷ h ∷ [])) → n ≡ number w (take (width_bytes w) (a ∷ b ∷ c ∷ d ∷ e ∷ f ∷ g ∷ h ∷ x))
+    go Direct e = e
+    go One e = e
+    go Two e = e
+    go Four e = e
+    go Eight e = e
+number_first w [] n l are says = absurd (omega arith)
+number_first w (a ∷ []) n l are says = absurd (omega arith)
+number_first w (a ∷ b ∷ []) n l are says = absurd (omega arith)
+number_first w (a ∷ b ∷ c ∷ []) n l are says = absurd (omega arith)
+number_first w (a ∷ b ∷ c ∷ d ∷ []) n l are says = absurd (omega arith)
+number_first w (a ∷ b ∷ c ∷ d ∷ e ∷ []) n l are says = absurd (omega arith)
+number_first w (a ∷ b ∷ c ∷ d ∷ e ∷ f ∷ []) n l are says = absurd (omega arith)
+number_first w (a ∷ b ∷ c ∷ d ∷ e ∷ f ∷ g ∷ []) n l are says = absurd (omega arith)

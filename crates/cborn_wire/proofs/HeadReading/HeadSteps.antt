@@ -5,7 +5,7 @@ use Rattle.std.proofs.lemmas.List.{take_all, take-append-le, length-take}
 use Rattle.cborn_model.specs.declared.heads.Width.{Width}
 use Rattle.cborn_model.specs.declared.heads.Width.TheVariants.{Direct, One, Two, Four, Eight}
 use Rattle.cborn_model.specs.declared.heads.Major.{Major}
-use Rattle.cborn_model.specs.Heads.{Argument, Given, Unbounded, head}
+use Rattle.cborn_model.specs.Heads.{Argument, Given, Unbounded, code, head}
 use Rattle.cborn_model.specs.Tree.{Trees}
 use Rattle.cborn_wire.specs.declared.faults.WireReason.{WireReason}
 use Rattle.cborn_wire.specs.declared.faults.WireReason.TheVariants.{BadSimple, TooDeep}
@@ -16,7 +16,8 @@ use Rattle.cborn_wire.specs.Faults.{begins_low}
 use Rattle.cborn_wire.specs.devices.InitialBytes.{Info, info_at, is_break, is_other, is_one, is_container, head_reason}
 use Rattle.cborn_wire.specs.devices.Machine.{width_bytes, number, argument_of, nothing, gathering, Live, Failed, after_head, run}
 use Rattle.cborn_wire.proofs.HeadReading.InitialBytes.{same_alone}
-use Rattle.cborn_wire.proofs.Machine.Pieces.{takes_whole_head, refuses_first, argument_done}
+use Rattle.cborn_wire.proofs.Machine.Pieces.{major_of_head, takes_whole_head, refuses_first, argument_done}
+use Rattle.cborn_wire.proofs.Machine.TakesHeads.{major_at-code}
 use Rattle.cborn_wire.proofs.Machine.SoundSteps.{is_clear}
 use Rattle.cborn_wire.proofs.Machine.SomeEnd.{refused_run}
 
@@ -38,6 +39,19 @@ argument_room w n bytes l h = omega (arith, length-take n bytes, l, fills w, h)
 head_some : (m : Major) (a : Argument) → 0 < length (head m a)
 head_some m (Given w n) = omega arith
 head_some m Unbounded = omega arith
+
+pub head_front : (piece : List ℕ) (h : Head) (n : ℕ) → IsHeadOf piece h n → take n piece ≡ head (major_at h.major) (seen_argument h.argument)
+head_front piece h n i =
+    let x = head (major_at h.major) (seen_argument h.argument) in
+    ap (take n) i.whole ∙ ap (λ k. take k (x ++ i.rest)) i.len ∙ take-append-le (length x) x i.rest (omega arith) ∙ take_all (length x) x (omega arith)
+
+-- The initial byte tells the major type.
+pub major_first : (piece : List ℕ) (h : Head) (n : ℕ) (m : Major) → IsHeadOf piece h n → code m ≡ get_or piece 0 0 / 32 → major_at h.major ≡ m
+major_first piece h n m i told = go piece i.whole told
+  where
+    go : (x : List ℕ) → x ≡ head (major_at h.major) (seen_argument h.argument) ++ i.rest → code m ≡ get_or x 0 0 / 32 → major_at h.major ≡ m
+    go [] e told = absurd (omega (arith, ap length e, length-append (head (major_at h.major) (seen_argument h.argument)) i.rest, head_some (major_at h.major) (seen_argument h.argument)))
+    go (b ∷ z) e told = sym (major_of_head (major_at h.major) (seen_argument h.argument) b z i.rest i.fits e) ∙ ap major_at (sym told) ∙ major_at-code m
 
 module _ (limit at : ℕ) (ready : Trees) (os : List Begun) where
   -- The last byte of an argument.
@@ -61,9 +75,7 @@ module _ (limit at : ℕ) (ready : Trees) (os : List Begun) where
   pub head_taken : (piece : List ℕ) (h : Head) (n : ℕ) → IsHeadOf piece h n → None ≡ head_reason (slot os) (leb limit (open_depth os)) (major_at (get_or piece 0 0 / 32)) (info_at (get_or piece 0 0 % 32)) []
       → run limit (Live at ready os nothing) (take n piece) ≡ after_head (at + n) at ready os (major_at h.major) (seen_argument h.argument)
   head_taken piece h n i none =
-      let x = head (major_at h.major) (seen_argument h.argument) in
-      let front : take n piece ≡ x = ap (take n) i.whole ∙ ap (λ k. take k (x ++ i.rest)) i.len ∙ take-append-le (length x) x i.rest (omega arith) ∙ take_all (length x) x (omega arith) in
-      whole_head x i.rest refl piece i.whole front none
+      whole_head (head (major_at h.major) (seen_argument h.argument)) i.rest refl piece i.whole (head_front piece h n i) none
     where
       whole_head : (x rest : List ℕ) → x ≡ head (major_at h.major) (seen_argument h.argument) → (all : List ℕ) → all ≡ x ++ rest → take n piece ≡ x
           → None ≡ head_reason (slot os) (leb limit (open_depth os)) (major_at (get_or all 0 0 / 32)) (info_at (get_or all 0 0 % 32)) []

@@ -1,5 +1,5 @@
 -- A piece may be taken by heads and by slices, and not byte by byte.
-use Rattle.std.proofs.Common.{◌≡◌, refl, sym, ap, ◌∙◌, ℕ, suc, ◌+◌, ◌*◌, ◌/◌, ◌%◌, ◌<◌, ◌≤◌, List, [], ◌∷◌, ◌++◌, length, cond, leb, Some, None, arith, length-append}
+use Rattle.std.proofs.Common.{◌≡◌, refl, sym, ap, ◌∙◌, ℕ, suc, ◌+◌, ◌*◌, ◌/◌, ◌%◌, ◌<◌, ◌≤◌, List, [], ◌∷◌, ◌++◌, length, cond, leb, Some, None, arith, append-nil, length-append}
 use Rattle.std.proofs.lemmas.Bool.{lt-leb, le-leb}
 use Rattle.cborn_model.specs.declared.heads.Width.{Width}
 use Rattle.cborn_model.specs.declared.heads.Width.TheVariants.{Direct, One, Two, Four, Eight}
@@ -9,7 +9,7 @@ use Rattle.cborn_model.specs.Tree.{Trees}
 use Rattle.cborn_wire.specs.declared.faults.WireReason.{WireReason}
 use Rattle.cborn_wire.specs.Slots.{StringKind, Begun, slot, open_depth}
 use Rattle.cborn_wire.specs.devices.InitialBytes.{info_at, head_reason}
-use Rattle.cborn_wire.specs.devices.Machine.{number, Goal, argument_of, content_of, nothing, gathering, Live, Failed, string_done, after_head, gathered, gather, begin_head, unless, step, run}
+use Rattle.cborn_wire.specs.devices.Machine.{number, Goal, argument_of, content_of, nothing, gathering, Live, Failed, string_done, content_at, after_head, gathered, gather, begin_head, unless, step, run}
 use Rattle.cborn_wire.proofs.Machine.Running.{failed_run}
 use Rattle.cborn_wire.specs.HeadReading.{major_at, ArgumentFits}
 use Rattle.cborn_wire.proofs.Machine.TakesHeads.{gathers, takes_head, info_for, quotient, remainder, major_at-code, info_at-now}
@@ -89,3 +89,10 @@ module _ (limit fed : ℕ) (ready : Trees) (os : List Begun) where
       ∙ gathers limit y fed p ready os (content_of k w) n got x (omega arith)
       ∙ ap (λ c. run limit (cond c (string_done (fed + length y) p ready os k w (got ++ y)) (Live (fed + length y) ready os (gathering p (content_of k w) n (got ++ y)))) x)
       (le-leb n (length (got ++ y)) (omega (arith, length-append got y)))
+
+  -- All of a string's content, behind its head.
+  pub content_whole : (p : ℕ) (k : StringKind) (w : Width) (n : ℕ) (y : List ℕ) → length y ≡ n → run limit (content_at fed p ready os k w n []) y ≡ string_done (fed + length y) p ready os k w y
+  content_whole p k w n y all =
+      ap (run limit (content_at fed p ready os k w n [])) (sym (append-nil y))
+      ∙ gathers limit y fed p ready os (content_of k w) n [] [] (omega (arith, all))
+      ∙ ap (λ c. cond c (string_done (fed + length y) p ready os k w y) (Live (fed + length y) ready os (gathering p (content_of k w) n y))) (le-leb n (length y) (omega (arith, all)))

@@ -1,6 +1,6 @@
 -- Each step keeps what the machine has to what was read.
 use Rattle.std.proofs.Common.{◌≡◌, refl, sym, ap, ◌∙◌, subst, ℕ, suc, ◌+◌, ◌≤◌, List, [], ◌∷◌, ◌++◌, length, Bool, true, false, ◌&&◌, cond, ltb, leb, Option, Some, None, inl, inr, arith, append_assoc, append-nil, length-append}
-use Rattle.std.proofs.lemmas.Bool.{lt-ltb, le-ltb, leb-true, leb-false, ltb-false}
+use Rattle.std.proofs.lemmas.Bool.{leb-true, leb-false, ltb-false}
 use Rattle.std.specs.List.{flat_map}
 use Rattle.cborn_model.specs.Bytes.{AreBytes}
 use Rattle.cborn_model.specs.declared.heads.Width.{Width}
@@ -13,6 +13,7 @@ use Rattle.cborn_model.specs.Heads.{Argument, Given, Unbounded, head, WidthFits}
 use Rattle.cborn_model.specs.Tree.{Tree, Uint, Nint, Bytes, Text, ByteChunks, TextChunks, Items, Pairs, Simple, Trees, no_item, no_entry, depth}
 use Rattle.cborn_model.specs.Spelled.{ending, string, chunk_bytes, chunks, spelled, spelled_all, ChunksFit, Fits}
 use Rattle.cborn_model.specs.Placed.{Placed}
+use Rattle.cborn_model.proofs.Numbers.Simples.{simple_value, least_direct, least_one}
 use Rattle.cborn_wire.specs.declared.faults.WireReason.{WireReason}
 use Rattle.cborn_wire.specs.declared.faults.WireReason.TheVariants.{BadSimple}
 use Rattle.cborn_wire.specs.Slots.{StringKind, OfBytes, OfText, major_of, Slot, item, value, element_or_end, key_or_end, chunk, Begun, begun_items, begun_pairs, begun_value, begun_tag, begun_chunks, beginnings, slot, open_depth, IsNoChunk, AreBegun}
@@ -243,8 +244,8 @@ module _ (limit base : ℕ) where
     part_fits = tt;
   }
   sound_head Other (Given Direct n) ready os fed p x g c fits placed is at =
-      sound_leaf (Simple p n) ready os fed x g (free_of (slot os) Other (Now n) c.chunked (other_kind Other refl refl) refl) (inl fits) refl placed
-      (is ∙ ap (λ b. front ready os ++ head Other (Given (cond b Direct One) n)) (sym (lt-ltb n 24 fits))) at
+      sound_leaf (Simple p n) ready os fed x g (free_of (slot os) Other (Now n) c.chunked (other_kind Other refl refl) refl) (simple_value n (inl fits)) refl placed
+      (is ∙ ap (λ w. front ready os ++ head Other (Given w n)) (sym (least_direct n fits))) at
   sound_head Other (Given One n) ready os fed p x g c fits placed is at = go (ltb n 32) refl
     where
       go : (b : Bool) → ltb n 32 ≡ b → Sound limit base x (cond b (Failed ready p BadSimple) (finished fed ready os (Simple p n)))
@@ -258,8 +259,8 @@ module _ (limit base : ℕ) where
       }
       go false e =
           let high : 32 ≤ n = ltb-false n 32 e in
-          sound_leaf (Simple p n) ready os fed x g (free_of (slot os) Other (Next One) c.chunked (other_kind Other refl refl) refl) (inr (high, fits)) refl placed
-          (is ∙ ap (λ b. front ready os ++ head Other (Given (cond b Direct One) n)) (sym (le-ltb n 24 (omega arith)))) at
+          sound_leaf (Simple p n) ready os fed x g (free_of (slot os) Other (Next One) c.chunked (other_kind Other refl refl) refl) (simple_value n (inr (high, fits))) refl placed
+          (is ∙ ap (λ w. front ready os ++ head Other (Given w n)) (sym (least_one n (omega arith) fits))) at
   sound_head Other Unbounded ready os fed p x g c fits placed is at = sound_ended ready os fed x g c.broken is at
   sound_head Other (Given Two n) ready os fed p x g c fits placed is at = let e : true ≡ false = c.float in cc
   sound_head Other (Given Four n) ready os fed p x g c fits placed is at = let e : true ≡ false = c.float in cc

@@ -1,7 +1,8 @@
 -- The machine takes what an item spells, and has that item.
-use Rattle.std.proofs.Common.{◌≡◌, refl, sym, ap, ◌∙◌, ℕ, suc, ◌+◌, ◌<◌, ◌≤◌, List, [], ◌∷◌, ◌++◌, length, Bool, true, false, ◌&&◌, cond, ltb, leb, None, ◌⊎◌, inl, inr, arith, append_assoc, append-nil, length-append, add-one, add-zero}
+use Rattle.std.proofs.Common.{◌≡◌, refl, sym, ap, ◌∙◌, ℕ, suc, ◌+◌, ◌≤◌, List, [], ◌∷◌, ◌++◌, length, Bool, false, ◌&&◌, cond, leb, None, inl, inr, arith, append_assoc, append-nil, length-append, add-one, add-zero}
 use Rattle.std.proofs.Math.Bool.{and-false}
-use Rattle.std.proofs.lemmas.Bool.{lt-leb, le-leb, lt-ltb, le-ltb}
+use Rattle.std.proofs.lemmas.Bool.{lt-leb, le-leb, le-ltb}
+use Rattle.std.specs.Prelude.{IsTrue, Option}
 use Rattle.std.specs.List.{flat_map}
 use Rattle.cborn_model.specs.declared.heads.Width.{Width}
 use Rattle.cborn_model.specs.declared.heads.Width.TheVariants.{Direct, One, Two, Four, Eight}
@@ -10,10 +11,12 @@ use Rattle.cborn_model.specs.declared.heads.Size.TheVariants.{Fixed, Endless}
 use Rattle.cborn_model.specs.declared.nodes.Chunk.{Chunk}
 use Rattle.cborn_model.specs.declared.heads.Major.{Major}
 use Rattle.cborn_model.specs.declared.heads.Major.TheVariants.{Unsigned, Negative, ByteString, TextString, Array, Map, Tag, Other}
-use Rattle.cborn_model.specs.Heads.{Argument, Given, Unbounded, head, WidthFits, argument, SizeFits}
+use Rattle.cborn_model.specs.Heads.{Argument, Given, Unbounded, head, WidthFits, least, is_simple_value, argument, SizeFits}
 use Rattle.cborn_model.specs.Tree.{Tree, Uint, Nint, Bytes, Text, ByteChunks, TextChunks, Items, Pairs, Tagged, Simple, Trees, no_item, more, Entries, no_entry, entry, count, count_entries, depth, depth_all, depth_entries}
-use Rattle.cborn_model.specs.Spelled.{ending, string, chunk_bytes, chunks, simple_width, spelled, spelled_all, spelled_entries, ChunksFit, Fits, FitsAll, FitsEntries}
+use Rattle.cborn_model.specs.Spelled.{ending, string, chunk_bytes, chunks, spelled, spelled_all, spelled_entries, ChunksFit, Fits, FitsAll, FitsEntries}
 use Rattle.cborn_model.specs.Placed.{ChunksPlaced, Placed, PlacedAll, PlacedEntries}
+use Rattle.cborn_model.proofs.Numbers.Simples.{simple_cases, simple_fits, least_direct, least_one}
+use Rattle.cborn_wire.specs.declared.faults.WireReason.{WireReason}
 use Rattle.cborn_wire.specs.declared.faults.WireReason.TheVariants.{BadSimple}
 use Rattle.cborn_wire.specs.Slots.{StringKind, OfBytes, OfText, major_of, Slot, item, value, element_or_end, key_or_end, chunk, Begun, begun_items, begun_pairs, begun_value, begun_tag, begun_chunks, slot, slot_in, open_depth, IsNoChunk}
 use Rattle.cborn_wire.specs.devices.InitialBytes.{Info, Now, Next, Unended, is_reserved, is_unended, is_always_bounded, is_other, is_container, is_bad_chunk, head_reason}
@@ -51,9 +54,13 @@ given_unended Eight n = refl
 pub clear_given : (s : Slot) (full : Bool) (m : Major) (w : Width) (n : ℕ) → IsNoChunk s → is_other m ≡ false → (is_container m && full) ≡ false → head_reason s full m (info_for (Given w n)) [] ≡ None
 clear_given s full m w n h other room = clear s full m _ h (given_reserved w n) (ap (λ b. b && is_always_bounded m) (given_unended w n)) other room
 
-pub clear_simple : (s : Slot) (full : Bool) (n : ℕ) → IsNoChunk s → head_reason s full Other (info_for (Given (simple_width n) n)) [] ≡ None
-clear_simple s full n h = elim (ltb n 24) as (λ b. head_reason s full Other (info_for (Given (cond b Direct One) n)) [] ≡ None)
-    [ true ↦ rw (no_bad_chunk s Other (Now n) h) refl | false ↦ rw (no_bad_chunk s Other (Next One) h) refl ]
+pub clear_simple : (s : Slot) (full : Bool) (n : ℕ) → IsTrue (is_simple_value n) → IsNoChunk s → head_reason s full Other (info_for (Given (least n) n)) [] ≡ None
+clear_simple s full n v h =
+    let reason : Width → Option WireReason = λ w. head_reason s full Other (info_for (Given w n)) [] in
+    elim (simple_cases n v) [
+      | inl low ↦ ap reason (least_direct n low) ∙ rw (no_bad_chunk s Other (Now n) h) refl
+      | inr high ↦ ap reason (least_one n (omega (arith, high.0)) high.1) ∙ rw (no_bad_chunk s Other (Next One) h) refl
+    ]
 
 pub clear_chunk : (k : StringKind) (full : Bool) (w : Width) (n : ℕ) → head_reason (chunk k) full (major_of k) (info_for (Given w n)) [] ≡ None
 clear_chunk OfBytes full w n = rw (given_reserved w n, given_unended w n) refl
@@ -193,15 +200,13 @@ pub starts_chunks : (fed p : ℕ) (ready : Trees) (os : List Begun) (k : StringK
 starts_chunks fed p ready os OfBytes = refl
 starts_chunks fed p ready os OfText = refl
 
-simple_head : (fed p : ℕ) (ready : Trees) (os : List Begun) (n : ℕ) → (n < 24) ⊎ ((32 ≤ n) × (n < 256)) → after_head fed p ready os Other (Given (simple_width n) n) ≡ finished fed ready os (Simple p n)
-simple_head fed p ready os n (inl h) = ap (λ b. after_head fed p ready os Other (Given (cond b Direct One) n)) (lt-ltb n 24 h)
-simple_head fed p ready os n (inr h) =
-    ap (λ b. after_head fed p ready os Other (Given (cond b Direct One) n)) (le-ltb n 24 (omega arith))
-    ∙ ap (λ b. cond b (Failed ready p BadSimple) (finished fed ready os (Simple p n))) (le-ltb n 32 (omega arith))
-
-pub simple_fits : (n : ℕ) → (n < 24) ⊎ ((32 ≤ n) × (n < 256)) → WidthFits (simple_width n) n
-simple_fits n (inl h) = rw (lt-ltb n 24 h) h
-simple_fits n (inr h) = let e : ltb n 24 ≡ false = le-ltb n 24 (omega arith) in rw e h.1
+simple_head : (fed p : ℕ) (ready : Trees) (os : List Begun) (n : ℕ) → IsTrue (is_simple_value n) → after_head fed p ready os Other (Given (least n) n) ≡ finished fed ready os (Simple p n)
+simple_head fed p ready os n v = elim (simple_cases n v) [
+  | inl low ↦ ap (λ w. after_head fed p ready os Other (Given w n)) (least_direct n low)
+  | inr high ↦
+      ap (λ w. after_head fed p ready os Other (Given w n)) (least_one n (omega (arith, high.0)) high.1)
+      ∙ ap (λ b. cond b (Failed ready p BadSimple) (finished fed ready os (Simple p n))) (le-ltb n 32 high.0)
+]
 
 -- a chunked string, whole
 takes_chunked : (limit fed : ℕ) (ready : Trees) (os : List Begun) (k : StringKind) (cs : List Chunk) (x : List ℕ) → ChunksFit cs → IsNoChunk (slot os) → ChunksPlaced (major_of k) (suc fed) cs
@@ -280,8 +285,8 @@ mutual
       ∙ ap (λ k. run limit (finished k ready os (Tagged fed w n t)) x) total
       ∙ ap (λ p. run limit (finished (fed + length (spelled (Tagged q w n t))) ready os (Tagged p w n t)) x) (sym placed.0)
   takes (Simple q n) limit fed ready os x fits free deep placed =
-      let end = fed + length (head Other (Given (simple_width n) n)) in
-      takes_head limit fed ready os Other (Given (simple_width n) n) x (simple_fits n fits) (clear_simple (slot os) (leb limit (open_depth os)) n free)
+      let end = fed + length (head Other (Given (least n) n)) in
+      takes_head limit fed ready os Other (Given (least n) n) x (simple_fits n fits) (clear_simple (slot os) (leb limit (open_depth os)) n fits free)
       ∙ ap (λ s. run limit s x) (simple_head end fed ready os n fits)
       ∙ ap (λ p. run limit (finished end ready os (Simple p n)) x) (sym placed)
 

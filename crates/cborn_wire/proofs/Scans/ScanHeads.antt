@@ -1,12 +1,12 @@
 -- A head, and a string's bytes with it, as a scan takes them.
 use Rattle.std.proofs.Common.{◌≡◌, refl, sym, ap, ◌∙◌, subst, ℕ, ◌+◌, ◌<◌, List, [], ◌∷◌, length, Bool, true, false, cond, ltb, leb, ◌&&◌, None, arith, append-nil}
-use Rattle.std.proofs.lemmas.Bool.{lt-leb, le-leb}
+use Rattle.std.proofs.lemmas.Bool.{lt-leb}
 use Rattle.cborn_model.specs.declared.heads.Width.{Width}
 use Rattle.cborn_model.specs.declared.heads.Width.TheVariants.{Direct, One, Two, Four, Eight}
 use Rattle.cborn_model.specs.declared.heads.Major.TheVariants as majors
 use Rattle.cborn_model.specs.declared.heads.Major.{Major}
 use Rattle.cborn_model.specs.declared.heads.Major.TheVariants.{Unsigned, Negative, ByteString, TextString, Other}
-use Rattle.cborn_model.specs.Heads.{Argument, Given, Unbounded, head, code}
+use Rattle.cborn_model.specs.Heads.{Argument, Given, Unbounded}
 use Rattle.cborn_model.specs.Tree.{Uint, Nint, Simple, Trees, no_item, no_entry}
 use Rattle.cborn_wire.specs.declared.faults.WireReason.TheVariants.{BadSimple}
 use Rattle.cborn_wire.specs.declared.levels.Level.{Level}
@@ -16,6 +16,7 @@ use Rattle.cborn_wire.specs.devices.InitialBytes.{Next, Unended, is_unended, is_
 use Rattle.cborn_wire.specs.devices.Machine as machine
 use Rattle.cborn_wire.specs.devices.Machine.{nothing, gathering, State, Live, Failed, string_done, content_at, gather, after_head, run}
 use Rattle.cborn_wire.specs.devices.Scanning.{finish, begin_items, begin_pairs, take_head, content_of, levels_of, IsScanned, IsAmid}
+use Rattle.cborn_wire.proofs.Machine.Pieces.{content_whole}
 use Rattle.cborn_wire.proofs.Machine.TakesHeads.{gathers, info_for}
 use Rattle.cborn_wire.proofs.Machine.SoundSteps.{is_clear, free_of, other_kind}
 use Rattle.cborn_wire.proofs.Scans.ScanItems.{scanned_at, scans_item, scans_string, scans_end}
@@ -33,11 +34,7 @@ module _ (limit : ℕ) (ready : Trees) (os : List Begun) (h : AreBegun limit os)
   -- the content of a string
   string_taken : (fed p : ℕ) (k : StringKind) (w : Width) (n : ℕ) (y : List ℕ) → length y ≡ n → IsScanned (fed + length y) (finish (levels_of os)) (run limit (content_at fed p ready os k w n []) y)
   string_taken fed p k w n y e =
-      let goes : run limit (content_at fed p ready os k w n []) y ≡ string_done (fed + length y) p ready os k w y
-      = ap (run limit (content_at fed p ready os k w n [])) (sym (append-nil y))
-      ∙ gathers limit y fed p ready os (machine.content_of k w) n [] [] (omega (arith, e))
-      ∙ ap (λ c. cond c (string_done (fed + length y) p ready os k w y) (Live (fed + length y) ready os (gathering p (machine.content_of k w) n y))) (le-leb n (length y) (omega (arith, e))) in
-      subst (IsScanned (fed + length y) (finish (levels_of os))) (sym goes) (scans_string limit (fed + length y) ready os p k w y h)
+      subst (IsScanned (fed + length y) (finish (levels_of os))) (sym (content_whole limit fed ready os p k w n y e)) (scans_string limit (fed + length y) ready os p k w y h)
 
   string_cut : (fed p : ℕ) (k : StringKind) (w : Width) (n : ℕ) (y : List ℕ) → length y < n → IsAmid (run limit (content_at fed p ready os k w n []) y)
   string_cut fed p k w n y e =

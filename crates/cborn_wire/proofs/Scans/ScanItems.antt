@@ -6,7 +6,7 @@ use Rattle.cborn_model.specs.declared.heads.Size.TheVariants.{Endless}
 use Rattle.cborn_model.specs.declared.heads.Major.TheVariants as majors
 use Rattle.cborn_model.specs.declared.heads.Major.{Major}
 use Rattle.cborn_model.specs.declared.heads.Major.TheVariants.{Unsigned, Negative, ByteString, TextString, Other}
-use Rattle.cborn_model.specs.Heads.{Argument, Given, Unbounded}
+use Rattle.cborn_model.specs.Heads.{Given, Unbounded}
 use Rattle.cborn_model.specs.Tree.{Tree, Items, Pairs, Tagged, Trees, count, count_entries}
 use Rattle.cborn_wire.specs.declared.levels.Level.{Level}
 use Rattle.cborn_wire.specs.declared.levels.Level.TheVariants.{Array, Map}

@@ -7,7 +7,7 @@ use Rattle.cborn_model.specs.declared.heads.Width.{Width}
 use Rattle.cborn_model.specs.declared.heads.Width.TheVariants.{Direct, One, Two, Four, Eight}
 use Rattle.cborn_model.specs.declared.heads.Major.{Major}
 use Rattle.cborn_model.specs.declared.heads.Major.TheVariants.{Unsigned, Other}
-use Rattle.cborn_model.specs.Heads.{Argument, Given, Unbounded, head, code}
+use Rattle.cborn_model.specs.Heads.{Argument, Given, Unbounded, head}
 use Rattle.cborn_model.specs.Tree.{Trees}
 use Rattle.cborn_wire.specs.declared.faults.WireReason.{WireReason}
 use Rattle.cborn_wire.specs.declared.faults.WireReason.TheVariants.{BadSimple}

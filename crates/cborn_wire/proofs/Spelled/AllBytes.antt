@@ -9,11 +9,12 @@ use Rattle.cborn_model.specs.declared.heads.Size.TheVariants.{Fixed, Endless}
 use Rattle.cborn_model.specs.declared.nodes.Chunk.{Chunk}
 use Rattle.cborn_model.specs.declared.heads.Major.{Major}
 use Rattle.cborn_model.specs.declared.heads.Major.TheVariants.{Unsigned, Negative, ByteString, TextString, Array, Map, Tag, Other}
-use Rattle.cborn_model.specs.Heads.{code, WidthFits, information, following, Argument, Given, Unbounded, head, argument, SizeFits}
+use Rattle.cborn_model.specs.Heads.{code, WidthFits, information, following, least, Argument, Given, Unbounded, head, argument, SizeFits}
 use Rattle.cborn_model.specs.Tree.{Tree, Uint, Nint, Bytes, Text, ByteChunks, TextChunks, Items, Pairs, Tagged, Simple, Trees, no_item, more, Entries, no_entry, entry, count, count_entries}
-use Rattle.cborn_model.specs.Spelled.{ending, string, chunk_bytes, chunks, simple_width, spelled, spelled_all, spelled_entries, ChunksFit, Fits, FitsAll, FitsEntries, Wellformed}
+use Rattle.cborn_model.specs.Spelled.{ending, string, chunk_bytes, chunks, spelled, spelled_all, spelled_entries, ChunksFit, Fits, FitsAll, FitsEntries, Wellformed}
 use Rattle.cborn_wire.specs.HeadReading.{ArgumentFits}
-use Rattle.cborn_wire.proofs.Machine.TakesItems.{size_fits, simple_fits}
+use Rattle.cborn_model.proofs.Numbers.Simples.{simple_fits}
+use Rattle.cborn_wire.proofs.Machine.TakesItems.{size_fits}
 
 pub bytes-append : (x y : List ℕ) → AreBytes x → AreBytes y → AreBytes (x ++ y)
 bytes-append [] y h k = k
@@ -86,7 +87,7 @@ mutual
   spelled_bytes (Items p s ts) h = inside_bytes Array s (count ts) (spelled_all ts) h.0 (spelled_all_bytes ts h.1)
   spelled_bytes (Pairs p s es) h = inside_bytes Map s (count_entries es) (spelled_entries es) h.0 (spelled_entries_bytes es h.1)
   spelled_bytes (Tagged p w n t) h = bytes-append (head Tag (Given w n)) (spelled t) (head_bytes Tag (Given w n) h.0) (spelled_bytes t h.1)
-  spelled_bytes (Simple p n) h = head_bytes Other (Given (simple_width n) n) (simple_fits n h)
+  spelled_bytes (Simple p n) h = head_bytes Other (Given (least n) n) (simple_fits n h)
 
   pub spelled_all_bytes : (ts : Trees) → FitsAll ts → AreBytes (spelled_all ts)
   spelled_all_bytes no_item h = tt

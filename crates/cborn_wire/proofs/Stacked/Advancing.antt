@@ -1,8 +1,10 @@
 -- What is taken off the front of a piece, as steps of the machine.
-use Rattle.std.proofs.Common.{◌≡◌, refl, sym, ap, ◌∙◌, subst, ℕ, ◌+◌, ◌<◌, ◌≤◌, List, [], ◌∷◌, ◌++◌, length, take, drop, None, Ok, inl, inr, arith, append-nil, append_assoc, length-append}
-use Rattle.std.proofs.lemmas.List.{take-append-drop, length-take-le}
+use Rattle.std.proofs.Common.{◌≡◌, refl, sym, ap, ◌∙◌, subst, ℕ, ◌+◌, ◌-◌, ◌<◌, ◌≤◌, List, [], ◌∷◌, ◌++◌, length, take, drop, None, Ok, inl, inr, arith, append-nil, append_assoc, length-append}
+use Rattle.std.proofs.lemmas.List.{take-append-drop, take_rest, length-take-le, length-drop}
+use Rattle.std.proofs.Math.Seq.{take-add}
 use Rattle.cborn_model.specs.Bytes.{AreBytes}
 use Rattle.cborn_model.specs.declared.heads.Width.{Width}
+use Rattle.cborn_model.specs.Heads.{Given}
 use Rattle.cborn_model.specs.Tree.{Tree, Trees, no_item, more, trees}
 use Rattle.cborn_model.specs.Spelled.{IsSpelled}
 use Rattle.cborn_wire.specs.declared.faults.WireFault.{WireFault}
@@ -13,10 +15,10 @@ use Rattle.cborn_wire.specs.declared.nests.Nest.{Nest}
 use Rattle.cborn_wire.specs.declared.nests.Outcome.{Outcome}
 use Rattle.cborn_wire.specs.declared.nests.Outcome.TheVariants.{Open, Whole, Part}
 use Rattle.cborn_wire.specs.devices.Standing.{Standing}
-use Rattle.cborn_wire.specs.Slots.{StringKind, Begun}
+use Rattle.cborn_wire.specs.Slots.{StringKind, OfBytes, OfText, Begun, major_of}
 use Rattle.cborn_wire.specs.HeadReading.{major_at}
 use Rattle.cborn_wire.specs.devices.Machine as machine
-use Rattle.cborn_wire.specs.devices.Machine.{append_trees, State, Live, Failed, ready_in, Stops, Settles, content_of, gathering, width_bytes, snoc, string_done, run, IsReached}
+use Rattle.cborn_wire.specs.devices.Machine.{append_trees, State, Live, Failed, ready_in, Stops, Settles, content_of, gathering, width_bytes, snoc, string_done, content_at, after_head, run, IsReached}
 use Rattle.cborn_wire.specs.devices.StackView.{seen_kind, seen_partial, opened, left, seen, FailsAs, Took, IsShort, Fails, IsMade, IsMoved, Advances}
 use Rattle.cborn_wire.proofs.Machine.Running.{run-append, failed_run}
 use Rattle.cborn_wire.proofs.Spelled.AllBytes.{bytes-left}
@@ -24,7 +26,7 @@ use Rattle.cborn_wire.proofs.Machine.Reached.{reached_more, reached_item, reache
 use Rattle.cborn_wire.proofs.Machine.TakesItems.{append_trees-nil, append_trees-snoc}
 use Rattle.cborn_wire.proofs.Machine.WholeFront.{with_front, front_run}
 use Rattle.cborn_wire.proofs.Spelled.TreeLists.{trees-push}
-use Rattle.cborn_wire.proofs.Machine.Pieces.{content_more, content_done}
+use Rattle.cborn_wire.proofs.Machine.Pieces.{content_more, content_done, content_whole}
 
 pub bytes-take : (n : ℕ) (x : List ℕ) → AreBytes x → AreBytes (take n x)
 bytes-take n x h = bytes-left (take n x) (drop n x) (subst AreBytes (sym (take-append-drop n x)) h)
@@ -55,6 +57,23 @@ module _ (limit at : ℕ) (ready : Trees) (os : List Begun) (p : ℕ) (k : Strin
       ap (run limit (Live at ready os (gathering p (content_of k w) n got))) (sym (append-nil (take m piece)))
       ∙ content_more limit at ready os p k w n got (take m piece) [] (omega (arith, many))
       ∙ ap (λ j. Live (at + j) ready os (gathering p (content_of k w) n (got ++ take m piece))) many
+
+string_head : (fed p : ℕ) (ready : Trees) (os : List Begun) (k : StringKind) (w : Width) (n : ℕ) → after_head fed p ready os (major_of k) (Given w n) ≡ content_at fed p ready os k w n []
+string_head fed p ready os OfBytes w n = refl
+string_head fed p ready os OfText w n = refl
+
+-- A definite string of which all stands in the piece.
+pub string_whole : (limit at len : ℕ) (ready : Trees) (os : List Begun) (k : StringKind) (w : Width) (n : ℕ) (piece bytes : List ℕ) → len + n ≤ length piece → bytes ≡ take n (take (length piece - len) (drop len piece))
+    → run limit (Live at ready os machine.nothing) (take len piece) ≡ after_head (at + len) at ready os (major_of k) (Given w n)
+    → run limit (Live at ready os machine.nothing) (take (len + n) piece) ≡ string_done (at + (len + n)) at ready os k w bytes
+string_whole limit at len ready os k w n piece bytes fits is goes =
+    let from = Live at ready os machine.nothing in
+    let y = take n (drop len piece) in
+    let many : length y ≡ n = length-take-le n (drop len piece) (omega (arith, length-drop len piece, fits)) in
+    let end : at + len + length y ≡ at + (len + n) = omega (arith, many) in
+    ap (run limit from) (take-add len n piece) ∙ run-append limit from (take len piece) y ∙ ap (λ s. run limit s y) (goes ∙ string_head (at + len) at ready os k w n)
+    ∙ content_whole limit (at + len) ready os at k w n y many ∙ ap (λ j. string_done j at ready os k w y) end
+    ∙ ap (string_done (at + (len + n)) at ready os k w) (sym (is ∙ ap (take n) (take_rest piece len)))
 
 module _ (limit base : ℕ) where
   -- what some bytes make has a part of which more is to come

@@ -19,7 +19,7 @@ use Rattle.cborn_wire.specs.declared.nests.Outcome.TheVariants.{Open, Whole, Par
 use Rattle.cborn_wire.specs.devices.Standing.{Standing}
 use Rattle.cborn_wire.specs.HeadReading.{major_at, seen_argument}
 use Rattle.cborn_wire.specs.Slots as slots
-use Rattle.cborn_wire.specs.Slots.{OfBytes, OfText, Begun, begun_items, begun_pairs, begun_value, begun_tag, begun_chunks}
+use Rattle.cborn_wire.specs.Slots.{OfBytes, OfText, Begun, begun_items, begun_pairs, begun_value, begun_tag, begun_chunks, slot, IsNoChunk}
 use Rattle.cborn_wire.specs.devices.Machine as machine
 use Rattle.cborn_wire.specs.devices.Machine.{argument_of, content_of, nothing, gathering, width_bytes, State, Live, Failed, finished, ended, run, IsReached, Stops, Settles}
 
@@ -94,6 +94,12 @@ pub record Took (limit at : ℕ) (part : machine.Partial) (piece : List ℕ) (ol
 abbrev pub Takes : ℕ → ℕ → machine.Partial → List ℕ → Nest → Nest → Result (ℕ × Outcome) WireFault → Type 0
 Takes limit at part piece old new r =
     MatchResult r (λ t. Took limit at part piece old new t.0 t.1) (FailsAs (run limit (Live at no_item (opened old) part) piece))
+
+-- This item stands first in the piece, which is at `at`, and its head is n bytes: the machine takes it wherever no chunk is wanted.
+pub record StandsFirst (at : ℕ) (piece : List ℕ) (t : Tree) (n : ℕ) : Type 0 where
+  pub some : 0 < n
+  pub within : n ≤ length piece
+  pub goes : (limit : ℕ) (os : List Begun) → IsNoChunk (slot os) → run limit (Live at no_item os nothing) (take n piece) ≡ finished (at + n) no_item os t
 
 -- What the machine comes to where a whole item is put into the frame f and the call answers this: f is then g, or is whole.
 abbrev pub PutGives : State → ℕ → Trees → List Begun → Frame → Result (Option Tree) WireFault → Type 0

@@ -6,7 +6,7 @@ use Rattle.cborn_model.specs.Tree.{place}
 use Rattle.cborn_model.specs.Valid.{IsProper}
 use Rattle.cborn_model.specs.declared.items.Item.{Item}
 use Rattle.cborn_det.specs.Det.{Det}
-use Rattle.cborn_judge.specs.devices.Checked.{FindsDefect, NotAboveAt}
+use Rattle.cborn_judge.specs.Departures.{FindsDefect, NotAboveAt}
 use Rattle.cborn_judge.proofs.SameKeys.Codes.{place_seen}
 use Rattle.cborn_judge.proofs.FirstDefect.Descending.{same_length_of_pairs, pair_means_at, seen-take_more}
 use Rattle.cborn_judge.proofs.checks.descent.Goals as goal

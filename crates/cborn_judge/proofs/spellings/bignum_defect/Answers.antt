@@ -1,6 +1,6 @@
 use Rattle.std.proofs.Common.{subst, length, ◌∙◌, ap}
 use Rattle.cborn_model.specs.Meaning.{joined_chunks}
-use Rattle.cborn_judge.specs.devices.Checked.{FindsDefect, LongAt, LooseBytesAt}
+use Rattle.cborn_judge.specs.Departures.{FindsDefect, LongAt, LooseBytesAt}
 use Rattle.cborn_judge.specs.Defects.{ChunksDefect}
 use Rattle.cborn_judge.proofs.FirstDefect.Departing.{bignum_bytes_found, bignum_chunks_found}
 use Rattle.cborn_judge.proofs.spellings.bignum_defect.Goals as goal

@@ -1,5 +1,5 @@
 use Rattle.std.proofs.Common.{take}
-use Rattle.cborn_judge.specs.devices.Checked.{FindsDefect}
+use Rattle.cborn_judge.specs.Departures.{FindsDefect}
 use Rattle.cborn_judge.specs.Defects.{ChunksDefect}
 use Rattle.cborn_judge.proofs.spellings.chunks_defect.Given as goal
 

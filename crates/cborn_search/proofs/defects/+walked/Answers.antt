@@ -2,12 +2,13 @@ use Rattle.cborn_model.specs.declared.heads.Major.TheVariants.{Unsigned, Negativ
 use Rattle.std.proofs.Common.{rules, ◌≡◌, ◌≢◌, ◌+◌, ◌-◌, ◌<◌, ◌≤◌, ◌^◌, ℕ, List, length, refl, subst, arith, sym, ap, ◌∙◌, Option, None}
 use Rattle.std.proofs.lemmas.List.{take_rest}
 use Rattle.cborn_wire.specs.declared.heads.Argument.TheVariants.{Given, Endless}
+use Rattle.cborn_transcode.proofs.Iteming.{under}
 use Rattle.cborn_search.specs.devices.Departed.{HasDefect, Walked, WalkedAll, PairsWalked, TakesNext}
 use Rattle.cborn_judge.specs.devices.Checked.{IsEarliestDefect}
 use Rattle.cborn_judge.specs.declared.defects.Defect.{Defect}
 use Rattle.cborn_search.specs.declared.walked_maps.WalkedMap.{WalkedMap}
 use Rattle.cborn_search.specs.Reading.{PairsRead}
-use Rattle.cborn_search.proofs.Nodes.{node_left, node_last, head_alone, head_before, under}
+use Rattle.cborn_search.proofs.Nodes.{node_left, node_last, head_alone, head_before}
 use Rattle.cborn_search.proofs.Walking.{uint_walked, nint_walked, bytes_walked, text_walked, simple_walked, byte_chunks_walked, text_chunks_walked, all_none, all_more, array_walked, endless_array_walked, map_walked, endless_map_walked, bignum_walked, plain_tagged, SoFar, pairs_none, pairs_more, pairs_walked}
 use Rattle.cborn_search.proofs.defects.+walked.Goals as goal
 

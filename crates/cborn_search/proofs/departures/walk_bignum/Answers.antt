@@ -3,7 +3,8 @@ use Rattle.std.proofs.lemmas.List.{take_rest}
 use Rattle.cborn_model.specs.declared.heads.Major.TheVariants.{ByteString}
 use Rattle.cborn_model.specs.Meaning.{joined_chunks}
 use Rattle.cborn_wire.specs.declared.heads.Argument.TheVariants.{Given, Endless}
-use Rattle.cborn_judge.specs.devices.Checked.{FindsDefect, TagDefect}
+use Rattle.cborn_judge.specs.Departures.{FindsDefect}
+use Rattle.cborn_judge.specs.devices.Checked.{TagDefect}
 use Rattle.cborn_judge.proofs.FirstDefect.Departing.{bignum_bytes_found, bignum_chunks_found}
 use Rattle.cborn_search.specs.Reading.{NodeRead}
 use Rattle.cborn_search.proofs.Nodes.{byte_chunks_read, bytes_read, read_from}

@@ -4,11 +4,12 @@ use Rattle.cborn_wire.specs.declared.heads.Argument.TheVariants.{Given, Endless}
 use Rattle.cborn_model.specs.declared.heads.Major.TheVariants.{Map, Unsigned, Negative, ByteString, TextString, Array, Tag, Other}
 use Rattle.cborn_model.specs.Heads.{Unbounded, head}
 use Rattle.cborn_model.specs.Heads as heads
+use Rattle.cborn_transcode.proofs.Iteming.{under}
 use Rattle.cborn_search.specs.declared.scanned_maps.ScannedMap.{ScannedMap}
 use Rattle.cborn_search.specs.Flawed.{Told, IsEarliestTold, HasFlaw, Scanned, ScannedAll, PairsSeen}
 use Rattle.cborn_search.specs.devices.Marks.{AreMarked, MapSeen}
 use Rattle.cborn_search.proofs.Mapping.{pairs_none, pairs_more, map_of, map_seen, endless_map_seen}
-use Rattle.cborn_search.proofs.Nodes.{node_left, nodes_left, node_last, head_alone, head_before, under}
+use Rattle.cborn_search.proofs.Nodes.{node_left, nodes_left, node_last, head_alone, head_before}
 use Rattle.cborn_search.proofs.Scanning.{uint_seen, nint_seen, bytes_seen, simple_seen, all_more, array_seen, endless_array_seen, tagged_seen, bignum_seen, bad_bignum_seen}
 use Rattle.cborn_search.proofs.flaws.+scanned.Goals as goal
 

@@ -1,11 +1,12 @@
 use Rattle.cborn_model.specs.declared.heads.Major.TheVariants.{Unsigned, Negative, ByteString, TextString, Array, Map, Tag, Other}
-use Rattle.std.proofs.Common.{rules, ◌++◌, List, ◌≢◌, ◌-◌, refl, ℕ, codes, subst, arith, sym, ◌∙◌}
+use Rattle.std.proofs.Common.{rules, ◌++◌, ◌+◌, List, ◌≢◌, ◌-◌, refl, ℕ, codes, subst, arith, sym, ◌∙◌}
 use Rattle.std.proofs.lemmas.List.{take_rest}
 use Rattle.cborn_wire.specs.declared.heads.Argument.TheVariants.{Given, Endless}
 use Rattle.cborn_show.specs.Passed.{NodeShown, NodesShown, PairsShown}
 use Rattle.cborn_edn.specs.devices.Between.{between}
 use Rattle.cborn_show.proofs.Decimals.{under}
 use Rattle.cborn_show.proofs.Nodes.{inside, alone, item_last, uint_done, nint_done, bytes_done, text_done, byte_chunks_done, text_chunks_done, simple_done, nodes_none, nodes_more, array_done, endless_array_done, pair_done, pairs_none, pairs_more, map_done, endless_map_done, tagged_done}
+use Rattle.cborn_show.proofs.items.+shown.Goals.{put_items-else-items-test, put_items-then-items-test+in_ok-len+then-is_done}
 use Rattle.cborn_show.proofs.items.+shown.Goals as goal
 
 pub put_item-returns : goal.put_item-returns
@@ -117,8 +118,22 @@ put_items-items-init t c = (nodes_none c.args.room (codes ", ") c.args.bytes.now
 
 pub put_items-items-preserved : goal.put_items-items-preserved
 put_items-items-preserved t c =
-    let more : c.items.count ≢ c.args.most = c.is_done.ensures c.if-is_done.false in
-    (nodes_more c.args.room (codes ", ") c.items.count c.args.bytes.now c.items.rest.now c.in_ok-rest.rest.now c.args.out.now.items c.items.out.items (c.items.out.items ++ between (codes ", ") c.items.count) c.put_next.new.out.items c.items.invariant.0 refl c.in_ok-rest.ensures, omega (arith, c.items.invariant.1))
+    let k = c.items.count + c.in_ok-len.more in
+    let more : k ≢ c.args.most = c.is_done.ensures c.if-is_done.false in
+    let run = c.in_ok-len.ensures.shown c.args.room c.args.bytes.now c.args.out.now.items c.items.invariant.0 in (
+      nodes_more c.args.room (codes ", ") k c.args.bytes.now _ c.in_ok-rest.rest.now c.args.out.now.items c.put_integers.new.out.items (c.put_integers.new.out.items ++ between (codes ", ") k) c.put_next.new.out.items
+          (subst (λ (l : List ℕ). NodesShown (codes ", ") c.args.room k c.args.bytes.now l c.args.out.now.items c.put_integers.new.out.items) (sym (take_rest c.items.rest.now c.in_ok-len.len)) run) refl c.in_ok-rest.ensures,
+      omega (arith, c.items.invariant.1, c.in_ok-len.ensures.within.1),
+    )
+
+pub put_items-returns : goal.put_items-returns
+put_items-returns t c =
+    elim c.items-test.branch [
+      | put_items-else-items-test w ↦ rw (w.out-is, w.rest-is, w.count-is) c.items.invariant.0
+      | put_items-then-items-test+in_ok-len+then-is_done w ↦ rw (w.out-is, w.rest-is, w.count-is)
+          (subst (λ (l : List ℕ). NodesShown (codes ", ") c.args.room (c.items.count + w.in_ok-len.more) c.args.bytes.now l c.args.out.now.items w.put_integers.new.out.items) (sym (take_rest c.items.rest.now w.in_ok-len.len))
+          (w.in_ok-len.ensures.shown c.args.room c.args.bytes.now c.args.out.now.items c.items.invariant.0))
+    ]
 
 pub put_next-returns : goal.put_next-returns
 put_next-returns t c =

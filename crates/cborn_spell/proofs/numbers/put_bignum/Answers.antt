@@ -1,6 +1,4 @@
-use Rattle.std.proofs.Common.{rules, ◌≡◌, ◌-◌, ◌<◌, ◌++◌, ◌∷◌, [], length, arith}
-use Rattle.cborn_model.specs.Heads.{least}
-use Rattle.cborn_spell.specs.Descent.{SetsHead}
+use Rattle.std.proofs.Common.{rules, ◌≡◌, ◌-◌, ◌++◌, ◌∷◌, [], length, arith}
 use Rattle.cborn_spell.proofs.Integers.{bignum_done}
 use Rattle.cborn_spell.proofs.numbers.put_bignum.Goals as goal
 
@@ -14,5 +12,4 @@ returns c =
     let large : c.len.result ≡ length three = search rules in
     let size : c.len-2.result ≡ length three = search rules in
     let len = c.len-2.result - c.len-some.result in
-    let set : (c.len-start.result < length three) × SetsHead 2 (least len) len c.len-start.result three c.set_head.new.out.items = c.in_ok-set_head.ensures in
-    bignum_done c.args.below c.args.n c.tag_head.result len c.len-start.result c.args.out.now.items c.push.new.self.items c.push-2.new.self.items three c.set_head.new.out.items c.tag_head.ensures tag start some c.in_ok-push_shortest.ensures (omega (arith, small, large, size, c.if-len-some.false)) set.1
+    bignum_done c.args.below c.args.n c.tag_head.result len c.len-start.result c.args.out.now.items c.push.new.self.items c.push-2.new.self.items three c.set_head.new.out.items c.tag_head.ensures tag start some c.in_ok-push_shortest.ensures (omega (arith, small, large, size, c.if-len-some.false)) c.in_ok-set_head.ensures.1

@@ -3,6 +3,7 @@ use Rattle.std.proofs.lemmas.List.{drop-drop}
 use Rattle.std.specs.Str.{IsUtf8}
 use Rattle.cborn_model.specs.Heads.{head_bytes, least}
 use Rattle.cborn_spell.proofs.Quoting.{plain_done, plain_content}
+use Rattle.cborn_spell.proofs.Taking.{head_added}
 use Rattle.cborn_spell.proofs.strings.put_plain.Goals as goal
 
 pub returns-clause-taken : goal.returns-clause-taken
@@ -17,4 +18,4 @@ returns-clause-taken c profile room =
     let text : IsUtf8 content = c.is_text.ensures c.if-not-is_text.false in
     let put : c.extend_from_slice.new.self.items ≡ c.put_head.new.out.items ++ content = search rules in
     plain_done profile c.args.text.now at len room content c.args.out.now.items c.extend_from_slice.new.self.items c.requires.plain is (omega (arith, size)) text
-    (put ∙ ap (λ l. l ++ content) (c.in_ok-put_head.ensures ∙ ap (λ n. c.args.out.now.items ++ head_bytes 3 (least n) n) (sym size)))
+    (put ∙ ap (λ l. l ++ content) (head_added 3 len c.args.out.now.items c.put_head.new.out.items c.in_ok-put_head.ensures ∙ ap (λ n. c.args.out.now.items ++ head_bytes 3 (least n) n) (sym size)))

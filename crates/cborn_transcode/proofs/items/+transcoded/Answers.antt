@@ -113,7 +113,7 @@ put_endless_array-returns g t c =
       c.in_ok-after.after.now,
       search rules,
       endless_array_done g.O.KeyOrder.order c.args.room c.in_ok-rest.count c.len-start.result c.args.bytes.now c.in_ok-rest.rest.now c.in_ok-after.after.now c.args.out.now.items c.put_items.new.out.items c.set_head.new.out.items (omega arith) start c.in_ok-after.ensures
-          (subst (λ (l : List ℕ). ItemsTranscoded g.O.KeyOrder.order (c.args.room - 1) c.in_ok-rest.count c.args.bytes.now c.in_ok-rest.rest.now l c.put_items.new.out.items) pushed c.in_ok-rest.ensures) c.in_ok-set_head.ensures,
+          (subst (λ (l : List ℕ). ItemsTranscoded g.O.KeyOrder.order (c.args.room - 1) c.in_ok-rest.count c.args.bytes.now c.in_ok-rest.rest.now l c.put_items.new.out.items) pushed c.in_ok-rest.ensures) c.in_ok-set_head.ensures.1,
     )
 
 pub put_fixed_map-returns : goal.put_fixed_map-returns
@@ -153,7 +153,7 @@ put_endless_map-returns g t c =
       c.in_ok-after.after.now,
       search rules,
       endless_map_fused g.O.KeyOrder.order g.met.O.KeyOrder.laws c.args.room c.in_ok-rest.count c.len-head_start.result c.args.bytes.now c.in_ok-rest.rest.now c.in_ok-after.after.now c.args.out.now.items c.arrange.new.out.items c.set_head.new.out.items (omega arith) short head_start c.in_ok-after.ensures
-          (subst (λ (l : List ℕ). MapTranscoded g.O.KeyOrder.order (c.args.room - 1) c.in_ok-rest.count c.args.bytes.now c.in_ok-rest.rest.now l c.arrange.new.out.items) pushed arranged) c.in_ok-set_head.ensures,
+          (subst (λ (l : List ℕ). MapTranscoded g.O.KeyOrder.order (c.args.room - 1) c.in_ok-rest.count c.args.bytes.now c.in_ok-rest.rest.now l c.arrange.new.out.items) pushed arranged) c.in_ok-set_head.ensures.1,
     )
 
 pub put_pairs-pairs-init : goal.put_pairs-pairs-init

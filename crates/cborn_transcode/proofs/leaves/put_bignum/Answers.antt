@@ -7,10 +7,6 @@ use Rattle.cborn_transcode.specs.Transcoding.{BignumTaken}
 use Rattle.cborn_transcode.proofs.Heading.{bytes_behind, bignum_taken}
 use Rattle.cborn_transcode.proofs.leaves.put_bignum.Goals as goal
 
-pub without_zeros-requires : goal.without_zeros-requires
-without_zeros-requires c =
-    subst AreBytes (sym c.split_at.ensures.front) (bytes_behind c.args.bytes.now _ c.in-Full.head c.in-Full.len c.in-Given.n (take_rest c.args.bytes.now c.in-Full.len) c.in-Full.ensures (are_bytes c.args.bytes.now c.type_inv.bytes))
-
 pub returns : goal.returns
 returns c =
     let same : c.major_type.result ≡ ByteString = search rules in

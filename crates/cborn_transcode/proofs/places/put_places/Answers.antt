@@ -1,5 +1,5 @@
 use Rattle.std.proofs.Common.{◌≡◌, [], ◌∷◌, ◌++◌, List, Some, subst, sym, rules}
-use Rattle.cborn_transcode.specs.declared.places.Place.{Place}
+use Rattle.cborn_transcode.specs.declared.places.PairPlace.{PairPlace}
 use Rattle.cborn_transcode.specs.declared.entries.Span.{Span}
 use Rattle.cborn_transcode.specs.Transcoding.{spanned}
 use Rattle.cborn_transcode.specs.devices.Walking.{span_of}
@@ -17,7 +17,7 @@ pairs-preserved g c =
     let key : c.in_ok-key.key.now ≡ (spanned c.args.bytes.now (span_of c.in-Some.place)).0 = subst (λ (s : Span). c.in_ok-key.key.now ≡ (spanned c.args.bytes.now s).0) place c.in_ok-key.ensures in
     let pair : c.in_ok-pair_in.field-0.now ≡ (spanned c.args.bytes.now (span_of c.in-Some.place)).0 ++ (spanned c.args.bytes.now (span_of c.in-Some.place)).1
     = subst (λ (s : Span). c.in_ok-pair_in.field-0.now ≡ (spanned c.args.bytes.now s).0 ++ (spanned c.args.bytes.now s).1) place c.in_ok-pair_in.ensures in
-    subst (λ (ps : List Place). WrittenUpTo g.O.KeyOrder.order c.args.bytes.now (Some c.in_ok-key.key) ps c.sort_falling.new.places.items c.args.out.now.items c.extend_from_slice.new.self.items) (sym c.give_back.ensures)
+    subst (λ (ps : List PairPlace). WrittenUpTo g.O.KeyOrder.order c.args.bytes.now (Some c.in_ok-key.key) ps c.sort_falling.new.places.items c.args.out.now.items c.extend_from_slice.new.self.items) (sym c.give_back.ensures)
     (written_more g.O.KeyOrder.order c.args.bytes.now c.pairs.before c.in_ok-key.key c.pairs.places.items c.pop.new.self.items c.sort_falling.new.places.items c.in-Some.place c.in_ok-pair_in.field-0.now c.args.out.now.items c.pairs.out.items c.extend_from_slice.new.self.items
     c.pairs.invariant taken key pair (c.rises_above.ensures c.if-not-rises_above.false) added)
 
@@ -25,4 +25,4 @@ pub returns : goal.returns
 returns g c =
     let none : c.pairs.places.items ≡ [] = search rules in
     written_all g.O.KeyOrder.order c.args.bytes.now c.pairs.before c.args.places.now.items c.sort_falling.new.places.items c.args.out.now.items c.pairs.out.items c.sort_falling.ensures
-    (subst (λ (ps : List Place). WrittenUpTo g.O.KeyOrder.order c.args.bytes.now c.pairs.before ps c.sort_falling.new.places.items c.args.out.now.items c.pairs.out.items) none c.pairs.invariant)
+    (subst (λ (ps : List PairPlace). WrittenUpTo g.O.KeyOrder.order c.args.bytes.now c.pairs.before ps c.sort_falling.new.places.items c.args.out.now.items c.pairs.out.items) none c.pairs.invariant)

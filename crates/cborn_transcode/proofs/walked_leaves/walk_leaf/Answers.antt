@@ -1,4 +1,4 @@
-use Rattle.std.proofs.Common.{◌≡◌, List, ℕ, Ordering, refl, sym, subst}
+use Rattle.std.proofs.Common.{◌≡◌, List, ℕ, Ordering, refl, sym, subst, ◌∙◌}
 use Rattle.cborn_model.specs.declared.heads.Major.{Major}
 use Rattle.cborn_model.specs.declared.heads.Major.TheVariants.{Unsigned, Negative, ByteString, TextString, Other}
 use Rattle.cborn_transcode.specs.devices.Walking.{WalkedBehind}
@@ -21,6 +21,6 @@ returns-in-ByteString c = under c.walk_content.result (λ left s order room. (s.
 pub returns-in-TextString : goal.returns-in-TextString
 returns-in-TextString c = under c.walk_content-in-TextString.result (λ left s order room. (s.0, s.1, behind order room c.args.major TextString c.args.n c.args.bytes.now s.0 c.in-TextString.is (text_walked order room c.args.n c.args.bytes.now s.0 s.2))) c.walk_content-in-TextString.ensures
 
-pub returns-else-not-is_simple : goal.returns-else-not-is_simple
-returns-else-not-is_simple c order room =
-    (c.args.bytes.now, refl, behind order room c.args.major Other c.args.n c.args.bytes.now c.args.bytes.now c.in-Other.is (simple_walked order room c.args.n c.args.bytes.now (c.is_simple.ensures c.if-not-is_simple.false)))
+pub returns-else-not-is_simple_value : goal.returns-else-not-is_simple_value
+returns-else-not-is_simple_value c order room =
+    (c.args.bytes.now, refl, behind order room c.args.major Other c.args.n c.args.bytes.now c.args.bytes.now c.in-Other.is (simple_walked order room c.args.n c.args.bytes.now (sym c.is_simple_value.ensures ∙ c.if-not-is_simple_value.false)))

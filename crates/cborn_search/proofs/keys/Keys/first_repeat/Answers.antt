@@ -1,6 +1,6 @@
 use Rattle.std.proofs.lemmas.List.Sorted.{IsPermutation-refl}
+use Rattle.cborn_transcode.proofs.Iteming.{under}
 use Rattle.cborn_search.proofs.Marking.{repeated_of}
-use Rattle.cborn_search.proofs.Nodes.{under}
 use Rattle.cborn_search.proofs.keys.Keys.first_repeat.Goals as goal
 
 pub returns-in-Some : goal.returns-in-Some

@@ -1,0 +1,32 @@
+-- Simple values, by cases, and their heads.
+use Rattle.std.proofs.Common.{◌≡◌, refl, ℕ, ◌<◌, ◌≤◌, ◌⊎◌, inl, inr, arith, ltb, leb}
+use Rattle.std.specs.Prelude.{IsTrue}
+use Rattle.std.proofs.lemmas.Bool.{lt-ltb, le-ltb, le-leb, ltb-true, leb-true, and_parts, or_cases}
+use Rattle.cborn_model.specs.declared.heads.Width.TheVariants.{Direct, One}
+use Rattle.cborn_model.specs.Heads.{WidthFits, least, is_simple_value}
+use Rattle.cborn_model.proofs.Numbers.OneHead.{least_holds}
+
+-- the two ranges, as the test has them
+pub simple_cases : (n : ℕ) → IsTrue (is_simple_value n) → (n < 24) ⊎ ((32 ≤ n) × (n < 256))
+simple_cases n h = elim (or_cases (ltb n 24) _ h) [
+  | inl low ↦ inl (ltb-true n 24 low)
+  | inr high ↦ let p = and_parts (leb 32 n) (ltb n 256) high in inr (leb-true 32 n p.0, ltb-true n 256 p.1)
+]
+
+pub simple_value : (n : ℕ) → (n < 24) ⊎ ((32 ≤ n) × (n < 256)) → IsTrue (is_simple_value n)
+simple_value n (inl low) = rw (lt-ltb n 24 low) refl
+simple_value n (inr high) = rw (le-ltb n 24 (omega (arith, high.0)), le-leb 32 n high.0, lt-ltb n 256 high.1) refl
+
+-- it is a byte
+pub simple_below : (n : ℕ) → IsTrue (is_simple_value n) → n < 256
+simple_below n h = elim (simple_cases n h) [ inl low ↦ omega arith | inr high ↦ high.1 ]
+
+-- its shortest head has room for it
+pub simple_fits : (n : ℕ) → IsTrue (is_simple_value n) → WidthFits (least n) n
+simple_fits n h = let l = simple_below n h in least_holds n (omega (arith, l))
+
+pub least_direct : (n : ℕ) → n < 24 → least n ≡ Direct
+least_direct n l = rw (lt-ltb n 24 l) refl
+
+pub least_one : (n : ℕ) → 24 ≤ n → n < 256 → least n ≡ One
+least_one n l m = rw (le-ltb n 24 l, lt-ltb n 256 m) refl
