@@ -1,5 +1,4 @@
 -- What stands at the front of bytes as a head: what `read_head` answers, and what the machine makes of that.
 pub mod InitialBytes
-pub mod Refusing
 pub mod HeadFronts
 pub mod HeadSteps

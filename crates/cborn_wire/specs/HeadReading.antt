@@ -1,5 +1,5 @@
 -- What stands at the front of some bytes, read as a head (RFC 8949 section 3).
-use Rattle.std.specs.Prelude.{◌≡◌, ℕ, ◌<◌, List, ◌++◌, length, Bool, true, false, Option, Some, None}
+use Rattle.std.specs.Prelude.{◌≡◌, ℕ, ◌<◌, List, ◌++◌, length, Option, Some, None}
 use Rattle.cborn_model.specs.declared.heads.Size.{Size}
 use Rattle.cborn_model.specs.declared.heads.Size.TheVariants.{Fixed, Endless}
 use Rattle.cborn_model.specs.declared.heads.Major.{Major}
@@ -18,10 +18,6 @@ use Rattle.cborn_wire.specs.Faults.{reason_at}
 abbrev pub seen_argument : Argument → heads.Argument
 seen_argument (arguments.Given w n) = Given w n
 seen_argument arguments.Endless = Unbounded
-
-abbrev pub seen_bounded : Argument → Bool
-seen_bounded (arguments.Given w n) = true
-seen_bounded arguments.Endless = false
 
 abbrev pub seen_size : Argument → Size
 seen_size (arguments.Given w n) = Fixed w

@@ -1,10 +1,10 @@
 //! What a reader has begun and not ended.
 
 ghost use Rattle.std.specs.Prelude.{ℕ, ◌≡◌};
-ghost use Rattle.cborn_wire.specs.Slots.{slot_in};
-ghost use Rattle.cborn_wire.specs.Faults.{needs_item};
-ghost use Rattle.cborn_wire.specs.devices.StackView.{seen_frame, Puts, Closes};
+ghost use Rattle.cborn_wire.specs.Slots.{levels, slot_in};
+ghost use Rattle.cborn_wire.specs.devices.StackView.{seen_frame, seen_slot, plain, Puts, Closes};
 
+use crate::refusals::Slot;
 use crate::{Argument, WireFault, WireReason};
 use cborn_model::{Chunk, Form, Node, Size, Width, push_doubling};
 use std::alloc::Global;
@@ -149,15 +149,29 @@ impl Frame {
         }
     }
 
-    /// An item has to stand next, and no break.
-    pub(crate) fn needs_item(&self) -> bool
-        ensures { result ≡ needs_item (slot_in (seen_frame self.now)) }
+    /// How many arrays, maps and tags it is.
+    pub(crate) fn levels(&self) -> u64
+        ensures { result ≡ levels (seen_frame self.now) }
     {
         match self {
-            Frame::Items { argument, .. } => argument.is_bounded(),
-            Frame::Pairs { argument, key, .. } => argument.is_bounded() || key.is_some(),
-            Frame::Tag { .. } => true,
-            Frame::Chunks { .. } => false,
+            Frame::Items { .. } | Frame::Pairs { .. } | Frame::Tag { .. } => 1,
+            Frame::Chunks { .. } => 0,
+        }
+    }
+
+    /// Where its next part stands.
+    pub(crate) fn slot(&self) -> Slot
+        ensures { seen_slot result ≡ plain (slot_in (seen_frame self.now)) }
+    {
+        match self {
+            Frame::Items { argument, .. } => argument.slot(),
+            Frame::Pairs {
+                argument,
+                key: None,
+                ..
+            } => argument.slot(),
+            Frame::Pairs { .. } | Frame::Tag { .. } => Slot::Item,
+            Frame::Chunks { kind, .. } => Slot::Chunk(*kind),
         }
     }
 }

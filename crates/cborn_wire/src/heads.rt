@@ -7,11 +7,13 @@ ghost use Rattle.cborn_model.specs.Bytes.{AreBytes};
 ghost use Rattle.cborn_model.specs.Heads.{code, major_at, WidthFits, IsHead, head_bytes};
 ghost use Rattle.cborn_wire.specs.devices.InitialBytes.{Next, Unended, info_at, is_reserved, is_unended, is_always_bounded, is_break, is_other, is_float, is_container};
 ghost use Rattle.cborn_wire.specs.devices.Machine.{width_bytes, number, is_full};
-ghost use Rattle.cborn_wire.specs.HeadReading.{ReadsHead, reason_alone, seen_argument, seen_bounded, seen_size};
+ghost use Rattle.cborn_wire.specs.HeadReading.{ReadsHead, reason_alone, seen_argument, seen_size};
+ghost use Rattle.cborn_wire.specs.devices.StackView.{seen_slot, element_slot};
 ghost use Rattle.cborn_model.specs.declared.heads.Width.{Width};
 ghost use Rattle.cborn_model.specs.declared.heads.Width.TheVariants.{One};
 
 use crate::WireReason;
+use crate::refusals::Slot;
 use cborn_model::{Major, Size, Width};
 use std::alloc::AllocError;
 
@@ -35,11 +37,14 @@ impl Argument {
         }
     }
 
-    /// It is a number, and not an indefinite length.
-    pub(crate) fn is_bounded(&self) -> bool
-        ensures { result ≡ seen_bounded self.now }
+    /// Where an item of the array, or a key of the map, that this announces stands.
+    pub(crate) fn slot(&self) -> Slot
+        ensures { seen_slot result ≡ element_slot (seen_argument self.now) }
     {
-        matches!(self, Argument::Given(_, _))
+        match self {
+            Argument::Given(_, _) => Slot::Item,
+            Argument::Endless => Slot::ItemOrBreak,
+        }
     }
 
     /// How an array or a map with this argument says where it ends.
@@ -163,7 +168,7 @@ fn read_other(information: u8, rest: &[u8]) -> HeadRead
     requires most { information ≤ 27 }
     ensures { (first : ℕ) → first / 32 ≡ 7 → first % 32 ≡ information → ReadsHead (first ∷ rest.now) result }
 {
-    if is_float(Major::Other.number(), information) {
+    if is_float(Major::Other, information) {
         return HeadRead::Bad(WireReason::FloatLeftOut);
     }
     read_simple(rest)
@@ -183,7 +188,7 @@ fn read_simple(rest: &[u8]) -> HeadRead
 fn read_endless(major: Major) -> HeadRead
     ensures { (first : ℕ) (rest : List ℕ) → first / 32 ≡ code major → info_at (first % 32) ≡ Unended → ReadsHead (first ∷ rest) result }
 {
-    if is_always_bounded(major.number()) {
+    if is_always_bounded(major) {
         return HeadRead::Bad(WireReason::EndlessNotAllowed);
     }
     let argument = Argument::Endless;
@@ -220,36 +225,33 @@ pub(crate) fn is_endless(information: u8) -> bool
 }
 
 /// The major types that have no indefinite form.
-pub(crate) fn is_always_bounded(major: u8) -> bool
-    ensures { result ≡ is_always_bounded (major_at major) }
+pub(crate) fn is_always_bounded(major: Major) -> bool
+    ensures { result ≡ is_always_bounded major }
 {
-    matches!(
-        Major::at(major),
-        Major::Unsigned | Major::Negative | Major::Tag
-    )
+    matches!(major, Major::Unsigned | Major::Negative | Major::Tag)
 }
 
 /// The break.
-pub(crate) fn is_break(major: u8, information: u8) -> bool
+pub(crate) fn is_break(major: Major, information: u8) -> bool
     requires { information < 32 }
-    ensures { result ≡ is_break (major_at major) (info_at information) }
+    ensures { result ≡ is_break major (info_at information) }
 {
-    Major::at(major) == Major::Other && is_endless(information)
+    major == Major::Other && is_endless(information)
 }
 
 /// A float (RFC 8949 section 3.3).
-pub(crate) fn is_float(major: u8, information: u8) -> bool
+pub(crate) fn is_float(major: Major, information: u8) -> bool
     requires { information < 32 }
-    ensures { result ≡ (is_other (major_at major) && is_float (info_at information)) }
+    ensures { result ≡ (is_other major && is_float (info_at information)) }
 {
-    Major::at(major) == Major::Other && matches!(information, 25..=27)
+    major == Major::Other && matches!(information, 25..=27)
 }
 
 /// Arrays, maps and tags.
-pub(crate) fn is_container(major: u8) -> bool
-    ensures { result ≡ is_container (major_at major) }
+pub(crate) fn is_container(major: Major) -> bool
+    ensures { result ≡ is_container major }
 {
-    matches!(Major::at(major), Major::Array | Major::Map | Major::Tag)
+    matches!(major, Major::Array | Major::Map | Major::Tag)
 }
 
 /// The width of a head with this additional information, from 24 to 27.
@@ -290,26 +292,15 @@ pub(crate) fn read_number(width: Width, bytes: &[u8]) -> Option<u64>
     }
 }
 
-/// The same of an argument of `len` bytes, which may be one of mixed widths.
+/// The same of an argument of `len` bytes; where widths are mixed, it is cut out of eight bytes if
+/// there are so many.
 #[inline(always)]
 fn argument_of(mixed: bool, width: Width, len: usize, bytes: &[u8]) -> Option<u64>
     requires { len ≡ width_bytes width }
     ensures { MatchOption result (length bytes.now < width_bytes width) (λ n. (width_bytes width ≤ length bytes.now) × (n ≡ number width (take (width_bytes width) bytes.now))) }
 {
-    if mixed {
-        return number_of(width, len, bytes);
-    }
-    read_number(width, bytes)
-}
-
-/// The same of one of mixed widths.
-#[inline(always)]
-fn number_of(width: Width, len: usize, bytes: &[u8]) -> Option<u64>
-    requires { len ≡ width_bytes width }
-    ensures { MatchOption result (length bytes.now < width_bytes width) (λ n. (width_bytes width ≤ length bytes.now) × (n ≡ number width (take (width_bytes width) bytes.now))) }
-{
     match bytes {
-        [a, b, c, d, e, f, g, h, ..] => {
+        [a, b, c, d, e, f, g, h, ..] if mixed => {
             let word = u64::from_be_bytes([*a, *b, *c, *d, *e, *f, *g, *h]);
             Some(front_number(width, len, word))
         }

@@ -1,12 +1,13 @@
 //! What a scan has open. No item is kept.
 
 ghost use Rattle.std.specs.Prelude.{◌≡◌, ◌∷◌, ◌+◌, ◌<◌, ◌≤◌, [], length};
-ghost use Rattle.cborn_wire.specs.Faults.{needs_item};
 ghost use Rattle.cborn_wire.specs.HeadReading.{seen_argument};
+ghost use Rattle.cborn_wire.specs.devices.StackView.{seen_slot, plain};
 ghost use Rattle.cborn_wire.specs.devices.Scanning.{levels, with_item, finish, leave, begin_items, begin_pairs, slot_of};
 
 use crate::Argument;
 use crate::frames::StringKind;
+use crate::refusals::Slot;
 
 /// An array, a map, a tag or an indefinite string that has begun, and what is missing.
 #[derive(Clone, Copy, PartialEq, Eq, Debug)]
@@ -56,13 +57,14 @@ impl Level {
         }
     }
 
-    /// An item has to stand next, and no break.
-    pub(crate) fn needs_item(self) -> bool
-        ensures { result ≡ needs_item (slot_of self) }
+    /// Where its next part stands.
+    pub(crate) fn slot(self) -> Slot
+        ensures { seen_slot result ≡ plain (slot_of self) }
     {
         match self {
-            Level::EndlessArray | Level::EndlessMap | Level::Chunks(_) => false,
-            _ => true,
+            Level::EndlessArray | Level::EndlessMap => Slot::ItemOrBreak,
+            Level::Chunks(kind) => Slot::Chunk(kind),
+            _ => Slot::Item,
         }
     }
 }

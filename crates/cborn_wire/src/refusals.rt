@@ -1,42 +1,51 @@
 //! Which initial bytes may stand where a reader is.
 
-ghost use Rattle.std.specs.Prelude.{◌≡◌, ◌<◌, ◌%◌, ◌/◌, [], length, nat_le};
-ghost use Rattle.cborn_wire.specs.Slots.{chunk, slot, open_depth, AreBegun};
+ghost use Rattle.std.specs.Prelude.{◌≡◌, ◌<◌, ◌%◌, ◌/◌, [], nat_le};
+ghost use Rattle.cborn_wire.specs.Slots.{slot, open_depth, AreBegun};
 ghost use Rattle.cborn_wire.specs.Faults.{needs_item};
-ghost use Rattle.cborn_wire.specs.devices.InitialBytes.{info_at, is_bad_chunk, head_reason};
+ghost use Rattle.cborn_wire.specs.devices.InitialBytes.{info_at, is_bad_chunk, is_of_kind, head_reason};
 ghost use Rattle.cborn_wire.specs.HeadReading.{major_at};
-ghost use Rattle.cborn_wire.specs.devices.StackView.{seen_kind, opened};
+ghost use Rattle.cborn_wire.specs.devices.StackView.{seen_kind, seen_slot, plain, opened};
 
 use crate::WireReason;
-use crate::frames::{Frame, StringKind};
+use crate::frames::StringKind;
 use crate::heads::{is_always_bounded, is_break, is_container, is_endless, is_float, is_reserved};
 use crate::nests::Nest;
 use cborn_model::Major;
 
-impl Nest {
-    /// Why a head with this initial byte may not stand here, as far as that byte tells.
+/// Where a head stands, as far as that tells which may stand there.
+#[derive(Clone, Copy, PartialEq, Eq, Debug)]
+pub(crate) enum Slot {
+    /// Where an item has to stand.
+    Item,
+    /// Where an item or a break may stand.
+    ItemOrBreak,
+    /// In an indefinite string of this kind.
+    Chunk(StringKind),
+}
+
+impl Slot {
+    /// Why a head with this initial byte may not stand here, as far as that byte tells. `is_full`:
+    /// as many arrays, maps and tags are open around it as the limit allows.
     #[inline(always)]
-    pub(crate) fn refusal(&self, limit: u64, first: u8) -> Option<WireReason>
-        requires { AreBegun limit (opened self.now) }
-        ensures { result ≡ head_reason (slot (opened self.now)) (nat_le limit (open_depth (opened self.now))) (major_at (first / 32)) (info_at (first % 32)) [] }
+    pub(crate) fn refusal(self, is_full: bool, first: u8) -> Option<WireReason>
+        ensures { result ≡ head_reason (seen_slot self) is_full (major_at (first / 32)) (info_at (first % 32)) [] }
     {
-        let major = first / 32;
+        let major = Major::at(first / 32);
         let information = first % 32;
         // An integer, or a string of a definite length, is a bad chunk if it is anything.
-        if major < 4 && information < 28 && !self.is_bad_chunk(major, information) {
+        if first / 32 < 4 && information < 28 && !self.is_bad_chunk(major, information) {
             return None;
         }
-        self.refusal_in_order(limit, first)
+        self.refusal_in_order(is_full, major, information)
     }
 
     /// The same for any initial byte. The tests stand in the order of the reasons.
     #[inline(never)]
-    fn refusal_in_order(&self, limit: u64, first: u8) -> Option<WireReason>
-        requires { AreBegun limit (opened self.now) }
-        ensures { result ≡ head_reason (slot (opened self.now)) (nat_le limit (open_depth (opened self.now))) (major_at (first / 32)) (info_at (first % 32)) [] }
+    fn refusal_in_order(self, is_full: bool, major: Major, information: u8) -> Option<WireReason>
+        requires { information < 32 }
+        ensures { result ≡ head_reason (seen_slot self) is_full major (info_at information) [] }
     {
-        let major = first / 32;
-        let information = first % 32;
         if is_reserved(information) {
             return Some(WireReason::ReservedInfo);
         }
@@ -52,53 +61,74 @@ impl Nest {
         if is_float(major, information) {
             return Some(WireReason::FloatLeftOut);
         }
-        if is_container(major) && self.len() >= limit {
+        if is_container(major) && is_full {
             return Some(WireReason::TooDeep);
         }
         None
     }
 
     /// In an indefinite string, neither a break nor a definite string of its kind.
-    fn is_bad_chunk(&self, major: u8, information: u8) -> bool
-        requires major { major < 8 }
-        requires information { information < 32 }
-        ensures { result ≡ is_bad_chunk (slot (opened self.now)) (major_at major) (info_at information) }
+    fn is_bad_chunk(self, major: Major, information: u8) -> bool
+        requires { information < 32 }
+        ensures { result ≡ is_bad_chunk (seen_slot self) major (info_at information) }
     {
-        match &self.top {
-            Some(Frame::Chunks { kind, .. }) => is_bad_chunk_of(*kind, major, information),
+        match self {
+            Slot::Chunk(kind) => {
+                !is_break(major, information) && (!kind.is_of(major) || is_endless(information))
+            }
             _ => false,
         }
     }
 
     /// An item has to stand here, and no break.
-    fn needs_item(&self) -> bool
-        ensures { result ≡ needs_item (slot (opened self.now)) }
+    fn needs_item(self) -> bool
+        ensures { result ≡ needs_item (seen_slot self) }
     {
-        match &self.top {
-            None => true,
-            Some(frame) => frame.needs_item(),
-        }
+        matches!(self, Slot::Item)
     }
+}
 
-    /// How much is open.
-    fn len(&self) -> u64
-        ensures { result ≡ length (opened self.now) }
+impl StringKind {
+    /// It is the kind of the strings of this major type.
+    fn is_of(self, major: Major) -> bool
+        ensures { result ≡ is_of_kind (seen_kind self) major }
     {
-        match &self.top {
-            None => 0,
-            Some(_) => self.outer.len() as u64 + 1,
+        match self {
+            StringKind::Bytes => major == Major::ByteString,
+            StringKind::Text => major == Major::TextString,
         }
     }
 }
 
-/// In an indefinite string of this kind, neither a break nor a definite string of it.
-pub(crate) fn is_bad_chunk_of(kind: StringKind, major: u8, information: u8) -> bool
-    requires { information < 32 }
-    ensures { result ≡ is_bad_chunk (chunk (seen_kind kind)) (major_at major) (info_at information) }
-{
-    let is_of_kind = match kind {
-        StringKind::Bytes => Major::at(major) == Major::ByteString,
-        StringKind::Text => Major::at(major) == Major::TextString,
-    };
-    !is_break(major, information) && (!is_of_kind || is_endless(information))
+impl Nest {
+    /// Why a head with this initial byte may not stand here, as far as that byte tells.
+    #[inline(always)]
+    pub(crate) fn refusal(&self, limit: u64, first: u8) -> Option<WireReason>
+        requires { AreBegun limit (opened self.now) }
+        ensures { result ≡ head_reason (slot (opened self.now)) (nat_le limit (open_depth (opened self.now))) (major_at (first / 32)) (info_at (first % 32)) [] }
+    {
+        let slot = self.slot();
+        slot.refusal(self.is_full(limit), first)
+    }
+
+    /// Where the next head stands.
+    fn slot(&self) -> Slot
+        ensures { seen_slot result ≡ plain (slot (opened self.now)) }
+    {
+        match &self.top {
+            None => Slot::Item,
+            Some(frame) => frame.slot(),
+        }
+    }
+
+    /// As many arrays, maps and tags are open as the limit allows.
+    fn is_full(&self, limit: u64) -> bool
+        requires { AreBegun limit (opened self.now) }
+        ensures { result ≡ nat_le limit (open_depth (opened self.now)) }
+    {
+        match &self.top {
+            None => limit == 0,
+            Some(frame) => self.outer.len() as u64 + frame.levels() >= limit,
+        }
+    }
 }

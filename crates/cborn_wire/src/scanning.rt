@@ -5,16 +5,16 @@ ghost use Rattle.cborn_model.specs.Tree.{Trees};
 ghost use Rattle.cborn_model.specs.Spelled.{Wellformed};
 ghost use Rattle.cborn_model.specs.Placed.{PlacedAll};
 ghost use Rattle.cborn_wire.specs.Slots.{Begun, AreBegun, IsNoChunk};
-ghost use Rattle.cborn_wire.specs.Faults.{Fault, needs_item};
-ghost use Rattle.cborn_wire.specs.devices.InitialBytes.{info_at, is_bad_chunk, head_reason};
+ghost use Rattle.cborn_wire.specs.Faults.{Fault};
+ghost use Rattle.cborn_wire.specs.devices.InitialBytes.{info_at, head_reason};
 ghost use Rattle.cborn_wire.specs.HeadReading.{major_at, seen_argument};
+ghost use Rattle.cborn_wire.specs.devices.StackView.{seen_slot, plain};
 ghost use Rattle.cborn_wire.specs.devices.Scanning.{levels, levels_of, take_head, content_of, slot_at, AreSmall, Steps};
 ghost use Rattle.cborn_wire.specs.declared.scanning.Step.TheVariants.{Taken};
 
 use crate::frames::StringKind;
-use crate::heads::{is_always_bounded, is_break, is_container, is_endless, is_float, is_reserved};
 use crate::levels::{Level, Levels};
-use crate::refusals::is_bad_chunk_of;
+use crate::refusals::Slot;
 use crate::{Argument, Head, HeadRead, WireReason, read_head};
 use cborn_model::{Limit, Major};
 
@@ -153,63 +153,18 @@ impl Levels {
         requires { self.now.len ≤ 1025 }
         ensures { result ≡ head_reason (slot_at (levels self.now)) (nat_le limit (length (levels self.now))) (major_at (first / 32)) (info_at (first % 32)) [] }
     {
-        let major = first / 32;
-        let information = first % 32;
-        // An integer, or a string of a definite length, is a bad chunk if it is anything.
-        if major < 4 && information < 28 && !self.is_bad_chunk(major, information) {
-            return None;
-        }
-        self.refusal_in_order(limit, first)
+        let slot = self.slot();
+        slot.refusal(self.count() >= limit, first)
     }
 
-    /// The same for any initial byte. The tests stand in the order of the reasons.
-    #[inline(never)]
-    fn refusal_in_order(&self, limit: u64, first: u8) -> Option<WireReason>
-        requires { self.now.len ≤ 1025 }
-        ensures { result ≡ head_reason (slot_at (levels self.now)) (nat_le limit (length (levels self.now))) (major_at (first / 32)) (info_at (first % 32)) [] }
-    {
-        let major = first / 32;
-        let information = first % 32;
-        if is_reserved(information) {
-            return Some(WireReason::ReservedInfo);
-        }
-        if is_endless(information) && is_always_bounded(major) {
-            return Some(WireReason::EndlessNotAllowed);
-        }
-        if self.is_bad_chunk(major, information) {
-            return Some(WireReason::BadChunk);
-        }
-        if is_break(major, information) && self.needs_item() {
-            return Some(WireReason::UnexpectedBreak);
-        }
-        if is_float(major, information) {
-            return Some(WireReason::FloatLeftOut);
-        }
-        if is_container(major) && self.count() >= limit {
-            return Some(WireReason::TooDeep);
-        }
-        None
-    }
-
-    /// In an indefinite string, neither a break nor a definite string of its kind.
-    fn is_bad_chunk(&self, major: u8, information: u8) -> bool
-        requires major { major < 8 }
-        requires information { information < 32 }
-        ensures { result ≡ is_bad_chunk (slot_at (levels self.now)) (major_at major) (info_at information) }
+    /// Where the next head stands.
+    #[inline(always)]
+    fn slot(&self) -> Slot
+        ensures { seen_slot result ≡ plain (slot_at (levels self.now)) }
     {
         match self.top {
-            Some(Level::Chunks(kind)) => is_bad_chunk_of(kind, major, information),
-            _ => false,
-        }
-    }
-
-    /// An item has to stand here, and no break.
-    fn needs_item(&self) -> bool
-        ensures { result ≡ needs_item (slot_at (levels self.now)) }
-    {
-        match self.top {
-            None => true,
-            Some(level) => level.needs_item(),
+            None => Slot::Item,
+            Some(level) => level.slot(),
         }
     }
 

@@ -1,19 +1,16 @@
 -- What is known of a state that some bytes make.
-use Rattle.std.proofs.Common.{◌≡◌, refl, sym, ap, ◌∙◌, subst, ℕ, ◌+◌, ◌<◌, ◌≤◌, List, [], ◌∷◌, ◌++◌, length, true, false, arith}
+use Rattle.std.proofs.Common.{◌≡◌, refl, sym, ap, ◌∙◌, subst, ℕ, ◌+◌, ◌<◌, ◌≤◌, List, [], ◌∷◌, ◌++◌, length, arith}
 use Rattle.cborn_model.specs.Bytes.{AreBytes}
 use Rattle.cborn_model.specs.declared.heads.Width.{Width}
 use Rattle.cborn_model.specs.declared.heads.Major.{Major}
-use Rattle.cborn_model.specs.declared.heads.Major.TheVariants.{Unsigned, Negative, ByteString, TextString, Array, Map, Tag, Other}
 use Rattle.cborn_model.specs.Heads.{WidthFits}
 use Rattle.cborn_model.specs.Tree.{Tree, Trees, no_item, more, depth, depth_all}
 use Rattle.cborn_model.specs.Spelled.{Fits, FitsAll}
-use Rattle.cborn_wire.specs.Slots.{StringKind, Slot, Begun, begun_items, begun_pairs, begun_value, begun_tag, begun_chunks, slot, open_depth, IsNoChunk, AreBegun}
-use Rattle.cborn_wire.specs.devices.InitialBytes.{Info, is_container, is_bad_chunk}
+use Rattle.cborn_wire.specs.Slots.{StringKind, Begun, begun_items, begun_pairs, begun_value, begun_tag, begun_chunks, slot, open_depth, IsNoChunk, AreBegun}
 use Rattle.cborn_wire.specs.devices.Machine.{snoc, width_bytes, argument_of, content_of, Partial, gathering, State, Live, Failed, start, IsLive, held, run, IsReached}
 use Rattle.cborn_wire.proofs.Machine.Running.{run-append}
 use Rattle.cborn_wire.proofs.Spelled.AllBytes.{bytes-append}
 use Rattle.cborn_wire.proofs.Machine.SoundItems.{SoundLive, Sound}
-use Rattle.cborn_wire.proofs.Machine.SoundSteps.{free_of, other_kind}
 use Rattle.cborn_wire.proofs.Machine.SoundRuns.{sound}
 
 fits_last : (ts : Trees) (t : Tree) → FitsAll (snoc ts t) → Fits t
@@ -32,20 +29,6 @@ depth_is_length limit (begun_pairs p a es ∷ os) h free = omega (arith, depth_i
 depth_is_length limit (begun_value p a es k ∷ os) h free = omega (arith, depth_is_length limit os h.2 h.1)
 depth_is_length limit (begun_tag p w n ∷ os) h free = omega (arith, depth_is_length limit os h.2 h.1)
 depth_is_length limit (begun_chunks p k cs ∷ os) h free = absurd free
-
-container_free : (s : Slot) (m : Major) (i : Info) → is_container m ≡ true → is_bad_chunk s m i ≡ false → IsNoChunk s
-container_free s Unsigned i c e = cc
-container_free s Negative i c e = cc
-container_free s ByteString i c e = cc
-container_free s TextString i c e = cc
-container_free s Array i c e = free_of s Array i e (other_kind Array refl refl) refl
-container_free s Map i c e = free_of s Map i e (other_kind Map refl refl) refl
-container_free s Tag i c e = free_of s Tag i e (other_kind Tag refl refl) refl
-container_free s Other i c e = cc
-
--- Where the head of an array, a map or a tag may stand as far as chunks go, the depth is the number of all that is open.
-pub container_depth : (limit : ℕ) (os : List Begun) (m : Major) (i : Info) → AreBegun limit os → is_container m ≡ true → is_bad_chunk (slot os) m i ≡ false → open_depth os ≡ length os
-container_depth limit os m i h c e = depth_is_length limit os h (container_free (slot os) m i c e)
 
 module _ (limit base : ℕ) where
   pub reached_start : IsReached limit base (start base)

@@ -5,8 +5,9 @@ use Rattle.std.specs.Option.{option_to_list}
 use Rattle.std.specs.declared.vec.Vec.{Vec}
 use Rattle.std.specs.declared.alloc.Global.{Global}
 use Rattle.cborn_wire.specs.declared.frames.Frame.{Frame}
-use Rattle.cborn_wire.specs.Slots.{Begun}
+use Rattle.cborn_wire.specs.Slots.{Begun, AreBegun, levels, open_depth}
 use Rattle.cborn_wire.specs.devices.StackView.{seen_frame, seen_outer, seen_open}
+use Rattle.cborn_wire.proofs.Machine.Reached.{depth_is_length}
 
 seen_outer-push : (os : List Begun) (fs : List Frame) (f : Frame) → seen_outer os (fs ++ f ∷ []) ≡ seen_frame f ∷ seen_outer os fs
 seen_outer-push os [] f = refl
@@ -25,5 +26,11 @@ pub outer_length : (os : List Begun) (fs : List Frame) → length (seen_outer os
 outer_length os [] = omega arith
 outer_length os (f ∷ fs) = omega (arith, outer_length (seen_frame f ∷ os) fs)
 
-pub open_length : (top : Option Frame) (f : Frame) (v : Vec Frame Global) (n : ℕ) → top ≡ Some f → n ≡ vec_len v → n + 1 ≡ length (seen_open top v.items)
-open_length top f v n e h = rw e (omega (arith, outer_length [] v.items, h, v.ok.0))
+-- No array, map or tag is open inside an indefinite string, so what is around the innermost counts.
+depth_around : (limit : ℕ) (o : Begun) (fs : List Frame) → AreBegun limit (o ∷ seen_outer [] fs) → length fs + levels o ≡ open_depth (o ∷ seen_outer [] fs)
+depth_around limit o fs h = omega (arith, depth_is_length limit (seen_outer [] fs) h.2 h.1, outer_length [] fs)
+
+pub open_depth_is : (limit : ℕ) (top : Option Frame) (f : Frame) (v : Vec Frame Global) (n l : ℕ) → AreBegun limit (seen_open top v.items) → top ≡ Some f → n ≡ vec_len v → l ≡ levels (seen_frame f) → n + l ≡ open_depth (seen_open top v.items)
+open_depth_is limit top f v n l h e a b =
+    let begun : AreBegun limit (seen_frame f ∷ seen_outer [] v.items) = rw e at h in
+    rw e (omega (arith, depth_around limit (seen_frame f) v.items begun, a, b, v.ok.0))

@@ -16,16 +16,34 @@ use Rattle.cborn_wire.specs.declared.frames.Partial.TheVariants as partials
 use Rattle.cborn_wire.specs.declared.nests.Nest.{Nest}
 use Rattle.cborn_wire.specs.declared.nests.Outcome.{Outcome}
 use Rattle.cborn_wire.specs.declared.nests.Outcome.TheVariants.{Open, Whole, Part}
+use Rattle.cborn_wire.specs.declared.refusals.Slot.{Slot}
+use Rattle.cborn_wire.specs.declared.refusals.Slot.TheVariants.{Item, ItemOrBreak, Chunk}
 use Rattle.cborn_wire.specs.devices.Standing.{Standing}
 use Rattle.cborn_wire.specs.HeadReading.{major_at, seen_argument}
 use Rattle.cborn_wire.specs.Slots as slots
-use Rattle.cborn_wire.specs.Slots.{OfBytes, OfText, Begun, begun_items, begun_pairs, begun_value, begun_tag, begun_chunks, slot, IsNoChunk}
+use Rattle.cborn_wire.specs.Slots.{OfBytes, OfText, item, value, element_or_end, key_or_end, chunk, Begun, begun_items, begun_pairs, begun_value, begun_tag, begun_chunks, slot, IsNoChunk}
 use Rattle.cborn_wire.specs.devices.Machine as machine
 use Rattle.cborn_wire.specs.devices.Machine.{argument_of, content_of, nothing, gathering, width_bytes, State, Live, Failed, finished, ended, run, IsReached, Stops, Settles}
 
 abbrev pub seen_kind : StringKind → slots.StringKind
 seen_kind kinds.Bytes = OfBytes
 seen_kind kinds.Text = OfText
+
+abbrev pub seen_slot : Slot → slots.Slot
+seen_slot Item = item
+seen_slot ItemOrBreak = element_or_end
+seen_slot (Chunk k) = chunk (seen_kind k)
+
+-- the slot that what may stand here is the same in, if it isn't this one
+abbrev pub plain : slots.Slot → slots.Slot
+plain value = item
+plain key_or_end = element_or_end
+plain s = s
+
+-- where an item of an array, or a key of a map, with this argument stands
+abbrev pub element_slot : heads.Argument → slots.Slot
+element_slot (heads.Given w n) = item
+element_slot heads.Unbounded = element_or_end
 
 -- a map's pairs, and the key whose value is missing
 abbrev pub seen_pairs : ℕ → heads.Argument → List (Tree × Tree) → Option Tree → Begun
