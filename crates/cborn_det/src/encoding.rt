@@ -1,6 +1,6 @@
 //! The encoder.
 
-ghost use Rattle.std.specs.Prelude.{◌≡◌, ℕ, List, ◌↔◌, ◌++◌, IfOk, OnOk, OnErr, IsTrue, MatchResult, map};
+ghost use Rattle.std.specs.Prelude.{◌≡◌, ℕ, List, ◌↔◌, IfOk, OnOk, OnErr, IsTrue, MatchResult, map};
 ghost use Rattle.cborn_model.specs.ItemView.{item_value, pair_value};
 ghost use Rattle.cborn_model.specs.Valid.{IsProper, AreProper, HasProperPairs, HasNewKeys};
 ghost use Rattle.cborn_model.specs.Value.{Same, values_of, pairs_of, dict};

@@ -1,7 +1,7 @@
 //! The entries of a map, each the bytes of a key and of its value, as they lie one after another in
 //! a buffer.
 
-ghost use Rattle.std.specs.Prelude.{◌≡◌, ℕ, List, ◌++◌, IfOk, OnOk, IsPermutation, IsTrue, ◌≤◌, length, take, drop};
+ghost use Rattle.std.specs.Prelude.{◌≡◌, List, ◌++◌, IfOk, OnOk, IsPermutation, IsTrue, ◌≤◌, length, take, drop};
 ghost use Rattle.cborn_model.specs.Orders.{Rising};
 ghost use Rattle.cborn_det.specs.devices.Writing.{BeginsWith, IsWritten, entries_of, HasDistinctKeys};
 ghost use Rattle.cborn_det.specs.Det.{Entry, joined, keys};

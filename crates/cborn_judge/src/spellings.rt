@@ -1,7 +1,7 @@
 //! The defects of heads, strings, bignums and keys. Those of one head, one bignum's bytes and one
 //! key are also told to who keeps no node.
 
-ghost use Rattle.std.specs.Prelude.{◌≡◌, ◌⊎◌, ◌↔◌, IfOk, IsTrue, List, ℕ, length};
+ghost use Rattle.std.specs.Prelude.{◌≡◌, ◌⊎◌, ◌↔◌, IfOk, IsTrue, List, ℕ};
 ghost use Rattle.std.proofs.Common.{Ordering};
 ghost use Rattle.cborn_model.specs.Meaning.{IsByteString};
 ghost use Rattle.cborn_judge.specs.Departures.{FindsDefect, LongAt, LooseBytesAt, NotAboveAt};

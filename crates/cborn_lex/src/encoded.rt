@@ -1,6 +1,6 @@
 //! Strings with the prefix `h` or `b64`.
 
-ghost use Rattle.std.specs.Prelude.{◌≡◌, ℕ, ◌+◌, ◌≤◌, List, length, take, drop, map, filter, replicate, OnOk, MatchOption, IfOk, Some, None, Ok, false, ◌==◌, not, ◌++◌};
+ghost use Rattle.std.specs.Prelude.{◌≡◌, ℕ, ◌≤◌, List, length, take, drop, map, filter, replicate, OnOk, MatchOption, IfOk, Some, None, false, ◌==◌, not, ◌++◌};
 ghost use Rattle.std.specs.List.{list_any};
 ghost use Rattle.cborn_lex.specs.declared.classes.Class.TheVariants.{Bytes};
 ghost use Rattle.cborn_lex.specs.Tokens.{is_white, marked};

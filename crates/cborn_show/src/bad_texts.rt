@@ -1,7 +1,7 @@
 //! The first text that isn't UTF-8. What holds what doesn't matter to it, so it goes from head to
 //! head and keeps nothing open.
 
-ghost use Rattle.std.specs.Prelude.{◌≡◌, ◌<◌, ◌≤◌, ◌++◌, ℕ, List, length, false, IfSome, MatchBool};
+ghost use Rattle.std.specs.Prelude.{◌≡◌, ◌++◌, ℕ, List, false, IfSome, MatchBool};
 ghost use Rattle.std.specs.Str.{is_utf8};
 ghost use Rattle.cborn_model.specs.declared.heads.Major.TheVariants.{TextString};
 ghost use Rattle.cborn_model.specs.Placed.{PlacedAll};

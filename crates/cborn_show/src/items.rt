@@ -4,7 +4,7 @@ ghost use Rattle.std.specs.Prelude.{◌≡◌, ◌≢◌, ◌≤◌, ◌++◌, �
 ghost use Rattle.cborn_model.specs.declared.heads.Major.TheVariants.{Array, Map, Tag};
 ghost use Rattle.cborn_model.specs.Heads.{Given, Unbounded, head, WidthFits};
 ghost use Rattle.cborn_edn.specs.Shown.{mark_for, opened};
-ghost use Rattle.cborn_show.specs.Passed.{NodeShown, NodeLeaves, NextShown, NodesShown, PairShown, PairsShown, integer_major};
+ghost use Rattle.cborn_show.specs.Passed.{NodeShown, NodeLeaves, NextShown, NodesShown, PairShown, PairsShown};
 
 use crate::leaves::{behind_break, put_long_string_leaving, put_simple, put_string_leaving};
 use crate::numbers::{put_below, put_between, put_indicator, put_number};

@@ -8,7 +8,7 @@ ghost use Rattle.cborn_wire.specs.HeadReading.{ArgumentFits, seen_argument};
 ghost use Rattle.cborn_show.specs.Passed.{StringShown, ChunkShown, ChunksShown, LongStringShown, SimpleShown, kind_of, major_of, shown_content};
 
 use crate::numbers::put_indicator;
-use cborn_edn::{push_between, push_escaped, push_simple};
+use cborn_edn::{push_escaped, push_simple};
 use cborn_model::{Major, Width, is_simple_value, shortest};
 use cborn_wire::{Argument, HeadRead, read_head};
 use std::alloc::Global;

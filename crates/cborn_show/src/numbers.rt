@@ -1,9 +1,8 @@
 //! Numbers in decimal.
 
-ghost use Rattle.std.specs.Prelude.{◌≡◌, ◌<◌, ◌≤◌, ◌+◌, ◌++◌, ◌∷◌, [], ℕ, List, suc, length, drop, if◌then◌else◌, OnSome, codes, decimal};
+ghost use Rattle.std.specs.Prelude.{◌≡◌, ◌≤◌, ◌+◌, ◌++◌, ℕ, List, suc, length, drop, OnSome, codes, decimal};
 ghost use Rattle.cborn_edn.specs.devices.Between.{between};
 ghost use Rattle.cborn_edn.specs.Shown.{mark_for, indicator};
-ghost use Rattle.cborn_show.specs.Passed.{signed};
 
 use crate::digits::write_number;
 use cborn_edn::push_indicator;

@@ -1,19 +1,15 @@
 //! Items without children, of tokens that were read.
 
-ghost use Rattle.std.specs.Prelude.{◌≡◌, ◌⊎◌, ◌<◌, ◌≤◌, ◌++◌, ◌∷◌, ◌+◌, ◌*◌, ◌^◌, ℕ, [], Some, length, true, false, IfSome, OnSome, IsTrue, IsUtf8, if◌then◌else◌};
-ghost use Rattle.cborn_model.specs.declared.heads.Width.{Width};
+ghost use Rattle.std.specs.Prelude.{◌≡◌, ◌⊎◌, ◌++◌, ◌∷◌, ◌+◌, ◌*◌, [], true, OnSome, IsTrue, IsUtf8};
 ghost use Rattle.cborn_model.specs.declared.heads.Major.TheVariants.{TextString};
-ghost use Rattle.cborn_model.specs.Heads.{code, head_bytes};
-ghost use Rattle.cborn_lex.specs.declared.classes.Class.TheVariants as classes;
-ghost use Rattle.cborn_edn.specs.Meaning.{width_for, is_simple, is_absent};
-ghost use Rattle.cborn_spell.specs.Descent.{AddsMarked, AddsString, AddsEmpty, AddsSimple, TokenAt, ItemTaken, suits};
+ghost use Rattle.cborn_model.specs.Heads.{code};
+ghost use Rattle.cborn_edn.specs.Meaning.{is_absent};
+ghost use Rattle.cborn_spell.specs.Descent.{AddsMarked, AddsString, AddsEmpty, AddsSimple, suits};
 
-use crate::numerals::decimal;
-use crate::scans::{behind, skip};
 use cborn_det::put_head;
 use cborn_edn::StringKind;
-use cborn_lex::{Mark, Profile};
-use cborn_model::{BREAK, Major, Width, is_simple_value};
+use cborn_lex::Mark;
+use cborn_model::{BREAK, Major, is_simple_value};
 use cborn_wire::push_head;
 
 /// Appends the head that the indicator asks for.

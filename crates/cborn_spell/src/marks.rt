@@ -1,7 +1,6 @@
 //! Opening brackets, with the indicators that they carry.
 
-ghost use Rattle.std.specs.Prelude.{◌≡◌, ◌≤◌, ◌∷◌, ◌==◌, [], ℕ, Some, true, length, take, drop, IfSome};
-ghost use Rattle.cborn_model.specs.declared.heads.Width.{Width};
+ghost use Rattle.std.specs.Prelude.{◌≡◌, ◌≤◌, ◌∷◌, [], Some, true, length, take, drop, IfSome};
 ghost use Rattle.cborn_lex.specs.declared.classes.Profile.{Profile};
 ghost use Rattle.cborn_lex.specs.declared.classes.Class.{Class};
 ghost use Rattle.cborn_lex.specs.declared.classes.Mark.{Mark};

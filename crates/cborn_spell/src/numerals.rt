@@ -1,13 +1,10 @@
 //! Decimal integers within 64 bits, with nothing attached.
 
-ghost use Rattle.std.specs.Prelude.{◌≡◌, ◌≤◌, ◌<◌, ◌+◌, ◌^◌, ◌∷◌, [], true, false, ◌==◌, length, take, drop, IfSome};
-ghost use Rattle.std.specs.List.{list_all};
-ghost use Rattle.std.specs.Char.{is_digit};
+ghost use Rattle.std.specs.Prelude.{◌≡◌, ◌≤◌, ◌<◌, ◌^◌, true, false, ◌==◌, length, drop, IfSome};
 ghost use Rattle.cborn_lex.specs.declared.classes.Profile.{Profile};
 ghost use Rattle.cborn_lex.specs.declared.classes.Class.TheVariants as classes;
 ghost use Rattle.cborn_lex.specs.declared.classes.Mark.TheVariants as marks;
 ghost use Rattle.cborn_lex.specs.Tokens.{begins};
-ghost use Rattle.cborn_lex.specs.Numbers.{number};
 ghost use Rattle.cborn_spell.specs.Descent.{TokenAt, IsPlain, goes_on};
 
 /// The integer at the place, where a digit stands, and its end.

@@ -1,9 +1,8 @@
 //! What stands at a place of the text.
 
-ghost use Rattle.std.specs.Prelude.{◌≡◌, ◌≤◌, ◌<◌, ◌+◌, ℕ, [], true, false, ◌==◌, length, take, drop, slice_index, IfSome, IsTrue};
+ghost use Rattle.std.specs.Prelude.{◌≡◌, ◌≤◌, ◌<◌, ℕ, [], true, ◌==◌, length, take, drop, slice_index, IfSome, IsTrue};
 ghost use Rattle.std.specs.List.{list_all};
 ghost use Rattle.cborn_lex.specs.declared.classes.Class.{Class};
-ghost use Rattle.cborn_lex.specs.declared.classes.Class.TheVariants as classes;
 ghost use Rattle.cborn_lex.specs.declared.classes.Profile.TheVariants as profiles;
 ghost use Rattle.cborn_lex.specs.Tokens.{begins, is_white, is_not};
 ghost use Rattle.cborn_lex.specs.Forms.{start_of, single};

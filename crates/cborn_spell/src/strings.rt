@@ -1,6 +1,6 @@
 //! Text strings between double quotes.
 
-ghost use Rattle.std.specs.Prelude.{◌≡◌, ◌≤◌, ◌<◌, ◌+◌, ◌∷◌, ◌++◌, [], true, false, ◌==◌, ℕ, List, length, take, drop, IfSome, IsTrue, IsUtf8};
+ghost use Rattle.std.specs.Prelude.{◌≡◌, ◌≤◌, ◌<◌, ◌+◌, true, ◌==◌, ℕ, length, drop, IfSome};
 ghost use Rattle.cborn_lex.specs.Tokens.{begins};
 ghost use Rattle.cborn_lex.specs.declared.classes.Profile.{Profile};
 ghost use Rattle.cborn_edn.specs.declared.strings.StringKind.TheVariants as kinds;

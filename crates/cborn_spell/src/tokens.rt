@@ -1,6 +1,6 @@
 //! What is read as a token: items without children, pieces of strings, and what opens.
 
-ghost use Rattle.std.specs.Prelude.{◌≤◌, ◌<◌, ◌^◌, ℕ, length, true, false, IfSome};
+ghost use Rattle.std.specs.Prelude.{◌≤◌, ◌<◌, ◌^◌, ℕ, length, false, IfSome};
 ghost use Rattle.cborn_lex.specs.declared.classes.Mark.{Mark};
 ghost use Rattle.cborn_lex.specs.declared.classes.Mark.TheVariants as marks;
 ghost use Rattle.cborn_lex.specs.declared.classes.Class.TheVariants as classes;

@@ -1,6 +1,6 @@
 -- Pairs that lie in a buffer, whose keys are compared one by one.
 use Rattle.std.proofs.Common.{◌≡◌, ℕ, ◌+◌, ◌<◌, ◌≤◌, List, [], ◌∷◌, ◌++◌, length, take, drop, reverse, get_or, refl, sym, ap, ◌∙◌, subst, arith, take_at, drop_at, length-append, append-nil, Bor, Option, None, Some, Ordering, IsPermutation}
-use Rattle.std.proofs.lemmas.List.{take_more, drop_more, map-append, append_assoc, take-append-drop, length-take-le, reverse-append}
+use Rattle.std.proofs.lemmas.List.{take_more, map-append, append_assoc, take-append-drop, length-take-le, reverse-append}
 use Rattle.cborn_model.specs.Orders.{Rising}
 use Rattle.cborn_det.specs.Det.{Entry, keys, joined}
 use Rattle.cborn_det.proofs.Cutting.{EndsIn, Below, rise_more}

@@ -7,7 +7,7 @@ use Rattle.cborn_lex.specs.declared.classes.Profile.TheVariants.{One, Two}
 use Rattle.cborn_lex.specs.declared.faults.LexReason.{LexReason}
 use Rattle.cborn_lex.specs.declared.classes.Token.{Token}
 use Rattle.cborn_lex.specs.Tokens.{Front, Blank, Read, Bad}
-use Rattle.cborn_lex.specs.Forms.{Start, white, slash, hash, less, greater, paren, letter, minus, digit, other, single, opening, double, simple, start_of, ReadsFrom, Reads}
+use Rattle.cborn_lex.specs.Forms.{Start, hash, start_of, ReadsFrom, Reads}
 use Rattle.cborn_lex.specs.Lex.{Lex, HasNoPiece, Stop, SpansRise}
 use Rattle.cborn_lex.specs.devices.Pieces.{Lexeme, gap, token, slice, front_of, spelled, AreRead, tokens, BeginsNoPiece}
 use Rattle.cborn_lex.proofs.WholeTexts.Parts.{lex_parted, parted_lex, stop_parted, parted_stop, has_no_piece}

@@ -10,7 +10,7 @@ use Rattle.cborn_lex.specs.declared.faults.LexFault.TheVariants.{Refused, OutOfM
 use Rattle.cborn_lex.specs.declared.classes.Class.{Class}
 use Rattle.cborn_lex.specs.declared.classes.Token.{Token}
 use Rattle.cborn_lex.specs.Tokens.{Front, Blank, Read, Bad, is_white}
-use Rattle.cborn_lex.specs.Forms.{Start, white, slash, hash, less, greater, paren, letter, minus, digit, other, single, opening, double, simple, start_of, ReadsFrom, Reads}
+use Rattle.cborn_lex.specs.Forms.{Start, white, single, start_of, ReadsFrom, Reads}
 use Rattle.cborn_lex.specs.devices.View.{single_class}
 use Rattle.cborn_lex.specs.Lex.{Through, here, gap, token, Lex, Stop, Between, IsStopAt, IsStopFrom}
 use Rattle.cborn_lex.proofs.WholeTexts.Chains.{some_long}

@@ -1,10 +1,10 @@
 use Rattle.cborn_model.specs.declared.heads.Major.TheVariants.{ByteString}
 use Rattle.std.proofs.Common.{◌≡◌, rules, sym, ◌∙◌, ap, List, ℕ, subst}
 use Rattle.std.proofs.lemmas.List.{take_rest}
-use Rattle.cborn_model.specs.Bytes.{AreBytes, big_endian}
+use Rattle.cborn_model.specs.Bytes.{big_endian}
 use Rattle.cborn_wire.proofs.Spelled.ByteLists.{are_bytes}
 use Rattle.cborn_transcode.specs.Transcoding.{BignumTaken}
-use Rattle.cborn_transcode.proofs.Heading.{bytes_behind, bignum_taken}
+use Rattle.cborn_transcode.proofs.Heading.{bignum_taken}
 use Rattle.cborn_transcode.proofs.leaves.put_bignum.Goals as goal
 
 pub returns : goal.returns

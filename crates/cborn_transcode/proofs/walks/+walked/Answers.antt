@@ -1,4 +1,4 @@
-use Rattle.cborn_model.specs.declared.heads.Major.TheVariants.{Unsigned, Negative, ByteString, TextString, Array, Map, Tag, Other}
+use Rattle.cborn_model.specs.declared.heads.Major.TheVariants.{Array, Map, Tag}
 use Rattle.std.proofs.Common.{◌≡◌, ◌+◌, ◌-◌, ◌<◌, ◌^◌, inl, inr, refl, length, drop, length-drop, Some, None, ℕ, subst, arith, false, true}
 use Rattle.cborn_transcode.specs.devices.Walking.{ItemsWalked, PairsWalked}
 use Rattle.cborn_transcode.proofs.Walking.{walked_from, array_walked, map_walked, tagged_walked, bignum_walked, items_none, items_more, pairs_start, pairs_on, leaving, leaf_walked, item_last, item_within}
