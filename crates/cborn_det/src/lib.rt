@@ -6,7 +6,7 @@
 //! appends heads, strings and numbers, and `entries` arranges the pairs of a map where they lie,
 //! once all are written. Where the keys of a map rise as its pairs stand, nothing is moved; another
 //! map is copied once, with all that is in it. `heads` has the shortest head alone, for who writes
-//! an encoding without an item.
+//! an encoding without an item, and `integers` what the head of an integer is made of.
 //!
 //! `laws` says what follows from the definitions: two valid items have one encoding exactly if they
 //! are the same.
@@ -15,11 +15,13 @@
 mod encoding;
 mod entries;
 mod heads;
+mod integers;
 pub mod laws;
 mod parts;
 
 pub use encoding::{encode, encode_all, equal_bytes, push_encoding};
 pub use heads::{put_head, set_head};
+pub use integers::{integer_major, number_of};
 
 #[cfg(test)]
 mod tests;

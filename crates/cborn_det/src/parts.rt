@@ -1,12 +1,13 @@
 //! What an encoding is made of, at the end of a buffer: heads, strings, integers and simple values.
 
-ghost use Rattle.std.specs.Prelude.{◌≡◌, ℕ, List, IsTrue};
+ghost use Rattle.std.specs.Prelude.{ℕ, List, IsTrue};
 ghost use Rattle.std.specs.declared.cmp.Ordering.{Ordering};
 ghost use Rattle.cborn_model.specs.Heads.{code, IsLeastHead, is_simple_value};
 ghost use Rattle.cborn_model.specs.Value.{simple};
 ghost use Rattle.cborn_det.specs.devices.Writing.{Writes};
-ghost use Rattle.cborn_det.specs.Det.{Det, IsInteger, IsString, major_of};
+ghost use Rattle.cborn_det.specs.Det.{Det, IsInteger, IsString};
 
+use crate::integers::integer_major;
 use cborn_model::{Magnitude, Major, Number, shortest};
 use cborn_wire::push_head;
 use std::alloc::AllocError;
@@ -38,7 +39,7 @@ pub(crate) fn push_integer(
 {
     match magnitude.number() {
         Number::Word(n) => {
-            push_shortest(major_of(negative), n, out)?;
+            push_shortest(integer_major(negative), n, out)?;
             Ok(())
         }
         Number::Long(bytes) => {
@@ -47,17 +48,6 @@ pub(crate) fn push_integer(
             push_string(Major::ByteString, bytes, out)?;
             Ok(())
         }
-    }
-}
-
-/// The major type of an integer within 64 bits.
-fn major_of(negative: bool) -> Major
-    ensures { code result ≡ major_of negative }
-{
-    if negative {
-        Major::Negative
-    } else {
-        Major::Unsigned
     }
 }
 

@@ -1,14 +1,14 @@
 //! What integers mean.
 
-ghost use Rattle.std.specs.Prelude.{◌≡◌, ◌≤◌, ℕ, IfOk, length};
-ghost use Rattle.cborn_model.specs.declared.heads.Width.{Width};
-ghost use Rattle.cborn_model.specs.Bytes.{AreBytes, big_endian};
+ghost use Rattle.std.specs.Prelude.{IfOk};
+ghost use Rattle.cborn_model.specs.Bytes.{AreBytes};
 ghost use Rattle.cborn_model.specs.ItemView.{item_value};
 ghost use Rattle.cborn_model.specs.Meaning.{IsNumber};
 ghost use Rattle.cborn_model.specs.Spelled.{Fits};
 ghost use Rattle.cborn_judge.specs.devices.Judged.{IsBignumItem, IsMagnitudeOf};
 
 use crate::strings::join;
+use cborn_det::number_of;
 use cborn_model::{Form, Item, Magnitude, Node, without_zeros};
 use std::alloc::{AllocError, Global};
 
@@ -64,16 +64,4 @@ fn magnitude_of(alloc: Global, bytes: &[u8]) -> Result<Magnitude, AllocError>
     }
     let digits = digits.to_vec(alloc)?;
     Ok(Magnitude::new(digits))
-}
-
-/// The big-endian number of at most eight bytes.
-fn number_of(bytes: &[u8]) -> u64
-    requires { length bytes.now ≤ 8 }
-    ensures { result ≡ big_endian bytes.now }
-{
-    let mut n: u64 = 0;
-    for byte in bytes {
-        n = n * 256 + u64::from(*byte);
-    }
-    n
 }

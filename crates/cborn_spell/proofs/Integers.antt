@@ -1,18 +1,23 @@
 -- Integers that are written.
-use Rattle.std.proofs.Common.{◌≡◌, ap, ◌∙◌, subst, ℕ, ◌+◌, ◌<◌, ◌≤◌, ◌^◌, List, [], ◌∷◌, ◌++◌, length, Bool, true, cond, arith, append_assoc, length-append}
+use Rattle.std.proofs.Common.{◌≡◌, refl, ap, ◌∙◌, subst, ℕ, ◌+◌, ◌<◌, ◌≤◌, ◌^◌, List, [], ◌∷◌, ◌++◌, length, Bool, true, false, cond, arith, append_assoc, length-append}
 use Rattle.std.proofs.lemmas.Bool.{lt-ltb, le-ltb}
 use Rattle.std.specs.Int.Digits.{digits_of}
 use Rattle.cborn_model.specs.Heads.{head_bytes, least}
+use Rattle.cborn_det.specs.Det.{major_of}
 use Rattle.cborn_lex.specs.declared.classes.Mark.{Mark}
 use Rattle.cborn_edn.specs.Syntax.{is_below, argument_of}
 use Rattle.cborn_edn.specs.Meaning.{is_absent}
 use Rattle.cborn_spell.specs.Descent.{SetsHead, AddsMarked, AddsNumber, AddsBignum, IsBignum}
 use Rattle.cborn_spell.proofs.Taking.{set_head_done}
 
-pub small_number : (b n : Bool) (v a major : ℕ) (mark : Mark) (old new : List ℕ) → b ≡ is_below n v → a ≡ argument_of n v → a < 2 ^ 64 → major ≡ cond b 1 0 → AddsMarked major mark a old new → AddsNumber n v mark old new
+major_is : (b : Bool) → major_of b ≡ cond b 1 0
+major_is true = refl
+major_is false = refl
+
+pub small_number : (b n : Bool) (v a major : ℕ) (mark : Mark) (old new : List ℕ) → b ≡ is_below n v → a ≡ argument_of n v → a < 2 ^ 64 → major ≡ major_of b → AddsMarked major mark a old new → AddsNumber n v mark old new
 small_number b n v a major mark old new e f h m w =
     let low : argument_of n v < 2 ^ 64 = omega (arith, f) in
-    (lt-ltb (argument_of n v) (2 ^ 64) low, subst (λ (j : ℕ). AddsMarked j mark (argument_of n v) old new) (m ∙ ap (λ c. cond c 1 0) e) (subst (λ (j : ℕ). AddsMarked major mark j old new) f w))
+    (lt-ltb (argument_of n v) (2 ^ 64) low, subst (λ (j : ℕ). AddsMarked j mark (argument_of n v) old new) (m ∙ major_is b ∙ ap (λ c. cond c 1 0) e) (subst (λ (j : ℕ). AddsMarked major mark j old new) f w))
 
 pub big_number : (b n : Bool) (v a room : ℕ) (mark : Mark) (old new : List ℕ) → b ≡ is_below n v → a ≡ argument_of n v → 2 ^ 64 ≤ a → a < 2 ^ 128 → 1 ≤ room → is_absent mark ≡ true → IsBignum b a old new → AddsBignum room n v mark old new
 big_number b n v a room mark old new e f h k r m w =

@@ -1,13 +1,12 @@
 //! Integers of tokens that were read.
 
-ghost use Rattle.std.specs.Prelude.{◌≡◌, ◌<◌, ◌≤◌, ◌++◌, ◌^◌, ◌⊎◌, OnSome, if◌then◌else◌};
+ghost use Rattle.std.specs.Prelude.{◌≡◌, ◌≤◌, ◌++◌, ◌⊎◌, OnSome, if◌then◌else◌};
 ghost use Rattle.std.specs.Int.Digits.{digits_of};
 ghost use Rattle.cborn_edn.specs.Syntax as syntax;
-ghost use Rattle.cborn_model.specs.Heads.{code};
 ghost use Rattle.cborn_spell.specs.Descent.{AddsNumber, AddsBignum, IsBignum};
 
 use crate::leaves::{is_bare, put_marked};
-use cborn_det::set_head;
+use cborn_det::{integer_major, set_head};
 use cborn_lex::Mark;
 use cborn_model::Major;
 use std::alloc::Global;
@@ -32,19 +31,8 @@ pub(crate) fn put_number(
         put_bignum(alloc, below, argument, out)?;
         return Some(());
     }
-    put_marked(major_of(below), mark, argument as u64, out)?;
+    put_marked(integer_major(below), mark, argument as u64, out)?;
     Some(())
-}
-
-/// The major type of an integer.
-fn major_of(below: bool) -> Major
-    ensures { code result ≡ (if below then 1 else 0) }
-{
-    if below {
-        Major::Negative
-    } else {
-        Major::Unsigned
-    }
 }
 
 /// Whether it is below zero; -0 isn't.

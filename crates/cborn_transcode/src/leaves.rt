@@ -1,14 +1,14 @@
 //! Items without children.
 
-ghost use Rattle.std.specs.Prelude.{◌≡◌, ◌<◌, ◌≤◌, ◌^◌, ◌++◌, ◌∷◌, ◌⊎◌, ℕ, List, length, IsTrue, IsUtf8, IfSome, OnSome};
-ghost use Rattle.cborn_model.specs.Bytes.{AreBytes, IsShortest, big_endian};
+ghost use Rattle.std.specs.Prelude.{◌≡◌, ◌<◌, ◌∷◌, ℕ, List, length, IsTrue, IsUtf8, IfSome, OnSome};
+ghost use Rattle.cborn_model.specs.Bytes.{AreBytes, IsShortest};
 ghost use Rattle.cborn_det.specs.Appending.{Appends};
-ghost use Rattle.cborn_det.specs.Det.{IsInteger, bignum_tag, major_of};
-ghost use Rattle.cborn_model.specs.Heads.{code, IsLeastHead};
+ghost use Rattle.cborn_det.specs.Det.{IsInteger, bignum_tag};
+ghost use Rattle.cborn_model.specs.Heads.{IsLeastHead};
 ghost use Rattle.cborn_wire.specs.HeadReading.{ArgumentFits, seen_argument};
 ghost use Rattle.cborn_transcode.specs.Transcoding.{ContentTaken, StringTaken, ChunkTaken, ChunksTaken, LongStringTaken, BignumTaken, SimpleTaken};
 
-use cborn_det::put_head;
+use cborn_det::{integer_major, number_of, put_head};
 use cborn_model::{Major, Width, without_zeros};
 use cborn_wire::{Argument, HeadRead, read_head};
 
@@ -177,20 +177,9 @@ fn put_integer(negative: bool, digits: &[u8], out: &mut Vec<u8>) -> Option<()>
     ensures { OnSome result (Appends (IsInteger negative digits.now) out.old.items out.new.items) }
 {
     if digits.len() <= 8 {
-        put_head(major_of(negative), number_of(digits), out)
+        put_head(integer_major(negative), number_of(digits), out)
     } else {
         put_long(negative, digits, out)
-    }
-}
-
-/// The major type of an integer within 64 bits.
-fn major_of(negative: bool) -> Major
-    ensures { code result ≡ major_of negative }
-{
-    if negative {
-        Major::Negative
-    } else {
-        Major::Unsigned
     }
 }
 
@@ -215,18 +204,6 @@ fn put_tag(negative: bool, out: &mut Vec<u8>) -> Option<()>
     } else {
         put_head(Major::Tag, 2, out)
     }
-}
-
-/// The big-endian number of at most eight bytes.
-fn number_of(bytes: &[u8]) -> u64
-    requires { length bytes.now ≤ 8 }
-    ensures { result ≡ big_endian bytes.now }
-{
-    let mut n: u64 = 0;
-    for byte in bytes {
-        n = n * 256 + u64::from(*byte);
-    }
-    n
 }
 
 /// A simple value.

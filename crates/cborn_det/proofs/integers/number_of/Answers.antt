@@ -1,6 +1,6 @@
 use Rattle.std.proofs.Common.{rules, ◌<◌, ◌+◌, ◌*◌, ◌^◌, arith, get_or}
 use Rattle.cborn_model.proofs.Numbers.OneMagnitude.{times_below, fits_in, read_more}
-use Rattle.cborn_transcode.proofs.leaves.number_of.Goals as goal
+use Rattle.cborn_det.proofs.integers.number_of.Goals as goal
 
 pub overflow_mul-n : goal.overflow_mul-n
 overflow_mul-n c =
