@@ -14,10 +14,10 @@ module _ (order : List ℕ → List ℕ → Ordering) (laws : IsKeyOrder order) 
   pub total : IsTotalOrder order
   total = record { antisymm = λ a b. laws.turned b a; trans = laws.along; congr = λ a b c e. ap (λ z. order z c) (laws.exact a b e) }
 
-  abbrev Tied : Entry → Entry → Bool
+  abbrev pub Tied : Entry → Entry → Bool
   Tied e f = is_eq (order e.0 f.0)
 
-  tied_turned : (e f : Entry) → Tied e f ≡ Tied f e
+  pub tied_turned : (e f : Entry) → Tied e f ≡ Tied f e
   tied_turned e f = by (order e.0 f.0) ∙ sym (ap is_eq (laws.turned e.0 f.0))
     where
       by : (o : Ordering) → is_eq o ≡ is_eq (ordering_reverse o)

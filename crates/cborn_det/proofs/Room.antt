@@ -19,6 +19,7 @@ use Rattle.cborn_model.specs.Spelled.{ending, string, chunk_bytes, chunks, spell
 use Rattle.cborn_model.specs.Tree.{Tree, Uint, Nint, Bytes, Text, ByteChunks, TextChunks, Items, Pairs, Tagged, Simple, Trees, no_item, more, Entries, no_entry, entry, trees, count, count_entries}
 use Rattle.cborn_model.specs.Meaning.{joined_chunks, IsNumber, IsBignum, Means, AllMean, EntriesMean}
 use Rattle.cborn_model.specs.Value.{Value, Values, Couples, array, dict, tagged, simple, no_values, value, no_pairs, pair, value_count, pair_count}
+use Rattle.cborn_wire.proofs.Spelled.AllBytes.{bytes-append}
 use Rattle.cborn_det.specs.Det.{IsString, IsInteger, Det, DetValues, DetPairs, DetSeq, Entry, joined, major_of, bignum_tag}
 
 -- ---- heads
@@ -114,13 +115,9 @@ length_of_chunked m cs =
     let f : length (chunks m cs) ≡ length (head m Unbounded) + length (flat_map (chunk_bytes m) cs) = length-append (head m Unbounded) (flat_map (chunk_bytes m) cs) in
     omega (arith, e, f, length_of_chunks m cs)
 
-joined_are_bytes : (cs : List Chunk) → ChunksFit cs → AreBytes (joined_chunks cs)
-joined_are_bytes [] h = tt
-joined_are_bytes (c ∷ cs) h = are_joined c.bytes (joined_chunks cs) h.0.1 (joined_are_bytes cs h.1)
-  where
-    are_joined : (a b : List ℕ) → AreBytes a → AreBytes b → AreBytes (a ++ b)
-    are_joined [] b p q = q
-    are_joined (d ∷ a) b p q = (p.0, are_joined a b p.1 q)
+pub joined_bytes : (cs : List Chunk) → ChunksFit cs → AreBytes (joined_chunks cs)
+joined_bytes [] h = tt
+joined_bytes (c ∷ cs) h = bytes-append c.bytes (joined_chunks cs) h.0.1 (joined_bytes cs h.1)
 
 -- ---- numbers
 
@@ -128,12 +125,12 @@ joined_are_bytes (c ∷ cs) h = are_joined c.bytes (joined_chunks cs) h.0.1 (joi
 abbrev IsRoomFor : List ℕ → List ℕ → Type 0
 IsRoomFor s x = 3 * length x + 1 ≤ 4 * length s
 
-below_64 : (w : Width) (n : ℕ) → WidthFits w n → n < 2 ^ 64
-below_64 Direct n h = omega (arith, h)
-below_64 One n h = omega (arith, h)
-below_64 Two n h = omega (arith, h)
-below_64 Four n h = omega (arith, h)
-below_64 Eight n h = h
+pub holds_below : (w : Width) (n : ℕ) → WidthFits w n → n < 2 ^ 64
+holds_below Direct n h = omega (arith, h)
+holds_below One n h = omega (arith, h)
+holds_below Two n h = omega (arith, h)
+holds_below Four n h = omega (arith, h)
+holds_below Eight n h = h
 
 integer_room : (order : List ℕ → List ℕ → Ordering) (s : Bool) (j : Major) (w : Width) (n : ℕ) (v : Value) (x : List ℕ) → WidthFits w n → IsNumber s n v → Det order v x → IsRoomFor (head j (Given w n)) x
 integer_room order s j w n v x h m d =
@@ -142,7 +139,7 @@ integer_room order s j w n v x h m d =
       | inl p ↦
           let q : IsLeastHead (major_of s) n x = subst (λ k. IsLeastHead (major_of s) k x) m.3 p.1 in
           omega (arith, length_of_least (major_of s) n x q, length_of_head j w n, least_is_least w n h)
-      | inr p ↦ absurd (let l = below_64 w n h in omega (arith, p.0, m.3, l))
+      | inr p ↦ absurd (let l = holds_below w n h in omega (arith, p.0, m.3, l))
     ]
 
 tag_is_short : (s : Bool) → bytes_in (least (bignum_tag s)) ≡ 0
@@ -208,7 +205,7 @@ number_room order s (Bytes p w c) v x f m d =
     let e : length m.0 ≡ length c = ap length m.1 in
     omega (arith, e, bignum_room order s m.0 v x b m.2 d, length_of_string ByteString w c)
 number_room order s (ByteChunks p cs) v x f m d =
-    let b : AreBytes m.0 = subst AreBytes (sym m.1) (joined_are_bytes cs f) in
+    let b : AreBytes m.0 = subst AreBytes (sym m.1) (joined_bytes cs f) in
     let e : length m.0 ≡ length (joined_chunks cs) = ap length m.1 in
     omega (arith, e, bignum_room order s m.0 v x b m.2 d, length_of_chunked ByteString cs)
 number_room order s _ v x f m d = absurd m.1

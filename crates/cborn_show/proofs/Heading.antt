@@ -7,9 +7,8 @@ use Rattle.std.specs.Str.{is_utf8}
 use Rattle.std.proofs.lemmas.List.{length-take-le, take-append-drop}
 use Rattle.hex.specs.Hex.{encode_lower, encode_with, lower_digits}
 use Rattle.cborn_model.specs.Bytes.{AreBytes}
-use Rattle.cborn_model.specs.declared.heads.Major.{Major}
 use Rattle.cborn_model.specs.Heads.{Given, head, WidthFits}
-use Rattle.cborn_model.specs.Spelled.{chunk_bytes, ChunksFit}
+use Rattle.cborn_model.specs.Spelled.{chunk_bytes}
 use Rattle.cborn_edn.specs.declared.strings.StringKind.{StringKind}
 use Rattle.cborn_edn.specs.Shown.{shown_string, shown_more_chunks, shown_chunks, mark_for, indicator}
 use Rattle.cborn_edn.specs.devices.Texts.{AreTexts}
@@ -17,6 +16,8 @@ use Rattle.cborn_wire.specs.declared.heads.Head.{Head}
 use Rattle.cborn_wire.specs.declared.heads.Argument.{Argument}
 use Rattle.cborn_wire.specs.declared.heads.Argument.TheVariants as arguments
 use Rattle.cborn_wire.specs.HeadReading.{major_at, IsHeadOf, seen_argument, ArgumentFits}
+use Rattle.cborn_wire.proofs.Machine.SoundItems.{fits_chunks-snoc, chunk_bytes-snoc}
+use Rattle.cborn_wire.proofs.Spelled.AllBytes.{bytes-left}
 use Rattle.cborn_show.specs.Passed.{StringShown, ChunkShown, ChunksShown, LongStringShown, kind_of, major_of, shown_chunk, shown_content}
 
 pub head_split : (x : List ℕ) (h : Head) (n : ℕ) → IsHeadOf x h n → x ≡ head (major_at h.major) (seen_argument h.argument) ++ drop n x
@@ -42,17 +43,9 @@ chunk_shown text x tail rest old new h n k w t i e f c =
 pub chunks_none : (text : Bool) (input old : List ℕ) → ChunksShown text input input old old
 chunks_none text input old = record { chunks = []; read = refl; fits = tt; good = λ e. tt; written = sym (append-nil old) }
 
-bytes_more : (m : Major) (cs : List Chunk) (c : Chunk) → flat_map (chunk_bytes m) (cs ++ c ∷ []) ≡ flat_map (chunk_bytes m) cs ++ chunk_bytes m c
-bytes_more m [] c = append-nil (chunk_bytes m c)
-bytes_more m (d ∷ cs) c = ap (λ l. chunk_bytes m d ++ l) (bytes_more m cs c) ∙ sym (append_assoc (chunk_bytes m d) (flat_map (chunk_bytes m) cs) (chunk_bytes m c))
-
 shown_more : (k : StringKind) (cs : List Chunk) (c : Chunk) → shown_more_chunks k (cs ++ c ∷ []) ≡ shown_more_chunks k cs ++ (codes ", " ++ shown_string k c.width c.bytes)
 shown_more k [] c = ap (λ l. codes ", " ++ l) (append-nil (shown_string k c.width c.bytes))
 shown_more k (d ∷ cs) c = ap (λ l. codes ", " ++ (shown_string k d.width d.bytes ++ l)) (shown_more k cs c) ∙ simp append_assoc
-
-fit_more : (cs : List Chunk) (c : Chunk) → ChunksFit cs → ChunksFit (c ∷ []) → ChunksFit (cs ++ c ∷ [])
-fit_more [] c f g = g
-fit_more (d ∷ cs) c f g = (f.0, fit_more cs c f.1 g)
 
 text_more : (cs : List Chunk) (c : Chunk) → AreTexts cs → AreTexts (c ∷ []) → AreTexts (cs ++ c ∷ [])
 text_more [] c f g = g
@@ -61,8 +54,8 @@ text_more (d ∷ cs) c f g = (f.0, text_more cs c f.1 g)
 pub chunks_more : (text : Bool) (input mid rest old half comma new : List ℕ) → ChunksShown text input mid old half → comma ≡ half ++ codes ", " → ChunkShown text mid rest comma new → ChunksShown text input rest old new
 chunks_more text input mid rest old half comma new s b c = record {
   chunks = s.chunks ++ c.chunk ∷ [];
-  read = s.read ∙ ap (λ l. flat_map (chunk_bytes (major_of text)) s.chunks ++ l) c.read ∙ sym (append_assoc (flat_map (chunk_bytes (major_of text)) s.chunks) (chunk_bytes (major_of text) c.chunk) rest) ∙ ap (λ l. l ++ rest) (sym (bytes_more (major_of text) s.chunks c.chunk));
-  fits = fit_more s.chunks c.chunk s.fits (c.fits, tt);
+  read = s.read ∙ ap (λ l. flat_map (chunk_bytes (major_of text)) s.chunks ++ l) c.read ∙ sym (append_assoc (flat_map (chunk_bytes (major_of text)) s.chunks) (chunk_bytes (major_of text) c.chunk) rest) ∙ ap (λ l. l ++ rest) (sym (chunk_bytes-snoc (major_of text) s.chunks c.chunk));
+  fits = fits_chunks-snoc s.chunks c.chunk s.fits c.fits.0 c.fits.1;
   good = λ e. text_more s.chunks c.chunk (s.good e) (c.good e, tt);
   written = c.written ∙ ap (λ l. l ++ shown_chunk text c.chunk) (b ∙ ap (λ l. l ++ codes ", ") s.written)
       ∙ append_assoc (old ++ shown_more_chunks (kind_of text) s.chunks) (codes ", ") (shown_chunk text c.chunk)
@@ -89,10 +82,6 @@ long_string_shown text input mid after rest old o1 o2 o3 new a c s e d = record 
     whole true = refl
     whole false = refl
 
-bytes_left : (a b : List ℕ) → AreBytes (a ++ b) → AreBytes a
-bytes_left [] b h = tt
-bytes_left (x ∷ a) b h = (h.0, bytes_left a b h.1)
-
 pub string_taken : (text : Bool) (w : Width) (n : ℕ) (input x rest old mid new : List ℕ) → n ≤ length input → x ≡ take n input → rest ≡ drop n input → AreBytes input → (text ≡ true → is_utf8 x ≡ true) → mid ≡ old ++ shown_content text x → new ≡ mid ++ indicator (mark_for w n)
     → StringShown text w n input rest old new
 string_taken text w n input x rest old mid new l f b bs g a d =
@@ -101,7 +90,7 @@ string_taken text w n input x rest old mid new l f b bs g a d =
       content = x;
       read = sym (take-append-drop n input) ∙ (λ i. sym f i ++ sym b i);
       len = len;
-      bytes = subst AreBytes (sym f) (bytes_left (take n input) (drop n input) (subst AreBytes (sym (take-append-drop n input)) bs));
+      bytes = subst AreBytes (sym f) (bytes-left (take n input) (drop n input) (subst AreBytes (sym (take-append-drop n input)) bs));
       good = g;
       written = string_written text w n x old mid new (sym len) a d;
     }

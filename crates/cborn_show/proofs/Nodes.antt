@@ -8,12 +8,13 @@ use Rattle.cborn_model.specs.declared.nodes.Chunk.{Chunk}
 use Rattle.cborn_model.specs.declared.heads.Major.{Major}
 use Rattle.cborn_model.specs.declared.heads.Major.TheVariants.{Unsigned, Negative, ByteString, TextString, Array, Map, Tag, Other}
 use Rattle.cborn_model.specs.Heads.{Given, Unbounded, head, WidthFits, following, least}
-use Rattle.cborn_model.specs.Spelled.{spelled, spelled_all, spelled_entries, Fits, FitsAll, FitsEntries, chunk_bytes, ending}
+use Rattle.cborn_model.specs.Spelled.{spelled, spelled_all, spelled_entries, Fits, FitsEntries, chunk_bytes, ending}
 use Rattle.cborn_model.specs.Tree.{Tree, Uint, Nint, Bytes, Text, ByteChunks, TextChunks, Items, Pairs, Tagged, Simple, trees, entries, depth, depth_all, depth_entries, count, count_entries}
 use Rattle.cborn_model.proofs.Listed.Trees.{count-trees, count_entries-entries}
 use Rattle.cborn_edn.specs.devices.Between.{between, separated}
 use Rattle.cborn_edn.specs.Shown.{mark_for, indicator, opened, shown}
 use Rattle.cborn_edn.specs.devices.Texts.{IsShowable, EachShowable, ArePairsShowable}
+use Rattle.cborn_edn.proofs.Shown.Characters.{fits_last}
 use Rattle.cborn_edn.proofs.Shown.Separated.{separated-push, all-separated, entries-separated, shown_items, shown_pairs}
 use Rattle.cborn_wire.specs.declared.heads.Argument.{Argument}
 use Rattle.cborn_wire.specs.declared.heads.Argument.TheVariants as arguments
@@ -110,10 +111,6 @@ spelled_more : (ts : List Tree) (t : Tree) → spelled_all (trees (ts ++ t ∷ [
 spelled_more [] t = append-nil (spelled t)
 spelled_more (u ∷ ts) t = ap (λ l. spelled u ++ l) (spelled_more ts t) ∙ sym (append_assoc (spelled u) (spelled_all (trees ts)) (spelled t))
 
-fits_more : (ts : List Tree) (t : Tree) → FitsAll (trees ts) → Fits t → FitsAll (trees (ts ++ t ∷ []))
-fits_more [] t f g = (g, tt)
-fits_more (u ∷ ts) t f g = (f.0, fits_more ts t f.1 g)
-
 depth_more : (ts : List Tree) (t : Tree) (d : ℕ) → depth_all (trees ts) ≤ d → depth t ≤ d → depth_all (trees (ts ++ t ∷ [])) ≤ d
 depth_more [] t d f g = omega (arith, g)
 depth_more (u ∷ ts) t d f g = omega (arith, depth_more ts t d (omega (arith, f)) g, f)
@@ -137,7 +134,7 @@ module _ (room : ℕ) where
   nodes_more sep n input mid rest old out half new s b t = record {
     nodes = s.nodes ++ t.node ∷ [];
     read = s.read ∙ ap (λ l. spelled_all (trees s.nodes) ++ l) t.read ∙ sym (append_assoc (spelled_all (trees s.nodes)) (spelled t.node) rest) ∙ ap (λ l. l ++ rest) (sym (spelled_more s.nodes t.node));
-    fits = fits_more s.nodes t.node s.fits t.fits;
+    fits = fits_last s.nodes t.node s.fits t.fits;
     shallow = depth_more s.nodes t.node room s.shallow t.shallow;
     showable = showable_more s.nodes t.node s.showable t.showable;
     written = written_more sep shown s.nodes t.node n old out half new s.count s.written b t.written;

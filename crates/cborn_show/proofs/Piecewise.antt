@@ -9,13 +9,13 @@ use Rattle.cborn_model.specs.declared.heads.Size.TheVariants.{Fixed, Endless}
 use Rattle.cborn_model.specs.declared.nodes.Chunk.{Chunk}
 use Rattle.cborn_model.specs.declared.heads.Major.{Major}
 use Rattle.cborn_model.specs.declared.heads.Major.TheVariants.{Unsigned, Negative, ByteString, TextString, Array, Map, Tag, Other}
-use Rattle.cborn_model.specs.Heads.{Argument, Given, Unbounded, least, head, argument, SizeFits}
+use Rattle.cborn_model.specs.Heads.{Argument, Given, Unbounded, least, head, argument}
 use Rattle.cborn_model.specs.Placed.{Placed, PlacedAll, PlacedEntries, ChunksPlaced}
 use Rattle.cborn_model.specs.Spelled.{spelled, spelled_all, spelled_entries, Fits, FitsAll, FitsEntries, ChunksFit, chunk_bytes, ending, Wellformed}
 use Rattle.cborn_model.specs.Tree.{Tree, Uint, Nint, Bytes, Text, ByteChunks, TextChunks, Items, Pairs, Tagged, Simple, Trees, no_item, more, Entries, no_entry, entry, count, count_entries}
 use Rattle.cborn_edn.specs.Shown.{IsBadText, IsBadAmong, IsBadInPairs, IsBadChunk, LowestBadText}
-use Rattle.cborn_wire.specs.HeadReading.{ArgumentFits}
 use Rattle.cborn_wire.specs.devices.Scanning.{content_of}
+use Rattle.cborn_wire.proofs.Machine.TakesItems.{size_fits}
 use Rattle.cborn_model.proofs.Numbers.Simples.{simple_fits}
 use Rattle.cborn_show.specs.devices.Pieces.{HeadedContent, piece_bytes, all_bytes, AllFit, BadAt, IsFirstBad}
 
@@ -109,10 +109,6 @@ chunks_fit m (k ∷ ks) cs s f g = ((f.0.0, s k.width (length k.bytes)), chunks_
 end_fits : (s : Size) (cs : List HeadedContent) → AllFit cs → AllFit (end_pieces s cs)
 end_fits (Fixed w) cs g = g
 end_fits Endless cs g = ((tt, refl), g)
-
-size_fits : (s : Size) (n : ℕ) → SizeFits s n → ArgumentFits (argument s n)
-size_fits (Fixed w) n f = f
-size_fits Endless n f = tt
 
 mutual
   node_fits : (t : Tree) (cs : List HeadedContent) → Fits t → AllFit cs → AllFit (pieces t cs)

@@ -12,7 +12,7 @@ use Rattle.cborn_model.specs.Spelled.{string as string_bytes, chunk_bytes, spell
 use Rattle.cborn_model.specs.Tree.{ByteChunks, TextChunks}
 use Rattle.cborn_lex.specs.declared.classes.Profile.{Profile}
 use Rattle.cborn_lex.specs.declared.classes.Mark.{Mark}
-use Rattle.cborn_lex.specs.declared.classes.Mark.TheVariants.{Absent, Endless, Wide}
+use Rattle.cborn_lex.specs.declared.classes.Mark.TheVariants.{Endless}
 use Rattle.cborn_lex.specs.declared.classes.Class.TheVariants.{Text, Bytes, EmbedOpen, EmbedClose, ChunkOpen, ParenClose, Comma}
 use Rattle.cborn_lex.specs.Tokens as lex
 use Rattle.cborn_lex.specs.Tokens.{begins}
@@ -23,6 +23,7 @@ use Rattle.cborn_edn.specs.declared.strings.StringKind.{StringKind}
 use Rattle.cborn_edn.specs.declared.strings.StringKind.TheVariants.{Bytes as OfBytes, Text as OfText}
 use Rattle.cborn_edn.specs.Syntax.{Piece, text as text_piece, bytes as bytes_piece, embedded, Pieces, piece, also, strings, StringsBefore, no_string, after_strings, string, chunked, tokens_of_piece, tokens_of_pieces, tokens_of_strings, tokens_of_content}
 use Rattle.cborn_edn.specs.Meaning.{and_then, when, width_for, is_absent, is_bare, is_bare_before, same_kind, kind_of, mark_of, kind, kind_after, kind_of_strings, place, last_piece, fits_kind, is_of_kind, is_good, string_node, chunked_node, marked_string, means_string, means_chunk, joined, joined_piece, means_strings, means_strings_before}
+use Rattle.cborn_edn.proofs.RoundTrip.Back.{marked_back, same_kind-same}
 use Rattle.cborn_spell.specs.Descent.{AddsString, AddsEmpty, major_of, major_type, suits, ClosesString, ClosesChunks, TokenAt, Ends, ItemTaken, RowTaken, PieceTaken, PiecesTaken, StringTaken, ChunksTaken, LettersTaken}
 use Rattle.cborn_spell.proofs.Allowing.{allows_none, allows_sum}
 use Rattle.cborn_spell.proofs.Taking.{set_head_done, Inner, no_inner, some_inner, comma_inner}
@@ -36,10 +37,6 @@ suits_self : (k : StringKind) → suits k k ≡ true
 suits_self OfText = refl
 suits_self OfBytes = refl
 
-same_self : (k : StringKind) → same_kind k k ≡ true
-same_self OfText = refl
-same_self OfBytes = refl
-
 code_is : (k : StringKind) → code (major_type k) ≡ major_of k
 code_is OfText = refl
 code_is OfBytes = refl
@@ -51,11 +48,6 @@ good_from OfText x h = is_utf8-from_IsUtf8 x (h refl)
 bare_all : (ps : Pieces) → is_bare_before ps ≡ true → is_absent (mark_of (last_piece ps)) ≡ true → is_bare ps ≡ true
 bare_all (piece p) h k = k
 bare_all (also ps p) h k = and_from _ _ h k
-
-marked_node : (mark : Mark) (ps : Pieces) (x : List ℕ) (w : Width) → width_for mark (length x) ≡ Some w → marked_string mark ps x ≡ Some (string_node (kind ps) (place ps) w x)
-marked_node Absent ps x w e = ap (λ o. and_then o (λ v. Some (string_node (kind ps) (place ps) v x))) e
-marked_node Endless ps x w e = cc
-marked_node (Wide u) ps x w e = ap (λ o. and_then o (λ v. Some (string_node (kind ps) (place ps) v x))) e
 
 node_spelled : (k : StringKind) (p : ℕ) (w : Width) (x : List ℕ) → spelled (string_node k p w x) ≡ string_bytes (major_type k) w x
 node_spelled OfBytes p w x = refl
@@ -196,7 +188,7 @@ module _ (profile : Profile) (text : List ℕ) where
         shallow = t.shallow;
         written = (
           string_node (kind ps) (place ps) t.width t.bytes,
-          ap (λ o. and_then o (means_string ps)) t.says ∙ ap (λ b. when b (marked_string (mark_of (last_piece ps)) ps t.bytes)) t.sound ∙ marked_node (mark_of (last_piece ps)) ps t.bytes t.width t.fits,
+          ap (λ o. and_then o (means_string ps)) t.says ∙ ap (λ b. when b (marked_string (mark_of (last_piece ps)) ps t.bytes)) t.sound ∙ marked_back (mark_of (last_piece ps)) ps t.bytes t.width t.fits,
           t.written ∙ ap (λ l. old ++ l) (ap (λ j. string_bytes (major_type j) t.width t.bytes) (sym t.of_kind) ∙ sym (node_spelled (kind ps) (place ps) t.width t.bytes)),
         );
       }
@@ -247,7 +239,7 @@ module _ (profile : Profile) (text : List ℕ) where
     strings_say b cs e h =
         ap (λ o. and_then o (λ ds. and_then (joined t.pieces) (λ x. when (same_kind (kind_after b (kind t.pieces)) (kind t.pieces)) (and_then (means_chunk t.pieces x) (λ c. Some (ds ++ c ∷ [])))))) e
         ∙ ap (λ o. and_then o (λ x. when (same_kind (kind_after b (kind t.pieces)) (kind t.pieces)) (and_then (means_chunk t.pieces x) (λ c. Some (cs ++ c ∷ []))))) t.says
-        ∙ ap (λ s. when s (and_then (means_chunk t.pieces t.bytes) (λ c. Some (cs ++ c ∷ [])))) ((λ i. same_kind (h i) (t.of_kind i)) ∙ same_self k)
+        ∙ ap (λ s. when s (and_then (means_chunk t.pieces t.bytes) (λ c. Some (cs ++ c ∷ [])))) ((λ i. same_kind (h i) (t.of_kind i)) ∙ same_kind-same k)
         ∙ ap (λ o. and_then o (λ c. Some (cs ++ c ∷ []))) chunk_says
 
   pub one_chunk : (n m room : ℕ) (k : StringKind) (old new : List ℕ) → StringTaken profile text n m room k old new → ChunksTaken profile text n m room k old new

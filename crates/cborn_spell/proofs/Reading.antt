@@ -1,17 +1,12 @@
 -- From what the code read to tokens.
-use Rattle.std.proofs.Common.{◌≡◌, subst, ℕ, zero, suc, ◌<◌, List, [], ◌∷◌, length, drop, get_or, true, eqb, Option, None, Some, arith}
+use Rattle.std.proofs.Common.{◌≡◌, subst, ℕ, zero, suc, ◌<◌, List, [], ◌∷◌, length, drop, get_or, true, eqb, Option, Some, arith}
 use Rattle.std.proofs.lemmas.Bool.{eq-eqb}
-use Rattle.std.specs.Prelude.{IfSome}
 use Rattle.cborn_lex.specs.Tokens.{begins}
 use Rattle.cborn_lex.specs.Lex.{Between, IsNext}
 use Rattle.cborn_lex.specs.declared.classes.Profile.{Profile}
 use Rattle.cborn_lex.specs.declared.classes.Class.{Class}
 use Rattle.cborn_lex.specs.declared.classes.Token.{Token}
 use Rattle.cborn_spell.specs.Descent.{TokenAt}
-
-pub under : {A : Type 0} {P Q : A → Type 0} (r : Option A) → ((x : A) → P x → Q x) → IfSome r P → IfSome r Q
-under None f h = h
-under (Some x) f h = f x h
 
 pub read_token : (profile : Profile) (text : List ℕ) (at : ℕ) (o : Option Token) (t : Token) (k : Class) → IsNext profile text at o → o ≡ Some t → t.class ≡ k → TokenAt profile text at t.stop k
 read_token profile text at o t k h e c = (t.start, subst (λ (j : Class). Between profile text at t.stop (record { start = t.start; stop = t.stop; class = j } ∷ [])) c (subst (IsNext profile text at) e h))

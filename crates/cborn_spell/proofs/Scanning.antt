@@ -1,6 +1,6 @@
 -- Tokens from the characters that were scanned.
-use Rattle.std.proofs.Common.{◌≡◌, refl, sym, ap, ◌∙◌, subst, ℕ, zero, suc, ◌+◌, ◌-◌, ◌*◌, ◌<◌, ◌≤◌, ◌^◌, List, [], ◌∷◌, ◌++◌, length, take, drop, get_or, Bool, true, false, ◌&&◌, ◌||◌, not, eqb, Ok, Some, inl, inr, arith, append-nil, length-drop}
-use Rattle.std.proofs.lemmas.Bool.{and_parts, and_from, cond-true, lt-ltb, ltb-true, ne_eqb, eqb-true, cases_Bool, false≢true}
+use Rattle.std.proofs.Common.{◌≡◌, refl, sym, ap, ◌∙◌, subst, ℕ, zero, suc, ◌+◌, ◌-◌, ◌*◌, ◌<◌, ◌≤◌, ◌^◌, List, [], ◌∷◌, ◌++◌, length, take, drop, get_or, Bool, true, false, ◌||◌, not, eqb, Ok, Some, inl, inr, arith, append-nil, length-drop}
+use Rattle.std.proofs.lemmas.Bool.{and_parts, and_from, and_right, cond-true, lt-ltb, ltb-true, ne_eqb, eqb-true, cases_Bool, false≢true}
 use Rattle.std.proofs.lemmas.List.{take_more, take_all, drop_all}
 use Rattle.std.proofs.lemmas.List.Folds.{list_all-append}
 use Rattle.std.proofs.lemmas.Str.{digit_value_digit}
@@ -130,10 +130,6 @@ ends_paren : (z : List ℕ) → begins goes_on z ≡ false → begins (λ c. eqb
 ends_paren [] h = refl
 ends_paren (c ∷ z) h = (or_none _ _ h).1
 
-and_no : (a b : Bool) → b ≡ false → (a && b) ≡ false
-and_no true b e = e
-and_no false b e = refl
-
 number_reads : (negative : Bool) (n : ℕ) (first body z : List ℕ) → list_all (λ d. is_digit d 10) body ≡ true → begins goes_on z ≡ false → integer negative (first ++ body) ≡ Ok n → ReadsNumber negative first body z (Read (signed negative n Absent))
 number_reads negative n first body z d e i = (
   false,
@@ -143,7 +139,7 @@ number_reads negative n first body z d e i = (
   record {
     run = record { pass = digits_pass is_numeral body refl (all_digits body d); ends = ends_numeral z e };
     indicator = ends_mark z e;
-    tagging = (refl, and_no (not negative) _ (ends_paren z e));
+    tagging = (refl, and_right (not negative) _ (ends_paren z e));
     whole = sym (append-nil body);
   },
   sym (ap (number_front negative false (Some Absent)) i),

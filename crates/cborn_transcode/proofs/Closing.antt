@@ -12,7 +12,7 @@ use Rattle.cborn_model.specs.Meaning.{joined_chunks, IsBignum}
 use Rattle.cborn_model.specs.declared.nodes.Chunk.{Chunk}
 use Rattle.cborn_model.specs.declared.heads.Size.TheVariants.{Endless}
 use Rattle.cborn_model.proofs.Numbers.SomeMagnitude.{magnitude_of}
-use Rattle.cborn_judge.proofs.Meaning.Meanings.{holds_below}
+use Rattle.cborn_det.proofs.Room.{holds_below}
 use Rattle.std.specs.List.{flat_map}
 use Rattle.cborn_det.specs.Appending.{Appends}
 use Rattle.cborn_wire.specs.declared.heads.Argument.{Argument}

@@ -19,6 +19,7 @@ use Rattle.cborn_wire.specs.declared.heads.Argument.{Argument}
 use Rattle.cborn_wire.specs.declared.heads.Argument.TheVariants as arguments
 use Rattle.cborn_wire.specs.HeadReading.{major_at, IsHeadOf, seen_argument, ArgumentFits}
 use Rattle.cborn_wire.proofs.Machine.SoundItems.{fits_chunks-snoc, chunk_bytes-snoc}
+use Rattle.cborn_wire.proofs.Spelled.AllBytes.{bytes-left, bytes-right}
 use Rattle.cborn_judge.proofs.FirstFlaw.Texts.{are_text}
 use Rattle.cborn_transcode.specs.Transcoding.{ContentTaken, ChunkTaken, ChunksTaken, LongStringTaken, BignumTaken}
 
@@ -67,18 +68,10 @@ long_string_taken major n input after rest old mid new h s e l =
 
 -- ---- integers outside 64 bits
 
-pub bytes_left : (a b : List ℕ) → AreBytes (a ++ b) → AreBytes a
-bytes_left [] b h = tt
-bytes_left (x ∷ a) b h = (h.0, bytes_left a b h.1)
-
-pub bytes_right : (a b : List ℕ) → AreBytes (a ++ b) → AreBytes b
-bytes_right [] b h = h
-bytes_right (x ∷ a) b h = bytes_right a b h.1
-
 pub bytes_behind : (x tail : List ℕ) (h : Head) (n k : ℕ) → tail ≡ drop n x → IsHeadOf x h n → AreBytes x → AreBytes (take k tail)
 bytes_behind x tail h n k t i b =
     let split : x ≡ head (major_at h.major) (seen_argument h.argument) ++ (take k tail ++ drop k tail) = head_split x h n i ∙ ap (λ l. head (major_at h.major) (seen_argument h.argument) ++ l) (sym t ∙ sym (take-append-drop k tail)) in
-    bytes_left (take k tail) (drop k tail) (bytes_right (head (major_at h.major) (seen_argument h.argument)) (take k tail ++ drop k tail) (subst AreBytes split b))
+    bytes-left (take k tail) (drop k tail) (bytes-right (head (major_at h.major) (seen_argument h.argument)) (take k tail ++ drop k tail) (subst AreBytes split b))
 
 pub bignum_taken : (x tail old new digits : List ℕ) (h : Head) (n k : ℕ) (w : Width) (negative : Bool) → tail ≡ drop n x → IsHeadOf x h n → major_at h.major ≡ ByteString → h.argument ≡ arguments.Given w k → k ≤ length tail → AreBytes x
     → AreBytes digits → IsShortest digits → big_endian digits ≡ big_endian (take k tail) → Appends (IsInteger negative digits) old new

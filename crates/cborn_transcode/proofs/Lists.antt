@@ -12,6 +12,7 @@ use Rattle.cborn_model.specs.Value.{Value, values_of, array}
 use Rattle.cborn_model.specs.Meaning.{Means, AllMean}
 use Rattle.cborn_det.specs.Det.{DetSeq}
 use Rattle.cborn_det.specs.Appending.{Appends, Replaces}
+use Rattle.cborn_model.proofs.Listed.Trees.{count-trees}
 use Rattle.cborn_det.proofs.Steps.{items_done}
 use Rattle.cborn_transcode.specs.Transcoding.{ItemTranscoded, ItemsTranscoded, IsTranscoded}
 
@@ -44,10 +45,6 @@ all_mean [] [] h = tt
 all_mean [] (v ∷ vs) h = absurd h
 all_mean (t ∷ ts) [] h = absurd h
 all_mean (t ∷ ts) (v ∷ vs) h = (h.0, all_mean ts vs h.1)
-
-count-trees : (ts : List Tree) → count (trees ts) ≡ length ts
-count-trees [] = refl
-count-trees (t ∷ ts) = ap suc (count-trees ts)
 
 module _ (order : List ℕ → List ℕ → Ordering) where
   det_append : (vs ws : List Value) (x y : List ℕ) → DetSeq order vs x → DetSeq order ws y → DetSeq order (vs ++ ws) (x ++ y)

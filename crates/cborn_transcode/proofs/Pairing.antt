@@ -1,6 +1,5 @@
 -- Pairs one after another, and maps of them.
-use Rattle.std.proofs.Common.{◌≡◌, ℕ, suc, ◌+◌, ◌-◌, ◌≤◌, List, [], ◌∷◌, ◌++◌, length, take, drop, refl, sym, ap, ◌∙◌, subst, arith, append_assoc, append-nil, length-append, take_at, drop_at, Ordering, Less, Equal, Greater, false, Bool, true≢false, is_eq, IsPermutation}
-use Rattle.std.specs.Ordering.{ordering_reverse}
+use Rattle.std.proofs.Common.{◌≡◌, ℕ, ◌+◌, ◌-◌, ◌≤◌, List, [], ◌∷◌, ◌++◌, length, take, drop, refl, sym, ap, ◌∙◌, subst, arith, append_assoc, append-nil, length-append, take_at, drop_at, Ordering, Less, false, true≢false, is_eq, IsPermutation}
 use Rattle.std.specs.List.{AllByRecursion, IsDistinct}
 use Rattle.std.proofs.lemmas.List.Sorted.{IsPermutation-sym}
 use Rattle.std.proofs.lemmas.Map.Keys.{IsDistinct-IsPermutation}
@@ -14,11 +13,13 @@ use Rattle.cborn_model.specs.Value.{Value, Couples, no_pairs, pair, pairs_of, di
 use Rattle.cborn_model.specs.Valid.{IsProper, HasProperPairs, IsNew, HasNewKeys}
 use Rattle.cborn_model.specs.Meaning.{Means, EntriesMean}
 use Rattle.cborn_model.specs.Orders.{IsKeyOrder, Rising}
+use Rattle.cborn_model.proofs.Listed.Trees.{count_entries-entries}
 use Rattle.cborn_model.proofs.Listed.Values.{pair_count-pairs_of}
 use Rattle.cborn_judge.proofs.Meaning.Meanings.{Short, left, entries_valid}
 use Rattle.cborn_det.specs.Det.{Det, DetPairs, Entry, joined, keys}
 use Rattle.cborn_det.specs.devices.Writing.{HasDistinctKeys}
 use Rattle.cborn_det.specs.Appending.{Appends, Replaces}
+use Rattle.cborn_det.proofs.Arranging.{Tied, tied_turned}
 use Rattle.cborn_det.proofs.Canon.{one_of_same}
 use Rattle.cborn_det.proofs.Room.{counted_pairs}
 use Rattle.cborn_det.proofs.Steps.{map_done, pairs_push}
@@ -92,37 +93,26 @@ module _ (order : List ℕ → List ℕ → Ordering) where
   -- ---- keys that rise are the same as none of the others
 
   module _ (laws : IsKeyOrder order) where
-    abbrev Tied : Entry → Entry → Bool
-    Tied e f = is_eq (order e.0 f.0)
-
-    tied_turned : (e f : Entry) → Tied e f ≡ Tied f e
-    tied_turned e f = by (order e.0 f.0) ∙ sym (ap is_eq (laws.turned e.0 f.0))
-      where
-        by : (o : Ordering) → is_eq o ≡ is_eq (ordering_reverse o)
-        by Less = refl
-        by Equal = refl
-        by Greater = refl
-
-    untied : (e : Entry) (es : List Entry) → AllByRecursion (λ (f : Entry). order e.0 f.0 ≡ Less) es → AllByRecursion (λ (f : Entry). Tied e f ≡ false) es
+    untied : (e : Entry) (es : List Entry) → AllByRecursion (λ (f : Entry). order e.0 f.0 ≡ Less) es → AllByRecursion (λ (f : Entry). Tied order laws e f ≡ false) es
     untied e [] h = tt
     untied e (f ∷ es) h = (ap is_eq h.0, untied e es h.1)
 
-    distinct_rising : (es : List Entry) → Rising order (keys es) → IsDistinct Tied es
+    distinct_rising : (es : List Entry) → Rising order (keys es) → IsDistinct (Tied order laws) es
     unfolding IsDistinct
     distinct_rising [] r = tt
     distinct_rising (e ∷ es) r = (untied e es (rises_after order laws e es r), distinct_rising es (rising_tail order laws e es r))
 
-    apart_all : (e : Entry) (es : List Entry) → AllByRecursion (λ (f : Entry). Tied e f ≡ false) es → AllByRecursion (λ (f : Entry). e.0 ≡ f.0 → ⊥) es
+    apart_all : (e : Entry) (es : List Entry) → AllByRecursion (λ (f : Entry). Tied order laws e f ≡ false) es → AllByRecursion (λ (f : Entry). e.0 ≡ f.0 → ⊥) es
     apart_all e [] h = tt
     apart_all e (f ∷ es) h = ((λ q. true≢false (sym (ap is_eq (laws.itself e.0)) ∙ ap (λ l. is_eq (order e.0 l)) q ∙ h.0)), apart_all e es h.1)
 
-    apart : (es : List Entry) → IsDistinct Tied es → HasDistinctKeys es
+    apart : (es : List Entry) → IsDistinct (Tied order laws) es → HasDistinctKeys es
     unfolding IsDistinct
     apart [] h = tt
     apart (e ∷ es) h = (apart_all e es h.0, apart es h.1)
 
     distinct_moved : (es fs : List Entry) → IsPermutation es fs → Rising order (keys fs) → HasDistinctKeys es
-    distinct_moved es fs p r = apart es (IsDistinct-IsPermutation Tied tied_turned fs es (IsPermutation-sym es fs p) (distinct_rising fs r))
+    distinct_moved es fs p r = apart es (IsDistinct-IsPermutation (Tied order laws) (tied_turned order laws) fs es (IsPermutation-sym es fs p) (distinct_rising fs r))
 
     new_key : (k : Value) (x : List ℕ) (ps : Couples) (es : List Entry) → IsProper k → Det order k x → HasProperPairs ps → DetPairs order ps es → AllByRecursion (λ (f : Entry). x ≡ f.0 → ⊥) es → IsNew k ps
     new_key k x no_pairs es p d q h a = tt
@@ -134,17 +124,13 @@ module _ (order : List ℕ → List ℕ → Ordering) where
     new_keys (pair k v ps) [] q h a = absurd h
     new_keys (pair k v ps) (e ∷ es) q h a = (new_key k e.0 ps es q.0 h.0 q.2 h.2 a.0, new_keys ps es q.2 h.2 a.1)
 
-    count-entries : (ns : List (Tree × Tree)) → count_entries (entries ns) ≡ length ns
-    count-entries [] = refl
-    count-entries (n ∷ ns) = ap suc (count-entries ns)
-
     -- the pairs of a map are the pairs of an item
     abbrev IsMapOf : (n : ℕ) → List (Tree × Tree) → List (Value × Value) → Type 0
     IsMapOf n ns ps = (n ≡ length ps) × (count_entries (entries ns) ≡ n) × HasNewKeys (pairs_of ps)
 
     map_of : (room n : ℕ) (input rest old new : List ℕ) → Short input → (s : MapTranscoded order room n input rest old new) → IsMapOf n s.nodes s.items
     map_of room n input rest old new l s =
-        let c : count_entries (entries s.nodes) ≡ n = count-entries s.nodes ∙ s.count in
+        let c : count_entries (entries s.nodes) ≡ n = count_entries-entries s.nodes ∙ s.count in
         let short : Short (spelled_entries (entries s.nodes)) = left (spelled_entries (entries s.nodes)) rest (subst Short s.read l) in (
           sym c ∙ sym (counted_pairs (entries s.nodes) (pairs_of s.items) s.meant) ∙ pair_count-pairs_of s.items,
           c,

@@ -1,17 +1,14 @@
 -- Items that stand as they are encoded.
-use Rattle.std.proofs.Common.{◌≡◌, ◌≢◌, ℕ, ◌+◌, ◌-◌, ◌⊎◌, ◌<◌, ◌≤◌, inl, inr, List, [], ◌∷◌, ◌++◌, length, take, drop, drop_at, IsPermutation, Bool, true, false, refl, sym, ap, ◌∙◌, subst, arith, append_assoc, append-nil, length-append, Option, Some, None, Bor, Ordering, Equal}
+use Rattle.std.proofs.Common.{◌≡◌, ◌≢◌, ℕ, ◌+◌, ◌-◌, ◌⊎◌, ◌<◌, ◌≤◌, List, [], ◌∷◌, ◌++◌, length, take, drop, drop_at, IsPermutation, Bool, true, false, refl, sym, ap, ◌∙◌, subst, arith, append_assoc, append-nil, length-append, Option, Some, None, Bor, Ordering, Equal}
 use Rattle.std.specs.Prelude.{IfSome, IsTrue}
 use Rattle.std.proofs.lemmas.List.{map-append, take-append-drop, length-take-le, length-drop}
 use Rattle.std.proofs.lemmas.List.Sorted.{IsPermutation-refl}
-use Rattle.std.proofs.lemmas.Bool.{lt-ltb, le-ltb}
 use Rattle.cborn_model.specs.declared.heads.Width.{Width}
-use Rattle.cborn_model.specs.declared.heads.Width.TheVariants.{Direct, One}
 use Rattle.cborn_model.specs.Bytes.{AreBytes, IsShortest}
 use Rattle.cborn_model.specs.declared.heads.Major.{Major}
 use Rattle.cborn_model.specs.declared.heads.Major.TheVariants.{Unsigned, Negative, ByteString, TextString, Array, Map, Tag, Other}
 use Rattle.cborn_model.specs.Heads.{code, Given, head, head_bytes, WidthFits, least, IsLeastHead, is_simple_value}
 use Rattle.cborn_model.specs.Tree.{Simple, Bytes}
-use Rattle.cborn_model.specs.Spelled.{Fits}
 use Rattle.cborn_model.specs.Value.{simple}
 use Rattle.cborn_model.specs.Orders.{IsKeyOrder, Rising}
 use Rattle.cborn_model.proofs.Numbers.OneHead.{append_same}
@@ -25,7 +22,8 @@ use Rattle.cborn_wire.specs.HeadReading.{major_at, IsHeadOf, seen_argument, Argu
 use Rattle.cborn_transcode.specs.declared.entries.Span.{Span}
 use Rattle.cborn_transcode.specs.Transcoding.{all_spanned, StringTaken, BignumTaken, ItemTranscoded, ItemsTranscoded, MapTranscoded, IsTranscoded}
 use Rattle.cborn_transcode.specs.devices.Walking.{Leaves, IsLast, LeastHeadRead, ContentWalked, BignumWalked, ItemWalked, ItemsWalked, PairsFound, PairsWalked, WalkedBehind}
-use Rattle.cborn_transcode.proofs.Heading.{head_split, big_integer, bytes_left, bytes_right}
+use Rattle.cborn_wire.proofs.Spelled.AllBytes.{bytes-left, bytes-right}
+use Rattle.cborn_transcode.proofs.Heading.{head_split, big_integer}
 use Rattle.cborn_transcode.proofs.Closing.{uint_done, nint_done, bytes_done, text_done, bignum_done, tagged_done}
 use Rattle.cborn_transcode.proofs.Lists.{all_none, all_more, array_done, normalised}
 use Rattle.cborn_transcode.proofs.Keying.{spans_more, joined_more, one_spanned, spanned_between}
@@ -49,7 +47,7 @@ bignum_found x tail content rest major n h e c r long l b s =
       content = content;
       fits = subst (λ k. WidthFits (least k) k) (sym len) h.fits;
       read = split ∙ (λ j. head (e j) (Given (least (sym len j)) (sym len j)) ++ (content ++ rest));
-      bytes = bytes_left content rest (bytes_right (head major (Given (least n) n)) (content ++ rest) (subst AreBytes split b));
+      bytes = bytes-left content rest (bytes-right (head major (Given (least n) n)) (content ++ rest) (subst AreBytes split b));
       shortest = s;
       long = omega (arith, len);
     }

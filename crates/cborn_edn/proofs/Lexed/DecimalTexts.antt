@@ -1,6 +1,6 @@
 -- Numbers and tags of the fixed notation, as pieces.
-use Rattle.std.proofs.Common.{◌≡◌, refl, sym, ap, ◌∙◌, subst, ℕ, suc, ◌+◌, ◌*◌, ◌^◌, ◌<◌, ◌%◌, List, [], ◌∷◌, ◌++◌, length, get_or, Bool, true, false, ◌&&◌, ◌||◌, not, eqb, inl, inr, Ok, Some, decimal, append-nil, arith, length-append}
-use Rattle.std.proofs.lemmas.Bool.{and_from, cond-true, cond-false, lt-ltb, ne_eqb, cases_lt}
+use Rattle.std.proofs.Common.{◌≡◌, refl, sym, ap, ◌∙◌, subst, ℕ, suc, ◌+◌, ◌*◌, ◌^◌, ◌<◌, ◌%◌, List, [], ◌∷◌, ◌++◌, length, get_or, Bool, true, false, ◌||◌, not, eqb, inl, inr, Ok, Some, decimal, append-nil, arith, length-append}
+use Rattle.std.proofs.lemmas.Bool.{and_from, and_right, cond-true, cond-false, lt-ltb, ne_eqb, cases_lt}
 use Rattle.std.proofs.Math.ListN.{get_or-append}
 use Rattle.std.proofs.lemmas.Fmt.{decimal_digit, decimal_is_IsNumeral_wide, decimal_by_steps_wide}
 use Rattle.std.proofs.lemmas.Str.Parse.{digit_from_value}
@@ -101,10 +101,6 @@ no_numeral Absent z h e = e
 no_numeral (Wide Direct) z h e = e
 no_numeral _ z h e = refl
 
-and_false : (a b : Bool) → b ≡ false → (a && b) ≡ false
-and_false true b e = e
-and_false false b e = refl
-
 reads_number : (negative : Bool) (first body : List ℕ) (n : ℕ) (m : Mark) (z : List ℕ) → IsMark m → Closes z → AllDigits 10 body → integer negative (first ++ body) ≡ Ok n → ReadsNumber negative first (body ++ indicator m) z (Read (signed negative n m))
 reads_number negative first body n m z h k d e = (
   false,
@@ -114,7 +110,7 @@ reads_number negative first body n m z h k d e = (
   record {
     run = record { pass = digits_pass is_numeral body refl d; ends = no_numeral m z h k.no_numeral };
     indicator = indicates m z h k.no_word k.no_mark;
-    tagging = (refl, and_false (not negative) _ k.no_paren);
+    tagging = (refl, and_right (not negative) _ k.no_paren);
     whole = ap (λ x. body ++ x) (sym (append-nil (indicator m)));
   },
   sym (ap (λ o. number_front negative false o (integer negative (first ++ body))) (mark_is m h) ∙ ap (number_front negative false (Some m)) e),

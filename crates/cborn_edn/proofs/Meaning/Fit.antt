@@ -10,6 +10,7 @@ use Rattle.cborn_model.specs.declared.heads.Size.TheVariants.{Fixed}
 use Rattle.cborn_model.specs.declared.nodes.Chunk.{Chunk}
 use Rattle.cborn_model.specs.Tree.{Tree, Uint, Nint, Bytes as ByteNode, Items, Pairs as PairNode, Tagged, Simple, Trees, no_item as no_node, more, Entries, no_entry, entry, count, count_entries, depth as node_depth, depth_all, depth_entries}
 use Rattle.cborn_model.specs.Heads.{holds, least, is_simple_value, WidthFits, SizeFits}
+use Rattle.cborn_model.proofs.Numbers.OneHead.{least_holds}
 use Rattle.cborn_model.proofs.Numbers.Simples.{simple_value}
 use Rattle.cborn_model.specs.Spelled.{ChunksFit, Fits, FitsAll, FitsEntries}
 use Rattle.cborn_lex.specs.declared.classes.Mark.{Mark}
@@ -44,16 +45,6 @@ holds_is One n e = ltb-true _ _ e
 holds_is Two n e = ltb-true _ _ e
 holds_is Four n e = ltb-true _ _ e
 holds_is Eight n e = ltb-true _ _ e
-
-least_holds : (n : ℕ) → n < 2 ^ 64 → WidthFits (least n) n
-least_holds n h = go (ltb n 24) refl (ltb n 256) refl (ltb n (2 ^ 16)) refl (ltb n (2 ^ 32)) refl
-  where
-    go : (a : Bool) → ltb n 24 ≡ a → (b : Bool) → ltb n 256 ≡ b → (c : Bool) → ltb n (2 ^ 16) ≡ c → (d : Bool) → ltb n (2 ^ 32) ≡ d → WidthFits (cond a Direct (cond b One (cond c Two (cond d Four Eight)))) n
-    go true e b f c g d i = ltb-true _ _ e
-    go false e true f c g d i = ltb-true _ _ f
-    go false e false f true g d i = ltb-true _ _ g
-    go false e false f false g true i = ltb-true _ _ i
-    go false e false f false g false i = h
 
 pub width_holds : (m : Mark) (n : ℕ) (w : Width) → width_for m n ≡ Some w → WidthFits w n
 width_holds Absent n w e = let c = chosen (ltb n (2 ^ 64)) (Some (least n)) w e in subst (λ v. WidthFits v n) (some_is c.then) (least_holds n (ltb-true _ _ c.test))

@@ -14,6 +14,8 @@ use Rattle.cborn_model.specs.declared.heads.Major.TheVariants.{ByteString, TextS
 use Rattle.cborn_model.specs.Heads.{holds, following, least, is_simple_value, WidthFits, SizeFits}
 use Rattle.cborn_model.proofs.Numbers.Simples.{simple_below}
 use Rattle.cborn_model.specs.Spelled.{ChunksFit, Fits, FitsAll, FitsEntries, spelled, spelled_all, spelled_entries, chunk_bytes}
+use Rattle.cborn_wire.specs.devices.Machine.{append_trees}
+use Rattle.cborn_wire.proofs.Machine.TakesItems.{append_trees-nil, append_entries, append_entries-nil}
 use Rattle.cborn_lex.specs.declared.classes.Mark.{Mark}
 use Rattle.cborn_lex.specs.declared.classes.Mark.TheVariants.{Absent, Endless, Wide}
 use Rattle.cborn_edn.specs.Syntax.{Item, word, simple, string, Pieces, strings, StringsBefore, no_string, after_strings, row, RowBefore, no_item, after_row, pairs, PairsBefore, no_pair, after_pairs, depth, depth_of_strings, depth_of_strings_before, depth_of_row, depth_of_row_before, depth_of_content, depth_of_pairs, depth_of_pairs_before, depth_of_fields, depth_of_input}
@@ -67,7 +69,7 @@ size_back : (s : Size) (n k : ℕ) → k ≡ n → SizeFits s n → size_for (ma
 size_back Unending n k e h = refl
 size_back (Fixed w) n k e h = ap (size_for (mark_for w n)) e ∙ size_wide w n h
 
-marked_back : (m : Mark) (ps : Pieces) (x : List ℕ) (w : Width) → width_for m (length x) ≡ Some w → marked_string m ps x ≡ Some (string_node (kind ps) (place ps) w x)
+pub marked_back : (m : Mark) (ps : Pieces) (x : List ℕ) (w : Width) → width_for m (length x) ≡ Some w → marked_string m ps x ≡ Some (string_node (kind ps) (place ps) w x)
 marked_back Absent ps x w e = rw e refl
 marked_back Endless ps x w e = absurd (clash e)
   where
@@ -106,7 +108,7 @@ joined-one : (k : StringKind) (x : List ℕ) (m : Mark) → joined (one_piece k 
 joined-one OfBytes x m = refl
 joined-one OfText x m = refl
 
-same_kind-same : (k : StringKind) → same_kind k k ≡ true
+pub same_kind-same : (k : StringKind) → same_kind k k ≡ true
 same_kind-same OfBytes = refl
 same_kind-same OfText = refl
 
@@ -160,25 +162,9 @@ pub count-unplaced_entries : (es : Entries) → count_entries (unplaced_entries 
 count-unplaced_entries no_entry = refl
 count-unplaced_entries (entry k v es) = ap suc (count-unplaced_entries es)
 
-abbrev append_trees : Trees → Trees → Trees
-append_trees no_node ts = ts
-append_trees (more u us) ts = more u (append_trees us ts)
-
-abbrev append_entries : Entries → Entries → Entries
-append_entries no_entry es = es
-append_entries (entry k v ds) es = entry k v (append_entries ds es)
-
-append_trees-nil : (ts : Trees) → append_trees ts no_node ≡ ts
-append_trees-nil no_node = refl
-append_trees-nil (more t ts) = ap (more t) (append_trees-nil ts)
-
 append_trees-snoc : (us : Trees) (t : Tree) (ts : Trees) → append_trees (snoc us t) ts ≡ append_trees us (more t ts)
 append_trees-snoc no_node t ts = refl
 append_trees-snoc (more u us) t ts = ap (more u) (append_trees-snoc us t ts)
-
-append_entries-nil : (es : Entries) → append_entries es no_entry ≡ es
-append_entries-nil no_entry = refl
-append_entries-nil (entry k v es) = ap (entry k v) (append_entries-nil es)
 
 append_entries-snoc : (ds : Entries) (k v : Tree) (es : Entries) → append_entries (snoc_entry ds k v) es ≡ append_entries ds (entry k v es)
 append_entries-snoc no_entry k v es = refl

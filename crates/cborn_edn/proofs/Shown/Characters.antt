@@ -197,7 +197,7 @@ is_text nodes text fits shown = is_utf8-from_IsUtf8 text shown.0
 
 -- Nodes that fit, one after another.
 
-fits_last : (xs : List Tree) (x : Tree) → FitsAll (trees xs) → Fits x → FitsAll (trees (xs ++ x ∷ []))
+pub fits_last : (xs : List Tree) (x : Tree) → FitsAll (trees xs) → Fits x → FitsAll (trees (xs ++ x ∷ []))
 fits_last [] x h k = (k, tt)
 fits_last (y ∷ xs) x h k = (h.0, fits_last xs x h.1 k)
 

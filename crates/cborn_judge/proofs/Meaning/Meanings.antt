@@ -4,20 +4,19 @@ use Rattle.std.specs.Prelude.{IsUtf8}
 use Rattle.std.specs.List.{flat_map}
 use Rattle.std.proofs.lemmas.Bool.{cases_lt}
 use Rattle.std.proofs.lemmas.Str.{IsUtf8-append, IsUtf8-nil}
-use Rattle.cborn_model.proofs.Numbers.OneMagnitude.{one_magnitude, fewer, large}
+use Rattle.cborn_model.proofs.Numbers.OneMagnitude.{one_magnitude, large}
 use Rattle.cborn_model.specs.Value.{Value, Values, Couples, integer, bytes, text, array, dict, tagged, simple, no_values, value, no_pairs, pair}
 use Rattle.cborn_model.specs.Bytes.{big_endian, AreBytes, IsShortest}
 use Rattle.cborn_model.specs.Valid.{IsProper, AreProper, HasProperPairs, value_depth, values_depth, pairs_depth}
-use Rattle.cborn_model.specs.declared.heads.Width.{Width}
-use Rattle.cborn_model.specs.declared.heads.Width.TheVariants.{Direct, One, Two, Four, Eight}
 use Rattle.cborn_model.specs.declared.heads.Major.TheVariants.{ByteString, TextString, Array, Map, Tag}
-use Rattle.cborn_model.specs.Heads.{WidthFits, Given, Unbounded, head, argument}
+use Rattle.cborn_model.specs.Heads.{Given, Unbounded, head, argument}
 use Rattle.cborn_model.specs.declared.nodes.Chunk.{Chunk}
 use Rattle.cborn_model.specs.Tree.{Tree, Uint, Nint, Bytes, Text, ByteChunks, TextChunks, Items, Pairs, Tagged, Simple, Trees, no_item, more, Entries, no_entry, entry, count, count_entries, depth, depth_all, depth_entries}
 use Rattle.cborn_model.specs.declared.heads.Size.TheVariants.{Fixed, Endless}
-use Rattle.cborn_model.specs.Spelled.{ending, chunk_bytes, spelled, spelled_all, spelled_entries, Fits, FitsAll, FitsEntries, ChunksFit}
+use Rattle.cborn_model.specs.Spelled.{ending, chunk_bytes, spelled, spelled_all, spelled_entries, Fits, FitsAll, FitsEntries}
 use Rattle.cborn_judge.specs.Flaws.{Within, WithinAll, WithinEntries, IsWord}
 use Rattle.cborn_det.proofs.Room.{length_of_chunks, no_more, counted, counted_pairs}
+pub use Rattle.cborn_det.proofs.Room.{holds_below, joined_bytes}
 use Rattle.cborn_model.specs.Meaning.{joined_chunks, IsNumber, IsByteString, IsBignum, ChunksAreText, Means, AllMean, EntriesMean}
 
 -- ---- at most one
@@ -76,13 +75,6 @@ mutual
 
 -- ---- how many bytes a node spells
 
-pub holds_below : (w : Width) (n : ℕ) → WidthFits w n → n < 2 ^ 64
-holds_below Direct n h = omega arith
-holds_below One n h = omega arith
-holds_below Two n h = omega arith
-holds_below Four n h = omega arith
-holds_below Eight n h = h
-
 pub some_bytes : (t : Tree) → 1 ≤ length (spelled t)
 some_bytes (Uint p w n) = omega arith
 some_bytes (Nint p w n) = omega arith
@@ -116,14 +108,6 @@ Short x = length x < 2 ^ 64
 
 pub shortest_below : (m : List ℕ) (n : ℕ) → IsShortest m → big_endian m ≡ n → n < 2 ^ 64 → length m < 2 ^ 64
 shortest_below m n s e l = elim (cases_lt 8 (length m)) [ inl k ↦ absurd (let g = large m s k in omega arith) | inr k ↦ omega arith ]
-
-pub joined_bytes : (cs : List Chunk) → ChunksFit cs → AreBytes (joined_chunks cs)
-joined_bytes [] h = tt
-joined_bytes (c ∷ cs) h = are_bytes-append c.bytes (joined_chunks cs) h.0.1 (joined_bytes cs h.1)
-  where
-    are_bytes-append : (x y : List ℕ) → AreBytes x → AreBytes y → AreBytes (x ++ y)
-    are_bytes-append [] y h k = k
-    are_bytes-append (a ∷ x) y h k = (h.0, are_bytes-append x y h.1 k)
 
 pub joined_text : (cs : List Chunk) → ChunksAreText cs → IsUtf8 (joined_chunks cs)
 joined_text [] h = IsUtf8-nil

@@ -86,8 +86,8 @@ hex_one x b d h k =
     let n = k.2 in
     cc
 
-hex_none : (x : List ℕ) → strip false x ≡ None → (bytes : List ℕ) → IsHex x bytes → ⊥
-hex_none x e bytes h = let l = strip_is h.1 in cc
+pub hex_no_digits : (x : List ℕ) → strip false x ≡ None → (bytes : List ℕ) → IsHex x bytes → ⊥
+hex_no_digits x e bytes h = let l = strip_is h.1 in cc
 
 pub hex_err : (x ds : List ℕ) (f : FromHexError) → strip false x ≡ Some ds → decode_of ds ≡ Err f → (bytes : List ℕ) → IsHex x bytes → ⊥
 hex_err x ds f e h bytes t =
@@ -102,16 +102,13 @@ hex_decoded x ds (Ok bytes) e k h = inl (bytes, (ds, k, h))
 hex_decoded x ds (Err f) e k h = inr (hex_err x ds f e h)
 
 hex_from : (x : List ℕ) (o : Option (List ℕ)) → strip false x ≡ o → Stripped false x o → ((bytes : List ℕ) × IsHex x bytes) ⊎ ((bytes : List ℕ) → IsHex x bytes → ⊥)
-hex_from x None e k = inr (hex_none x e)
+hex_from x None e k = inr (hex_no_digits x e)
 hex_from x (Some ds) e k = hex_decoded x ds (decode_of ds) e k refl
 
 pub hex_cases : (x : List ℕ) → ((bytes : List ℕ) × IsHex x bytes) ⊎ ((bytes : List ℕ) → IsHex x bytes → ⊥)
 hex_cases x = hex_from x (strip false x) refl (strips false x)
 
 -- For the code.
-
-pub hex_no_digits : (x : List ℕ) → strip false x ≡ None → (bytes : List ℕ) → IsHex x bytes → ⊥
-hex_no_digits x e = hex_none x e
 
 from_option : (x ds : List ℕ) (o : Option (List ℕ)) → o ≡ Some ds → Stripped false x o → HasDigits x ds
 from_option x ds None e k = cc

@@ -6,14 +6,13 @@ use Rattle.cborn_edn.specs.declared.strings.StringKind.TheVariants.{Bytes as OfB
 use Rattle.cborn_spell.specs.Descent.{StringTaken}
 use Rattle.cborn_spell.proofs.Taking.{gap_item, before_none, row_more, row_comma, pairs_none, pairs_more, pairs_comma, array_done, no_array_done, map_done, no_map_done, tag_done, number_done, plain_number, below_number}
 use Rattle.cborn_spell.proofs.Joining.{gap_piece, embedded_done, no_embedded_done, one_piece, more_pieces, string_done, string_item, one_chunk, more_chunks, chunked_done}
-use Rattle.cborn_spell.proofs.Reading.{under}
+use Rattle.std.proofs.lemmas.Option.{IfSome_then}
 use Rattle.cborn_spell.proofs.+descent.Goals as goal
 
 pub items::put_item-returns-clause-taken : goal.items::put_item-returns-clause-taken
 items::put_item-returns-clause-taken t c =
-    under c.put_here.result
+    IfSome_then c.put_here.result c.put_here.ensures.taken
     (λ end s. gap_item c.args.profile c.args.text.now c.args.at c.in_ok-place.place end c.args.room c.args.out.now.items c.put_here.new.out.items c.in_ok-place.ensures.gap s)
-    c.put_here.ensures.taken
 
 pub items::put_common-returns-in-Some-decimal-clause-taken : goal.items::put_common-returns-in-Some-decimal-clause-taken
 items::put_common-returns-in-Some-decimal-clause-taken t c =
@@ -26,9 +25,8 @@ items::put_common-returns-in-Some-below_zero-clause-taken t c =
 pub items::put_tagged-returns-clause-taken : goal.items::put_tagged-returns-clause-taken
 items::put_tagged-returns-clause-taken t c =
     let h = c.in_ok-inner.ensures.head in
-    under c.behind.result
+    IfSome_then c.behind.result c.behind.ensures.token
     (λ end token. tag_done c.args.profile c.args.text.now c.args.at c.in_ok-inner.inner c.in_ok-last.last end c.args.room h.0 h.1 c.args.out.now.items c.put_tag_head.new.out.items c.put_item.new.out.items (omega (arith, c.if-room-eq0.false)) h.2 h.3 c.in_ok-last.ensures.taken (token ParenClose refl))
-    c.behind.ensures.token
 
 pub rows::put_array-returns-in-Some-clause-taken : goal.rows::put_array-returns-in-Some-clause-taken
 rows::put_array-returns-in-Some-clause-taken t c =
@@ -89,9 +87,8 @@ pub pieces::put_embedded_item-returns-clause-taken : goal.pieces::put_embedded_i
 pieces::put_embedded_item-returns-clause-taken t c =
     let start : c.len-start.result ≡ length c.args.out.now.items = search rules in
     let pushed : c.push.new.self.items ≡ c.args.out.now.items ++ 0 ∷ [] = search rules in
-    under c.put_joined_behind.result
+    IfSome_then c.put_joined_behind.result c.put_joined_behind.ensures.taken
     (λ end f. f c.args.at c.in_ok-inner.inner _ c.args.out.now.items c.push.new.self.items (omega (arith, c.if-room-eq0.false)) c.in_ok-inner.ensures.token start pushed c.in_ok-last.ensures.taken)
-    c.put_joined_behind.ensures.taken
 
 pub pieces::put_joined_behind-returns-clause-taken : goal.pieces::put_joined_behind-returns-clause-taken
 pieces::put_joined_behind-returns-clause-taken t c n inner k old one r o st e row =
@@ -129,11 +126,11 @@ pieces::put_piece-returns-then-stands-2-clause-taken t c =
 
 pub pieces::put_embedded-returns-then-is_void-clause-taken : goal.pieces::put_embedded-returns-then-is_void-clause-taken
 pieces::put_embedded-returns-then-is_void-clause-taken t c =
-    under c.embed_end.result (λ r b. no_embedded_done c.args.profile c.args.text.now c.args.at c.in_ok-inner.inner r.0 c.args.room r.1 c.args.out.now.items (omega (arith, c.if-room-eq0.false)) c.in_ok-inner.ensures.token b) c.embed_end.ensures.token
+    IfSome_then c.embed_end.result c.embed_end.ensures.token (λ r b. no_embedded_done c.args.profile c.args.text.now c.args.at c.in_ok-inner.inner r.0 c.args.room r.1 c.args.out.now.items (omega (arith, c.if-room-eq0.false)) c.in_ok-inner.ensures.token b)
 
 pub pieces::put_embedded-returns-clause-taken : goal.pieces::put_embedded-returns-clause-taken
 pieces::put_embedded-returns-clause-taken t c =
-    under c.embed_ending.result (λ r b. embedded_done c.args.profile c.args.text.now c.args.at c.in_ok-inner.inner c.in_ok-last.last r.0 c.args.room _ r.1 c.args.out.now.items c.put_row.new.out.items (omega (arith, c.if-room-eq0.false)) c.in_ok-inner.ensures.token c.in_ok-last.ensures.taken b) c.embed_ending.ensures.ends
+    IfSome_then c.embed_ending.result c.embed_ending.ensures.ends (λ r b. embedded_done c.args.profile c.args.text.now c.args.at c.in_ok-inner.inner c.in_ok-last.last r.0 c.args.room _ r.1 c.args.out.now.items c.put_row.new.out.items (omega (arith, c.if-room-eq0.false)) c.in_ok-inner.ensures.token c.in_ok-last.ensures.taken b)
 
 pub pieces::put_chunked-returns-clause-taken : goal.pieces::put_chunked-returns-clause-taken
 pieces::put_chunked-returns-clause-taken t c =

@@ -1,7 +1,8 @@
 use Rattle.std.proofs.Common.{rules, ◌∙◌, ap, refl}
 use Rattle.cborn_lex.specs.declared.classes.Class.TheVariants.{Text, Bytes}
 use Rattle.cborn_spell.proofs.Taking.{number_done, word_done}
-use Rattle.cborn_spell.proofs.Reading.{under, token_is}
+use Rattle.std.proofs.lemmas.Option.{IfSome_then}
+use Rattle.cborn_spell.proofs.Reading.{token_is}
 use Rattle.cborn_spell.proofs.Joining.{text_token_done, bytes_token_done}
 use Rattle.cborn_spell.proofs.tokens.put_leaf.Goals as goal
 
@@ -27,4 +28,4 @@ returns-in_ok-put_string-in-Bytes-clause-taken c =
 
 pub returns-in-SimpleOpen-clause-taken : goal.returns-in-SimpleOpen-clause-taken
 returns-in-SimpleOpen-clause-taken c =
-    under c.put_simple_item.result (λ end f. f c.args.at c.args.room (token_is c.args.profile c.args.text.now c.args.at c.in_ok-class.end _ _ c.in_ok-class.ensures.token c.in-SimpleOpen.is)) c.put_simple_item.ensures.taken
+    IfSome_then c.put_simple_item.result c.put_simple_item.ensures.taken (λ end f. f c.args.at c.args.room (token_is c.args.profile c.args.text.now c.args.at c.in_ok-class.end _ _ c.in_ok-class.ensures.token c.in-SimpleOpen.is))

@@ -1,11 +1,10 @@
 use Rattle.std.proofs.Common.{refl}
 use Rattle.cborn_lex.specs.declared.classes.Class.TheVariants.{ParenClose}
 use Rattle.cborn_spell.proofs.Taking.{simple_done}
-use Rattle.cborn_spell.proofs.Reading.{under}
+use Rattle.std.proofs.lemmas.Option.{IfSome_then}
 use Rattle.cborn_spell.proofs.tokens.put_simple_item.Goals as goal
 
 pub returns-clause-taken : goal.returns-clause-taken
 returns-clause-taken c =
-    under c.behind.result
+    IfSome_then c.behind.result c.behind.ensures.token
     (λ end token n room o. simple_done c.args.profile c.args.text.now n c.args.at c.in_ok-n.last end room c.in_ok-n.n c.args.out.now.items c.put_simple.new.out.items c.in_ok-n.ensures.small o c.in_ok-n.ensures.token (token ParenClose refl) c.in_ok-put_simple.ensures)
-    c.behind.ensures.token
