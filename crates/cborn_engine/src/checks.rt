@@ -139,8 +139,8 @@ fn search<O: KeyOrder>(
             Some(Err(EngineFault::Invalid(Invalid::Refused { place, reason })))
         }
         None => {
-            let defect = cborn_search::first_defect::<O>(alloc, limit, input)?;
-            Some(Ok(defect))
+            let defect = defect_of_items::<O>(alloc, limit, input)?;
+            Some(Ok(Some(defect)))
         }
     }
 }

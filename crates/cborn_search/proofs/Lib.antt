@@ -9,4 +9,3 @@ pub mod Opening
 pub mod Stopping
 pub mod Heads
 pub mod Walking
-pub mod Concluding

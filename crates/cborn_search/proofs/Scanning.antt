@@ -1,5 +1,5 @@
 -- The first flaw of single nodes, of chunks, of arrays and of tags.
-use Rattle.std.proofs.Common.{◌≡◌, ◌≢◌, ℕ, ◌+◌, ◌-◌, ◌⊎◌, ◌≤◌, inl, inr, List, [], ◌∷◌, ◌++◌, length, Bool, true, false, refl, sym, ap, subst, arith, drop, Option, None, Some}
+use Rattle.std.proofs.Common.{◌≡◌, ◌≢◌, ℕ, ◌+◌, ◌-◌, ◌⊎◌, ◌≤◌, inl, inr, List, [], ◌∷◌, ◌++◌, length, Bool, true, false, refl, sym, ap, subst, arith, Option, None, Some}
 use Rattle.std.specs.Prelude.{◌↔◌}
 use Rattle.cborn_model.specs.declared.heads.Major.{Major}
 use Rattle.cborn_model.specs.declared.heads.Width.{Width}
@@ -11,8 +11,7 @@ use Rattle.cborn_model.specs.Heads.{Given, Unbounded, head, WidthFits}
 use Rattle.cborn_model.specs.Meaning.{joined_chunks, IsByteString}
 use Rattle.cborn_model.specs.Tree.{Tree, Text, TextChunks, Items, Tagged, trees}
 use Rattle.cborn_wire.specs.declared.heads.Argument.{Argument}
-use Rattle.cborn_wire.specs.HeadReading.{major_at, IsHeadOf, seen_argument, ArgumentFits}
-use Rattle.cborn_wire.specs.declared.heads.Head.{Head}
+use Rattle.cborn_wire.specs.HeadReading.{seen_argument}
 use Rattle.cborn_judge.specs.Flaws.{FlawAt, Flaw, flaw_rank}
 use Rattle.cborn_judge.specs.devices.Judged.{FlawIn, ChunkFlaw}
 use Rattle.cborn_judge.specs.declared.faults.InvalidReason.{InvalidReason}
@@ -23,7 +22,7 @@ use Rattle.cborn_judge.proofs.FirstFlaw.Texts.{bad_after, bad_before, bad_last}
 use Rattle.cborn_judge.proofs.FirstFlaw.Walking.{one_more}
 use Rattle.cborn_search.specs.Reading.{StringRead, IsSimpleArgument}
 use Rattle.cborn_search.specs.Flawed.{Told, told_place, told_reason, IsEarliestTold, FindsTold, TextFlaw, BadChunk, ChunkSeen, ChunksSeen, IsKind, HasFlaw, Scanned, HaveFlaw, ScannedAll}
-use Rattle.cborn_search.proofs.Nodes.{uint_read, nint_read, bytes_read, text_read, simple_read, no_chunk, chunk_more, byte_chunks_read, text_chunks_read, no_node, node_more, array_read, endless_array_read, tagged_read}
+use Rattle.cborn_search.proofs.Nodes.{uint_read, nint_read, bytes_read, text_read, simple_read, no_chunk, chunk_more, byte_chunks_read, text_chunks_read, node_more, array_read, endless_array_read, tagged_read}
 
 pub both_told : (F G : ℕ → InvalidReason → Type 0) (a b o : Option Told) → FindsTold F a → FindsTold G b → IsEarliestTold a b o → FindsTold (Either F G) o
 both_told = found_both flaw_rank told_place told_reason

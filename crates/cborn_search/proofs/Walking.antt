@@ -16,8 +16,7 @@ use Rattle.cborn_model.specs.Valid.{IsProper}
 use Rattle.cborn_model.specs.Value.{Value}
 use Rattle.cborn_det.specs.Det.{Det}
 use Rattle.cborn_wire.specs.declared.heads.Argument.{Argument}
-use Rattle.cborn_wire.specs.declared.heads.Head.{Head}
-use Rattle.cborn_wire.specs.HeadReading.{major_at, IsHeadOf, seen_argument, ArgumentFits}
+use Rattle.cborn_wire.specs.HeadReading.{seen_argument}
 use Rattle.cborn_judge.specs.Departures.{FindsDefect, LongAt, NotAboveAt, LooseBytesAt}
 use Rattle.cborn_judge.specs.devices.Checked.{IsEarliestDefect, SizeAt, DefectIn, DefectAmong, DescentAt, TagDefect}
 use Rattle.cborn_judge.specs.Defects.{defect_rank, ChunksDefect, DefectAt, IsLoose}

@@ -7,10 +7,9 @@ use Rattle.cborn_model.specs.Placed.{PlacedAll}
 use Rattle.cborn_model.specs.Spelled.{Wellformed}
 use Rattle.cborn_model.specs.Tree.{Tree, trees}
 use Rattle.cborn_model.specs.Value.{Value, Values}
-use Rattle.cborn_judge.specs.Defects.{SequenceDefect, IsFirstOfSequence}
+use Rattle.cborn_judge.specs.Defects.{IsFirstOfSequence}
 use Rattle.cborn_judge.specs.Flaws.{IsRefusalOfAll}
 use Rattle.cborn_judge.specs.declared.defects.Defect.{Defect}
-use Rattle.cborn_judge.specs.declared.defects.DefectReason.{DefectReason}
 use Rattle.cborn_judge.specs.declared.faults.Invalid.TheVariants.{Refused}
 use Rattle.cborn_search.specs.Flawed.{Told}
 
@@ -25,18 +24,6 @@ pub record IsFirstFlawOf (limit : ℕ) (input : List ℕ) (flaw : Option Told) :
   pub read : Wellformed limit (trees nodes) input
   pub placed : PlacedAll 0 (trees nodes)
   pub verdict : FlawVerdict nodes flaw
-
--- of nodes that mean items: they have no defect, or this is the first
-abbrev pub DefectVerdict : (List ℕ → List ℕ → Ordering) → List Tree → Option Defect → Type 0
-DefectVerdict order nodes None = (p : ℕ) (r : DefectReason) → SequenceDefect order (trees nodes) p r → ⊥
-DefectVerdict order nodes (Some d) = (items : Values) → AllMean (trees nodes) items → IsFirstOfSequence order (trees nodes) d.place d.reason
-
--- the bytes are well-formed under the limit, and this is what the defects of the nodes that they spell say, each node at its offset
-pub record IsFirstDefectOf (order : List ℕ → List ℕ → Ordering) (limit : ℕ) (input : List ℕ) (defect : Option Defect) : Type 0 where
-  pub nodes : List Tree
-  pub read : Wellformed limit (trees nodes) input
-  pub placed : PlacedAll 0 (trees nodes)
-  pub verdict : DefectVerdict order nodes defect
 
 -- of whatever nodes the bytes spell under the limit, each at its offset, this is the first defect if they mean items
 abbrev pub IsFirstDefectOfItems : (List ℕ → List ℕ → Ordering) → ℕ → List ℕ → Defect → Type 0

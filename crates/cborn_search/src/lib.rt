@@ -1,11 +1,10 @@
 //! The first flaw, and the first defect, of the items that bytes hold, without a tree.
 //!
-//! [`first_flaw`] tells why bytes that are well-formed hold no items, or that they do;
-//! [`first_defect`] tells where bytes that hold items depart from their deterministic encodings.
-//! Each goes through the bytes once, writes nothing, and keeps no more than the encodings of the
-//! keys of the maps that it is in. Where they answer none, the reader and the judge, which keep
-//! trees, answer. [`defect_of_items`] is for bytes that are known to hold items: it tells the first
-//! defect, and reads no further.
+//! [`first_flaw`] tells why bytes that are well-formed hold no items, or that they do.
+//! [`defect_of_items`] is for bytes that are known to hold items: it tells where they first depart
+//! from their deterministic encodings, and reads no further. Each goes through the bytes once,
+//! writes nothing, and keeps no more than the encodings of the keys of the maps that it is in.
+//! Where they answer none, the reader and the judge, which keep trees, answer.
 //!
 //! A reader of the definitions starts at `specs/Searching.antt`.
 #![tactic(auto)]
@@ -21,7 +20,7 @@ mod stops;
 mod told;
 mod walked_maps;
 
-pub use sequences::{first_defect, first_flaw};
+pub use sequences::first_flaw;
 pub use stops::defect_of_items;
 
 #[cfg(test)]

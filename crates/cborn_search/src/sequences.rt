@@ -1,13 +1,12 @@
-//! A whole input.
+//! The first flaw of a whole input.
 
 ghost use Rattle.std.specs.Prelude.{IfSome};
-ghost use Rattle.cborn_search.specs.Searching.{IsFirstFlawOf, IsFirstDefectOf};
+ghost use Rattle.cborn_search.specs.Searching.{IsFirstFlawOf};
 
-use crate::defects::walk_item;
 use crate::flaws::scan_item;
 use crate::told::Finding;
-use cborn_judge::{Defect, InvalidReason, earliest};
-use cborn_model::{KeyOrder, Limit};
+use cborn_judge::InvalidReason;
+use cborn_model::Limit;
 use std::alloc::Global;
 
 /// The first flaw of the first item of the bytes that means nothing: the offset of the string,
@@ -34,39 +33,6 @@ pub fn first_flaw(alloc: Global, limit: Limit, bytes: &[u8]) -> Option<Option<(u
         }
         rest = scan_item(alloc, room, total, rest, &mut found)?;
         first = first.or(found.flaw);
-    }
-    if !rest.is_empty() {
-        return None;
-    }
-    Some(first)
-}
-
-/// The first departure of the bytes from the deterministic encodings of the items that they hold,
-/// the keys of maps in the order `O`: its offset in bytes, and why (RFC 8949 section 4.2). No
-/// departure: they are these encodings. It says nothing of bytes that hold no items; `first_flaw`
-/// tells whether they do.
-///
-/// It takes memory only for the keys of maps. It answers none where the bytes aren't well-formed
-/// under the limit, where memory was refused, and where a key means nothing or holds what
-/// `cborn_transcode` doesn't encode.
-pub fn first_defect<O: KeyOrder>(
-    alloc: Global,
-    limit: Limit,
-    bytes: &[u8],
-) -> Option<Option<Defect>>
-    ensures { IfSome result (λ defect. IsFirstDefectOf O.order limit bytes.now defect) }
-{
-    let total = bytes.len() as u64;
-    let room = limit.get();
-    let mut rest = bytes;
-    let mut first: Option<Defect> = None;
-    let mut found: Option<Defect> = None;
-    'items: for _ in 0..bytes.len() {
-        if rest.is_empty() {
-            break;
-        }
-        rest = walk_item::<O>(alloc, room, total, rest, &mut found)?;
-        first = earliest(first, found);
     }
     if !rest.is_empty() {
         return None;

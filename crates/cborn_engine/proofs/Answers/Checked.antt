@@ -131,7 +131,7 @@ module _ (order : List ℕ → List ℕ → Ordering) where
 -- ---- the verdict
 
 module _ (order : List ℕ → List ℕ → Ordering) (laws : IsKeyOrder order) (limit : ℕ) (input : List ℕ) (items : List Value) (held : Holds kind.Wire limit input items) where
-  pub without_defect : ((p : ℕ) (r : DefectReason) → SequenceDefect order (trees held.nodes) p r → ⊥) → Verdict order limit input items held None
+  without_defect : ((p : ℕ) (r : DefectReason) → SequenceDefect order (trees held.nodes) p r → ⊥) → Verdict order limit input items held None
   without_defect none =
       seq_of_values order items input
       (subst (DetValues order (values_of items)) held.spelled.0.spells (check_sequence_sound order laws (trees held.nodes) (values_of items) held.spelled.0.fit (all_mean held.nodes items held.meant) none))

@@ -26,11 +26,10 @@ use Rattle.cborn_engine.specs.Refusing.{IsRefused, IsReadBefore, IsRead}
 use Rattle.cborn_engine.specs.Faults.{of_wire}
 use Rattle.cborn_engine.specs.devices.Pieces.{Collects, CollectAnswers, Reads}
 use Rattle.cborn_engine.specs.devices.Encoding.{IsEncoded}
-use Rattle.cborn_engine.specs.Checking.{CheckAnswers, Checks, Verdict}
+use Rattle.cborn_engine.specs.Checking.{CheckAnswers, Checks}
 use Rattle.cborn_engine.specs.devices.Defects.{Finds}
-use Rattle.cborn_search.specs.Searching.{IsFirstFlawOf, IsFirstDefectOf, IsFirstDefectOfItems, DefectVerdict}
-use Rattle.cborn_engine.proofs.Held.Meant.{spells_once}
-use Rattle.cborn_engine.proofs.Answers.Checked.{mean_found, verdict, without_defect, with_defect}
+use Rattle.cborn_search.specs.Searching.{IsFirstFlawOf, IsFirstDefectOfItems}
+use Rattle.cborn_engine.proofs.Answers.Checked.{mean_found, verdict, with_defect}
 
 ended : (why : EngineFault) (rest : Option (List ℕ)) → IsAtEnd rest → IsReadBefore why rest
 ended fault.TooLong rest h = tt
@@ -97,21 +96,17 @@ module _ (limit most : ℕ) (input : List ℕ) (within : length input ≤ most) 
   pub deterministic : (order : List ℕ → List ℕ → Ordering) → IsTranscoded order limit input input → CheckAnswers order limit most input (Ok None)
   deterministic order n = (within, record { items = n.items; held = transcoded_held order limit input input n; verdict = n.encoded })
 
-  pub checked_searched : (order : List ℕ → List ℕ → Ordering) → IsKeyOrder order → most ≤ 2 ^ 30 → (o : Option Defect) → IsFirstFlawOf limit input None → IsFirstDefectOf order limit input o → CheckAnswers order limit most input (Ok o)
-  checked_searched order laws bounded o f d =
-      let held : Holds kind.Wire limit input f.verdict.0 = record { nodes = f.nodes; spelled = (f.read, f.placed); meant = f.verdict.1 } in
-      let found : DefectVerdict order f.nodes o = subst (λ (ns : List Tree). DefectVerdict order ns o) (spells_once kind.Wire limit input d.nodes f.nodes (d.read, d.placed) (f.read, f.placed)) d.verdict in
-      (within, record { items = f.verdict.0; held = held; verdict = verdict_searched order laws f.verdict.0 held o (omega (arith, within, bounded)) found })
-    where
-      verdict_searched : (order : List ℕ → List ℕ → Ordering) → IsKeyOrder order → (items : List Value) (held : Holds kind.Wire limit input items) (o : Option Defect) → length input < 2 ^ 64 → DefectVerdict order held.nodes o → Verdict order limit input items held o
-      verdict_searched order laws items held None l none = without_defect order laws limit input items held none
-      verdict_searched order laws items held (Some d) l first = with_defect order laws limit input items held d l (first (values_of items) (all_mean held.nodes items held.meant))
+  -- the bytes hold these items, and this is the first defect of whatever items they hold
+  departing : (order : List ℕ → List ℕ → Ordering) → IsKeyOrder order → most ≤ 2 ^ 30 → (items : List Value) → Holds kind.Wire limit input items → (d : Defect) → IsFirstDefectOfItems order limit input d → CheckAnswers order limit most input (Ok (Some d))
+  departing order laws bounded items held d first =
+      let is : IsFirstOfSequence order (trees held.nodes) d.place d.reason = first held.nodes (values_of items) held.spelled.0 held.spelled.1 (all_mean held.nodes items held.meant) in
+      (within, record { items = items; held = held; verdict = with_defect order laws limit input items held d (omega (arith, within, bounded)) is })
+
+  pub checked_searched : (order : List ℕ → List ℕ → Ordering) → IsKeyOrder order → most ≤ 2 ^ 30 → (d : Defect) → IsFirstFlawOf limit input None → IsFirstDefectOfItems order limit input d → CheckAnswers order limit most input (Ok (Some d))
+  checked_searched order laws bounded d f = departing order laws bounded f.verdict.0 (record { nodes = f.nodes; spelled = (f.read, f.placed); meant = f.verdict.1 }) d
 
   pub checked_held : (order : List ℕ → List ℕ → Ordering) → IsKeyOrder order → most ≤ 2 ^ 30 → (output : List ℕ) (d : Defect) → IsTranscoded order limit input output → IsFirstDefectOfItems order limit input d → CheckAnswers order limit most input (Ok (Some d))
-  checked_held order laws bounded output d n first =
-      let held : Holds kind.Wire limit input n.items = transcoded_held order limit input output n in
-      let is : IsFirstOfSequence order (trees held.nodes) d.place d.reason = first held.nodes (values_of n.items) held.spelled.0 held.spelled.1 (all_mean held.nodes n.items held.meant) in
-      (within, record { items = n.items; held = held; verdict = with_defect order laws limit input n.items held d (omega (arith, within, bounded)) is })
+  checked_held order laws bounded output d n = departing order laws bounded n.items (transcoded_held order limit input output n) d
 
   pub checked_trees : (order : List ℕ → List ℕ → Ordering) → IsKeyOrder order → most ≤ 2 ^ 30 → (nodes xs : List Tree) (o : Option Defect) → Wellformed limit (trees nodes) input × PlacedAll 0 (trees nodes) → xs ≡ nodes → Finds order xs o → CheckAnswers order limit most input (Ok o)
   checked_trees order laws bounded nodes xs o s e f =
