@@ -1,6 +1,7 @@
 //! The keys of a map.
 
 ghost use Rattle.std.specs.Prelude.{◌≡◌, ◌≤◌, ◌-◌, ◌∷◌, ◌++◌, ℕ, List, [], length, take, IfSome, OnSome, IsPermutation};
+ghost use Rattle.cborn_model.specs.Orders.{bytewise};
 ghost use Rattle.cborn_model.specs.Tree.{entries};
 ghost use Rattle.cborn_judge.specs.devices.Judged.{RepeatFlaw};
 ghost use Rattle.cborn_transcode.specs.Transcoding.{IsTranscoded};
@@ -10,7 +11,7 @@ ghost use Rattle.cborn_search.specs.Reading.{Pair};
 
 use cborn_judge::{InvalidReason, earliest};
 use cborn_model::{Bytewise, KeyOrder, Limit};
-use cborn_transcode::transcode;
+use cborn_transcode::{is_deterministic, transcode};
 use std::alloc::Global;
 use std::cmp::Ordering;
 
@@ -57,11 +58,24 @@ impl Keys {
         match flaw {
             Some(_) => Some(()),
             None => {
-                let encoding = encoded::<Bytewise>(alloc, bytes, rest)?;
-                self.push(&encoding, total - bytes.len() as u64)?;
+                let key = before(bytes, rest)?;
+                self.take_sound(alloc, key, total - bytes.len() as u64)?;
                 Some(())
             }
         }
+    }
+
+    /// Takes in the key at `place`, which has no flaw: its own bytes, where they are its encoding.
+    fn take_sound(&mut self, alloc: Global, key: &[u8], place: u64) -> Option<()>
+        ensures { OnSome result ((encoding : List ℕ) × IsTranscoded bytewise 1024 key.now encoding × ((ks : List SeenKey) (n : ℕ) → AreMarked ks self.old → AreMarked (ks ++ (encoding, n, place) ∷ []) self.new)) }
+    {
+        let limit = Limit::new(1024)?;
+        if is_deterministic::<Bytewise>(limit, key) {
+            return self.push(key, place);
+        }
+        let encoding = transcode::<Bytewise>(alloc, limit, key)?;
+        self.push(&encoding, place)?;
+        Some(())
     }
 
     /// Takes in the key at `place` that has this encoding.
@@ -96,12 +110,18 @@ impl Keys {
 pub(crate) fn encoded<O: KeyOrder>(alloc: Global, bytes: &[u8], rest: &[u8]) -> Option<Vec<u8>>
     ensures { IfSome result (λ v. IsTranscoded O.order 1024 (take (length bytes.now - length rest.now) bytes.now) v.items) }
 {
+    let limit = Limit::new(1024)?;
+    transcode::<O>(alloc, limit, before(bytes, rest)?)
+}
+
+/// The bytes of which `rest` are the last, without these. None promises nothing.
+fn before<'a>(bytes: &'a [u8], rest: &[u8]) -> Option<&'a [u8]>
+    ensures { IfSome result (λ front. front.now ≡ take (length bytes.now - length rest.now) bytes.now) }
+{
     if rest.len() > bytes.len() {
         return None;
     }
-    let limit = Limit::new(1024)?;
-    let key = &bytes[..bytes.len() - rest.len()];
-    transcode::<O>(alloc, limit, key)
+    Some(&bytes[..bytes.len() - rest.len()])
 }
 
 /// The number, where it fits 32 bits.
