@@ -10,10 +10,10 @@ use crate::inputs::MOST;
 use crate::sources::Source;
 use crate::texts::read_bytes;
 use cborn_judge::{Defect, Invalid, first_defect};
-use cborn_model::{KeyOrder, Limit, Major, Spelled};
+use cborn_model::{KeyOrder, Limit, Spelled};
 use cborn_search::{defect_of_items, first_flaw};
-use cborn_transcode::{is_deterministic, transcode};
-use cborn_wire::{Argument, Head, HeadRead, WireFault, read_all, read_head, scan};
+use cborn_transcode::is_deterministic;
+use cborn_wire::{WireFault, read_all, scan};
 use std::alloc::Global;
 
 /// The first defect of nodes, each of which means an item; or the first flaw of the first node that
@@ -66,61 +66,12 @@ pub fn check_input<O: KeyOrder>(
     if is_deterministic::<O>(limit, input) {
         return Ok(None);
     }
-    if let Some(defect) = defect_of_held::<O>(alloc, limit, input) {
-        return Ok(Some(defect));
+    if let Some(answer) = search::<O>(alloc, limit, input) {
+        return answer;
     }
-    if let Some((place, reason)) = scan(limit, input) {
-        return Err(EngineFault::Wire(WireFault::Refused { place, reason }));
-    }
-    match search::<O>(alloc, limit, input) {
-        Some(answer) => answer,
+    match scan(limit, input) {
+        Some((place, reason)) => Err(EngineFault::Wire(WireFault::Refused { place, reason })),
         None => check_trees::<O>(alloc, limit, input),
-    }
-}
-
-/// The first defect of an input that `transcode` finds to hold items: it tells no flaw, and takes
-/// less time than a search for one, where it has not to copy long strings. What it writes is given
-/// back before the defect is looked for. None promises nothing.
-fn defect_of_held<O: KeyOrder>(alloc: Global, limit: Limit, input: &[u8]) -> Option<Defect>
-    ensures { IfSome result (λ defect. length input.now ≤ 2 ^ 30 → CheckAnswers O.order limit (2 ^ 30) input.now (Ok (Some defect))) }
-{
-    if is_mostly_content(input) {
-        return None;
-    }
-    transcode::<O>(alloc, limit, input)?;
-    defect_of_items::<O>(alloc, limit, input)
-}
-
-/// How many heads at the front of an input are looked at.
-const SAMPLE: usize = 64;
-
-/// A head with more bytes to it than these has a long string.
-const LONG: usize = 64;
-
-/// Whether the input begins with long strings, which a search passes over and `transcode` copies.
-/// Nothing is promised: either way is right.
-fn is_mostly_content(input: &[u8]) -> bool {
-    let mut rest = input;
-    let mut passed: usize = 0;
-    'heads: for _ in 0..SAMPLE {
-        let HeadRead::Full(head, len) = read_head(rest) else {
-            break;
-        };
-        let whole = len.saturating_add(content_len(head));
-        if whole > rest.len() {
-            break;
-        }
-        passed = passed.saturating_add(whole);
-        rest = &rest[whole..];
-    }
-    passed > SAMPLE * LONG
-}
-
-/// How many bytes of a string stand behind its head.
-fn content_len(head: Head) -> usize {
-    match (head.major_type(), head.argument) {
-        (Major::ByteString | Major::TextString, Argument::Given(_, n)) => n as usize,
-        _ => 0,
     }
 }
 

@@ -96,17 +96,12 @@ module _ (limit most : ℕ) (input : List ℕ) (within : length input ≤ most) 
   pub deterministic : (order : List ℕ → List ℕ → Ordering) → IsTranscoded order limit input input → CheckAnswers order limit most input (Ok None)
   deterministic order n = (within, record { items = n.items; held = transcoded_held order limit input input n; verdict = n.encoded })
 
-  -- the bytes hold these items, and this is the first defect of whatever items they hold
-  departing : (order : List ℕ → List ℕ → Ordering) → IsKeyOrder order → most ≤ 2 ^ 30 → (items : List Value) → Holds kind.Wire limit input items → (d : Defect) → IsFirstDefectOfItems order limit input d → CheckAnswers order limit most input (Ok (Some d))
-  departing order laws bounded items held d first =
-      let is : IsFirstOfSequence order (trees held.nodes) d.place d.reason = first held.nodes (values_of items) held.spelled.0 held.spelled.1 (all_mean held.nodes items held.meant) in
-      (within, record { items = items; held = held; verdict = with_defect order laws limit input items held d (omega (arith, within, bounded)) is })
-
   pub checked_searched : (order : List ℕ → List ℕ → Ordering) → IsKeyOrder order → most ≤ 2 ^ 30 → (d : Defect) → IsFirstFlawOf limit input None → IsFirstDefectOfItems order limit input d → CheckAnswers order limit most input (Ok (Some d))
-  checked_searched order laws bounded d f = departing order laws bounded f.verdict.0 (record { nodes = f.nodes; spelled = (f.read, f.placed); meant = f.verdict.1 }) d
-
-  pub checked_held : (order : List ℕ → List ℕ → Ordering) → IsKeyOrder order → most ≤ 2 ^ 30 → (output : List ℕ) (d : Defect) → IsTranscoded order limit input output → IsFirstDefectOfItems order limit input d → CheckAnswers order limit most input (Ok (Some d))
-  checked_held order laws bounded output d n = departing order laws bounded n.items (transcoded_held order limit input output n) d
+  checked_searched order laws bounded d f first =
+      let items : List Value = f.verdict.0 in
+      let held : Holds kind.Wire limit input items = record { nodes = f.nodes; spelled = (f.read, f.placed); meant = f.verdict.1 } in
+      let is : IsFirstOfSequence order (trees f.nodes) d.place d.reason = first f.nodes (values_of items) f.read f.placed (all_mean f.nodes items f.verdict.1) in
+      (within, record { items = items; held = held; verdict = with_defect order laws limit input items held d (omega (arith, within, bounded)) is })
 
   pub checked_trees : (order : List ℕ → List ℕ → Ordering) → IsKeyOrder order → most ≤ 2 ^ 30 → (nodes xs : List Tree) (o : Option Defect) → Wellformed limit (trees nodes) input × PlacedAll 0 (trees nodes) → xs ≡ nodes → Finds order xs o → CheckAnswers order limit most input (Ok o)
   checked_trees order laws bounded nodes xs o s e f =
