@@ -75,7 +75,7 @@ shown_short true n shown l e = length-decimal-le 20 shown (omega arith) (omega a
 shown_short false n shown l e = length-decimal-le 20 shown (omega arith) (omega arith) (omega (arith, l, e))
 
 -- the block, behind the texts before it
-pub behind_texts : (start end k : ℕ) (texts block part text z : List ℕ) → length texts ≡ 256 → end ≤ 224 → length block ≡ 64 → part ≡ take 32 (drop start block) → drop start block ≡ text ++ z → start + length text ≡ 32
+pub behind_texts : (start end k : ℕ) (texts block part text z : List ℕ) → length texts ≡ 256 → end + 32 ≤ 256 → length block ≡ 64 → part ≡ take 32 (drop start block) → drop start block ≡ text ++ z → start + length text ≡ 32
     → take (end + (32 - start)) (put_mid end k texts part) ≡ take end texts ++ text
 behind_texts start end k texts block part text z len room whole p b s =
     let long : length part ≡ 32 = ap length p ∙ length-take-le 32 (drop start block) (omega (arith, whole, length-drop start block, s)) in

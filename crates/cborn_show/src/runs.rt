@@ -3,6 +3,7 @@
 
 ghost use Rattle.std.specs.Prelude.{◌≡◌, ◌<◌, ◌≤◌, ◌+◌, ◌-◌, ◌++◌, ◌∷◌, [], ℕ, List, suc, length, take, drop, if◌then◌else◌, codes, IfSome};
 ghost use Rattle.cborn_edn.specs.devices.Between.{between};
+ghost use Rattle.cborn_show.specs.declared.runs.TheConstants.{GATHERED, LONGEST};
 ghost use Rattle.cborn_show.specs.Passed.{NextShown, NodesShown, integer_major, signed};
 
 use crate::digits::write_number;
@@ -96,10 +97,10 @@ fn is_below(major: Major) -> Option<bool>
 /// Writes what stands before the integer at `index` of an array, a sign and the digits behind the
 /// first `end` bytes of the texts; answers where they end.
 #[inline(always)]
-fn write_next(index: u64, below: bool, n: u64, texts: &mut [u8; 256], end: usize) -> usize
+fn write_next(index: u64, below: bool, n: u64, texts: &mut [u8; GATHERED], end: usize) -> usize
     requires small { n < 18446744073709551615 }
-    requires room { end ≤ 224 }
-    ensures within { result ≤ 256 }
+    requires room { end + LONGEST ≤ GATHERED }
+    ensures within { result ≤ GATHERED }
     ensures written { take result texts.new ≡ take end texts.old ++ (between (codes ", ") index ++ signed below n) }
 {
     let mut block = [0; 64];
@@ -134,9 +135,9 @@ fn put_before(block: &mut [u8; 64], at: usize, byte: u8, wanted: bool) -> usize
 /// Copies what the block holds from `start` up to its byte 32 behind the first `end` bytes of the
 /// texts, as a whole with what follows it, which is of no use; answers where it ends.
 #[inline(always)]
-fn copy_block(block: &[u8; 64], start: usize, texts: &mut [u8; 256], end: usize) -> usize
+fn copy_block(block: &[u8; 64], start: usize, texts: &mut [u8; GATHERED], end: usize) -> usize
     requires start { start ≤ 32 }
-    requires room { end ≤ 224 }
+    requires room { end + LONGEST ≤ GATHERED }
     ensures within { result ≡ end + (32 - start) }
     ensures written { (text behind : List ℕ) → drop start block.now ≡ text ++ behind → start + length text ≡ 32 → take result texts.new ≡ take end texts.old ++ text }
 {
