@@ -1,8 +1,12 @@
--- What an answer tells of the reader's count of failures.
-use Rattle.std.specs.Prelude.{ℕ, Result, Ok, Err}
+-- How long an input may be, and what an answer tells of the reader's count of failures.
+use Rattle.std.specs.Prelude.{ℕ, ◌^◌, Result, Ok, Err}
 use Rattle.cborn_engine.specs.declared.faults.EngineFault.{EngineFault}
 use Rattle.cborn_engine.specs.declared.faults.EngineFault.TheVariants as fault
 use Rattle.cborn_engine.specs.Failures.{one_more}
+
+-- the length of the longest input
+abbrev pub most_bytes : ℕ
+most_bytes = 2 ^ 30
 
 abbrev pub read_failures_at : EngineFault → ℕ → ℕ
 read_failures_at fault.ReadFault n = one_more n

@@ -1,9 +1,9 @@
 //! Whether bytes are deterministic.
-ghost use Rattle.std.specs.Prelude.{◌≡◌, ◌≤◌, ◌+◌, ◌^◌, ℕ, length, Ok, Some, IfSome, IfOk, IfErr};
+ghost use Rattle.std.specs.Prelude.{◌≡◌, ◌≤◌, ◌+◌, ℕ, length, Ok, Some, IfSome, IfOk, IfErr};
 ghost use Rattle.cborn_judge.specs.Flaws.{IsRefusalOfAll};
 ghost use Rattle.cborn_engine.specs.Checking.{Checks, CheckAnswers};
 ghost use Rattle.cborn_engine.specs.devices.Defects.{Finds};
-ghost use Rattle.cborn_engine.specs.Reading.{read_failures};
+ghost use Rattle.cborn_engine.specs.Reading.{most_bytes, read_failures};
 
 use crate::faults::EngineFault;
 use crate::inputs::MOST;
@@ -43,9 +43,9 @@ pub fn check<O: KeyOrder, R: Source>(
     limit: Limit,
     reader: &mut R,
 ) -> Result<Option<Defect>, EngineFault>
-    ensures checks { Checks O.order limit (2 ^ 30) (R.remaining reader.old) (R.remaining reader.new) result }
+    ensures checks { Checks O.order limit most_bytes (R.remaining reader.old) (R.remaining reader.new) result }
     ensures failures { R.failed reader.new ≡ read_failures result (R.failed reader.old) }
-    ensures calls { R.asked reader.new ≤ R.asked reader.old + 2 ^ 30 + 1 }
+    ensures calls { R.asked reader.new ≤ R.asked reader.old + most_bytes + 1 }
 {
     let input = read_bytes(alloc, MOST, reader)?;
     check_input::<O>(alloc, limit, &input)
@@ -60,7 +60,7 @@ pub fn check_input<O: KeyOrder>(
     limit: Limit,
     input: &[u8],
 ) -> Result<Option<Defect>, EngineFault>
-    ensures answers { length input.now ≤ 2 ^ 30 → CheckAnswers O.order limit (2 ^ 30) input.now result }
+    ensures answers { length input.now ≤ most_bytes → CheckAnswers O.order limit most_bytes input.now result }
     ensures failures { (n : ℕ) → read_failures result n ≡ n }
 {
     if is_deterministic::<O>(limit, input) {
@@ -81,7 +81,7 @@ fn search<O: KeyOrder>(
     limit: Limit,
     input: &[u8],
 ) -> Option<Result<Option<Defect>, EngineFault>>
-    ensures answers { IfSome result (λ answer. length input.now ≤ 2 ^ 30 → CheckAnswers O.order limit (2 ^ 30) input.now answer) }
+    ensures answers { IfSome result (λ answer. length input.now ≤ most_bytes → CheckAnswers O.order limit most_bytes input.now answer) }
     ensures failures { IfSome result (λ answer. (n : ℕ) → read_failures answer n ≡ n) }
 {
     let flaw = first_flaw(alloc, limit, input)?;
@@ -102,7 +102,7 @@ fn check_trees<O: KeyOrder>(
     limit: Limit,
     input: &[u8],
 ) -> Result<Option<Defect>, EngineFault>
-    ensures answers { length input.now ≤ 2 ^ 30 → CheckAnswers O.order limit (2 ^ 30) input.now result }
+    ensures answers { length input.now ≤ most_bytes → CheckAnswers O.order limit most_bytes input.now result }
     ensures failures { (n : ℕ) → read_failures result n ≡ n }
 {
     let nodes = read_all(alloc, limit, input)?;

@@ -1,8 +1,9 @@
 //! Whether two inputs hold the same items. Each is read whole and encoded, the first before a byte
 //! of the second is read; the encodings are equal exactly if the items are the same.
-ghost use Rattle.std.specs.Prelude.{◌≡◌, ◌≤◌, ◌⊎◌, ◌+◌, ◌^◌, IfErr};
+ghost use Rattle.std.specs.Prelude.{◌≡◌, ◌≤◌, ◌⊎◌, ◌+◌, IfErr};
 ghost use Rattle.cborn_engine.specs.Comparing.{Compares, IsOfFirst, IsHeldWhole, first_failures, second_failures};
 ghost use Rattle.cborn_engine.specs.devices.Stopping.{of_first, of_second};
+ghost use Rattle.cborn_engine.specs.Reading.{most_bytes};
 
 use crate::differences::difference;
 use crate::encodings::read_encoded;
@@ -53,13 +54,13 @@ pub fn compare<O: KeyOrder, R: Source, Q: Source>(
     kind_b: Kind,
     second: &mut Q,
 ) -> Result<Option<u64>, CompareFault>
-    ensures compares { Compares kind_a kind_b limit (2 ^ 30) (R.remaining first.old) (R.remaining first.new) (Q.remaining second.old) (Q.remaining second.new) result }
+    ensures compares { Compares kind_a kind_b limit most_bytes (R.remaining first.old) (R.remaining first.new) (Q.remaining second.old) (Q.remaining second.new) result }
     ensures unread { IfErr result (λ why. IsOfFirst why → second.new ≡ second.old) }
     ensures first_held { (second.new ≡ second.old) ⊎ IsHeldWhole kind_a limit (R.remaining first.old) (R.remaining first.new) }
     ensures first_failures { R.failed first.new ≡ first_failures result (R.failed first.old) }
     ensures second_failures { Q.failed second.new ≡ second_failures result (Q.failed second.old) }
-    ensures first_calls { R.asked first.new ≤ R.asked first.old + 2 ^ 30 + 1 }
-    ensures second_calls { Q.asked second.new ≤ Q.asked second.old + 2 ^ 30 + 1 }
+    ensures first_calls { R.asked first.new ≤ R.asked first.old + most_bytes + 1 }
+    ensures second_calls { Q.asked second.new ≤ Q.asked second.old + most_bytes + 1 }
 {
     let ours = match read_encoded::<O, R>(alloc, limit, kind_a, first) {
         Ok(bytes) => bytes,

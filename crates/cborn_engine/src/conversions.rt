@@ -1,10 +1,10 @@
 //! From a reader to a writer.
-ghost use Rattle.std.specs.Prelude.{◌≡◌, ◌≢◌, ◌≤◌, ◌+◌, ◌^◌, List, IfOk, IfErr, OnOk};
+ghost use Rattle.std.specs.Prelude.{◌≡◌, ◌≢◌, ◌≤◌, ◌+◌, List, IfOk, IfErr, OnOk};
 ghost use Rattle.cborn_model.specs.Value.{Value};
 ghost use Rattle.cborn_engine.specs.declared.faults.EngineFault.TheVariants as fault;
 ghost use Rattle.cborn_engine.specs.declared.kinds.Kind.TheVariants as kinds;
 ghost use Rattle.cborn_engine.specs.Canonical.{Normalises};
-ghost use Rattle.cborn_engine.specs.Reading.{read_failures};
+ghost use Rattle.cborn_engine.specs.Reading.{most_bytes, read_failures};
 ghost use Rattle.cborn_engine.specs.Holding.{Holds, IsFixedText};
 ghost use Rattle.cborn_engine.specs.devices.Encoding.{IsWrittenAs};
 ghost use Rattle.cborn_engine.specs.Showing.{Shows};
@@ -41,12 +41,12 @@ pub fn normalise<O: KeyOrder, R: Source, W: Sink>(
     reader: &mut R,
     writer: &mut W,
 ) -> Result<(), EngineFault>
-    ensures normalises { Normalises O.order in_kind out_kind limit (2 ^ 30) (R.remaining reader.old) (R.remaining reader.new) (W.contents writer.old) (W.contents writer.new) result }
+    ensures normalises { Normalises O.order in_kind out_kind limit most_bytes (R.remaining reader.old) (R.remaining reader.new) (W.contents writer.old) (W.contents writer.new) result }
     ensures read_failures { R.failed reader.new ≡ read_failures result (R.failed reader.old) }
     ensures write_failures { W.failed writer.new ≡ write_failures result (W.failed writer.old) }
     ensures untouched { IfErr result (λ why. why ≢ fault.WriteFault → writer.new ≡ writer.old) }
     ensures flushed { OnOk result (W.unflushed writer.new ≡ 0) }
-    ensures calls { R.asked reader.new ≤ R.asked reader.old + 2 ^ 30 + 1 }
+    ensures calls { R.asked reader.new ≤ R.asked reader.old + most_bytes + 1 }
 {
     let bytes = read_encoded::<O, R>(alloc, limit, in_kind, reader)?;
     let answer = written_as(alloc, limit, out_kind, bytes)?;
@@ -69,12 +69,12 @@ pub fn show_all<R: Source, W: Sink>(
     reader: &mut R,
     writer: &mut W,
 ) -> Result<(), EngineFault>
-    ensures shows { Shows in_kind out_kind limit (2 ^ 30) (R.remaining reader.old) (R.remaining reader.new) (W.contents writer.old) (W.contents writer.new) result }
+    ensures shows { Shows in_kind out_kind limit most_bytes (R.remaining reader.old) (R.remaining reader.new) (W.contents writer.old) (W.contents writer.new) result }
     ensures read_failures { R.failed reader.new ≡ read_failures result (R.failed reader.old) }
     ensures write_failures { W.failed writer.new ≡ write_failures result (W.failed writer.old) }
     ensures untouched { IfErr result (λ why. why ≢ fault.WriteFault → writer.new ≡ writer.old) }
     ensures flushed { OnOk result (W.unflushed writer.new ≡ 0) }
-    ensures calls { R.asked reader.new ≤ R.asked reader.old + 2 ^ 30 + 1 }
+    ensures calls { R.asked reader.new ≤ R.asked reader.old + most_bytes + 1 }
 {
     let answer = read_shown(alloc, limit, in_kind, out_kind, reader)?;
     write_answer(writer, &answer)

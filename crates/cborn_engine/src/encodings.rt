@@ -1,10 +1,10 @@
 //! Reading a whole input, and encoding what it holds. A pass that keeps no tree is tried first.
 //! Where that answers nothing, what is wrong with bytes is looked for without a tree too, and only
 //! an input in which none is found becomes nodes, which are judged.
-ghost use Rattle.std.specs.Prelude.{◌≡◌, ◌≤◌, ◌+◌, ◌^◌, ℕ, length, IfSome, IsTrue};
+ghost use Rattle.std.specs.Prelude.{◌≡◌, ◌≤◌, ◌+◌, ℕ, length, IfSome, IsTrue};
 ghost use Rattle.cborn_engine.specs.devices.Encoding.{EncodeAnswers, IsEncoded};
 ghost use Rattle.cborn_engine.specs.devices.Pieces.{Reads};
-ghost use Rattle.cborn_engine.specs.Reading.{read_failures};
+ghost use Rattle.cborn_engine.specs.Reading.{most_bytes, read_failures};
 
 use crate::faults::EngineFault;
 use crate::inputs::MOST;
@@ -29,9 +29,9 @@ pub fn read_encoded<O: KeyOrder, R: Source>(
     kind: Kind,
     reader: &mut R,
 ) -> Result<Vec<u8>, EngineFault>
-    ensures encodes { Reads (EncodeAnswers O.order kind limit (2 ^ 30)) (R.remaining reader.old) (R.remaining reader.new) result }
+    ensures encodes { Reads (EncodeAnswers O.order kind limit most_bytes) (R.remaining reader.old) (R.remaining reader.new) result }
     ensures failures { R.failed reader.new ≡ read_failures result (R.failed reader.old) }
-    ensures calls { R.asked reader.new ≤ R.asked reader.old + 2 ^ 30 + 1 }
+    ensures calls { R.asked reader.new ≤ R.asked reader.old + most_bytes + 1 }
 {
     let input = read_bytes(alloc, MOST, reader)?;
     if is_own_encoding::<O>(limit, kind, &input) {
@@ -58,7 +58,7 @@ pub fn encode_input<O: KeyOrder>(
     kind: Kind,
     input: &[u8],
 ) -> Result<Vec<u8>, EngineFault>
-    ensures answers { length input.now ≤ 2 ^ 30 → EncodeAnswers O.order kind limit (2 ^ 30) input.now result }
+    ensures answers { length input.now ≤ most_bytes → EncodeAnswers O.order kind limit most_bytes input.now result }
     ensures failures { (n : ℕ) → read_failures result n ≡ n }
 {
     match encode_by_pass::<O>(alloc, limit, kind, input) {
@@ -75,7 +75,7 @@ fn encode_by_pass<O: KeyOrder>(
     kind: Kind,
     input: &[u8],
 ) -> Option<Vec<u8>>
-    ensures { IfSome result (λ bytes. length input.now ≤ 2 ^ 30 → IsEncoded O.order kind limit input.now bytes.items) }
+    ensures { IfSome result (λ bytes. length input.now ≤ most_bytes → IsEncoded O.order kind limit input.now bytes.items) }
 {
     match profile_of(kind) {
         None => transcode::<O>(alloc, limit, input),
@@ -93,7 +93,7 @@ fn encode_by_trees<O: KeyOrder>(
     kind: Kind,
     input: &[u8],
 ) -> Result<Vec<u8>, EngineFault>
-    ensures answers { length input.now ≤ 2 ^ 30 → EncodeAnswers O.order kind limit (2 ^ 30) input.now result }
+    ensures answers { length input.now ≤ most_bytes → EncodeAnswers O.order kind limit most_bytes input.now result }
     ensures failures { (n : ℕ) → read_failures result n ≡ n }
 {
     let nodes = unjudged_nodes(alloc, limit, kind, input)?;

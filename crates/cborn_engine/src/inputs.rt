@@ -1,7 +1,7 @@
 //! Reading a whole input as nodes.
-ghost use Rattle.std.specs.Prelude.{◌≡◌, ◌≤◌, ◌+◌, ◌^◌};
+ghost use Rattle.std.specs.Prelude.{◌≡◌, ◌≤◌, ◌+◌};
 ghost use Rattle.cborn_engine.specs.Loading.{Loads};
-ghost use Rattle.cborn_engine.specs.Reading.{read_failures};
+ghost use Rattle.cborn_engine.specs.Reading.{most_bytes, read_failures};
 
 use crate::faults::EngineFault;
 use crate::kinds::Kind;
@@ -25,9 +25,9 @@ pub fn load<R: Source>(
     kind: Kind,
     reader: &mut R,
 ) -> Result<Vec<Spelled>, EngineFault>
-    ensures loads { Loads kind limit (2 ^ 30) (R.remaining reader.old) (R.remaining reader.new) result }
+    ensures loads { Loads kind limit most_bytes (R.remaining reader.old) (R.remaining reader.new) result }
     ensures failures { R.failed reader.new ≡ read_failures result (R.failed reader.old) }
-    ensures calls { R.asked reader.new ≤ R.asked reader.old + 2 ^ 30 + 1 }
+    ensures calls { R.asked reader.new ≤ R.asked reader.old + most_bytes + 1 }
 {
     load_within(alloc, limit, MOST, kind, reader)
 }
@@ -49,7 +49,7 @@ pub fn load_within<R: Source>(
     kind: Kind,
     reader: &mut R,
 ) -> Result<Vec<Spelled>, EngineFault>
-    requires { most ≤ 2 ^ 30 }
+    requires { most ≤ most_bytes }
     ensures loads { Loads kind limit most (R.remaining reader.old) (R.remaining reader.new) result }
     ensures failures { R.failed reader.new ≡ read_failures result (R.failed reader.old) }
     ensures calls { R.asked reader.new ≤ R.asked reader.old + most + 1 }

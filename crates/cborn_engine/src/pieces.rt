@@ -1,7 +1,7 @@
 //! Reading a piece of an input, and room for the next.
-ghost use Rattle.std.specs.Prelude.{◌≡◌, ◌≤◌, ◌<◌, ◌+◌, ◌^◌, length, take, drop, OnOk};
+ghost use Rattle.std.specs.Prelude.{◌≡◌, ◌≤◌, ◌<◌, ◌+◌, length, take, drop, OnOk};
 ghost use Rattle.cborn_engine.specs.devices.Pieces.{PieceAnswers};
-ghost use Rattle.cborn_engine.specs.Reading.{read_failures};
+ghost use Rattle.cborn_engine.specs.Reading.{most_bytes, read_failures};
 
 use crate::faults::EngineFault;
 use crate::sources::Source;
@@ -15,7 +15,7 @@ use std::alloc::AllocError;
 /// `ReadFault` where the reader failed, `TooLong` where it gave more than is allowed.
 fn read_piece<R: Source>(reader: &mut R, buf: &mut [u8], left: u64) -> Result<usize, EngineFault>
     requires room { 0 < length buf.old }
-    requires bounded { left ≤ 2 ^ 30 }
+    requires bounded { left ≤ most_bytes }
     ensures piece { PieceAnswers (R.remaining reader.old) (R.remaining reader.new) left buf.new result }
     ensures failures { R.failed reader.new ≡ read_failures result (R.failed reader.old) }
     ensures calls { R.asked reader.new ≤ R.asked reader.old + 1 }
@@ -64,7 +64,7 @@ pub fn read_behind<R: Source>(
     left: u64,
 ) -> Result<usize, EngineFault>
     requires room { filled < length bytes.old.items }
-    requires bounded { left ≤ 2 ^ 30 }
+    requires bounded { left ≤ most_bytes }
     ensures front { take filled bytes.new.items ≡ take filled bytes.old.items }
     ensures piece { PieceAnswers (R.remaining reader.old) (R.remaining reader.new) left (drop filled bytes.new.items) result }
     ensures failures { R.failed reader.new ≡ read_failures result (R.failed reader.old) }
@@ -81,7 +81,7 @@ fn read_at<R: Source>(
     left: u64,
 ) -> Result<usize, EngineFault>
     requires room { filled < length buf.old }
-    requires bounded { left ≤ 2 ^ 30 }
+    requires bounded { left ≤ most_bytes }
     ensures front { take filled buf.new ≡ take filled buf.old }
     ensures piece { PieceAnswers (R.remaining reader.old) (R.remaining reader.new) left (drop filled buf.new) result }
     ensures failures { R.failed reader.new ≡ read_failures result (R.failed reader.old) }

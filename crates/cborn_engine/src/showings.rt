@@ -3,7 +3,7 @@
 //! no tree is tried first: a text becomes bytes, and bytes become notation. Where it answers
 //! nothing, what is wrong with bytes is looked for without a tree too, and only an input in which
 //! nothing is found becomes nodes.
-ghost use Rattle.std.specs.Prelude.{◌≡◌, ◌≤◌, ◌+◌, ◌^◌, ℕ, List, length, IfOk, IfErr, IfSome, IsTrue};
+ghost use Rattle.std.specs.Prelude.{◌≡◌, ◌≤◌, ◌+◌, ℕ, List, length, IfOk, IfErr, IfSome, IsTrue};
 ghost use Rattle.cborn_model.specs.Placed.{PlacedAll};
 ghost use Rattle.cborn_model.specs.Spelled.{Wellformed};
 ghost use Rattle.cborn_model.specs.Tree.{Tree, trees};
@@ -11,7 +11,7 @@ ghost use Rattle.cborn_edn.specs.declared.faults.ShowFault.TheVariants.{NotUtf8}
 ghost use Rattle.cborn_engine.specs.declared.kinds.Kind.TheVariants as kinds;
 ghost use Rattle.cborn_engine.specs.devices.Encoding.{kind_of};
 ghost use Rattle.cborn_engine.specs.devices.Pieces.{Reads};
-ghost use Rattle.cborn_engine.specs.Reading.{read_failures};
+ghost use Rattle.cborn_engine.specs.Reading.{most_bytes, read_failures};
 ghost use Rattle.cborn_engine.specs.Showing.{TellAnswers, IsShown, IsSpelledAs, IsUnshownAs, IsUnspelledAs};
 
 use crate::faults::EngineFault;
@@ -39,9 +39,9 @@ pub fn read_shown<R: Source>(
     out_kind: Kind,
     reader: &mut R,
 ) -> Result<Vec<u8>, EngineFault>
-    ensures tells { Reads (TellAnswers in_kind out_kind limit (2 ^ 30)) (R.remaining reader.old) (R.remaining reader.new) result }
+    ensures tells { Reads (TellAnswers in_kind out_kind limit most_bytes) (R.remaining reader.old) (R.remaining reader.new) result }
     ensures failures { R.failed reader.new ≡ read_failures result (R.failed reader.old) }
-    ensures calls { R.asked reader.new ≤ R.asked reader.old + 2 ^ 30 + 1 }
+    ensures calls { R.asked reader.new ≤ R.asked reader.old + most_bytes + 1 }
 {
     let input = read_bytes(alloc, MOST, reader)?;
     if is_own_spelling(limit, in_kind, out_kind, &input) {
@@ -68,7 +68,7 @@ pub fn show_input(
     out_kind: Kind,
     input: &[u8],
 ) -> Result<Vec<u8>, EngineFault>
-    ensures answers { length input.now ≤ 2 ^ 30 → TellAnswers in_kind out_kind limit (2 ^ 30) input.now result }
+    ensures answers { length input.now ≤ most_bytes → TellAnswers in_kind out_kind limit most_bytes input.now result }
     ensures failures { (n : ℕ) → read_failures result n ≡ n }
 {
     match show_by_pass(alloc, limit, in_kind, out_kind, input) {
@@ -85,7 +85,7 @@ fn show_by_pass(
     out_kind: Kind,
     input: &[u8],
 ) -> Option<Vec<u8>>
-    ensures { IfSome result (λ answer. length input.now ≤ 2 ^ 30 → IsShown in_kind out_kind limit input.now answer.items) }
+    ensures { IfSome result (λ answer. length input.now ≤ most_bytes → IsShown in_kind out_kind limit input.now answer.items) }
 {
     match profile_of(in_kind) {
         None => show_bytes_by_pass(alloc, limit, out_kind, input),
@@ -111,7 +111,7 @@ fn show_text_by_pass(
     out_kind: Kind,
     input: &[u8],
 ) -> Option<Vec<u8>>
-    ensures { IfSome result (λ answer. length input.now ≤ 2 ^ 30 → IsShown (kind_of profile) out_kind limit input.now answer.items) }
+    ensures { IfSome result (λ answer. length input.now ≤ most_bytes → IsShown (kind_of profile) out_kind limit input.now answer.items) }
 {
     let bytes = bytes_of_text(alloc, limit, profile, input)?;
     match out_kind {
@@ -128,7 +128,7 @@ fn show_by_trees(
     out_kind: Kind,
     input: &[u8],
 ) -> Result<Vec<u8>, EngineFault>
-    ensures answers { length input.now ≤ 2 ^ 30 → TellAnswers in_kind out_kind limit (2 ^ 30) input.now result }
+    ensures answers { length input.now ≤ most_bytes → TellAnswers in_kind out_kind limit most_bytes input.now result }
     ensures failures { (n : ℕ) → read_failures result n ≡ n }
 {
     if in_kind == Kind::Wire {

@@ -1,6 +1,6 @@
 //! The calls over inputs that are held whole. Such an input is read where it lies, and where it is
 //! its own answer, that is lent and not copied.
-ghost use Rattle.std.specs.Prelude.{◌≡◌, ◌<◌, ◌≤◌, ◌*◌, ◌^◌, ◌↔◌, List, length, IfOk, IfErr, IsTrue};
+ghost use Rattle.std.specs.Prelude.{◌≡◌, ◌<◌, ◌≤◌, ◌*◌, ◌↔◌, List, length, IfOk, IfErr, IsTrue};
 ghost use Rattle.std.specs.Cow.{cow_slice_items};
 ghost use Rattle.cborn_model.specs.Value.{Value};
 ghost use Rattle.cborn_engine.specs.declared.kinds.Kind.TheVariants as kinds;
@@ -11,6 +11,7 @@ ghost use Rattle.cborn_engine.specs.devices.Encoding.{IsEncoded, IsWrittenAs};
 ghost use Rattle.cborn_engine.specs.Holding.{Holds};
 ghost use Rattle.cborn_engine.specs.Showing.{IsShown};
 ghost use Rattle.cborn_engine.specs.Whole.{IsRefusedWhole, IsUnshownWhole, AreRefusedWhole};
+ghost use Rattle.cborn_engine.specs.Reading.{most_bytes};
 
 use crate::checks::check_input;
 use crate::conversions::fixed_text;
@@ -40,9 +41,9 @@ pub fn normalise_slice<'a, O: KeyOrder>(
     out_kind: Kind,
     input: &'a [u8],
 ) -> Result<CowSlice<'a, u8, Global>, EngineFault>
-    ensures canonical { IfOk result (λ output. (length input.now ≤ 2 ^ 30) × IsCanonical O.order in_kind out_kind limit input.now (cow_slice_items output)) }
+    ensures canonical { IfOk result (λ output. (length input.now ≤ most_bytes) × IsCanonical O.order in_kind out_kind limit input.now (cow_slice_items output)) }
     ensures room { IfOk result (λ output. in_kind ≡ kinds.Wire → out_kind ≡ kinds.Wire → 3 * length (cow_slice_items output) ≤ 4 * length input.now) }
-    ensures refused { IfErr result (IsRefusedWhole in_kind limit (2 ^ 30) input.now) }
+    ensures refused { IfErr result (IsRefusedWhole in_kind limit most_bytes input.now) }
 {
     let bytes = encode_slice::<O>(alloc, limit, in_kind, input)?;
     Ok(written_as(alloc, limit, out_kind, bytes)?)
@@ -61,8 +62,8 @@ pub fn show_slice<'a>(
     out_kind: Kind,
     input: &'a [u8],
 ) -> Result<CowSlice<'a, u8, Global>, EngineFault>
-    ensures shown { IfOk result (λ output. (length input.now ≤ 2 ^ 30) × IsShown in_kind out_kind limit input.now (cow_slice_items output)) }
-    ensures refused { IfErr result (IsUnshownWhole in_kind out_kind limit (2 ^ 30) input.now) }
+    ensures shown { IfOk result (λ output. (length input.now ≤ most_bytes) × IsShown in_kind out_kind limit input.now (cow_slice_items output)) }
+    ensures refused { IfErr result (IsUnshownWhole in_kind out_kind limit most_bytes input.now) }
 {
     if is_too_long(input) {
         return Err(EngineFault::TooLong);
@@ -84,8 +85,8 @@ pub fn check_slice<O: KeyOrder>(
     limit: Limit,
     input: &[u8],
 ) -> Result<Option<Defect>, EngineFault>
-    ensures checked { IfOk result (λ defect. (length input.now ≤ 2 ^ 30) × IsChecked O.order limit input.now defect) }
-    ensures refused { IfErr result (IsRefusedWhole kinds.Wire limit (2 ^ 30) input.now) }
+    ensures checked { IfOk result (λ defect. (length input.now ≤ most_bytes) × IsChecked O.order limit input.now defect) }
+    ensures refused { IfErr result (IsRefusedWhole kinds.Wire limit most_bytes input.now) }
 {
     if is_too_long(input) {
         return Err(EngineFault::TooLong);
@@ -108,8 +109,8 @@ pub fn compare_slices<O: KeyOrder>(
     kind_b: Kind,
     second: &[u8],
 ) -> Result<Option<u64>, CompareFault>
-    ensures compared { IfOk result (λ answer. (length first.now ≤ 2 ^ 30) × (length second.now ≤ 2 ^ 30) × AreCompared kind_a kind_b limit first.now second.now answer) }
-    ensures refused { IfErr result (AreRefusedWhole kind_a kind_b limit (2 ^ 30) first.now second.now) }
+    ensures compared { IfOk result (λ answer. (length first.now ≤ most_bytes) × (length second.now ≤ most_bytes) × AreCompared kind_a kind_b limit first.now second.now answer) }
+    ensures refused { IfErr result (AreRefusedWhole kind_a kind_b limit most_bytes first.now second.now) }
 {
     let ours = match encode_slice::<O>(alloc, limit, kind_a, first) {
         Ok(bytes) => bytes,
@@ -124,7 +125,7 @@ pub fn compare_slices<O: KeyOrder>(
 
 /// Whether an input is longer than allowed.
 fn is_too_long(input: &[u8]) -> bool
-    ensures { IsTrue result ↔ 2 ^ 30 < length input.now }
+    ensures { IsTrue result ↔ most_bytes < length input.now }
 {
     input.len() as u64 > MOST
 }
@@ -136,8 +137,8 @@ fn encode_slice<'a, O: KeyOrder>(
     kind: Kind,
     input: &'a [u8],
 ) -> Result<CowSlice<'a, u8, Global>, EngineFault>
-    ensures encoded { IfOk result (λ bytes. (length input.now ≤ 2 ^ 30) × IsEncoded O.order kind limit input.now (cow_slice_items bytes)) }
-    ensures refused { IfErr result (IsRefusedWhole kind limit (2 ^ 30) input.now) }
+    ensures encoded { IfOk result (λ bytes. (length input.now ≤ most_bytes) × IsEncoded O.order kind limit input.now (cow_slice_items bytes)) }
+    ensures refused { IfErr result (IsRefusedWhole kind limit most_bytes input.now) }
 {
     if is_too_long(input) {
         return Err(EngineFault::TooLong);

@@ -1,11 +1,11 @@
 //! All the bytes of an input, and the text that they are.
-ghost use Rattle.std.specs.Prelude.{◌≡◌, ◌≤◌, ◌+◌, ◌^◌, ℕ, length, IfOk, IfErr, IfSome, IsUtf8};
+ghost use Rattle.std.specs.Prelude.{◌≡◌, ◌≤◌, ◌+◌, ℕ, length, IfOk, IfErr, IfSome, IsUtf8};
 ghost use Rattle.cborn_lex.specs.declared.classes.Profile.{Profile as ProfileSpec};
 ghost use Rattle.cborn_spell.specs.Descent.{IsSpelling};
 ghost use Rattle.cborn_engine.specs.devices.Encoding.{kind_of};
 ghost use Rattle.cborn_engine.specs.Loading.{IsNoFlaw};
 ghost use Rattle.cborn_engine.specs.devices.Pieces.{Collects};
-ghost use Rattle.cborn_engine.specs.Reading.{read_failures};
+ghost use Rattle.cborn_engine.specs.Reading.{most_bytes, read_failures};
 ghost use Rattle.cborn_engine.specs.Refusing.{IsRefused};
 
 use crate::faults::EngineFault;
@@ -27,7 +27,7 @@ pub fn read_bytes<R: Source>(
     most: u64,
     reader: &mut R,
 ) -> Result<Vec<u8>, EngineFault>
-    requires { most ≤ 2 ^ 30 }
+    requires { most ≤ most_bytes }
     ensures collects { Collects most (R.remaining reader.old) (R.remaining reader.new) result }
     ensures failures { R.failed reader.new ≡ read_failures result (R.failed reader.old) }
     ensures calls { R.asked reader.new ≤ R.asked reader.old + most + 1 }

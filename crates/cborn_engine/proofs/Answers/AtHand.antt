@@ -1,5 +1,5 @@
 -- What is answered for an input that is held whole.
-use Rattle.std.proofs.Common.{◌≡◌, ◌*◌, ◌<◌, ◌≤◌, ◌^◌, ◌↔◌, ℕ, List, length, IsTrue, Bool, true, false, not, subst, sym, ap, arith, inl, inr, Option, None, Some, Result, Ok, Err, Ordering}
+use Rattle.std.proofs.Common.{◌≡◌, ◌*◌, ◌<◌, ◌≤◌, ◌↔◌, ℕ, List, length, IsTrue, Bool, true, false, not, subst, sym, ap, arith, inl, inr, Option, None, Some, Result, Ok, Err, Ordering}
 use Rattle.std.specs.Prelude.{IfErr, MatchOption}
 use Rattle.std.specs.Option.{is_some}
 use Rattle.std.proofs.lemmas.Bool.{cases_lt}
@@ -14,7 +14,7 @@ use Rattle.cborn_engine.specs.declared.kinds.Kind.TheVariants as kind
 use Rattle.cborn_engine.specs.Checking.{CheckAnswers}
 use Rattle.cborn_engine.specs.devices.Encoding.{EncodeAnswers, IsEncoded, IsWrittenAs}
 use Rattle.cborn_engine.specs.Holding.{Holds}
-use Rattle.cborn_engine.specs.Reading.{read_failures, read_failures_at}
+use Rattle.cborn_engine.specs.Reading.{most_bytes, read_failures, read_failures_at}
 use Rattle.cborn_engine.specs.Refusing.{IsRefused}
 use Rattle.cborn_engine.specs.Showing.{TellAnswers}
 use Rattle.cborn_engine.specs.Whole.{IsRefusedWhole, IsUnshownWhole}
@@ -56,7 +56,7 @@ none_found (Some x) b P Q e t h = absurd (let f : not b ≡ false = ap not t in 
 
 -- ---- its encoding
 
-pub held : (order : List ℕ → List ℕ → Ordering) (laws : IsKeyOrder order) (k : Kind) (limit : ℕ) (input bytes : List ℕ) → length input ≤ 2 ^ 30 → IsEncoded order k limit input bytes → (vs : List Value) × Holds kind.Wire limit bytes vs
+pub held : (order : List ℕ → List ℕ → Ordering) (laws : IsKeyOrder order) (k : Kind) (limit : ℕ) (input bytes : List ℕ) → length input ≤ most_bytes → IsEncoded order k limit input bytes → (vs : List Value) × Holds kind.Wire limit bytes vs
 held order laws k limit input bytes l e = let o = own_bytes order laws k limit input bytes l e in (o.own.items, o.own.held)
 
 encoding_room : (order : List ℕ → List ℕ → Ordering) (limit : ℕ) (input bytes : List ℕ) → IsEncoded order kind.Wire limit input bytes → 3 * length bytes ≤ 4 * length input

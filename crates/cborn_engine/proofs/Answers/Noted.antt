@@ -1,5 +1,5 @@
 -- A text that a pass takes holds what the bytes mean that it notates, and is shown as they are.
-use Rattle.std.proofs.Common.{◌≡◌, ◌≤◌, ◌^◌, ◌⊎◌, inl, inr, ℕ, List, length, sym, ◌∙◌, Ordering, arith}
+use Rattle.std.proofs.Common.{◌≡◌, ◌≤◌, ◌⊎◌, inl, inr, ℕ, List, length, sym, ◌∙◌, Ordering, arith}
 use Rattle.std.specs.Prelude.{IsUtf8}
 use Rattle.cborn_model.specs.Tree.{Tree, trees}
 use Rattle.cborn_model.specs.Spelled.{FitsAll}
@@ -19,6 +19,7 @@ use Rattle.cborn_engine.specs.declared.kinds.Kind.TheVariants as kind
 use Rattle.cborn_engine.specs.devices.Encoding.{kind_of, IsEncoded}
 use Rattle.cborn_engine.specs.Holding.{IsNotation, Spells}
 use Rattle.cborn_engine.specs.Showing.{IsShown, IsSpelledAs}
+use Rattle.cborn_engine.specs.Reading.{most_bytes}
 use Rattle.cborn_engine.proofs.Held.Meant.{zip_mean}
 use Rattle.cborn_engine.proofs.Held.SameNodes.{same_nodes}
 use Rattle.cborn_engine.proofs.Answers.Told.{notation}
@@ -31,10 +32,10 @@ module _ (p : Profile) (limit : ℕ) (text bytes : List ℕ) (u : IsUtf8 text) (
   notated : Spells (kind_of p) limit text s.nodes
   notated = spells p limit text s.nodes (u, s.notated)
 
-  fits : length text ≤ 2 ^ 30 → FitsAll (trees s.nodes)
+  fits : length text ≤ most_bytes → FitsAll (trees s.nodes)
   fits l = (notated_fits p limit text (trees s.nodes) (utf8_bytes text u) (omega (arith, l)) s.notated).0
 
-  pub encoded : (order : List ℕ → List ℕ → Ordering) (answer : List ℕ) → IsTranscoded order limit bytes answer → length text ≤ 2 ^ 30 → IsEncoded order (kind_of p) limit text answer
+  pub encoded : (order : List ℕ → List ℕ → Ordering) (answer : List ℕ) → IsTranscoded order limit bytes answer → length text ≤ most_bytes → IsEncoded order (kind_of p) limit text answer
   encoded order answer n l =
       let same = same_nodes (trees n.nodes) (trees s.nodes) n.read.fit (fits l) (n.read.spells ∙ sym s.spells) in
       record {
@@ -44,7 +45,7 @@ module _ (p : Profile) (limit : ℕ) (text bytes : List ℕ) (u : IsUtf8 text) (
       }
 
   -- their text is told
-  pub as_text : (out : Kind) → (out ≡ kind.Wire → ⊥) → (answer : List ℕ) → IsShownText limit bytes answer → length text ≤ 2 ^ 30 → IsShown (kind_of p) out limit text answer
+  pub as_text : (out : Kind) → (out ≡ kind.Wire → ⊥) → (answer : List ℕ) → IsShownText limit bytes answer → length text ≤ most_bytes → IsShown (kind_of p) out limit text answer
   as_text out never answer t l =
       let same = same_nodes (trees t.nodes) (trees s.nodes) t.read.fit (fits l) (t.read.spells ∙ sym s.spells) in
       let shown = same_notation (trees t.nodes) (trees s.nodes) answer same t.shown in

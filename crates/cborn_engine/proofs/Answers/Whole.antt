@@ -1,5 +1,5 @@
 -- What is answered for an input that was read to its end, and of bytes that are held whole.
-use Rattle.std.proofs.Common.{◌≡◌, ◌<◌, ◌≤◌, ◌^◌, ℕ, List, length, refl, sym, ◌∙◌, subst, Option, None, Some, Result, Ok, Err, Vec, Global, Ordering, arith}
+use Rattle.std.proofs.Common.{◌≡◌, ◌<◌, ◌≤◌, ℕ, List, length, refl, sym, ◌∙◌, subst, Option, None, Some, Result, Ok, Err, Vec, Global, Ordering, arith}
 use Rattle.std.specs.Io.KnownBytes.{IsAtEnd}
 use Rattle.std.specs.Prelude.{IfOk, IfErr}
 use Rattle.cborn_model.specs.Tree.{Tree, trees}
@@ -28,6 +28,7 @@ use Rattle.cborn_engine.specs.devices.Pieces.{Collects, CollectAnswers, Reads}
 use Rattle.cborn_engine.specs.devices.Encoding.{IsEncoded}
 use Rattle.cborn_engine.specs.Checking.{CheckAnswers, Checks}
 use Rattle.cborn_engine.specs.devices.Defects.{Finds}
+use Rattle.cborn_engine.specs.Reading.{most_bytes}
 use Rattle.cborn_search.specs.Searching.{IsFirstFlawOf, IsFirstDefectOfItems}
 use Rattle.cborn_engine.proofs.Answers.Checked.{mean_found, verdict, with_defect}
 
@@ -96,14 +97,14 @@ module _ (limit most : ℕ) (input : List ℕ) (within : length input ≤ most) 
   pub deterministic : (order : List ℕ → List ℕ → Ordering) → IsTranscoded order limit input input → CheckAnswers order limit most input (Ok None)
   deterministic order n = (within, record { items = n.items; held = transcoded_held order limit input input n; verdict = n.encoded })
 
-  pub checked_searched : (order : List ℕ → List ℕ → Ordering) → IsKeyOrder order → most ≤ 2 ^ 30 → (d : Defect) → IsFirstFlawOf limit input None → IsFirstDefectOfItems order limit input d → CheckAnswers order limit most input (Ok (Some d))
+  pub checked_searched : (order : List ℕ → List ℕ → Ordering) → IsKeyOrder order → most ≤ most_bytes → (d : Defect) → IsFirstFlawOf limit input None → IsFirstDefectOfItems order limit input d → CheckAnswers order limit most input (Ok (Some d))
   checked_searched order laws bounded d f first =
       let items : List Value = f.verdict.0 in
       let held : Holds kind.Wire limit input items = record { nodes = f.nodes; spelled = (f.read, f.placed); meant = f.verdict.1 } in
       let is : IsFirstOfSequence order (trees f.nodes) d.place d.reason = first f.nodes (values_of items) f.read f.placed (all_mean f.nodes items f.verdict.1) in
       (within, record { items = items; held = held; verdict = with_defect order laws limit input items held d (omega (arith, within, bounded)) is })
 
-  pub checked_trees : (order : List ℕ → List ℕ → Ordering) → IsKeyOrder order → most ≤ 2 ^ 30 → (nodes xs : List Tree) (o : Option Defect) → Wellformed limit (trees nodes) input × PlacedAll 0 (trees nodes) → xs ≡ nodes → Finds order xs o → CheckAnswers order limit most input (Ok o)
+  pub checked_trees : (order : List ℕ → List ℕ → Ordering) → IsKeyOrder order → most ≤ most_bytes → (nodes xs : List Tree) (o : Option Defect) → Wellformed limit (trees nodes) input × PlacedAll 0 (trees nodes) → xs ≡ nodes → Finds order xs o → CheckAnswers order limit most input (Ok o)
   checked_trees order laws bounded nodes xs o s e f =
       let found : Finds order nodes o = subst (λ (ns : List Tree). Finds order ns o) e f in
       let meant = mean_found order nodes o found in

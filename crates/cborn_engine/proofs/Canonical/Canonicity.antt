@@ -1,5 +1,5 @@
 -- What is encoded of what an input holds is canonical.
-use Rattle.std.proofs.Common.{◌≡◌, ◌≤◌, ◌^◌, ◌↔◌, ℕ, List, [], length, refl, sym, ◌∙◌, subst, arith, Ordering, Option, Result, Ok, Err, Vec, Global}
+use Rattle.std.proofs.Common.{◌≡◌, ◌≤◌, ◌↔◌, ℕ, List, [], length, refl, sym, ◌∙◌, subst, arith, Ordering, Option, Result, Ok, Err, Vec, Global}
 use Rattle.std.specs.List.{AllZip, AllByRecursion}
 use Rattle.cborn_model.specs.Value.{Value, Same}
 use Rattle.cborn_model.specs.Tree.{Tree, trees, depth_all}
@@ -19,6 +19,7 @@ use Rattle.cborn_engine.specs.devices.Encoding.{IsWrittenAs, IsEncoded, EncodeAn
 use Rattle.cborn_engine.specs.Refusing.{IsRead}
 use Rattle.cborn_engine.specs.devices.Sending.{Sends, WriteAnswers}
 use Rattle.cborn_engine.specs.Canonical.{IsCanonical, NormaliseAnswers, Normalises}
+use Rattle.cborn_engine.specs.Reading.{most_bytes}
 use Rattle.cborn_engine.proofs.Held.Notated.{fits}
 use Rattle.cborn_engine.proofs.Canonical.Proper.{sequence_proper, sequence_shallow}
 use Rattle.cborn_engine.proofs.Held.Meant.{holds_once, all_same, all_turned, AreSound}
@@ -75,19 +76,19 @@ holds_back kind.Notation2 limit vs x w back e =
 
 -- ---- what was read is sound
 
-spelled_fits : (k : Kind) (limit : ℕ) (input : List ℕ) (ns : List Tree) → length input ≤ 2 ^ 30 → Spells k limit input ns → FitsAll (trees ns) × (depth_all (trees ns) ≤ limit)
+spelled_fits : (k : Kind) (limit : ℕ) (input : List ℕ) (ns : List Tree) → length input ≤ most_bytes → Spells k limit input ns → FitsAll (trees ns) × (depth_all (trees ns) ≤ limit)
 spelled_fits kind.Wire limit input ns l h = (h.0.fit, h.0.shallow)
 spelled_fits kind.Notation limit input ns l h = fits profile.One limit input ns h l
 spelled_fits kind.Notation2 limit input ns l h = fits profile.Two limit input ns h l
 
-held_sound : (order : List ℕ → List ℕ → Ordering) (k : Kind) (limit : ℕ) (input : List ℕ) (vs : List Value) (x : List ℕ) → length input ≤ 2 ^ 30 → Holds k limit input vs → DetSeq order vs x → AreSound limit vs
+held_sound : (order : List ℕ → List ℕ → Ordering) (k : Kind) (limit : ℕ) (input : List ℕ) (vs : List Value) (x : List ℕ) → length input ≤ most_bytes → Holds k limit input vs → DetSeq order vs x → AreSound limit vs
 held_sound order k limit input vs x short h d =
     let f = spelled_fits k limit input h.nodes short h.spelled in
     record { proper = sequence_proper order h.nodes vs x f.0 h.meant d; shallow = sequence_shallow limit h.nodes vs f.0 f.1 h.meant }
 
 -- ---- what follows for the canonical form of what an input holds
 
-module _ (order : List ℕ → List ℕ → Ordering) (laws : IsKeyOrder order) (k out : Kind) (limit : ℕ) (x w : List ℕ) (short : length x ≤ 2 ^ 30) (c : IsCanonical order k out limit x w) where
+module _ (order : List ℕ → List ℕ → Ordering) (laws : IsKeyOrder order) (k out : Kind) (limit : ℕ) (x w : List ℕ) (short : length x ≤ most_bytes) (c : IsCanonical order k out limit x w) where
   -- the encoding that the output is, or tells
   encoded : (e : List ℕ) × DetSeq order c.items e × IsWrittenAs out e w
   encoded = canon_is order out c.items w c.written
@@ -136,7 +137,7 @@ pub record OwnEncoding (order : List ℕ → List ℕ → Ordering) (limit : ℕ
   pub same : AllZip Same own.items items
 
 -- what was encoded of an input is its own encoding
-pub own_bytes : (order : List ℕ → List ℕ → Ordering) (laws : IsKeyOrder order) (k : Kind) (limit : ℕ) (input bytes : List ℕ) → length input ≤ 2 ^ 30 → (e : IsEncoded order k limit input bytes) → OwnEncoding order limit bytes e.items
+pub own_bytes : (order : List ℕ → List ℕ → Ordering) (laws : IsKeyOrder order) (k : Kind) (limit : ℕ) (input bytes : List ℕ) → length input ≤ most_bytes → (e : IsEncoded order k limit input bytes) → OwnEncoding order limit bytes e.items
 own_bytes order laws k limit input bytes short e =
     let sound : AreSound limit e.items = held_sound order k limit input e.items bytes short e.held e.encoded in
     let back = sequence_back order laws limit 0 e.items bytes sound.proper sound.shallow e.encoded in
@@ -150,11 +151,11 @@ own_bytes order laws k limit input bytes short e =
     }
 
 -- likewise of what was read
-pub own_encoding : (order : List ℕ → List ℕ → Ordering) (laws : IsKeyOrder order) (k : Kind) (limit most : ℕ) (before after : Option (List ℕ)) (bytes : Vec ℕ Global) → most ≤ 2 ^ 30 → (h : Reads (EncodeAnswers order k limit most) before after (Ok bytes)) → OwnEncoding order limit bytes.items h.answer.1.items
+pub own_encoding : (order : List ℕ → List ℕ → Ordering) (laws : IsKeyOrder order) (k : Kind) (limit most : ℕ) (before after : Option (List ℕ)) (bytes : Vec ℕ Global) → most ≤ most_bytes → (h : Reads (EncodeAnswers order k limit most) before after (Ok bytes)) → OwnEncoding order limit bytes.items h.answer.1.items
 own_encoding order laws k limit most before after bytes bounded h = own_bytes order laws k limit h.input bytes.items (omega (arith, h.answer.0, bounded)) h.answer.1
 
 -- what was encoded of what was read holds items
-pub encoded_held : (order : List ℕ → List ℕ → Ordering) (laws : IsKeyOrder order) (k : Kind) (limit most : ℕ) (before after : Option (List ℕ)) (bytes : Vec ℕ Global) → most ≤ 2 ^ 30 → Reads (EncodeAnswers order k limit most) before after (Ok bytes) → (vs : List Value) × Holds kind.Wire limit bytes.items vs
+pub encoded_held : (order : List ℕ → List ℕ → Ordering) (laws : IsKeyOrder order) (k : Kind) (limit most : ℕ) (before after : Option (List ℕ)) (bytes : Vec ℕ Global) → most ≤ most_bytes → Reads (EncodeAnswers order k limit most) before after (Ok bytes) → (vs : List Value) × Holds kind.Wire limit bytes.items vs
 encoded_held order laws k limit most before after bytes bounded h =
     let o = own_encoding order laws k limit most before after bytes bounded h in
     (o.own.items, o.own.held)

@@ -1,5 +1,5 @@
 -- What follows where the outputs are canonical forms.
-use Rattle.std.proofs.Common.{◌≡◌, ◌≤◌, ◌^◌, ◌↔◌, ℕ, List, [], ◌++◌, length, Err, sym, subst, ap, Ordering}
+use Rattle.std.proofs.Common.{◌≡◌, ◌≤◌, ◌↔◌, ℕ, List, [], ◌++◌, length, Err, sym, subst, ap, Ordering}
 use Rattle.std.specs.List.{AllZip}
 use Rattle.cborn_model.specs.Orders.{IsKeyOrder}
 use Rattle.cborn_model.specs.Value.{Value, Same}
@@ -11,20 +11,21 @@ use Rattle.cborn_engine.specs.Refusing.{IsRefused, IsNoRefusal, IsTrouble}
 use Rattle.cborn_engine.specs.Writing.{IsFront}
 use Rattle.cborn_engine.specs.Canonical.{IsCanonical, NormaliseAnswers}
 use Rattle.cborn_engine.specs.Comparing.{HoldSameItems}
+use Rattle.cborn_engine.specs.Reading.{most_bytes}
 use Rattle.cborn_engine.proofs.Canonical.Canonicity.{valid, reads_back, alone, one_for_same, again}
 use Rattle.cborn_engine.proofs.Held.Known.{input_read}
 use Rattle.cborn_engine.proofs.Held.Meant.{holds_once, all_turned}
 
 module _ (order : List ℕ → List ℕ → Ordering) (laws : IsKeyOrder order) where
   -- two outputs are one exactly if the items are the same
-  pub one_output : (k l out : Kind) (limit : ℕ) (x y v w : List ℕ) → length x ≤ 2 ^ 30 → length y ≤ 2 ^ 30 → (a : IsCanonical order k out limit x v) (b : IsCanonical order l out limit y w) → (v ≡ w) ↔ AllZip Same a.items b.items
+  pub one_output : (k l out : Kind) (limit : ℕ) (x y v w : List ℕ) → length x ≤ most_bytes → length y ≤ most_bytes → (a : IsCanonical order k out limit x v) (b : IsCanonical order l out limit y w) → (v ≡ w) ↔ AllZip Same a.items b.items
   one_output k l out limit x y v w p q a b =
       let same = one_for_same order laws k out limit x v p a b.items (valid order laws l out limit y w q b) in (
         λ e. same.0 (subst (Canon order out b.items) (sym e) b.written),
         λ s. alone order laws l out limit y w q b v (same.1 s),
       )
 
-  pub alike : (k l out : Kind) (limit : ℕ) (x y v w : List ℕ) → length x ≤ 2 ^ 30 → length y ≤ 2 ^ 30 → IsCanonical order k out limit x v → IsCanonical order l out limit y w → (v ≡ w) ↔ HoldSameItems k l limit x y
+  pub alike : (k l out : Kind) (limit : ℕ) (x y v w : List ℕ) → length x ≤ most_bytes → length y ≤ most_bytes → IsCanonical order k out limit x v → IsCanonical order l out limit y w → (v ≡ w) ↔ HoldSameItems k l limit x y
   alike k l out limit x y v w p q a b =
       let same = one_output k l out limit x y v w p q a b in (
         λ e. record { ours = a.items; theirs = b.items; held = a.held; held2 = b.held; difference = same.0 e },
@@ -34,13 +35,13 @@ module _ (order : List ℕ → List ℕ → Ordering) (laws : IsKeyOrder order) 
       )
 
   -- an output holds the items of its input
-  pub same_held : (k out : Kind) (limit : ℕ) (x v : List ℕ) → length x ≤ 2 ^ 30 → IsCanonical order k out limit x v → HoldSameItems k out limit x v
+  pub same_held : (k out : Kind) (limit : ℕ) (x v : List ℕ) → length x ≤ most_bytes → IsCanonical order k out limit x v → HoldSameItems k out limit x v
   same_held k out limit x v p a =
       let back = reads_back order laws k out limit x v p a in
       record { ours = a.items; theirs = back.0; held = a.held; held2 = back.1; difference = all_turned back.0 a.items back.2 }
 
   -- an output is refused only in trouble, and a front of it goes out
-  pub refused_again : (k out : Kind) (limit most : ℕ) (x v w : List ℕ) (why : EngineFault) → length x ≤ 2 ^ 30 → length v ≤ most → IsCanonical order k out limit x v → NormaliseAnswers order out out limit most v w (Err why) → IsTrouble why × IsFront w v
+  pub refused_again : (k out : Kind) (limit most : ℕ) (x v w : List ℕ) (why : EngineFault) → length x ≤ most_bytes → length v ≤ most → IsCanonical order k out limit x v → NormaliseAnswers order out out limit most v w (Err why) → IsTrouble why × IsFront w v
   refused_again k out limit most x v w why short room a = go why
     where
       nothing : w ≡ [] → IsFront w v

@@ -1,5 +1,5 @@
 -- What is answered where two inputs were encoded.
-use Rattle.std.proofs.Common.{◌≡◌, ◌≤◌, ◌^◌, ℕ, List, length, arith, sym, subst, Option, Ok, Vec, Global, Ordering}
+use Rattle.std.proofs.Common.{◌≡◌, ◌≤◌, ℕ, List, length, arith, sym, subst, Option, Ok, Vec, Global, Ordering}
 use Rattle.std.specs.List.{AllZip}
 use Rattle.cborn_model.specs.Orders.{IsKeyOrder}
 use Rattle.cborn_model.specs.Tree.{Tree, trees}
@@ -15,6 +15,7 @@ use Rattle.cborn_engine.specs.Comparing.{AreCompared, IsHeldWhole, Compares}
 use Rattle.cborn_engine.specs.devices.Encoding.{IsEncoded, EncodeAnswers}
 use Rattle.cborn_engine.specs.devices.Pieces.{Reads}
 use Rattle.cborn_engine.specs.Holding.{Holds}
+use Rattle.cborn_engine.specs.Reading.{most_bytes}
 use Rattle.cborn_engine.proofs.Comparison.Apart.{difference_too}
 use Rattle.cborn_engine.proofs.Canonical.Canonicity.{own_bytes}
 use Rattle.cborn_engine.proofs.Held.Known.{flawless}
@@ -26,14 +27,14 @@ no_flaw_held limit bytes nodes p r h w f =
     flawless h.1.nodes h.0 p r h.1.meant (subst (λ (ns : List Tree). IsRefusalOfAll ns (invalid.Refused p r)) (spells_once kind.Wire limit bytes nodes h.1.nodes w h.1.spelled) f)
 
 module _ (order : List ℕ → List ℕ → Ordering) (laws : IsKeyOrder order) where
-  pub its_own : (k : Kind) (limit : ℕ) (input bytes x : List ℕ) → length input ≤ 2 ^ 30 → IsEncoded order k limit input bytes → x ≡ bytes → IsEncoded order kind.Wire limit x x
+  pub its_own : (k : Kind) (limit : ℕ) (input bytes x : List ℕ) → length input ≤ most_bytes → IsEncoded order k limit input bytes → x ≡ bytes → IsEncoded order kind.Wire limit x x
   its_own k limit input bytes x short e f = subst (λ (y : List ℕ). IsEncoded order kind.Wire limit y y) (sym f) (own_bytes order laws k limit input bytes short e).own
 
-  pub encodes_itself : (k : Kind) (limit most : ℕ) (before after : Option (List ℕ)) (bytes : Vec ℕ Global) (x : List ℕ) → most ≤ 2 ^ 30 → Reads (EncodeAnswers order k limit most) before after (Ok bytes) → x ≡ bytes.items → IsEncoded order kind.Wire limit x x
+  pub encodes_itself : (k : Kind) (limit most : ℕ) (before after : Option (List ℕ)) (bytes : Vec ℕ Global) (x : List ℕ) → most ≤ most_bytes → Reads (EncodeAnswers order k limit most) before after (Ok bytes) → x ≡ bytes.items → IsEncoded order kind.Wire limit x x
   encodes_itself k limit most before after bytes x bounded h e = its_own k limit h.input bytes.items x (omega (arith, h.answer.0, bounded)) h.answer.1 e
 
   -- inputs differ where their encodings do
-  pub bytes_compared : (k l : Kind) (limit : ℕ) (first second ours theirs x y : List ℕ) (answer : Option ℕ) → length first ≤ 2 ^ 30 → length second ≤ 2 ^ 30
+  pub bytes_compared : (k l : Kind) (limit : ℕ) (first second ours theirs x y : List ℕ) (answer : Option ℕ) → length first ≤ most_bytes → length second ≤ most_bytes
       → IsEncoded order k limit first ours → IsEncoded order l limit second theirs → x ≡ ours → y ≡ theirs → AreCompared kind.Wire kind.Wire limit x y answer → AreCompared k l limit first second answer
   bytes_compared k l limit first second ours theirs x y answer short short2 a b e f c =
       let p = own_bytes order laws k limit first ours short a in
@@ -44,7 +45,7 @@ module _ (order : List ℕ → List ℕ → Ordering) (laws : IsKeyOrder order) 
       let same2 : AllZip Same c.theirs b.items = subst (λ (vs : List Value). AllZip Same vs b.items) (holds_once kind.Wire limit theirs q.own.items c.theirs q.own.held held2) q.same in
       record { ours = a.items; theirs = b.items; held = a.held; held2 = b.held; difference = difference_too c.ours c.theirs a.items b.items answer same same2 c.difference }
 
-  pub compared : (k l : Kind) (limit most : ℕ) (before after before2 after2 : Option (List ℕ)) (ours theirs : Vec ℕ Global) (x y : List ℕ) (answer : Option ℕ) → most ≤ 2 ^ 30
+  pub compared : (k l : Kind) (limit most : ℕ) (before after before2 after2 : Option (List ℕ)) (ours theirs : Vec ℕ Global) (x y : List ℕ) (answer : Option ℕ) → most ≤ most_bytes
       → Reads (EncodeAnswers order k limit most) before after (Ok ours) → Reads (EncodeAnswers order l limit most) before2 after2 (Ok theirs) → x ≡ ours.items → y ≡ theirs.items
       → AreCompared kind.Wire kind.Wire limit x y answer → Compares k l limit most before after before2 after2 (Ok answer)
   compared k l limit most before after before2 after2 ours theirs x y answer bounded h g e f c = record {

@@ -1,5 +1,5 @@
 -- What a text notates: it fits, is no deeper than the limit, and the text isn't refused.
-use Rattle.std.proofs.Common.{◌≡◌, ◌≤◌, ◌^◌, ℕ, List, length, subst, arith}
+use Rattle.std.proofs.Common.{◌≡◌, ◌≤◌, ℕ, List, length, subst, arith}
 use Rattle.cborn_model.specs.Tree.{Tree, trees, depth_all}
 use Rattle.cborn_model.specs.Spelled.{FitsAll}
 use Rattle.cborn_lex.specs.declared.classes.Profile.{Profile}
@@ -13,10 +13,11 @@ use Rattle.cborn_edn.specs.Notates.{Jams, Slips}
 use Rattle.cborn_edn.proofs.Grammar.OneTree.{not_both}
 use Rattle.cborn_edn.proofs.Meaning.ShortTexts.{notated_fits, notated_or_slips}
 use Rattle.cborn_engine.specs.Holding.{IsNotation}
+use Rattle.cborn_engine.specs.Reading.{most_bytes}
 use Rattle.cborn_lex.proofs.WholeTexts.Weights.{utf8_bytes}
 
 module _ (p : Profile) (limit : ℕ) (text : List ℕ) (ns : List Tree) (h : IsNotation p limit text ns) where
-  pub fits : length text ≤ 2 ^ 30 → FitsAll (trees ns) × (depth_all (trees ns) ≤ limit)
+  pub fits : length text ≤ most_bytes → FitsAll (trees ns) × (depth_all (trees ns) ≤ limit)
   fits l = notated_fits p limit text (trees ns) (utf8_bytes text h.0) (omega (arith, l)) h.1
 
   pub no_stop : (q : ℕ) (r : LexReason) → Stop p text q r → ⊥

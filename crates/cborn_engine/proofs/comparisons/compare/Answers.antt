@@ -1,14 +1,15 @@
-use Rattle.std.proofs.Common.{◌^◌, arith}
+use Rattle.std.proofs.Common.{arith}
+use Rattle.cborn_engine.specs.Reading.{most_bytes}
 use Rattle.cborn_engine.proofs.Comparison.Compared.{encodes_itself, compared}
 use Rattle.cborn_engine.proofs.comparisons.compare.Goals as goal
 
 pub difference-requires : goal.difference-requires
 difference-requires g c = record {
-  ours = encodes_itself g.O.KeyOrder.order g.met.O.KeyOrder.laws c.args.kind_a c.args.limit (2 ^ 30) _ _ c.in-Ok.bytes c.deref.result.now (omega arith) c.in-Ok.ensures.encodes c.deref.ensures.value;
-  theirs = encodes_itself g.O.KeyOrder.order g.met.O.KeyOrder.laws c.args.kind_b c.args.limit (2 ^ 30) _ _ c.in-Ok-read_encoded.bytes c.deref-2.result.now (omega arith) c.in-Ok-read_encoded.ensures.encodes c.deref-2.ensures.value;
+  ours = encodes_itself g.O.KeyOrder.order g.met.O.KeyOrder.laws c.args.kind_a c.args.limit most_bytes _ _ c.in-Ok.bytes c.deref.result.now (omega arith) c.in-Ok.ensures.encodes c.deref.ensures.value;
+  theirs = encodes_itself g.O.KeyOrder.order g.met.O.KeyOrder.laws c.args.kind_b c.args.limit most_bytes _ _ c.in-Ok-read_encoded.bytes c.deref-2.result.now (omega arith) c.in-Ok-read_encoded.ensures.encodes c.deref-2.ensures.value;
 }
 
 pub returns-clause-compares : goal.returns-clause-compares
 returns-clause-compares g c =
-    compared g.O.KeyOrder.order g.met.O.KeyOrder.laws c.args.kind_a c.args.kind_b c.args.limit (2 ^ 30) _ _ _ _ c.in-Ok.bytes c.in-Ok-read_encoded.bytes c.deref.result.now c.deref-2.result.now c.in_ok-difference.field-0 (omega arith)
+    compared g.O.KeyOrder.order g.met.O.KeyOrder.laws c.args.kind_a c.args.kind_b c.args.limit most_bytes _ _ _ _ c.in-Ok.bytes c.in-Ok-read_encoded.bytes c.deref.result.now c.deref-2.result.now c.in_ok-difference.field-0 (omega arith)
     c.in-Ok.ensures.encodes c.in-Ok-read_encoded.ensures.encodes c.deref.ensures.value c.deref-2.ensures.value c.in_ok-difference.ensures

@@ -1,8 +1,9 @@
-use Rattle.std.proofs.Common.{◌≤◌, ◌^◌, length}
+use Rattle.std.proofs.Common.{◌≤◌, length}
 use Rattle.cborn_engine.specs.devices.Encoding.{EncodeAnswers}
+use Rattle.cborn_engine.specs.Reading.{most_bytes}
 use Rattle.cborn_engine.proofs.Answers.Told.{told}
 use Rattle.cborn_engine.proofs.encodings.encode_by_trees.Goals as goal
 
 pub returns-in_err-nodes-clause-answers : goal.returns-in_err-nodes-clause-answers
 returns-in_err-nodes-clause-answers g c =
-    told (λ r. length c.args.input.now ≤ 2 ^ 30 → EncodeAnswers g.O.KeyOrder.order c.args.kind c.args.limit (2 ^ 30) c.args.input.now r) _ _ c.from_residual.ensures.1 (c.in_err-nodes.ensures.refused (2 ^ 30))
+    told (λ r. length c.args.input.now ≤ most_bytes → EncodeAnswers g.O.KeyOrder.order c.args.kind c.args.limit most_bytes c.args.input.now r) _ _ c.from_residual.ensures.1 (c.in_err-nodes.ensures.refused most_bytes)

@@ -1,6 +1,7 @@
-use Rattle.std.proofs.Common.{◌^◌, ℕ, List, Ok, subst}
+use Rattle.std.proofs.Common.{ℕ, List, Ok, subst}
 use Rattle.cborn_engine.specs.devices.Pieces.{Reads}
 use Rattle.cborn_engine.specs.Showing.{IsShown, TellAnswers}
+use Rattle.cborn_engine.specs.Reading.{most_bytes}
 use Rattle.cborn_engine.proofs.Answers.Telling.{refused}
 use Rattle.cborn_engine.proofs.Answers.Told.{told}
 use Rattle.cborn_engine.proofs.Answers.Whole.{unread, read_whole}
@@ -8,14 +9,14 @@ use Rattle.cborn_engine.proofs.showings.read_shown.Goals as goal
 
 pub returns-in_err-input-clause-tells : goal.returns-in_err-input-clause-tells
 returns-in_err-input-clause-tells g c =
-    told (Reads (TellAnswers c.args.in_kind c.args.out_kind c.args.limit (2 ^ 30)) _ _) _ _ c.from_residual.ensures.1
-    (unread (TellAnswers c.args.in_kind c.args.out_kind c.args.limit (2 ^ 30)) (2 ^ 30) _ (g.R.Source.remaining c.read_bytes.new.reader) c.args.in_kind c.args.limit c.in_err-input.field-0.0 (λ x r. refused c.args.in_kind c.args.out_kind c.args.limit (2 ^ 30) x c.in_err-input.field-0.0 r) c.in_err-input.ensures.collects)
+    told (Reads (TellAnswers c.args.in_kind c.args.out_kind c.args.limit most_bytes) _ _) _ _ c.from_residual.ensures.1
+    (unread (TellAnswers c.args.in_kind c.args.out_kind c.args.limit most_bytes) most_bytes _ (g.R.Source.remaining c.read_bytes.new.reader) c.args.in_kind c.args.limit c.in_err-input.field-0.0 (λ x r. refused c.args.in_kind c.args.out_kind c.args.limit most_bytes x c.in_err-input.field-0.0 r) c.in_err-input.ensures.collects)
 
 pub returns-then-is_own_spelling-clause-tells : goal.returns-then-is_own_spelling-clause-tells
 returns-then-is_own_spelling-clause-tells g c =
-    read_whole (TellAnswers c.args.in_kind c.args.out_kind c.args.limit (2 ^ 30)) (2 ^ 30) _ (g.R.Source.remaining c.read_bytes.new.reader) c.in_ok-input.input c.deref.result.now c.in_ok-input.ensures.collects c.deref.ensures.value (Ok c.in_ok-input.input)
+    read_whole (TellAnswers c.args.in_kind c.args.out_kind c.args.limit most_bytes) most_bytes _ (g.R.Source.remaining c.read_bytes.new.reader) c.in_ok-input.input c.deref.result.now c.in_ok-input.ensures.collects c.deref.ensures.value (Ok c.in_ok-input.input)
     (λ l. (l, subst (λ (x : List ℕ). IsShown c.args.in_kind c.args.out_kind c.args.limit c.deref.result.now x) c.deref.ensures.value (c.is_own_spelling.ensures c.if-is_own_spelling.true)))
 
 pub returns-clause-tells : goal.returns-clause-tells
 returns-clause-tells g c =
-    read_whole (TellAnswers c.args.in_kind c.args.out_kind c.args.limit (2 ^ 30)) (2 ^ 30) _ (g.R.Source.remaining c.read_bytes.new.reader) c.in_ok-input.input c.deref-2.result.now c.in_ok-input.ensures.collects c.deref-2.ensures.value c.show_input.result c.show_input.ensures.answers
+    read_whole (TellAnswers c.args.in_kind c.args.out_kind c.args.limit most_bytes) most_bytes _ (g.R.Source.remaining c.read_bytes.new.reader) c.in_ok-input.input c.deref-2.result.now c.in_ok-input.ensures.collects c.deref-2.ensures.value c.show_input.result c.show_input.ensures.answers

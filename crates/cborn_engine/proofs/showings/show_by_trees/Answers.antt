@@ -1,9 +1,10 @@
-use Rattle.std.proofs.Common.{◌≡◌, ◌≤◌, ◌^◌, length, rules, subst, sym, Err}
+use Rattle.std.proofs.Common.{◌≡◌, ◌≤◌, length, rules, subst, sym, Err}
 use Rattle.cborn_edn.specs.declared.faults.ShowFault.TheVariants.{NotUtf8}
 use Rattle.cborn_engine.specs.declared.faults.EngineFault.TheVariants as fault
 use Rattle.cborn_engine.specs.declared.kinds.Kind.{Kind}
 use Rattle.cborn_engine.specs.declared.kinds.Kind.TheVariants as kind
 use Rattle.cborn_engine.specs.Showing.{TellAnswers}
+use Rattle.cborn_engine.specs.Reading.{most_bytes}
 use Rattle.cborn_engine.proofs.Answers.Telling.{refused, untold_text}
 use Rattle.cborn_engine.proofs.Answers.Told.{told}
 use Rattle.cborn_engine.proofs.showings.show_by_trees.Goals as goal
@@ -11,12 +12,12 @@ use Rattle.cborn_engine.proofs.showings.show_by_trees.Goals as goal
 pub returns-in_err-nodes-clause-answers : goal.returns-in_err-nodes-clause-answers
 returns-in_err-nodes-clause-answers c =
     let input = c.args.input.now in
-    told (λ r. length input ≤ 2 ^ 30 → TellAnswers c.args.in_kind c.args.out_kind c.args.limit (2 ^ 30) input r) _ _ c.from_residual.ensures.1
-    (λ l. refused c.args.in_kind c.args.out_kind c.args.limit (2 ^ 30) input c.in_err-nodes.field-0.0 (c.in_err-nodes.ensures.refused (2 ^ 30) l))
+    told (λ r. length input ≤ most_bytes → TellAnswers c.args.in_kind c.args.out_kind c.args.limit most_bytes input r) _ _ c.from_residual.ensures.1
+    (λ l. refused c.args.in_kind c.args.out_kind c.args.limit most_bytes input c.in_err-nodes.field-0.0 (c.in_err-nodes.ensures.refused most_bytes l))
 
 pub returns-in-Some-bad_text-clause-answers : goal.returns-in-Some-bad_text-clause-answers
 returns-in-Some-bad_text-clause-answers c within =
     let input = c.args.input.now in
     let wire : c.args.in_kind ≡ kind.Wire = search rules in
-    subst (λ (k : Kind). TellAnswers k c.args.out_kind c.args.limit (2 ^ 30) input (Err (fault.Show (NotUtf8 c.in-Some-bad_text.place)))) (sym wire)
-    (untold_text c.args.out_kind c.args.limit (2 ^ 30) c.in-Some-bad_text.place input within c.in_default.ensures c.in-Some-bad_text.ensures)
+    subst (λ (k : Kind). TellAnswers k c.args.out_kind c.args.limit most_bytes input (Err (fault.Show (NotUtf8 c.in-Some-bad_text.place)))) (sym wire)
+    (untold_text c.args.out_kind c.args.limit most_bytes c.in-Some-bad_text.place input within c.in_default.ensures c.in-Some-bad_text.ensures)

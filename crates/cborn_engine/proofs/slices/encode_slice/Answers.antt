@@ -1,13 +1,13 @@
-use Rattle.std.proofs.Common.{◌^◌}
 use Rattle.std.specs.Prelude.{IfErr}
 use Rattle.cborn_engine.specs.Whole.{IsRefusedWhole}
+use Rattle.cborn_engine.specs.Reading.{most_bytes}
 use Rattle.cborn_engine.proofs.Answers.AtHand.{short, not_encoded}
 use Rattle.cborn_engine.proofs.Answers.Told.{told}
 use Rattle.cborn_engine.proofs.slices.encode_slice.Goals as goal
 
 pub returns-in_err-encode_input-clause-refused : goal.returns-in_err-encode_input-clause-refused
 returns-in_err-encode_input-clause-refused g c =
-    let l = short (2 ^ 30) c.args.input.now c.is_too_long.result c.is_too_long.ensures c.if-is_too_long.false in
+    let l = short most_bytes c.args.input.now c.is_too_long.result c.is_too_long.ensures c.if-is_too_long.false in
     let e = c.in_err-encode_input in
-    told (λ r. IfErr r (IsRefusedWhole c.args.kind c.args.limit (2 ^ 30) c.args.input.now)) _ _ c.from_residual.ensures.1
-    (not_encoded c.args.limit (2 ^ 30) c.args.input.now l g.O.KeyOrder.order c.args.kind e.field-0.0 e.ensures.answers e.ensures.failures)
+    told (λ r. IfErr r (IsRefusedWhole c.args.kind c.args.limit most_bytes c.args.input.now)) _ _ c.from_residual.ensures.1
+    (not_encoded c.args.limit most_bytes c.args.input.now l g.O.KeyOrder.order c.args.kind e.field-0.0 e.ensures.answers e.ensures.failures)
