@@ -2,6 +2,7 @@
 //! Where that answers nothing, what is wrong with bytes is looked for without a tree too, and only
 //! an input in which none is found becomes nodes, which are judged.
 ghost use Rattle.std.specs.Prelude.{◌≡◌, ◌≤◌, ◌+◌, ℕ, length, IfSome, IsTrue};
+ghost use Rattle.cborn_transcode.specs.Transcoding.{IsTranscoded};
 ghost use Rattle.cborn_engine.specs.devices.Encoding.{EncodeAnswers, IsEncoded};
 ghost use Rattle.cborn_engine.specs.devices.Pieces.{Reads};
 ghost use Rattle.cborn_engine.specs.Reading.{most_bytes, read_failures};
@@ -81,9 +82,20 @@ fn encode_by_pass<O: KeyOrder>(
         None => transcode::<O>(alloc, limit, input),
         Some(profile) => {
             let bytes = bytes_of_text(alloc, limit, profile, input)?;
-            transcode::<O>(alloc, limit, &bytes)
+            encode_spelled::<O>(alloc, limit, bytes)
         }
     }
+}
+
+/// The deterministic encodings of what the bytes hold, which are moved where they are these. None
+/// promises nothing.
+fn encode_spelled<O: KeyOrder>(alloc: Global, limit: Limit, bytes: Vec<u8>) -> Option<Vec<u8>>
+    ensures { IfSome result (λ encodings. IsTranscoded O.order limit bytes.items encodings.items) }
+{
+    if is_deterministic::<O>(limit, &bytes) {
+        return Some(bytes);
+    }
+    transcode::<O>(alloc, limit, &bytes)
 }
 
 /// What `encode_input` answers, by trees.

@@ -16,18 +16,17 @@ use crate::leaves::{
     behind_break, is_bignum, is_done, is_simple, last, scan_long_bytes, scan_long_text, scan_text,
     string_at,
 };
-use crate::scanned_maps::ScannedMap;
+use crate::scanned_maps::SpareMaps;
 use crate::told::Finding;
 use cborn_judge::{InvalidReason, earliest};
 use cborn_model::Major;
 use cborn_wire::{Argument, HeadRead, read_head};
-use std::alloc::Global;
 
 /// The item at the front of `bytes`, the last of `total`: what follows it. None promises nothing.
 #[cycle(scanned)]
 #[inline(always)]
 pub(crate) fn scan_item<'a>(
-    alloc: Global,
+    maps: &mut SpareMaps,
     room: u64,
     total: u64,
     bytes: &'a [u8],
@@ -37,7 +36,7 @@ pub(crate) fn scan_item<'a>(
     requires within { length bytes.now ≤ total }
     ensures { IfSome result (λ rest. Scanned room total bytes.now rest.now found.new.flaw found.new.is_string) }
 {
-    let left = scan_node(alloc, room, total, bytes, found)?;
+    let left = scan_node(maps, room, total, bytes, found)?;
     last(bytes, left)
 }
 
@@ -45,7 +44,7 @@ pub(crate) fn scan_item<'a>(
 #[cycle(scanned)]
 #[inline(never)]
 fn scan_node(
-    alloc: Global,
+    maps: &mut SpareMaps,
     room: u64,
     total: u64,
     bytes: &[u8],
@@ -75,13 +74,13 @@ fn scan_node(
                 Some(after.len())
             }
             Major::TextString => scan_text(place, n, rest, found),
-            Major::Array => scan_fixed_array(alloc, room, total, n, rest, found),
-            Major::Map => scan_fixed_map(alloc, room, total, n, rest, found),
+            Major::Array => scan_fixed_array(maps, room, total, n, rest, found),
+            Major::Map => scan_fixed_map(maps, room, total, n, rest, found),
             Major::Tag => {
                 if is_bignum(n) {
-                    scan_bignum(alloc, room, total, place, rest, found)
+                    scan_bignum(maps, room, total, place, rest, found)
                 } else {
-                    scan_tagged(alloc, room, total, rest, found)
+                    scan_tagged(maps, room, total, rest, found)
                 }
             }
             Major::Other => {
@@ -95,8 +94,8 @@ fn scan_node(
         Argument::Endless => match major {
             Major::ByteString => scan_long_bytes(total, rest, found),
             Major::TextString => scan_long_text(total, rest, found),
-            Major::Array => scan_endless_array(alloc, room, total, rest, found),
-            Major::Map => scan_endless_map(alloc, room, total, rest, found),
+            Major::Array => scan_endless_array(maps, room, total, rest, found),
+            Major::Map => scan_endless_map(maps, room, total, rest, found),
             _ => None,
         },
     }
@@ -106,7 +105,7 @@ fn scan_node(
 #[cycle(scanned)]
 #[inline(never)]
 fn scan_fixed_array(
-    alloc: Global,
+    maps: &mut SpareMaps,
     room: u64,
     total: u64,
     n: u64,
@@ -120,7 +119,7 @@ fn scan_fixed_array(
     if room == 0 {
         return None;
     }
-    let (rest, count, flaw) = scan_items(alloc, room - 1, total, n, false, bytes, found)?;
+    let (rest, count, flaw) = scan_items(maps, room - 1, total, n, false, bytes, found)?;
     if count != n {
         return None;
     }
@@ -135,7 +134,7 @@ fn scan_fixed_array(
 #[cycle(scanned)]
 #[inline(never)]
 fn scan_endless_array(
-    alloc: Global,
+    maps: &mut SpareMaps,
     room: u64,
     total: u64,
     bytes: &[u8],
@@ -148,7 +147,7 @@ fn scan_endless_array(
     if room == 0 {
         return None;
     }
-    let (rest, _, flaw) = scan_items(alloc, room - 1, total, u64::MAX, true, bytes, found)?;
+    let (rest, _, flaw) = scan_items(maps, room - 1, total, u64::MAX, true, bytes, found)?;
     let after = behind_break(rest)?;
     *found = Finding {
         flaw,
@@ -162,7 +161,7 @@ fn scan_endless_array(
 #[cycle(scanned)]
 #[inline(always)]
 fn scan_items<'a>(
-    alloc: Global,
+    maps: &mut SpareMaps,
     room: u64,
     total: u64,
     most: u64,
@@ -181,7 +180,7 @@ fn scan_items<'a>(
         if is_done(count, most, may_end, rest) {
             break;
         }
-        rest = scan_item(alloc, room, total, rest, found)?;
+        rest = scan_item(maps, room, total, rest, found)?;
         first = earliest(first, found.flaw);
         count += 1;
     }
@@ -192,7 +191,7 @@ fn scan_items<'a>(
 #[cycle(scanned)]
 #[inline(never)]
 fn scan_fixed_map(
-    alloc: Global,
+    maps: &mut SpareMaps,
     room: u64,
     total: u64,
     n: u64,
@@ -206,7 +205,7 @@ fn scan_fixed_map(
     if room == 0 {
         return None;
     }
-    let (rest, count) = scan_pairs(alloc, room - 1, total, n, false, bytes, found)?;
+    let (rest, count) = scan_pairs(maps, room - 1, total, n, false, bytes, found)?;
     if count != n {
         return None;
     }
@@ -217,7 +216,7 @@ fn scan_fixed_map(
 #[cycle(scanned)]
 #[inline(never)]
 fn scan_endless_map(
-    alloc: Global,
+    maps: &mut SpareMaps,
     room: u64,
     total: u64,
     bytes: &[u8],
@@ -230,7 +229,7 @@ fn scan_endless_map(
     if room == 0 {
         return None;
     }
-    let (rest, _) = scan_pairs(alloc, room - 1, total, u64::MAX, true, bytes, found)?;
+    let (rest, _) = scan_pairs(maps, room - 1, total, u64::MAX, true, bytes, found)?;
     let after = behind_break(rest)?;
     Some(after.len())
 }
@@ -240,7 +239,7 @@ fn scan_endless_map(
 #[cycle(scanned)]
 #[inline(always)]
 fn scan_pairs<'a>(
-    alloc: Global,
+    maps: &mut SpareMaps,
     room: u64,
     total: u64,
     most: u64,
@@ -252,20 +251,21 @@ fn scan_pairs<'a>(
     requires within { length bytes.now ≤ total }
     ensures { IfSome result (λ r. MapSeen room total r.1 bytes.now r.0.now found.new.flaw × (found.new.is_string ≡ false)) }
 {
-    let mut map = Box::new(alloc, ScannedMap::new(alloc)).ok()?;
+    let mut map = maps.take()?;
     let mut rest = bytes;
     let mut count = 0;
     'pairs: for _ in 0..bytes.len() {
         if is_done(count, most, may_end, rest) {
             break;
         }
-        let middle = scan_item(alloc, room, total, rest, found)?;
-        map.take_key(alloc, total, rest, middle, found)?;
-        rest = scan_item(alloc, room, total, middle, found)?;
+        let middle = scan_item(maps, room, total, rest, found)?;
+        map.take_key(maps.alloc(), total, rest, middle, found)?;
+        rest = scan_item(maps, room, total, middle, found)?;
         map.take_value(found);
         count += 1;
     }
     map.conclude(found)?;
+    maps.put_back(map);
     Some((rest, count))
 }
 
@@ -273,7 +273,7 @@ fn scan_pairs<'a>(
 #[cycle(scanned)]
 #[inline(never)]
 fn scan_bignum(
-    alloc: Global,
+    maps: &mut SpareMaps,
     room: u64,
     total: u64,
     place: u64,
@@ -287,7 +287,7 @@ fn scan_bignum(
     if room == 0 {
         return None;
     }
-    let left = scan_node(alloc, room - 1, total, bytes, found)?;
+    let left = scan_node(maps, room - 1, total, bytes, found)?;
     if found.is_string {
         found.is_string = false;
         return Some(left);
@@ -305,7 +305,7 @@ fn scan_bignum(
 #[cycle(scanned)]
 #[inline(never)]
 fn scan_tagged(
-    alloc: Global,
+    maps: &mut SpareMaps,
     room: u64,
     total: u64,
     bytes: &[u8],
@@ -318,7 +318,7 @@ fn scan_tagged(
     if room == 0 {
         return None;
     }
-    let left = scan_node(alloc, room - 1, total, bytes, found)?;
+    let left = scan_node(maps, room - 1, total, bytes, found)?;
     found.is_string = false;
     Some(left)
 }

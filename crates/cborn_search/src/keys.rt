@@ -41,6 +41,19 @@ impl Keys {
         }
     }
 
+    /// No keys, in the same room.
+    pub(crate) fn clear(&mut self)
+        ensures { AreMarked [] self.new }
+    {
+        self.bytes.clear();
+        self.marks.clear();
+    }
+
+    /// How many keys there are.
+    pub(crate) fn len(&self) -> usize {
+        self.marks.len()
+    }
+
     /// Takes in the key at the front of `bytes`, the last of `total`, up to `rest`, unless it has a
     /// flaw. None promises nothing.
     #[inline(never)]

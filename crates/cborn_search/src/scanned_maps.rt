@@ -1,6 +1,6 @@
-//! What a search for flaws knows of a map.
+//! What a search for flaws knows of a map, and the maps that it is done with.
 
-ghost use Rattle.std.specs.Prelude.{◌≡◌, ◌≤◌, None, [], false, length, OnSome};
+ghost use Rattle.std.specs.Prelude.{◌≡◌, ◌≤◌, None, [], false, length, IfSome, OnSome};
 ghost use Rattle.cborn_search.specs.Flawed.{IsEarliestTold};
 ghost use Rattle.cborn_search.specs.devices.Marks.{AreMarked, Concludes, TakesKey};
 
@@ -8,6 +8,9 @@ use crate::keys::Keys;
 use crate::told::Finding;
 use cborn_judge::{InvalidReason, earliest};
 use std::alloc::Global;
+
+/// A map of more keys gives its room back once it is done with.
+const MOST_KEPT: usize = 1000;
 
 /// The keys that mean something, and the first flaw of keys and values.
 #[derive(Drop)]
@@ -26,6 +29,15 @@ impl ScannedMap {
             keys: Keys::new(alloc),
             first: None,
         }
+    }
+
+    /// As before the first pair.
+    fn clear(&mut self)
+        ensures keys { AreMarked [] self.new.keys }
+        ensures first { self.new.first ≡ None }
+    {
+        self.keys.clear();
+        self.first = None;
     }
 
     /// Takes in the key at the front of `bytes`, the last of `total`, up to `rest`, of which this
@@ -68,5 +80,50 @@ impl ScannedMap {
             is_string: false,
         };
         Some(())
+    }
+}
+
+/// The maps that a search is done with: those that come next take their room, since small maps are
+/// many.
+#[derive(Drop)]
+pub(crate) struct SpareMaps {
+    alloc: Global,
+    spare: Vec<Box<ScannedMap>>,
+}
+
+impl SpareMaps {
+    /// None yet.
+    pub(crate) fn new(alloc: Global) -> SpareMaps {
+        SpareMaps {
+            alloc,
+            spare: Vec::new(alloc),
+        }
+    }
+
+    /// Where memory is taken.
+    pub(crate) fn alloc(&self) -> Global {
+        self.alloc
+    }
+
+    /// A map before its first pair. None where memory was refused.
+    #[inline(never)]
+    pub(crate) fn take(&mut self) -> Option<Box<ScannedMap>>
+        ensures { IfSome result (λ map. AreMarked [] map.value.keys × (map.value.first ≡ None)) }
+    {
+        match self.spare.pop() {
+            Some(mut map) => {
+                map.clear();
+                Some(map)
+            }
+            None => Box::new(self.alloc, ScannedMap::new(self.alloc)).ok(),
+        }
+    }
+
+    /// Keeps a map for its room. Where memory is refused, it is dropped.
+    #[inline(never)]
+    pub(crate) fn put_back(&mut self, map: Box<ScannedMap>) {
+        if map.keys.len() <= MOST_KEPT {
+            self.spare.push(map).ok();
+        }
     }
 }

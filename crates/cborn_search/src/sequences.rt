@@ -4,6 +4,7 @@ ghost use Rattle.std.specs.Prelude.{IfSome};
 ghost use Rattle.cborn_search.specs.Searching.{IsFirstFlawOf};
 
 use crate::flaws::scan_item;
+use crate::scanned_maps::SpareMaps;
 use crate::told::Finding;
 use cborn_judge::InvalidReason;
 use cborn_model::Limit;
@@ -21,6 +22,7 @@ pub fn first_flaw(alloc: Global, limit: Limit, bytes: &[u8]) -> Option<Option<(u
 {
     let total = bytes.len() as u64;
     let room = limit.get();
+    let mut maps = SpareMaps::new(alloc);
     let mut rest = bytes;
     let mut first: Option<(u64, InvalidReason)> = None;
     let mut found = Finding {
@@ -31,7 +33,7 @@ pub fn first_flaw(alloc: Global, limit: Limit, bytes: &[u8]) -> Option<Option<(u
         if rest.is_empty() {
             break;
         }
-        rest = scan_item(alloc, room, total, rest, &mut found)?;
+        rest = scan_item(&mut maps, room, total, rest, &mut found)?;
         first = first.or(found.flaw);
     }
     if !rest.is_empty() {

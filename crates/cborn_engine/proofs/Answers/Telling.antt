@@ -1,6 +1,5 @@
 -- What is answered where an input is told in another form.
 use Rattle.std.proofs.Common.{◌≡◌, ◌≤◌, ℕ, List, [], length, refl, sym, ap, ◌∙◌, subst, Option, Result, Ok, Err, Vec, Global}
-use Rattle.std.specs.Prelude.{IfOk, IfErr}
 use Rattle.cborn_model.specs.Tree.{Tree, Trees, trees}
 use Rattle.cborn_model.specs.Spelled.{Wellformed, spelled_all}
 use Rattle.cborn_model.specs.Placed.{PlacedAll}
@@ -11,13 +10,12 @@ use Rattle.cborn_engine.specs.declared.faults.EngineFault.{EngineFault}
 use Rattle.cborn_engine.specs.declared.faults.EngineFault.TheVariants as fault
 use Rattle.cborn_engine.specs.declared.kinds.Kind.{Kind}
 use Rattle.cborn_engine.specs.declared.kinds.Kind.TheVariants as kind
-use Rattle.cborn_engine.specs.Holding.{IsFixedText, Spells}
+use Rattle.cborn_engine.specs.Holding.{IsFixedText}
 use Rattle.cborn_engine.specs.Loading.{IsNoFlaw}
 use Rattle.cborn_engine.specs.devices.Pieces.{Reads}
 use Rattle.cborn_engine.specs.Refusing.{IsRefused, IsRead}
-use Rattle.cborn_engine.specs.Showing.{ShowAnswers, Shows, IsShown, IsSpelledAs, IsUnshownAs, IsUnspelledAs, TellAnswers}
+use Rattle.cborn_engine.specs.Showing.{ShowAnswers, Shows, IsShown, IsUnshownAs, TellAnswers}
 use Rattle.cborn_engine.specs.devices.Sending.{Sends, WriteAnswers}
-use Rattle.cborn_engine.proofs.Answers.Told.{notation}
 use Rattle.cborn_engine.proofs.Answers.Unanswered.{nothing_written}
 
 -- a refusal is told as it is

@@ -1,5 +1,5 @@
 -- What is answered for an input that was read to its end, and of bytes that are held whole.
-use Rattle.std.proofs.Common.{◌≡◌, ◌<◌, ◌≤◌, ℕ, List, length, refl, sym, ◌∙◌, subst, Option, None, Some, Result, Ok, Err, Vec, Global, Ordering, arith}
+use Rattle.std.proofs.Common.{◌≡◌, ◌≤◌, ℕ, List, length, sym, ◌∙◌, subst, Option, None, Some, Result, Ok, Err, Vec, Global, Ordering, arith}
 use Rattle.std.specs.Io.KnownBytes.{IsAtEnd}
 use Rattle.std.specs.Prelude.{IfOk, IfErr}
 use Rattle.cborn_model.specs.Tree.{Tree, trees}
@@ -9,10 +9,6 @@ use Rattle.cborn_model.specs.Orders.{IsKeyOrder}
 use Rattle.cborn_model.specs.Value.{Value, values_of}
 use Rattle.cborn_judge.specs.Defects.{IsFirstOfSequence}
 use Rattle.cborn_judge.specs.declared.defects.Defect.{Defect}
-use Rattle.cborn_wire.specs.declared.faults.WireFault.{WireFault}
-use Rattle.cborn_wire.specs.declared.faults.WireFault.TheVariants as wire
-use Rattle.cborn_wire.specs.declared.faults.WireReason.{WireReason}
-use Rattle.cborn_wire.specs.Faults.{Fault}
 use Rattle.cborn_transcode.specs.Transcoding.{IsTranscoded}
 use Rattle.cborn_transcode.proofs.Lists.{all_mean}
 use Rattle.cborn_transcode.proofs.Placing.{placements}
@@ -23,7 +19,6 @@ use Rattle.cborn_engine.specs.declared.kinds.Kind.TheVariants as kind
 use Rattle.cborn_engine.specs.Holding.{Holds, Spells}
 use Rattle.cborn_engine.specs.Loading.{IsNoFlaw, LoadAnswers, Loads}
 use Rattle.cborn_engine.specs.Refusing.{IsRefused, IsReadBefore, IsRead}
-use Rattle.cborn_engine.specs.Faults.{of_wire}
 use Rattle.cborn_engine.specs.devices.Pieces.{Collects, CollectAnswers, Reads}
 use Rattle.cborn_engine.specs.devices.Encoding.{IsEncoded}
 use Rattle.cborn_engine.specs.Checking.{CheckAnswers, Checks}

@@ -11,7 +11,7 @@ use Rattle.cborn_judge.specs.declared.faults.Invalid.TheVariants as invalid
 use Rattle.cborn_judge.specs.Flaws.{IsRefusalOfAll}
 use Rattle.cborn_engine.specs.declared.kinds.Kind.{Kind}
 use Rattle.cborn_engine.specs.declared.kinds.Kind.TheVariants as kind
-use Rattle.cborn_engine.specs.Comparing.{AreCompared, IsHeldWhole, Compares}
+use Rattle.cborn_engine.specs.Comparing.{AreCompared, Compares}
 use Rattle.cborn_engine.specs.devices.Encoding.{IsEncoded, EncodeAnswers}
 use Rattle.cborn_engine.specs.devices.Pieces.{Reads}
 use Rattle.cborn_engine.specs.Holding.{Holds}

@@ -1,5 +1,4 @@
-use Rattle.std.proofs.Common.{◌≡◌, List, ℕ, rules, sym, subst}
-use Rattle.cborn_transcode.specs.Transcoding.{IsTranscoded}
+use Rattle.std.proofs.Common.{◌≡◌, rules, sym, subst}
 use Rattle.cborn_transcode.proofs.Iteming.{under}
 use Rattle.cborn_engine.specs.declared.kinds.Kind.{Kind}
 use Rattle.cborn_engine.specs.declared.kinds.Kind.TheVariants as kind
@@ -17,7 +16,7 @@ pub returns-in_ok-bytes-in-Some : goal.returns-in_ok-bytes-in-Some
 returns-in_ok-bytes-in-Some g c =
     let input = c.args.input.now in
     let read = c.in_ok-bytes-in-Some in
-    under c.transcode-in-Some.result
+    under c.encode_spelled.result
     (λ bytes n l. subst (λ (k : Kind). IsEncoded g.O.KeyOrder.order k c.args.limit input bytes.items) (sym c.in-Some.ensures)
-    (encoded c.in-Some.profile c.args.limit input read.bytes.items read.ensures.0 read.ensures.1 g.O.KeyOrder.order bytes.items (subst (λ (x : List ℕ). IsTranscoded g.O.KeyOrder.order c.args.limit x bytes.items) c.deref.ensures.value n) l))
-    c.transcode-in-Some.ensures
+    (encoded c.in-Some.profile c.args.limit input read.bytes.items read.ensures.0 read.ensures.1 g.O.KeyOrder.order bytes.items n l))
+    c.encode_spelled.ensures

@@ -1,4 +1,4 @@
-use Rattle.std.proofs.Common.{rules, [], ◌++◌, Bool, List, Option, ◌≢◌, ◌≡◌, ◌≤◌, ◌+◌, ◌-◌, refl, sym, length, ℕ, true, false, subst, arith, None, ◌∙◌}
+use Rattle.std.proofs.Common.{rules, [], ◌++◌, Bool, List, Option, ◌≢◌, ◌≤◌, ◌+◌, ◌-◌, refl, sym, length, ℕ, true, false, subst, arith, None, ◌∙◌}
 use Rattle.std.proofs.lemmas.List.{take_rest}
 use Rattle.cborn_wire.specs.declared.heads.Argument.TheVariants.{Given, Endless}
 use Rattle.cborn_model.specs.declared.heads.Major.TheVariants.{Map, Unsigned, Negative, ByteString, TextString, Array, Tag, Other}
@@ -157,9 +157,8 @@ scan_endless_map-returns t c l =
 
 pub scan_pairs-pairs-init : goal.scan_pairs-pairs-init
 scan_pairs-pairs-init t c =
-    let boxed : c.in_ok-map.map.value ≡ c.new.result = search rules in
-    let none : PairsSeen c.args.room c.args.total 0 c.args.bytes.now c.args.bytes.now c.new.result.first [] = subst (λ (o : Option Told). PairsSeen c.args.room c.args.total 0 c.args.bytes.now c.args.bytes.now o []) (sym c.new.ensures.first) (pairs_none c.args.room c.args.total c.args.bytes.now) in
-    ([], subst (λ (m : ScannedMap). PairsSeen c.args.room c.args.total 0 c.args.bytes.now c.args.bytes.now m.first []) (sym boxed) none, subst (λ (m : ScannedMap). AreMarked [] m.keys) (sym boxed) c.new.ensures.keys, omega arith, c.requires.within)
+    let e = c.in_ok-map.ensures in
+    ([], subst (λ (o : Option Told). PairsSeen c.args.room c.args.total 0 c.args.bytes.now c.args.bytes.now o []) (sym e.1) (pairs_none c.args.room c.args.total c.args.bytes.now), e.0, omega arith, c.requires.within)
 
 pub scan_pairs-pairs-preserved : goal.scan_pairs-pairs-preserved
 scan_pairs-pairs-preserved t c =
