@@ -1,43 +1,71 @@
 #!/usr/bin/env python3
-"""Counts the lines of definitions that a reader has to believe: those that the clauses of normalise, check and compare reach, and those that the law of the headline reaches.
+"""Counts the lines of definitions that a reader has to believe: those that the clauses of normalise, check and compare reach, those that the law of the headline reaches, and those that the headline of bytes alone reaches.
 
-From the clauses of these calls, and of the traits that they name, it follows each name through the `use` lines to its declaration, and from there on. Comments, blank lines and `use` lines are not counted, nor what std declares, nor the types that the code declares. A name counts wherever it stands, also where a variable only looks like it: the number is never too small.
+From the clauses of these calls and laws, of the traits that they name and from both orders of keys, it follows each name through the `use` lines to its declaration, and from there on. Comments, blank lines and `use` lines are not counted. A name counts wherever it stands, also where a variable only looks like it: the number is never too small. The enums and structs of the code that are reached, and the types of their fields, are counted by themselves, and so is what is reached in the kit: its std, and the few words of the logic that std passes on.
 
     python3 tests/believed.py           a table of files, and the sums; fails if README.md or docs/DEFINITIONS.md says others
     python3 tests/believed.py -v        each declaration too
 """
 import re
+import shutil
 import sys
 from pathlib import Path
 
 ROOT = Path(__file__).resolve().parent.parent
 CRATES = ROOT / "crates"
+KIT = Path(shutil.which("rt") or "rt").resolve().parent.parent / "rattle"
+ORDERS = {"cborn_model/src/orders.rt": ["trait KeyOrder"], "cborn_model/specs/Orders.antt": ["bytewise", "length_first"]}
 CALLS = {
     "cborn_engine/src/conversions.rt": ["fn normalise"],
     "cborn_engine/src/checks.rt": ["fn check"],
     "cborn_engine/src/comparisons.rt": ["fn compare"],
     "cborn_engine/src/sources.rt": ["trait Source"],
     "cborn_engine/src/sinks.rt": ["trait Sink"],
-    "cborn_model/src/orders.rt": ["trait KeyOrder"],
+    **ORDERS,
 }
-HEADLINE = {
-    "cborn_engine/src/laws.rt": ["fn same_answer"],
-    "cborn_model/src/orders.rt": ["trait KeyOrder"],
-}
+HEADLINE = {"cborn_engine/src/laws.rt": ["fn headline"], "cborn_engine/src/slices.rt": ["fn normalise_slice: canonical"], **ORDERS}
+BYTES = {"cborn_engine/src/laws.rt": ["fn headline_of_bytes"], "cborn_engine/src/slices.rt": ["fn normalise_slice: bytes"], **ORDERS}
 SAID_IN = ["README.md", "docs/DEFINITIONS.md"]
-USE = re.compile(r"(?:pub )?use Rattle\.([\w.]+?)(?:\.\{([^}]*)\}| as ([\w-]+))?;?$")
+USE = re.compile(r"(?:pub )?use ([\w.-]+?)(?:\.\{([^}]*)\}| as ([\w-]+))?;?$")
 HEAD = re.compile(r"(?:(?:abbrev|pub|unfoldable|opaque) )*(?:(?:record|data) )?([^\s(){}]+)")
 ROW = re.compile(r"^\| `(\w+/specs/\w+\.antt)` \| (\d+) \|", re.M)
 NAME = re.compile(r"[^\s(){}\[\],;]+")
+TYPE = re.compile(r"pub(?:\(crate\))? (?:enum|struct) (\w+)")
+RUST_USE = re.compile(r"(?:pub )?use (crate|cborn_\w+)::(?:\w+::)*(?:\{([^}]*)\}|(\w+));$")
+STD = ["std", "core", "std_alloc", "std_io", "std_collections"]
+LOGIC = {"lib": "logic/Lib", "mathlib": "antt/port/mathlib/src", "denote": "logic/Denote", "base": "logic/Base"}
+
+
+def first(files):
+    return next((file for file in files if file.exists()), None)
+
+
+def type_file(crate, name, within=()):
+    """The file of the code that declares a type: in this module, if one of that name is, else in another."""
+    found = []
+    for source in [CRATES / crate / "src", *(KIT / part / "src" for part in STD if crate in STD)]:
+        found += [file for file in sorted(source.rglob("*.rt")) if re.search(rf"^\s*pub(\(crate\))? (enum|struct) {name}\b", file.read_text(), re.M)]
+    return next((file for file in found if set(within) <= {file.stem, *(part.name for part in file.parents)}), None) or (found[0] if found else None)
 
 
 def file_of(path):
-    """The file of a module that a `use` line names, if this repository has it."""
+    """The file of a module that a `use` line names, and the type if it is one that the code declares."""
     parts = path.split(".")
-    if len(parts) < 3 or parts[1] not in ("specs", "proofs"):
-        return None
-    file = CRATES / parts[0] / parts[1] / ("/".join(parts[2:]) + ".antt")
-    return file if file.exists() else None
+    if parts[0] != "Rattle":
+        return first([KIT / LOGIC.get(parts[0], "-") / ("/".join(parts[1:]) + ".antt")]), None
+    crate, kind, rest = parts[1], parts[2] if len(parts) > 2 else "", parts[3:]
+    if kind not in ("specs", "proofs") or not rest:
+        return None, None
+    if kind == "specs" and rest[0] == "declared":
+        *within, name = [part for part in rest[1:] if part != "TheVariants"]
+        return type_file(crate, name, within), name
+    below = "/".join(rest) + ".antt"
+    return first([CRATES / crate / kind / below, *(KIT / part / kind / below for part in [crate, *STD])]), None
+
+
+def parts_of(name):
+    """The words by which a name is written: an operator is written by its parts."""
+    return [part for part in name.split("◌") if part] if "◌" in name else [name]
 
 
 def imports(lines):
@@ -48,19 +76,29 @@ def imports(lines):
         if not found:
             continue
         path, listed, alias = found.groups()
-        file = file_of(path)
-        if listed is None and file:
-            modules[alias or path.split(".")[-1]] = file
+        file, of_type = file_of(path)
+        if not file:
+            continue
+        if listed is None:
+            modules[alias or path.split(".")[-1]] = (file, of_type)
         for entry in (listed or "").split(","):
             name, _, other = entry.strip().partition(" as ")
-            if file and name:
-                names[other.strip() or name] = (file, name)
+            for part in parts_of(other.strip() or name):
+                names[part] = (file, of_type or name)
     return names, modules
 
 
 class Declaration:
     def __init__(self, file, name, context):
         self.file, self.name, self.context, self.lines = file, name, context, []
+
+    def kind(self):
+        if not self.file.is_relative_to(CRATES):
+            return "std"
+        return "types" if self.file.suffix == ".rt" else "definitions"
+
+    def path(self):
+        return str(self.file.relative_to(CRATES if self.file.is_relative_to(CRATES) else KIT))
 
 
 class Module:
@@ -73,7 +111,7 @@ class Module:
         self.names, self.modules = imports([line.strip() for line in lines])
         self.declared, self.constructors = {}, {}
         self.contexts = []
-        self.read([line for line in lines if not USE.match(line.strip())])
+        self.read([line for line in lines if not re.match(r"(pub )?(use|mod) ", line.strip())])
 
     def read(self, lines):
         open_contexts, current = [], None
@@ -93,18 +131,58 @@ class Module:
                 open_contexts.append((indent, context))
                 current = None
             else:
-                name = HEAD.match(text).group(1)
+                found = HEAD.match(text)
+                if not found:
+                    continue
+                name = found.group(1)
                 if name not in self.declared:
                     self.declared[name] = Declaration(self.file, name, [c for _, c in open_contexts])
                 current = self.declared[name]
                 current.lines.append(text)
+        self.operators = {part: d for name, d in self.declared.items() if "◌" in name for part in parts_of(name)}
 
     def constructor(self, current, text):
         if re.match(r"(pub )?data ", current.lines[0]) and " : " in text:
             self.constructors[text.split(" : ")[0].strip()] = current
 
     def lookup(self, name):
-        return self.declared.get(name) or self.constructors.get(name)
+        return self.declared.get(name) or self.constructors.get(name) or self.operators.get(name)
+
+    def reaches(self, word):
+        """What a word of a definition here names."""
+        return [self.lookup(word.split(".")[0]), resolve(self.names, self.modules, word)]
+
+
+class Types:
+    """A file of the code: the types that it declares. Comments and attributes are left out."""
+
+    def __init__(self, file):
+        self.file, self.contexts, self.declared, self.brought = file, [], {}, {}
+        crate = file.relative_to(CRATES).parts[0] if file.is_relative_to(CRATES) else "core"
+        current = None
+        for line in file.read_text().split("\n"):
+            text = line.split("//")[0].strip()
+            brought, head = RUST_USE.match(text), TYPE.match(text)
+            for entry in (brought.group(2) or brought.group(3)).split(",") if brought else []:
+                self.brought[entry.strip()] = crate if brought.group(1) == "crate" else brought.group(1)
+            if head:
+                current = self.declared.setdefault(head.group(1), Declaration(file, head.group(1), None))
+            if current and text and not text.startswith("#["):
+                current.lines.append(text)
+            if current and (line.startswith("}") or (head and text.endswith((";", "}")))):
+                current = None
+
+    def lookup(self, name):
+        return self.declared.get(name)
+
+    def reaches(self, word):
+        """The type that a word in a type names."""
+        for name in re.findall(r"\w+", word):
+            if name in self.declared:
+                yield self.declared[name]
+            elif name in self.brought:
+                file = type_file(self.brought[name], name)
+                yield file and module(file).lookup(name)
 
 
 MODULES = {}
@@ -112,7 +190,7 @@ MODULES = {}
 
 def module(file):
     if file not in MODULES:
-        MODULES[file] = Module(file)
+        MODULES[file] = Types(file) if file.suffix == ".rt" else Module(file)
     return MODULES[file]
 
 
@@ -120,29 +198,38 @@ def resolve(names, modules, word):
     """The declaration that a word of a clause or a definition names."""
     parts = word.rstrip(".").split(".")
     if parts[0] in modules and len(parts) > 1:
-        return declaration(modules[parts[0]], parts[1])
+        file, of_type = modules[parts[0]]
+        return declaration(file, of_type or parts[1])
     if parts[0] in names:
         return declaration(*names[parts[0]])
     return None
 
 
 def declaration(file, name):
-    found = module(file).lookup(name)
-    if found is None and name in module(file).names:
-        return declaration(*module(file).names[name])
+    here = module(file)
+    found = here.lookup(name) or next((d for d in (here.lookup(part) for part in parts_of(name)) if d), None)
+    if found is None and isinstance(here, Module):
+        for part in parts_of(name):
+            if part in here.names and here.names[part] != (file, name):
+                return declaration(*here.names[part])
     return found
 
 
 def clauses(file, heads):
-    """The clauses of some functions, and all that a trait says, with the names that stand for definitions there."""
+    """What the clauses of some functions name (behind a colon: the one of that name), and all that a trait says; or the definitions of these names."""
+    if file.suffix == ".antt":
+        yield from (module(file).lookup(head) for head in heads)
+        return
     lines = file.read_text().split("\n")
     names, modules = imports([line.strip().removeprefix("ghost ") for line in lines])
-    for head in heads:
+    for head, _, only in (head.partition(": ") for head in heads):
         start = next(i for i, line in enumerate(lines) if re.search(rf"\bpub {head}\b", line))
         end = next(i for i in range(start, len(lines)) if lines[i] in ("}", "{}"))
+        depth = 0
         for line in lines[start:end]:
             text = line.strip()
-            if re.match(r"(ensures|requires|ghost) ", text):
+            if depth or re.match(rf"ensures {only} \{{" if only else r"(ensures|requires|ghost) ", text):
+                depth += text.count("{") - text.count("}")
                 for word in NAME.findall(text):
                     yield resolve(names, modules, word)
 
@@ -159,24 +246,23 @@ def reached(calls):
         here = module(found.file)
         for text in found.lines + [line for c in found.context or [] for line in c.lines]:
             for word in NAME.findall(text):
-                own = here.lookup(word.split(".")[0])
-                todo += [d for d in (own, resolve(here.names, here.modules, word)) if d]
+                todo += [d for d in here.reaches(word) if d]
         todo += found.context or []
     return seen
 
 
-def counted(found):
+def counted(found, kind):
     """How many lines of each file are reached."""
     counts = {}
     for d in found:
-        name = str(d.file.relative_to(CRATES))
-        counts[name] = counts.get(name, 0) + len(d.lines)
+        if d.kind() == kind:
+            counts[d.path()] = counts.get(d.path(), 0) + len(d.lines)
     return counts
 
 
-def show(found, counts):
+def show(found, counts, base):
     for name, count in sorted(counts.items(), key=lambda row: (-row[1], row[0])):
-        here = module(CRATES / name)
+        here = module(base / name)
         whole = sum(len(d.lines) for d in [*here.declared.values(), *here.contexts])
         print(f"{count:5} of {whole:4}  {name}")
         if "-v" in sys.argv:
@@ -185,15 +271,28 @@ def show(found, counts):
 
 
 def main():
-    found = reached(CALLS)
-    counts, headline = counted(found), counted(reached(HEADLINE))
-    show(found, counts)
-    told = f"{sum(counts.values()):,} lines of definitions in {len(counts)} files"
-    told_headline = f"{sum(headline.values()):,} lines in {len(headline)} files"
-    print(f"{told}, {told_headline} for the law of the headline")
+    found = {"calls": reached(CALLS), "headline": reached(HEADLINE), "bytes": reached(BYTES)}
+    every = list({id(d): d for ds in found.values() for d in ds}.values())
+    counts = {name: counted(ds, "definitions") for name, ds in found.items()}
+    show(every, counted(every, "definitions"), CRATES)
+    for kind, base in (("types", CRATES), ("std", KIT)):
+        print(f"\n{kind}:")
+        show(every, counted(every, kind), base)
+    print()
+    sums = {name: sum(rows.values()) for name, rows in counts.items()}
+    for name, ds in found.items():
+        types, std = (sum(counted(ds, kind).values()) for kind in ("types", "std"))
+        print(f"{name}: {sums[name]:,} lines in {len(counts[name])} files, {types} of declared types, {std} of std")
+    types, std = (sum(counted(every, kind).values()) for kind in ("types", "std"))
+    print(f"{sums['calls']:,} lines for normalise/check/compare, {sums['headline']:,} for the headline, {sums['bytes']:,} for the headline of bytes alone, {types:,} of declared types, {std:,} of std")
+    told = [
+        f"{sums['calls']:,} lines of definitions in {len(counts['calls'])} files",
+        f"{sums['headline']:,} lines in {len(counts['headline'])} files",
+        f"{sums['bytes']:,} lines in {len(counts['bytes'])} files",
+    ]
     texts = {name: (ROOT / name).read_text() for name in SAID_IN}
-    wrong = [f"{name} doesn't say: {words}" for name, text in texts.items() for words in (told, told_headline) if words not in text]
-    rows = {name: int(count) for name, count in ROW.findall(texts["docs/DEFINITIONS.md"])}
+    wrong = [f"{name} doesn't say: {words}" for name, text in texts.items() for words in told if words not in text]
+    rows, headline = {name: int(count) for name, count in ROW.findall(texts["docs/DEFINITIONS.md"])}, counts["headline"]
     wrong += [f"docs/DEFINITIONS.md says {rows.get(name)} for {name}, not {headline.get(name)}" for name in sorted({*rows, *headline}) if rows.get(name) != headline.get(name)]
     if wrong:
         sys.exit("\n".join(wrong))

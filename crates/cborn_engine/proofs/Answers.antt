@@ -8,3 +8,4 @@ pub mod Whole
 pub mod Noted
 pub mod Telling
 pub mod AtHand
+pub mod Malformed

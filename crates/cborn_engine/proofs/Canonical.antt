@@ -3,3 +3,4 @@ pub mod Proper
 pub mod FixedText
 pub mod Canonicity
 pub mod Headline
+pub mod OfBytes

@@ -4,3 +4,4 @@ pub mod ReadsBack
 pub mod Meant
 pub mod Notated
 pub mod Known
+pub mod ShownBack

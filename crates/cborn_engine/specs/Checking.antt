@@ -3,6 +3,7 @@ use Rattle.std.specs.Prelude.{ℕ, ◌≤◌, List, length, Option, None, Some, 
 use Rattle.std.specs.declared.cmp.Ordering.{Ordering}
 use Rattle.std.specs.Io.KnownBytes.{Consumes}
 use Rattle.cborn_model.specs.Tree.{trees}
+use Rattle.cborn_model.specs.Placed.{PlacedAll}
 use Rattle.cborn_model.specs.Value.{Value}
 use Rattle.cborn_judge.specs.declared.defects.Defect.{Defect}
 use Rattle.cborn_judge.specs.Defects.{IsFirstOfSequence}
@@ -13,10 +14,10 @@ use Rattle.cborn_engine.specs.Refusing.{IsRefused, IsRead}
 
 -- the input holds these items
 module _ (order : List ℕ → List ℕ → Ordering) (limit : ℕ) (input : List ℕ) (items : List Value) (held : Holds kind.Wire limit input items) where
-  -- it is their canonical form, the very bytes that normalising it writes; or it isn't, and this is its first defect
+  -- it is their canonical form, the very bytes that normalising it writes; or it isn't, and this is its first defect, each node being at its offset
   abbrev pub Verdict : Option Defect → Type 0
   Verdict None = Canon order kind.Wire items input
-  Verdict (Some d) = (Canon order kind.Wire items input → ⊥) × IsFirstOfSequence order (trees held.nodes) d.place d.reason
+  Verdict (Some d) = (Canon order kind.Wire items input → ⊥) × PlacedAll 0 (trees held.nodes) × IsFirstOfSequence order (trees held.nodes) d.place d.reason
 
 pub record IsChecked (order : List ℕ → List ℕ → Ordering) (limit : ℕ) (input : List ℕ) (defect : Option Defect) : Type 0 where
   pub items : List Value

@@ -38,10 +38,6 @@ pub record AreCompared (k l : Kind) (limit : ℕ) (x y : List ℕ) (answer : Opt
   pub held2 : Holds l limit y theirs
   pub difference : Difference ours theirs answer
 
--- both hold items, and these are the same
-abbrev pub HoldSameItems : Kind → Kind → ℕ → List ℕ → List ℕ → Type 0
-HoldSameItems k l limit x y = AreCompared k l limit x y None
-
 -- Why an input alone gave no items. Want of memory is told of neither input, but as the comparison's own.
 abbrev pub IsOfOneInput : EngineFault → Type 0
 IsOfOneInput fault.OutOfMemory = ⊥

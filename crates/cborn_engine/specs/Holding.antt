@@ -5,7 +5,7 @@ use Rattle.std.specs.List.{AllZip}
 use Rattle.cborn_model.specs.Tree.{Tree, trees}
 use Rattle.cborn_model.specs.Spelled.{Wellformed, FitsAll, spelled_all}
 use Rattle.cborn_model.specs.Placed.{PlacedAll}
-use Rattle.cborn_model.specs.Value.{Value}
+use Rattle.cborn_model.specs.Value.{Value, Same}
 use Rattle.cborn_model.specs.Meaning.{Means}
 use Rattle.cborn_det.specs.Det.{DetSeq}
 use Rattle.cborn_lex.specs.declared.classes.Profile.{Profile}
@@ -19,17 +19,30 @@ use Rattle.cborn_engine.specs.declared.kinds.Kind.TheVariants as kind
 abbrev pub IsNotation : Profile → ℕ → List ℕ → List Tree → Type 0
 IsNotation p limit input nodes = IsUtf8 input × Notates p limit input (trees nodes)
 
--- the input is the spelling of these nodes, none deeper than the limit, placed one after another from its start; or it notates them
+-- the input is the spelling of these nodes, none deeper than the limit; or it notates them
 abbrev pub Spells : Kind → ℕ → List ℕ → List Tree → Type 0
-Spells kind.Wire limit input nodes = Wellformed limit (trees nodes) input × PlacedAll 0 (trees nodes)
+Spells kind.Wire limit input nodes = Wellformed limit (trees nodes) input
 Spells kind.Notation limit input nodes = IsNotation profile.One limit input nodes
 Spells kind.Notation2 limit input nodes = IsNotation profile.Two limit input nodes
+
+-- it spells them, and each says where it stands: in bytes one after another from the start, in a text where it is notated
+abbrev pub SpellsInPlace : Kind → ℕ → List ℕ → List Tree → Type 0
+SpellsInPlace kind.Wire limit input nodes = Wellformed limit (trees nodes) input × PlacedAll 0 (trees nodes)
+SpellsInPlace k limit input nodes = Spells k limit input nodes
 
 -- the input holds these items: it spells nodes that mean them
 pub record Holds (k : Kind) (limit : ℕ) (input : List ℕ) (items : List Value) : Type 0 where
   pub nodes : List Tree
   pub spelled : Spells k limit input nodes
   pub meant : AllZip Means nodes items
+
+-- two inputs, of any kinds, hold items that are the same, one by one
+pub record HoldSameItems (k l : Kind) (limit : ℕ) (x y : List ℕ) : Type 0 where
+  pub ours : List Value
+  pub theirs : List Value
+  pub held : Holds k limit x ours
+  pub held2 : Holds l limit y theirs
+  pub same : AllZip Same ours theirs
 
 -- the text is the fixed notation of nodes that spell these bytes
 pub record IsFixedText (bytes text : List ℕ) : Type 0 where

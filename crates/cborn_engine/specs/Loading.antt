@@ -6,7 +6,7 @@ use Rattle.cborn_model.specs.Tree.{Tree}
 use Rattle.cborn_engine.specs.declared.faults.EngineFault.{EngineFault}
 use Rattle.cborn_engine.specs.declared.faults.EngineFault.TheVariants as fault
 use Rattle.cborn_engine.specs.declared.kinds.Kind.{Kind}
-use Rattle.cborn_engine.specs.Holding.{Spells}
+use Rattle.cborn_engine.specs.Holding.{SpellsInPlace}
 use Rattle.cborn_engine.specs.Refusing.{IsRefused, IsRead}
 
 -- a load refuses no node for what it means
@@ -16,7 +16,7 @@ IsNoFlaw _ = ⊤
 
 -- what a load of this input answers: the nodes that it spells, or why it spells none
 abbrev pub LoadAnswers : Kind → ℕ → ℕ → List ℕ → Result (Vec Tree Global) EngineFault → Type 0
-LoadAnswers k limit most input (Ok nodes) = (length input ≤ most) × Spells k limit input nodes.items
+LoadAnswers k limit most input (Ok nodes) = (length input ≤ most) × SpellsInPlace k limit input nodes.items
 LoadAnswers k limit most input (Err why) = IsRefused k limit most input why × IsNoFlaw why
 
 -- some input was taken from the reader, and this is answered for it

@@ -19,7 +19,7 @@ use Rattle.cborn_engine.specs.declared.faults.EngineFault.{EngineFault}
 use Rattle.cborn_engine.specs.declared.faults.EngineFault.TheVariants as fault
 use Rattle.cborn_engine.specs.declared.kinds.Kind.{Kind}
 use Rattle.cborn_engine.specs.declared.kinds.Kind.TheVariants as kind
-use Rattle.cborn_engine.specs.Holding.{Spells}
+use Rattle.cborn_engine.specs.Holding.{SpellsInPlace}
 
 -- the bytes are not well-formed, for this reason at this place
 abbrev pub IsWireFault : Kind → ℕ → List ℕ → WireFault → Type 0
@@ -44,7 +44,7 @@ IsTextInputFault _ input p = (IsUtf8 input → ⊥) × IsValidUpTo input p
 -- the input spells nodes, and the first of them that means nothing has this first flaw
 pub record IsFlawed (k : Kind) (limit : ℕ) (input : List ℕ) (p : ℕ) (r : InvalidReason) : Type 0 where
   pub nodes : List Tree
-  pub spelled : Spells k limit input nodes
+  pub spelled : SpellsInPlace k limit input nodes
   pub flaw : IsRefusalOfAll nodes (invalid.Refused p r)
 
 abbrev pub IsInvalidFault : Kind → ℕ → List ℕ → Invalid → Type 0

@@ -11,7 +11,7 @@ use Rattle.cborn_engine.specs.declared.faults.EngineFault.{EngineFault}
 use Rattle.cborn_engine.specs.declared.faults.EngineFault.TheVariants as fault
 use Rattle.cborn_engine.specs.declared.kinds.Kind.{Kind}
 use Rattle.cborn_engine.specs.declared.kinds.Kind.TheVariants as kind
-use Rattle.cborn_engine.specs.Holding.{Spells}
+use Rattle.cborn_engine.specs.Holding.{Spells, SpellsInPlace}
 use Rattle.cborn_engine.specs.Loading.{IsNoFlaw}
 use Rattle.cborn_engine.specs.Refusing.{IsRefused, IsRead}
 use Rattle.cborn_engine.specs.Writing.{IsFront}
@@ -41,7 +41,7 @@ IsUnspelledAs out nodes _ = ⊥
 -- the input spells nodes that aren't shown
 pub record IsUnshowable (k out : Kind) (limit : ℕ) (input : List ℕ) (why : ShowFault) : Type 0 where
   pub nodes : List Tree
-  pub spelled : Spells k limit input nodes
+  pub spelled : SpellsInPlace k limit input nodes
   pub unshown : IsUnshownAs out nodes why
 
 -- the output spells the nodes that the input spells

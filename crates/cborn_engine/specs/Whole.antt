@@ -1,11 +1,15 @@
 -- What is answered for an input that is held whole.
-use Rattle.std.specs.Prelude.{ℕ, ◌<◌, ◌≤◌, List, length}
+use Rattle.std.specs.Prelude.{◌≡◌, ℕ, ◌<◌, ◌≤◌, List, length, Result, Err}
 use Rattle.cborn_model.specs.Value.{Value}
+use Rattle.cborn_wire.specs.declared.faults.WireFault.TheVariants as wire
+use Rattle.cborn_wire.specs.declared.faults.WireReason.{WireReason}
+use Rattle.cborn_wire.specs.Faults.{Fault}
 use Rattle.cborn_engine.specs.declared.faults.CompareFault.{CompareFault}
 use Rattle.cborn_engine.specs.declared.faults.CompareFault.TheVariants as compared
 use Rattle.cborn_engine.specs.declared.faults.EngineFault.{EngineFault}
 use Rattle.cborn_engine.specs.declared.faults.EngineFault.TheVariants as fault
 use Rattle.cborn_engine.specs.declared.kinds.Kind.{Kind}
+use Rattle.cborn_engine.specs.declared.kinds.Kind.TheVariants as kind
 use Rattle.cborn_engine.specs.Comparing.{IsOfOneInput}
 use Rattle.cborn_engine.specs.Holding.{Holds}
 use Rattle.cborn_engine.specs.Loading.{IsNoFlaw}
@@ -29,3 +33,7 @@ AreRefusedWhole k l limit most x y (compared.First why) = IsRefusedWhole k limit
 AreRefusedWhole k l limit most x y (compared.Second why) =
     (length x ≤ most) × ((items : List Value) × Holds k limit x items) × IsRefusedWhole l limit most y why × IsOfOneInput why
 AreRefusedWhole k l limit most x y compared.OutOfMemory = length x ≤ most
+
+-- Bytes that aren't well-formed are refused for their one fault, whatever memory there is.
+abbrev pub TellsFault : {A : Type 0} → Kind → ℕ → List ℕ → Result A EngineFault → Type 0
+TellsFault k limit input result = (p : ℕ) (r : WireReason) → k ≡ kind.Wire → Fault limit input p r → result ≡ Err (fault.Wire (wire.Refused p r))

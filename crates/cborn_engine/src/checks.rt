@@ -1,6 +1,8 @@
 //! Whether bytes are deterministic.
 ghost use Rattle.std.specs.Prelude.{◌≡◌, ◌≤◌, ◌+◌, ℕ, length, Ok, Some, IfSome, IfOk, IfErr};
 ghost use Rattle.cborn_judge.specs.Flaws.{IsRefusalOfAll};
+ghost use Rattle.cborn_engine.specs.declared.kinds.Kind.TheVariants as kinds;
+ghost use Rattle.cborn_engine.specs.Whole.{TellsFault};
 ghost use Rattle.cborn_engine.specs.Checking.{Checks, CheckAnswers};
 ghost use Rattle.cborn_engine.specs.devices.Defects.{Finds};
 ghost use Rattle.cborn_engine.specs.Reading.{most_bytes, read_failures};
@@ -61,6 +63,7 @@ pub fn check_input<O: KeyOrder>(
     input: &[u8],
 ) -> Result<Option<Defect>, EngineFault>
     ensures answers { length input.now ≤ most_bytes → CheckAnswers O.order limit most_bytes input.now result }
+    ensures malformed { TellsFault kinds.Wire limit input.now result }
     ensures failures { (n : ℕ) → read_failures result n ≡ n }
 {
     if is_deterministic::<O>(limit, input) {
@@ -82,6 +85,7 @@ fn search<O: KeyOrder>(
     input: &[u8],
 ) -> Option<Result<Option<Defect>, EngineFault>>
     ensures answers { IfSome result (λ answer. length input.now ≤ most_bytes → CheckAnswers O.order limit most_bytes input.now answer) }
+    ensures malformed { IfSome result (λ answer. TellsFault kinds.Wire limit input.now answer) }
     ensures failures { IfSome result (λ answer. (n : ℕ) → read_failures answer n ≡ n) }
 {
     let flaw = first_flaw(alloc, limit, input)?;

@@ -6,6 +6,7 @@ ghost use Rattle.cborn_transcode.specs.Transcoding.{IsTranscoded};
 ghost use Rattle.cborn_engine.specs.devices.Encoding.{EncodeAnswers, IsEncoded};
 ghost use Rattle.cborn_engine.specs.devices.Pieces.{Reads};
 ghost use Rattle.cborn_engine.specs.Reading.{most_bytes, read_failures};
+ghost use Rattle.cborn_engine.specs.Whole.{TellsFault};
 
 use crate::faults::EngineFault;
 use crate::inputs::MOST;
@@ -60,6 +61,7 @@ pub fn encode_input<O: KeyOrder>(
     input: &[u8],
 ) -> Result<Vec<u8>, EngineFault>
     ensures answers { length input.now ≤ most_bytes → EncodeAnswers O.order kind limit most_bytes input.now result }
+    ensures malformed { length input.now ≤ most_bytes → TellsFault kind limit input.now result }
     ensures failures { (n : ℕ) → read_failures result n ≡ n }
 {
     match encode_by_pass::<O>(alloc, limit, kind, input) {
@@ -106,6 +108,7 @@ fn encode_by_trees<O: KeyOrder>(
     input: &[u8],
 ) -> Result<Vec<u8>, EngineFault>
     ensures answers { length input.now ≤ most_bytes → EncodeAnswers O.order kind limit most_bytes input.now result }
+    ensures malformed { TellsFault kind limit input.now result }
     ensures failures { (n : ℕ) → read_failures result n ≡ n }
 {
     let nodes = unjudged_nodes(alloc, limit, kind, input)?;

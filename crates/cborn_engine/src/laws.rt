@@ -1,34 +1,110 @@
-//! What follows from the contracts. Each function does nothing; its contract is a theorem over the
-//! definitions in `specs/`.
+//! What follows from the contracts. Each function but `two_calls` does nothing; its contract is a
+//! theorem over the definitions in `specs/`.
 
-ghost use Rattle.std.specs.Prelude.{◌≡◌, ◌≤◌, ◌↔◌, ℕ, List, Option, Some, Ok, Err, length};
+ghost use Rattle.std.specs.Prelude.{◌≡◌, ◌≤◌, ◌↔◌, ℕ, List, ◌++◌, Option, None, Some, Ok, Err, IfOk, length};
+ghost use Rattle.std.specs.Cow.{cow_slice_items};
 ghost use Rattle.std.specs.Io.KnownBytes.{Consumes, IsAtEnd};
 ghost use Rattle.std.specs.List.{AllZip, AllByRecursion};
 ghost use Rattle.cborn_model.specs.Tree.{Tree};
 ghost use Rattle.cborn_model.specs.Valid.{IsProper};
-ghost use Rattle.cborn_model.specs.Value.{Value, Same};
+ghost use Rattle.cborn_model.specs.Value.{Value, Values, Same, SameValues, values_of};
+ghost use Rattle.cborn_det.specs.Det.{DetValues};
 ghost use Rattle.cborn_engine.specs.declared.faults.EngineFault.{EngineFault};
 ghost use Rattle.cborn_engine.specs.declared.kinds.Kind.{Kind};
-ghost use Rattle.cborn_engine.specs.Holding.{Holds, Spells, Canon};
+ghost use Rattle.cborn_engine.specs.declared.kinds.Kind.TheVariants as kinds;
+ghost use Rattle.cborn_engine.specs.Bytes.{BytesHold};
+ghost use Rattle.cborn_engine.specs.Holding.{Holds, HoldSameItems, Spells, Canon};
 ghost use Rattle.cborn_engine.specs.Loading.{LoadAnswers};
 ghost use Rattle.cborn_engine.specs.Refusing.{IsRefused, IsNoRefusal, IsTrouble};
 ghost use Rattle.cborn_engine.specs.Canonical.{IsCanonical, NormaliseAnswers};
 ghost use Rattle.cborn_engine.specs.Writing.{IsFront};
-ghost use Rattle.cborn_engine.specs.Comparing.{HoldSameItems};
+ghost use Rattle.cborn_engine.specs.Comparing.{AreCompared};
+ghost use Rattle.cborn_engine.specs.Checking.{IsChecked};
+ghost use Rattle.cborn_engine.specs.Showing.{IsShown};
 ghost use Rattle.cborn_engine.specs.Reading.{most_bytes};
 
-use cborn_model::KeyOrder;
+use crate::faults::EngineFault;
+use crate::kinds::Kind;
+use crate::slices::normalise_slice;
+use cborn_model::{KeyOrder, Limit};
+use std::alloc::Global;
+use std::borrow::CowSlice;
 
-/// The headline. Where `normalise` answers for two inputs, each of any kind, under one order of
-/// keys, one limit and to one kind of output, it writes the same bytes for both exactly if they
-/// hold the same items. What it writes holds the items that it read. Normalising that again, where
-/// it is no longer than allowed, is refused only where the reader, the writer or memory failed, and
-/// then a front of the same bytes went out; else it writes the same bytes.
+/// The headline. Two inputs, each of any kind, have the same canonical form, under one order of
+/// keys and one limit, exactly if they hold the same items. A canonical form holds the items that
+/// it is the form of, and it is its own canonical form.
 pub fn headline<O: KeyOrder>()
-    ensures alike { (k l out : Kind) (limit most : ℕ) (x y v w : List ℕ) → most ≤ most_bytes → NormaliseAnswers O.order k out limit most x v (Ok tt) → NormaliseAnswers O.order l out limit most y w (Ok tt) → (v ≡ w) ↔ HoldSameItems k l limit x y }
-    ensures held { (k out : Kind) (limit most : ℕ) (x v : List ℕ) → most ≤ most_bytes → NormaliseAnswers O.order k out limit most x v (Ok tt) → HoldSameItems k out limit x v }
-    ensures again { (k out : Kind) (limit most : ℕ) (x v w : List ℕ) → most ≤ most_bytes → NormaliseAnswers O.order k out limit most x v (Ok tt) → NormaliseAnswers O.order out out limit most v w (Ok tt) → w ≡ v }
-    ensures refused_again { (k out : Kind) (limit most : ℕ) (x v w : List ℕ) (why : EngineFault) → most ≤ most_bytes → length v ≤ most → NormaliseAnswers O.order k out limit most x v (Ok tt) → NormaliseAnswers O.order out out limit most v w (Err why) → IsTrouble why × IsFront w v }
+    ensures alike { (k l out : Kind) (limit : ℕ) (x y v w : List ℕ) → length x ≤ most_bytes → length y ≤ most_bytes → IsCanonical O.order k out limit x v → IsCanonical O.order l out limit y w → (v ≡ w) ↔ HoldSameItems k l limit x y }
+    ensures held { (k out : Kind) (limit : ℕ) (x v : List ℕ) → length x ≤ most_bytes → IsCanonical O.order k out limit x v → HoldSameItems k out limit x v }
+    ensures again { (k out : Kind) (limit : ℕ) (x v : List ℕ) → length x ≤ most_bytes → IsCanonical O.order k out limit x v → IsCanonical O.order out out limit v v }
+{}
+
+/// The headline of two calls. This law has a body: it calls `normalise_slice` twice.
+///
+/// # Errors
+/// Those of the calls.
+pub fn two_calls<'a, 'b, O: KeyOrder>(
+    alloc: Global,
+    limit: Limit,
+    out_kind: Kind,
+    kind_a: Kind,
+    first: &'a [u8],
+    kind_b: Kind,
+    second: &'b [u8],
+) -> Result<(CowSlice<'a, u8, Global>, CowSlice<'b, u8, Global>), EngineFault>
+    ensures alike { IfOk result (λ both. (cow_slice_items both.0 ≡ cow_slice_items both.1) ↔ HoldSameItems kind_a kind_b limit first.now second.now) }
+    ensures held { IfOk result (λ both. HoldSameItems kind_a out_kind limit first.now (cow_slice_items both.0) × HoldSameItems kind_b out_kind limit second.now (cow_slice_items both.1)) }
+{
+    let ours = normalise_slice::<O>(alloc, limit, kind_a, out_kind, first)?;
+    let theirs = normalise_slice::<O>(alloc, limit, kind_b, out_kind, second)?;
+    Ok((ours, theirs))
+}
+
+/// The headline of bytes alone, of any length and depth. Two lists of bytes have the same deterministic encoding
+/// of what they hold exactly if they hold the same items. That encoding holds these items, and is
+/// the deterministic encoding of what it holds. Bytes hold at most one list of items.
+pub fn headline_of_bytes<O: KeyOrder>()
+    ensures alike { (x y v w : List ℕ) (items others : Values) → BytesHold x items → BytesHold y others → DetValues O.order items v → DetValues O.order others w → (v ≡ w) ↔ SameValues items others }
+    ensures again { (x v : List ℕ) (items : Values) → BytesHold x items → DetValues O.order items v → (others : Values) × BytesHold v others × SameValues items others × DetValues O.order others v }
+    ensures one { (x : List ℕ) (items others : Values) → BytesHold x items → BytesHold x others → items ≡ others }
+{}
+
+/// What an input of bytes holds, under some limit, is what the bytes hold, and so its canonical
+/// form, as bytes, is the deterministic encoding of that.
+pub fn bytes_alone<O: KeyOrder>()
+    ensures held { (limit : ℕ) (x : List ℕ) (items : List Value) → Holds kinds.Wire limit x items → BytesHold x (values_of items) }
+    ensures within { (x : List ℕ) (items : List Value) → BytesHold x (values_of items) → (limit : ℕ) × Holds kinds.Wire limit x items }
+    ensures canonical { (limit : ℕ) (x v : List ℕ) → IsCanonical O.order kinds.Wire kinds.Wire limit x v → (items : Values) × BytesHold x items × DetValues O.order items v }
+{}
+
+/// Where the canonical form of an input, no longer than allowed, is normalised again, that is
+/// refused only where the reader, the writer or memory failed, and a front of the same bytes went
+/// out.
+pub fn refused_again<O: KeyOrder>()
+    ensures { (k out : Kind) (limit most : ℕ) (x v w : List ℕ) (why : EngineFault) → length x ≤ most_bytes → length v ≤ most → IsCanonical O.order k out limit x v → NormaliseAnswers O.order out out limit most v w (Err why) → IsTrouble why × IsFront w v }
+{}
+
+/// A check finds no defect exactly if normalising would write the very bytes that came in.
+pub fn checked<O: KeyOrder>()
+    ensures { (limit : ℕ) (x : List ℕ) → IsChecked O.order limit x None ↔ IsCanonical O.order kinds.Wire kinds.Wire limit x x }
+{}
+
+/// A comparison finds no difference exactly if both inputs hold the same items.
+pub fn compared()
+    ensures { (k l : Kind) (limit : ℕ) (x y : List ℕ) → AreCompared k l limit x y None ↔ HoldSameItems k l limit x y }
+{}
+
+/// The canonical form of one input of bytes behind another is that of the one behind that of the
+/// other.
+pub fn joined<O: KeyOrder>()
+    ensures { (limit : ℕ) (x y v w : List ℕ) → IsCanonical O.order kinds.Wire kinds.Wire limit x v → IsCanonical O.order kinds.Wire kinds.Wire limit y w → IsCanonical O.order kinds.Wire kinds.Wire limit (x ++ y) (v ++ w) }
+{}
+
+/// Bytes that are shown, in whatever kind, and shown as bytes again are the same bytes; and what is
+/// shown of an input is one.
+pub fn shown_back()
+    ensures back { (out : Kind) (limit : ℕ) (x v : List ℕ) → IsShown kinds.Wire out limit x v → IsShown out kinds.Wire limit v x }
+    ensures one { (k out : Kind) (limit : ℕ) (x v w : List ℕ) → IsShown k out limit x v → IsShown k out limit x w → v ≡ w }
 {}
 
 /// Two inputs, of any kinds, have the same canonical form exactly if they hold the same items.

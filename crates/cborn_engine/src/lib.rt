@@ -43,7 +43,7 @@ pub use faults::{CompareFault, EngineFault};
 pub use inputs::{load, load_within};
 pub use kinds::Kind;
 pub use sinks::Sink;
-pub use slices::{check_slice, compare_slices, normalise_slice, show_slice};
+pub use slices::{check_slice, compare_slices, normalise_slice, same_items, show_slice};
 pub use sources::Source;
 
 #[cfg(test)]

@@ -6,10 +6,11 @@ ghost use Rattle.cborn_model.specs.Tree.{trees};
 ghost use Rattle.cborn_model.specs.Value.{Value};
 ghost use Rattle.cborn_engine.specs.declared.kinds.Kind.TheVariants as kinds;
 ghost use Rattle.cborn_engine.specs.devices.Encoding.{kind_of};
-ghost use Rattle.cborn_engine.specs.Holding.{Holds, Spells};
+ghost use Rattle.cborn_engine.specs.Holding.{Holds, SpellsInPlace};
 ghost use Rattle.cborn_engine.specs.Loading.{IsNoFlaw};
 ghost use Rattle.cborn_engine.specs.Reading.{read_failures};
 ghost use Rattle.cborn_engine.specs.Refusing.{IsRefused};
+ghost use Rattle.cborn_engine.specs.Whole.{TellsFault};
 
 use crate::faults::EngineFault;
 use crate::kinds::{Kind, profile_of};
@@ -32,7 +33,7 @@ pub fn nodes_of(
     kind: Kind,
     input: &[u8],
 ) -> Result<Vec<Spelled>, EngineFault>
-    ensures spelled { IfOk result (λ nodes. Spells kind limit input.now nodes.items) }
+    ensures spelled { IfOk result (λ nodes. SpellsInPlace kind limit input.now nodes.items) }
     ensures refused { IfErr result (λ why. (most : ℕ) → length input.now ≤ most → IsRefused kind limit most input.now why × IsNoFlaw why) }
     ensures failures { (n : ℕ) → read_failures result n ≡ n }
 {
@@ -49,7 +50,7 @@ fn notated_nodes(
     profile: Profile,
     input: &[u8],
 ) -> Result<Vec<Spelled>, EngineFault>
-    ensures spelled { IfOk result (λ nodes. Spells (kind_of profile) limit input.now nodes.items) }
+    ensures spelled { IfOk result (λ nodes. SpellsInPlace (kind_of profile) limit input.now nodes.items) }
     ensures refused { IfErr result (λ why. (most : ℕ) → length input.now ≤ most → IsRefused (kind_of profile) limit most input.now why × IsNoFlaw why) }
     ensures failures { (n : ℕ) → read_failures result n ≡ n }
 {
@@ -69,8 +70,9 @@ pub fn unjudged_nodes(
     kind: Kind,
     input: &[u8],
 ) -> Result<Vec<Spelled>, EngineFault>
-    ensures spelled { IfOk result (λ nodes. Spells kind limit input.now nodes.items) }
+    ensures spelled { IfOk result (λ nodes. SpellsInPlace kind limit input.now nodes.items) }
     ensures refused { IfErr result (λ why. (most : ℕ) → length input.now ≤ most → IsRefused kind limit most input.now why) }
+    ensures malformed { TellsFault kind limit input.now result }
     ensures failures { (n : ℕ) → read_failures result n ≡ n }
 {
     if kind == Kind::Wire {

@@ -3,7 +3,7 @@
 //! no tree is tried first: a text becomes bytes, and bytes become notation. Where it answers
 //! nothing, what is wrong with bytes is looked for without a tree too, and only an input in which
 //! nothing is found becomes nodes.
-ghost use Rattle.std.specs.Prelude.{◌≡◌, ◌≤◌, ◌+◌, ℕ, List, length, IfOk, IfErr, IfSome, IsTrue};
+ghost use Rattle.std.specs.Prelude.{◌≡◌, ◌≤◌, ◌+◌, ℕ, List, length, IfOk, IfErr, IfSome, IsTrue, IsFalse};
 ghost use Rattle.cborn_model.specs.Placed.{PlacedAll};
 ghost use Rattle.cborn_model.specs.Spelled.{Wellformed};
 ghost use Rattle.cborn_model.specs.Tree.{Tree, trees};
@@ -12,6 +12,9 @@ ghost use Rattle.cborn_engine.specs.declared.kinds.Kind.TheVariants as kinds;
 ghost use Rattle.cborn_engine.specs.devices.Encoding.{kind_of};
 ghost use Rattle.cborn_engine.specs.devices.Pieces.{Reads};
 ghost use Rattle.cborn_engine.specs.Reading.{most_bytes, read_failures};
+ghost use Rattle.cborn_engine.specs.Whole.{TellsFault};
+ghost use Rattle.cborn_wire.specs.declared.faults.WireReason.{WireReason};
+ghost use Rattle.cborn_wire.specs.Faults.{Fault};
 ghost use Rattle.cborn_engine.specs.Showing.{TellAnswers, IsShown, IsSpelledAs, IsUnshownAs, IsUnspelledAs};
 
 use crate::faults::EngineFault;
@@ -52,7 +55,8 @@ pub fn read_shown<R: Source>(
 
 /// Whether an input is well-formed bytes that are to stay bytes. No promises nothing.
 pub fn is_own_spelling(limit: Limit, in_kind: Kind, out_kind: Kind, input: &[u8]) -> bool
-    ensures { IsTrue result → IsShown in_kind out_kind limit input.now input.now }
+    ensures own { IsTrue result → IsShown in_kind out_kind limit input.now input.now }
+    ensures malformed { IsFalse result → in_kind ≡ kinds.Wire → out_kind ≡ kinds.Wire → (p : ℕ) × (r : WireReason) × Fault limit input.now p r }
 {
     in_kind == Kind::Wire && out_kind == Kind::Wire && scan(limit, input).is_none()
 }
@@ -69,6 +73,7 @@ pub fn show_input(
     input: &[u8],
 ) -> Result<Vec<u8>, EngineFault>
     ensures answers { length input.now ≤ most_bytes → TellAnswers in_kind out_kind limit most_bytes input.now result }
+    ensures malformed { length input.now ≤ most_bytes → TellsFault in_kind limit input.now result }
     ensures failures { (n : ℕ) → read_failures result n ≡ n }
 {
     match show_by_pass(alloc, limit, in_kind, out_kind, input) {
@@ -129,6 +134,7 @@ fn show_by_trees(
     input: &[u8],
 ) -> Result<Vec<u8>, EngineFault>
     ensures answers { length input.now ≤ most_bytes → TellAnswers in_kind out_kind limit most_bytes input.now result }
+    ensures malformed { TellsFault in_kind limit input.now result }
     ensures failures { (n : ℕ) → read_failures result n ≡ n }
 {
     if in_kind == Kind::Wire {

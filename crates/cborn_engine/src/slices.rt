@@ -1,16 +1,20 @@
 //! The calls over inputs that are held whole. Such an input is read where it lies, and where it is
 //! its own answer, that is lent and not copied.
-ghost use Rattle.std.specs.Prelude.{◌≡◌, ◌<◌, ◌≤◌, ◌*◌, ◌↔◌, List, length, IfOk, IfErr, IsTrue};
+ghost use Rattle.std.specs.Prelude.{◌≡◌, ◌≢◌, ◌<◌, ◌≤◌, ◌*◌, ◌↔◌, ℕ, List, length, Err, IfOk, IfErr, IsTrue};
 ghost use Rattle.std.specs.Cow.{cow_slice_items};
-ghost use Rattle.cborn_model.specs.Value.{Value};
+ghost use Rattle.cborn_model.specs.Value.{Value, Values};
+ghost use Rattle.cborn_det.specs.Det.{DetValues};
+ghost use Rattle.cborn_engine.specs.declared.faults.EngineFault.TheVariants as fault;
 ghost use Rattle.cborn_engine.specs.declared.kinds.Kind.TheVariants as kinds;
+ghost use Rattle.cborn_engine.specs.declared.kinds.Kind.{Kind};
+ghost use Rattle.cborn_engine.specs.Bytes.{BytesHold};
 ghost use Rattle.cborn_engine.specs.Canonical.{IsCanonical};
 ghost use Rattle.cborn_engine.specs.Checking.{IsChecked};
 ghost use Rattle.cborn_engine.specs.Comparing.{AreCompared};
 ghost use Rattle.cborn_engine.specs.devices.Encoding.{IsEncoded, IsWrittenAs};
-ghost use Rattle.cborn_engine.specs.Holding.{Holds};
+ghost use Rattle.cborn_engine.specs.Holding.{Holds, HoldSameItems};
 ghost use Rattle.cborn_engine.specs.Showing.{IsShown};
-ghost use Rattle.cborn_engine.specs.Whole.{IsRefusedWhole, IsUnshownWhole, AreRefusedWhole};
+ghost use Rattle.cborn_engine.specs.Whole.{IsRefusedWhole, IsUnshownWhole, AreRefusedWhole, TellsFault};
 ghost use Rattle.cborn_engine.specs.Reading.{most_bytes};
 
 use crate::checks::check_input;
@@ -42,8 +46,10 @@ pub fn normalise_slice<'a, O: KeyOrder>(
     input: &'a [u8],
 ) -> Result<CowSlice<'a, u8, Global>, EngineFault>
     ensures canonical { IfOk result (λ output. (length input.now ≤ most_bytes) × IsCanonical O.order in_kind out_kind limit input.now (cow_slice_items output)) }
+    ensures bytes { IfOk result (λ output. in_kind ≡ kinds.Wire → out_kind ≡ kinds.Wire → (items : Values) × BytesHold input.now items × DetValues O.order items (cow_slice_items output)) }
     ensures room { IfOk result (λ output. in_kind ≡ kinds.Wire → out_kind ≡ kinds.Wire → 3 * length (cow_slice_items output) ≤ 4 * length input.now) }
     ensures refused { IfErr result (IsRefusedWhole in_kind limit most_bytes input.now) }
+    ensures malformed { length input.now ≤ most_bytes → TellsFault in_kind limit input.now result }
 {
     let bytes = encode_slice::<O>(alloc, limit, in_kind, input)?;
     Ok(written_as(alloc, limit, out_kind, bytes)?)
@@ -64,6 +70,8 @@ pub fn show_slice<'a>(
 ) -> Result<CowSlice<'a, u8, Global>, EngineFault>
     ensures shown { IfOk result (λ output. (length input.now ≤ most_bytes) × IsShown in_kind out_kind limit input.now (cow_slice_items output)) }
     ensures refused { IfErr result (IsUnshownWhole in_kind out_kind limit most_bytes input.now) }
+    ensures malformed { length input.now ≤ most_bytes → TellsFault in_kind limit input.now result }
+    ensures unfailing { in_kind ≡ kinds.Wire → out_kind ≡ kinds.Wire → result ≢ Err fault.OutOfMemory }
 {
     if is_too_long(input) {
         return Err(EngineFault::TooLong);
@@ -87,6 +95,7 @@ pub fn check_slice<O: KeyOrder>(
 ) -> Result<Option<Defect>, EngineFault>
     ensures checked { IfOk result (λ defect. (length input.now ≤ most_bytes) × IsChecked O.order limit input.now defect) }
     ensures refused { IfErr result (IsRefusedWhole kinds.Wire limit most_bytes input.now) }
+    ensures malformed { length input.now ≤ most_bytes → TellsFault kinds.Wire limit input.now result }
 {
     if is_too_long(input) {
         return Err(EngineFault::TooLong);
@@ -112,15 +121,32 @@ pub fn compare_slices<O: KeyOrder>(
     ensures compared { IfOk result (λ answer. (length first.now ≤ most_bytes) × (length second.now ≤ most_bytes) × AreCompared kind_a kind_b limit first.now second.now answer) }
     ensures refused { IfErr result (AreRefusedWhole kind_a kind_b limit most_bytes first.now second.now) }
 {
-    let ours = match encode_slice::<O>(alloc, limit, kind_a, first) {
-        Ok(bytes) => bytes,
-        Err(why) => return Err(CompareFault::of_first(why)),
-    };
-    let theirs = match encode_slice::<O>(alloc, limit, kind_b, second) {
-        Ok(bytes) => bytes,
-        Err(why) => return Err(CompareFault::of_second(why)),
-    };
+    let (ours, theirs) = encode_both::<O>(alloc, limit, kind_a, first, kind_b, second)?;
     Ok(difference::<O>(alloc, limit, &ours, &theirs)?)
+}
+
+/// Whether two inputs hold the same items. They do exactly if their canonical forms are the same
+/// bytes, under whichever order of keys `O`. Those are what is made and looked at here.
+///
+/// # Errors
+/// `First`, where the first input gives no items, by the fault that `normalise_slice` tells of it.
+/// `Second`, likewise, where the first gives items and the second gives none. `OutOfMemory` is
+/// never inside of these.
+pub fn same_items<O: KeyOrder>(
+    alloc: Global,
+    limit: Limit,
+    kind_a: Kind,
+    first: &[u8],
+    kind_b: Kind,
+    second: &[u8],
+) -> Result<bool, CompareFault>
+    ensures same { IfOk result (λ same. IsTrue same ↔ HoldSameItems kind_a kind_b limit first.now second.now) }
+    ensures forms { IfOk result (λ same. (out : Kind) (v w : List ℕ) → IsCanonical O.order kind_a out limit first.now v → IsCanonical O.order kind_b out limit second.now w → IsTrue same ↔ (v ≡ w)) }
+    ensures held { IfOk result (λ same. (length first.now ≤ most_bytes) × (length second.now ≤ most_bytes) × ((items : List Value) × Holds kind_a limit first.now items) × ((items : List Value) × Holds kind_b limit second.now items)) }
+    ensures refused { IfErr result (AreRefusedWhole kind_a kind_b limit most_bytes first.now second.now) }
+{
+    let (ours, theirs) = encode_both::<O>(alloc, limit, kind_a, first, kind_b, second)?;
+    Ok(*ours == *theirs)
 }
 
 /// Whether an input is longer than allowed.
@@ -139,6 +165,7 @@ fn encode_slice<'a, O: KeyOrder>(
 ) -> Result<CowSlice<'a, u8, Global>, EngineFault>
     ensures encoded { IfOk result (λ bytes. (length input.now ≤ most_bytes) × IsEncoded O.order kind limit input.now (cow_slice_items bytes)) }
     ensures refused { IfErr result (IsRefusedWhole kind limit most_bytes input.now) }
+    ensures malformed { length input.now ≤ most_bytes → TellsFault kind limit input.now result }
 {
     if is_too_long(input) {
         return Err(EngineFault::TooLong);
@@ -147,6 +174,30 @@ fn encode_slice<'a, O: KeyOrder>(
         return Ok(CowSlice::Borrowed(input));
     }
     Ok(CowSlice::Owned(encode_input::<O>(alloc, limit, kind, input)?))
+}
+
+/// The deterministic encodings of what two inputs hold, those of each one after another.
+fn encode_both<'a, 'b, O: KeyOrder>(
+    alloc: Global,
+    limit: Limit,
+    kind_a: Kind,
+    first: &'a [u8],
+    kind_b: Kind,
+    second: &'b [u8],
+) -> Result<(CowSlice<'a, u8, Global>, CowSlice<'b, u8, Global>), CompareFault>
+    ensures short { IfOk result (λ both. (length first.now ≤ most_bytes) × (length second.now ≤ most_bytes)) }
+    ensures encoded { IfOk result (λ both. IsEncoded O.order kind_a limit first.now (cow_slice_items both.0) × IsEncoded O.order kind_b limit second.now (cow_slice_items both.1)) }
+    ensures refused { IfErr result (AreRefusedWhole kind_a kind_b limit most_bytes first.now second.now) }
+{
+    let ours = match encode_slice::<O>(alloc, limit, kind_a, first) {
+        Ok(bytes) => bytes,
+        Err(why) => return Err(CompareFault::of_first(why)),
+    };
+    let theirs = match encode_slice::<O>(alloc, limit, kind_b, second) {
+        Ok(bytes) => bytes,
+        Err(why) => return Err(CompareFault::of_second(why)),
+    };
+    Ok((ours, theirs))
 }
 
 /// Bytes that hold items, as an output of this kind: themselves, or their fixed notation.

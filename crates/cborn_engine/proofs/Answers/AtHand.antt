@@ -54,6 +54,11 @@ pub none_found : {A : Type 0} (o : Option A) (b : Bool) (P : Type 0) (Q : A → 
 none_found None b P Q e t h = h
 none_found (Some x) b P Q e t h = absurd (let f : not b ≡ false = ap not t in cc)
 
+-- and one that finds something
+pub some_found : {A : Type 0} (o : Option A) (b : Bool) (P : Type 0) (Q : A → Type 0) → is_some o ≡ not b → b ≡ false → MatchOption o P Q → (x : A) × Q x
+some_found None b P Q e f h = absurd (let t : not b ≡ true = ap not f in cc)
+some_found (Some x) b P Q e f h = (x, h)
+
 -- ---- its encoding
 
 pub held : (order : List ℕ → List ℕ → Ordering) (laws : IsKeyOrder order) (k : Kind) (limit : ℕ) (input bytes : List ℕ) → length input ≤ most_bytes → IsEncoded order k limit input bytes → (vs : List Value) × Holds kind.Wire limit bytes vs
@@ -61,8 +66,8 @@ held order laws k limit input bytes l e = let o = own_bytes order laws k limit i
 
 encoding_room : (order : List ℕ → List ℕ → Ordering) (limit : ℕ) (input bytes : List ℕ) → IsEncoded order kind.Wire limit input bytes → 3 * length bytes ≤ 4 * length input
 encoding_room order limit input bytes e =
-    let r = sequence_room order e.held.nodes e.items bytes e.held.spelled.0.fit e.held.meant e.encoded in
-    omega (arith, r, ap length e.held.spelled.0.spells)
+    let r = sequence_room order e.held.nodes e.items bytes e.held.spelled.fit e.held.meant e.encoded in
+    omega (arith, r, ap length e.held.spelled.spells)
 
 pub room : (order : List ℕ → List ℕ → Ordering) (k out : Kind) (limit : ℕ) (input bytes output : List ℕ) → IsEncoded order k limit input bytes → IsWrittenAs out bytes output → k ≡ kind.Wire → out ≡ kind.Wire → 3 * length output ≤ 4 * length input
 room order kind.Wire kind.Wire limit input bytes output e w p q = subst (λ (x : List ℕ). 3 * length x ≤ 4 * length input) (sym w) (encoding_room order limit input bytes e)

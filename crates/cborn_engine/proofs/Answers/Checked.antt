@@ -134,16 +134,17 @@ module _ (order : List ℕ → List ℕ → Ordering) (laws : IsKeyOrder order) 
   without_defect : ((p : ℕ) (r : DefectReason) → SequenceDefect order (trees held.nodes) p r → ⊥) → Verdict order limit input items held None
   without_defect none =
       seq_of_values order items input
-      (subst (DetValues order (values_of items)) held.spelled.0.spells (check_sequence_sound order laws (trees held.nodes) (values_of items) held.spelled.0.fit (all_mean held.nodes items held.meant) none))
+      (subst (DetValues order (values_of items)) held.spelled.spells (check_sequence_sound order laws (trees held.nodes) (values_of items) held.spelled.fit (all_mean held.nodes items held.meant) none))
 
-  pub with_defect : (d : Found) → length input < 2 ^ 64 → IsFirstOfSequence order (trees held.nodes) d.place d.reason → Verdict order limit input items held (Some d)
-  with_defect d l first =
+  pub with_defect : (d : Found) → length input < 2 ^ 64 → PlacedAll 0 (trees held.nodes) → IsFirstOfSequence order (trees held.nodes) d.place d.reason → Verdict order limit input items held (Some d)
+  with_defect d l placed first =
       let sound : AreSound limit items = held_is_sound limit input items l held in (
-        λ c. check_sequence_whole order laws (trees held.nodes) (values_of items) held.spelled.0.fit (are_proper items sound.proper) (all_mean held.nodes items held.meant)
-            (subst (DetValues order (values_of items)) (sym held.spelled.0.spells) (values_of_seq order items input c)) d.place d.reason first.is,
+        λ c. check_sequence_whole order laws (trees held.nodes) (values_of items) held.spelled.fit (are_proper items sound.proper) (all_mean held.nodes items held.meant)
+            (subst (DetValues order (values_of items)) (sym held.spelled.spells) (values_of_seq order items input c)) d.place d.reason first.is,
+        placed,
         first,
       )
 
-  pub verdict : (o : Option Found) → length input < 2 ^ 64 → Finds order held.nodes o → Verdict order limit input items held o
-  verdict None l h = without_defect (none_found order held.nodes h)
-  verdict (Some d) l h = with_defect d l (first_found order 0 held.nodes d held.spelled.1 h)
+  pub verdict : (o : Option Found) → length input < 2 ^ 64 → PlacedAll 0 (trees held.nodes) → Finds order held.nodes o → Verdict order limit input items held o
+  verdict None l p h = without_defect (none_found order held.nodes h)
+  verdict (Some d) l p h = with_defect d l p (first_found order 0 held.nodes d p h)

@@ -34,7 +34,7 @@ own_spelling limit input (ts, w, p) =
     let same : trees (tree_list ts) ≡ ts = trees-tree_list ts in
     record {
       nodes = tree_list ts;
-      spelled = (subst (λ (us : Trees). Wellformed limit us input) (sym same) w, subst (PlacedAll 0) (sym same) p);
+      spelled = subst (λ (us : Trees). Wellformed limit us input) (sym same) w;
       shown = sym (ap spelled_all same ∙ w.spells);
     }
 
@@ -43,8 +43,10 @@ pub untold_text : (out : Kind) (limit most place : ℕ) (input : List ℕ) → l
     → ((most : ℕ) (nodes : List Tree) → Wellformed most (trees nodes) input → PlacedAll 0 (trees nodes) → IsUnshownAs out nodes (unshown.NotUtf8 place))
     → TellAnswers kind.Wire out limit most input (Err (fault.Show (unshown.NotUtf8 place)))
 untold_text out limit most place input l w f =
-    let own = own_spelling limit input w in
-    (l, record { nodes = own.nodes; spelled = own.spelled; unshown = f limit own.nodes own.spelled.0 own.spelled.1 })
+    let same : trees (tree_list w.0) ≡ w.0 = trees-tree_list w.0 in
+    let read : Wellformed limit (trees (tree_list w.0)) input = subst (λ (us : Trees). Wellformed limit us input) (sym same) w.1 in
+    let placed : PlacedAll 0 (trees (tree_list w.0)) = subst (PlacedAll 0) (sym same) w.2 in
+    (l, record { nodes = tree_list w.0; spelled = (read, placed); unshown = f limit (tree_list w.0) read placed })
 
 -- ---- and what went out
 

@@ -17,7 +17,7 @@ use Rattle.cborn_edn.specs.Shown.{IsBadChunk, IsBadText, IsBadAmong, IsBadInPair
 use Rattle.cborn_transcode.proofs.Lists.{all_mean}
 use Rattle.cborn_engine.specs.declared.kinds.Kind.TheVariants as kind
 use Rattle.cborn_engine.specs.Holding.{Holds}
-use Rattle.cborn_engine.proofs.Held.Meant.{spells_once}
+use Rattle.cborn_engine.proofs.Held.Meant.{means_too}
 
 is_text : (b : List ℕ) → IsUtf8 b → is_utf8 b ≡ false → ⊥
 is_text b h e = let clash : true ≡ false = sym (is_utf8-from_IsUtf8 b h) ∙ e in cc
@@ -63,11 +63,10 @@ mutual
 
 -- what is held is read
 pub no_fault : (limit : ℕ) (bytes : List ℕ) (p : ℕ) (r : WireReason) → (items : List Value) × Holds kind.Wire limit bytes items → Fault limit bytes p r → ⊥
-no_fault limit bytes p r h f = not_both limit bytes p r (trees h.1.nodes, h.1.spelled.0) f
+no_fault limit bytes p r h f = not_both limit bytes p r (trees h.1.nodes, h.1.spelled) f
 
 -- and what was read is shown
 pub no_bad_text : (limit : ℕ) (bytes : List ℕ) (nodes now : List Tree) (p : ℕ) → (items : List Value) × Holds kind.Wire limit bytes items → Wellformed limit (trees nodes) bytes × PlacedAll 0 (trees nodes) → now ≡ nodes → LowestBadText (trees now) p → ⊥
 no_bad_text limit bytes nodes now p h w e bad =
-    let same : h.1.nodes ≡ now = spells_once kind.Wire limit bytes h.1.nodes nodes h.1.spelled w ∙ sym e in
-    let mean : AllZip Means now h.0 = subst (λ (ns : List Tree). AllZip Means ns h.0) same h.1.meant in
+    let mean : AllZip Means now h.0 = subst (λ (ns : List Tree). AllZip Means ns h.0) (sym e) (means_too kind.Wire limit bytes h.1.nodes nodes h.0 h.1.spelled w.0 h.1.meant) in
     good_all (trees now) (values_of h.0) p (all_mean now h.0 mean) bad.is

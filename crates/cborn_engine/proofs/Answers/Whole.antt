@@ -11,12 +11,11 @@ use Rattle.cborn_judge.specs.Defects.{IsFirstOfSequence}
 use Rattle.cborn_judge.specs.declared.defects.Defect.{Defect}
 use Rattle.cborn_transcode.specs.Transcoding.{IsTranscoded}
 use Rattle.cborn_transcode.proofs.Lists.{all_mean}
-use Rattle.cborn_transcode.proofs.Placing.{placements}
 use Rattle.cborn_engine.specs.declared.faults.EngineFault.{EngineFault}
 use Rattle.cborn_engine.specs.declared.faults.EngineFault.TheVariants as fault
 use Rattle.cborn_engine.specs.declared.kinds.Kind.{Kind}
 use Rattle.cborn_engine.specs.declared.kinds.Kind.TheVariants as kind
-use Rattle.cborn_engine.specs.Holding.{Holds, Spells}
+use Rattle.cborn_engine.specs.Holding.{Holds, SpellsInPlace}
 use Rattle.cborn_engine.specs.Loading.{IsNoFlaw, LoadAnswers, Loads}
 use Rattle.cborn_engine.specs.Refusing.{IsRefused, IsReadBefore, IsRead}
 use Rattle.cborn_engine.specs.devices.Pieces.{Collects, CollectAnswers, Reads}
@@ -62,12 +61,12 @@ not_loaded k limit most before after why h =
     let r = stopped k limit most h.input after why h.answer in record { input = h.input; taken = h.taken; answer = r.0; to_end = r.1 }
 
 pub loaded : (k : Kind) (limit most : ℕ) (before after : Option (List ℕ)) (bytes : Vec ℕ Global) (now : List ℕ) → Collects most before after (Ok bytes) → now ≡ bytes.items → (r : Result (Vec Tree Global) EngineFault)
-    → IfOk r (λ nodes. Spells k limit now nodes.items) → IfErr r (λ why. (most : ℕ) → length now ≤ most → IsRefused k limit most now why × IsNoFlaw why) → Loads k limit most before after r
+    → IfOk r (λ nodes. SpellsInPlace k limit now nodes.items) → IfErr r (λ why. (most : ℕ) → length now ≤ most → IsRefused k limit most now why × IsNoFlaw why) → Loads k limit most before after r
 loaded k limit most before after bytes now h e r good bad =
     let w = read_whole (LoadAnswers k limit most) most before after bytes now h e r (λ l. answer r good bad l) in
     record { input = w.input; taken = w.taken; answer = w.answer; to_end = w.to_end }
   where
-    answer : (r : Result (Vec Tree Global) EngineFault) → IfOk r (λ nodes. Spells k limit now nodes.items) → IfErr r (λ why. (most : ℕ) → length now ≤ most → IsRefused k limit most now why × IsNoFlaw why) → length now ≤ most → LoadAnswers k limit most now r
+    answer : (r : Result (Vec Tree Global) EngineFault) → IfOk r (λ nodes. SpellsInPlace k limit now nodes.items) → IfErr r (λ why. (most : ℕ) → length now ≤ most → IsRefused k limit most now why × IsNoFlaw why) → length now ≤ most → LoadAnswers k limit most now r
     answer (Ok nodes) good bad l = (l, good)
     answer (Err why) good bad l = bad most l
 
@@ -83,7 +82,7 @@ module _ (order : List ℕ → List ℕ → Ordering) (limit most : ℕ) (before
 -- ---- the bytes
 
 transcoded_held : (order : List ℕ → List ℕ → Ordering) (limit : ℕ) (input output : List ℕ) (n : IsTranscoded order limit input output) → Holds kind.Wire limit input n.items
-transcoded_held order limit input output n = let p = placements order limit input output n in record { nodes = p.nodes; spelled = (p.read, p.placed); meant = p.meant }
+transcoded_held order limit input output n = record { nodes = n.nodes; spelled = n.read; meant = n.meant }
 
 pub transcoded : (order : List ℕ → List ℕ → Ordering) (limit : ℕ) (input output : List ℕ) → IsTranscoded order limit input output → IsEncoded order kind.Wire limit input output
 transcoded order limit input output n = record { items = n.items; held = transcoded_held order limit input output n; encoded = n.encoded }
@@ -95,13 +94,13 @@ module _ (limit most : ℕ) (input : List ℕ) (within : length input ≤ most) 
   pub checked_searched : (order : List ℕ → List ℕ → Ordering) → IsKeyOrder order → most ≤ most_bytes → (d : Defect) → IsFirstFlawOf limit input None → IsFirstDefectOfItems order limit input d → CheckAnswers order limit most input (Ok (Some d))
   checked_searched order laws bounded d f first =
       let items : List Value = f.verdict.0 in
-      let held : Holds kind.Wire limit input items = record { nodes = f.nodes; spelled = (f.read, f.placed); meant = f.verdict.1 } in
+      let held : Holds kind.Wire limit input items = record { nodes = f.nodes; spelled = f.read; meant = f.verdict.1 } in
       let is : IsFirstOfSequence order (trees f.nodes) d.place d.reason = first f.nodes (values_of items) f.read f.placed (all_mean f.nodes items f.verdict.1) in
-      (within, record { items = items; held = held; verdict = with_defect order laws limit input items held d (omega (arith, within, bounded)) is })
+      (within, record { items = items; held = held; verdict = with_defect order laws limit input items held d (omega (arith, within, bounded)) f.placed is })
 
   pub checked_trees : (order : List ℕ → List ℕ → Ordering) → IsKeyOrder order → most ≤ most_bytes → (nodes xs : List Tree) (o : Option Defect) → Wellformed limit (trees nodes) input × PlacedAll 0 (trees nodes) → xs ≡ nodes → Finds order xs o → CheckAnswers order limit most input (Ok o)
   checked_trees order laws bounded nodes xs o s e f =
       let found : Finds order nodes o = subst (λ (ns : List Tree). Finds order ns o) e f in
       let meant = mean_found order nodes o found in
-      let held : Holds kind.Wire limit input meant.0 = record { nodes = nodes; spelled = s; meant = meant.1 } in
-      (within, record { items = meant.0; held = held; verdict = verdict order laws limit input meant.0 held o (omega (arith, within, bounded)) found })
+      let held : Holds kind.Wire limit input meant.0 = record { nodes = nodes; spelled = s.0; meant = meant.1 } in
+      (within, record { items = meant.0; held = held; verdict = verdict order laws limit input meant.0 held o (omega (arith, within, bounded)) s.1 found })

@@ -29,7 +29,7 @@ use Rattle.cborn_engine.proofs.Answers.Unanswered.{nothing_written}
 
 module _ (order : List ℕ → List ℕ → Ordering) (laws : IsKeyOrder order) where
   -- items that are the same as encoded ones have that encoding
-  same_encoded : (vs ws : List Value) (w : List ℕ) → AllByRecursion IsProper vs → AllByRecursion IsProper ws → DetSeq order vs w → AllZip Same vs ws → DetSeq order ws w
+  pub same_encoded : (vs ws : List Value) (w : List ℕ) → AllByRecursion IsProper vs → AllByRecursion IsProper ws → DetSeq order vs w → AllZip Same vs ws → DetSeq order ws w
   same_encoded vs ws w p q d s =
       let e = seq_exists order laws ws q in
       subst (DetSeq order ws) (sym (one_of_seq order laws vs ws w e.0 p q s d e.1)) e.1
@@ -68,7 +68,7 @@ one_form order laws out vs v w p c d =
 holds_back : (out : Kind) (limit : ℕ) (vs : List Value) (x w : List ℕ) (back : SequenceReadsBack limit 0 vs x) → IsWrittenAs out x w → Holds out limit w back.items
 holds_back kind.Wire limit vs x w back e =
     let spelled : Wellformed limit (trees back.nodes) w = record { spells = back.spells ∙ sym e; fit = back.fits; shallow = back.shallow } in
-    record { nodes = back.nodes; spelled = (spelled, back.placed); meant = back.mean }
+    record { nodes = back.nodes; spelled = spelled; meant = back.mean }
 holds_back kind.Notation limit vs x w back e =
     let t = text_back profile.One limit x w back.nodes back.items back.fits back.shallow back.spells back.mean e in record { nodes = t.nodes; spelled = t.notated; meant = t.mean }
 holds_back kind.Notation2 limit vs x w back e =
@@ -77,7 +77,7 @@ holds_back kind.Notation2 limit vs x w back e =
 -- ---- what was read is sound
 
 spelled_fits : (k : Kind) (limit : ℕ) (input : List ℕ) (ns : List Tree) → length input ≤ most_bytes → Spells k limit input ns → FitsAll (trees ns) × (depth_all (trees ns) ≤ limit)
-spelled_fits kind.Wire limit input ns l h = (h.0.fit, h.0.shallow)
+spelled_fits kind.Wire limit input ns l h = (h.fit, h.shallow)
 spelled_fits kind.Notation limit input ns l h = fits profile.One limit input ns h l
 spelled_fits kind.Notation2 limit input ns l h = fits profile.Two limit input ns h l
 
@@ -122,6 +122,10 @@ module _ (order : List ℕ → List ℕ → Ordering) (laws : IsKeyOrder order) 
   settled others other =
       let same = same_encoded order laws c.items back.items encoded.0 valid back.proper encoded.1 (all_turned back.items c.items back.same) in
       subst (λ (us : List Value). Canon order out us w) (holds_once out limit w back.items others held_again other) (canon_of order out back.items encoded.0 w same encoded.2)
+
+  -- the output is its own canonical form
+  pub own_form : IsCanonical order out out limit w w
+  own_form = record { items = back.items; held = held_again; written = settled back.items held_again }
 
   -- the canonical form of the output is the output
   pub again : (v : List ℕ) → IsCanonical order out out limit w v → v ≡ w

@@ -6,11 +6,10 @@ use Rattle.cborn_model.specs.Value.{Value, Same}
 use Rattle.cborn_engine.specs.declared.faults.EngineFault.{EngineFault}
 use Rattle.cborn_engine.specs.declared.faults.EngineFault.TheVariants as fault
 use Rattle.cborn_engine.specs.declared.kinds.Kind.{Kind}
-use Rattle.cborn_engine.specs.Holding.{Canon}
+use Rattle.cborn_engine.specs.Holding.{Canon, HoldSameItems}
 use Rattle.cborn_engine.specs.Refusing.{IsRefused, IsNoRefusal, IsTrouble}
 use Rattle.cborn_engine.specs.Writing.{IsFront}
 use Rattle.cborn_engine.specs.Canonical.{IsCanonical, NormaliseAnswers}
-use Rattle.cborn_engine.specs.Comparing.{HoldSameItems}
 use Rattle.cborn_engine.specs.Reading.{most_bytes}
 use Rattle.cborn_engine.proofs.Canonical.Canonicity.{valid, reads_back, alone, one_for_same, again}
 use Rattle.cborn_engine.proofs.Held.Known.{input_read}
@@ -28,17 +27,17 @@ module _ (order : List ℕ → List ℕ → Ordering) (laws : IsKeyOrder order) 
   pub alike : (k l out : Kind) (limit : ℕ) (x y v w : List ℕ) → length x ≤ most_bytes → length y ≤ most_bytes → IsCanonical order k out limit x v → IsCanonical order l out limit y w → (v ≡ w) ↔ HoldSameItems k l limit x y
   alike k l out limit x y v w p q a b =
       let same = one_output k l out limit x y v w p q a b in (
-        λ e. record { ours = a.items; theirs = b.items; held = a.held; held2 = b.held; difference = same.0 e },
+        λ e. record { ours = a.items; theirs = b.items; held = a.held; held2 = b.held; same = same.0 e },
         λ h. same.1
             (subst (λ (vs : List Value). AllZip Same vs b.items) (holds_once k limit x h.ours a.items h.held a.held)
-            (subst (AllZip Same h.ours) (holds_once l limit y h.theirs b.items h.held2 b.held) h.difference)),
+            (subst (AllZip Same h.ours) (holds_once l limit y h.theirs b.items h.held2 b.held) h.same)),
       )
 
   -- an output holds the items of its input
   pub same_held : (k out : Kind) (limit : ℕ) (x v : List ℕ) → length x ≤ most_bytes → IsCanonical order k out limit x v → HoldSameItems k out limit x v
   same_held k out limit x v p a =
       let back = reads_back order laws k out limit x v p a in
-      record { ours = a.items; theirs = back.0; held = a.held; held2 = back.1; difference = all_turned back.0 a.items back.2 }
+      record { ours = a.items; theirs = back.0; held = a.held; held2 = back.1; same = all_turned back.0 a.items back.2 }
 
   -- an output is refused only in trouble, and a front of it goes out
   pub refused_again : (k out : Kind) (limit most : ℕ) (x v w : List ℕ) (why : EngineFault) → length x ≤ most_bytes → length v ≤ most → IsCanonical order k out limit x v → NormaliseAnswers order out out limit most v w (Err why) → IsTrouble why × IsFront w v

@@ -124,7 +124,7 @@ module _ (order : List ℕ → List ℕ → Ordering) (laws : IsKeyOrder order) 
 
   module _ (limit : ℕ) (ours theirs : List ℕ) where
     proper : (x : List ℕ) (h : IsEncoded order kind.Wire limit x x) → AllByRecursion IsProper h.items
-    proper x h = sequence_proper order h.held.nodes h.items x h.held.spelled.0.fit h.held.meant h.encoded
+    proper x h = sequence_proper order h.held.nodes h.items x h.held.spelled.fit h.held.meant h.encoded
 
     pub at_first : IsEncoded order kind.Wire limit ours ours → IsEncoded order kind.Wire limit theirs theirs → (ours ≡ theirs → ⊥) → SoFar order limit ours theirs ours theirs 0
     at_first h k never = record {

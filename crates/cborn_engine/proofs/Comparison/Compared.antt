@@ -1,5 +1,5 @@
 -- What is answered where two inputs were encoded.
-use Rattle.std.proofs.Common.{◌≡◌, ◌≤◌, ℕ, List, length, arith, sym, subst, Option, Ok, Vec, Global, Ordering}
+use Rattle.std.proofs.Common.{◌≡◌, ◌≤◌, ◌↔◌, ℕ, Bool, true, false, IsTrue, Decides, refl, List, length, arith, sym, ◌∙◌, subst, Option, Ok, Vec, Global, Ordering}
 use Rattle.std.specs.List.{AllZip}
 use Rattle.cborn_model.specs.Orders.{IsKeyOrder}
 use Rattle.cborn_model.specs.Tree.{Tree, trees}
@@ -14,17 +14,23 @@ use Rattle.cborn_engine.specs.declared.kinds.Kind.TheVariants as kind
 use Rattle.cborn_engine.specs.Comparing.{AreCompared, Compares}
 use Rattle.cborn_engine.specs.devices.Encoding.{IsEncoded, EncodeAnswers}
 use Rattle.cborn_engine.specs.devices.Pieces.{Reads}
-use Rattle.cborn_engine.specs.Holding.{Holds}
+use Rattle.cborn_engine.specs.Canonical.{IsCanonical}
+use Rattle.cborn_engine.specs.Holding.{Holds, HoldSameItems}
 use Rattle.cborn_engine.specs.Reading.{most_bytes}
 use Rattle.cborn_engine.proofs.Comparison.Apart.{difference_too}
 use Rattle.cborn_engine.proofs.Canonical.Canonicity.{own_bytes}
+use Rattle.cborn_engine.proofs.Canonical.Headline.{alike}
 use Rattle.cborn_engine.proofs.Held.Known.{flawless}
-use Rattle.cborn_engine.proofs.Held.Meant.{holds_once, spells_once}
+use Rattle.cborn_engine.proofs.Held.Meant.{holds_once, means_too}
 
 -- bytes that hold items spell nodes without a flaw
 pub no_flaw_held : (limit : ℕ) (bytes : List ℕ) (nodes : List Tree) (p : ℕ) (r : InvalidReason) → (items : List Value) × Holds kind.Wire limit bytes items → Wellformed limit (trees nodes) bytes × PlacedAll 0 (trees nodes) → IsRefusalOfAll nodes (invalid.Refused p r) → ⊥
 no_flaw_held limit bytes nodes p r h w f =
-    flawless h.1.nodes h.0 p r h.1.meant (subst (λ (ns : List Tree). IsRefusalOfAll ns (invalid.Refused p r)) (spells_once kind.Wire limit bytes nodes h.1.nodes w h.1.spelled) f)
+    flawless nodes h.0 p r (means_too kind.Wire limit bytes h.1.nodes nodes h.0 h.1.spelled w.0 h.1.meant) f
+
+from_decides : (b : Bool) (P : Type 0) → Decides b P → IsTrue b ↔ P
+from_decides true P d = (λ _. d.0 refl, λ _. refl)
+from_decides false P d = (λ h. d.0 h, λ p. d.1 p)
 
 module _ (order : List ℕ → List ℕ → Ordering) (laws : IsKeyOrder order) where
   pub its_own : (k : Kind) (limit : ℕ) (input bytes x : List ℕ) → length input ≤ most_bytes → IsEncoded order k limit input bytes → x ≡ bytes → IsEncoded order kind.Wire limit x x
@@ -56,3 +62,20 @@ module _ (order : List ℕ → List ℕ → Ordering) (laws : IsKeyOrder order) 
     answer = (h.answer.0, g.answer.0, bytes_compared k l limit h.input g.input ours.items theirs.items x y answer (omega (arith, h.answer.0, bounded)) (omega (arith, g.answer.0, bounded)) h.answer.1 g.answer.1 e f c);
     to_end = (h.to_end, g.to_end);
   }
+
+  -- inputs hold the same items exactly if their encodings are found to be the same bytes
+  pub same_encodings : (k l : Kind) (limit : ℕ) (first second ours theirs x y : List ℕ) (b : Bool) → length first ≤ most_bytes → length second ≤ most_bytes
+      → IsEncoded order k limit first ours → IsEncoded order l limit second theirs → x ≡ ours → y ≡ theirs → Decides b (x ≡ y) → IsTrue b ↔ HoldSameItems k l limit first second
+  same_encodings k l limit first second ours theirs x y b p q d e f g t =
+      let told : IsTrue b ↔ (x ≡ y) = from_decides b (x ≡ y) t in
+      let same = alike order laws k l kind.Wire limit first second ours theirs p q (record { items = d.items; held = d.held; written = d.encoded }) (record { items = e.items; held = e.held; written = e.encoded }) in (
+        λ h. same.0 (sym f ∙ told.0 h ∙ g),
+        λ h. told.1 (f ∙ same.1 h ∙ sym g),
+      )
+
+  -- and so exactly if their forms are
+  pub same_forms : (k l : Kind) (limit : ℕ) (first second : List ℕ) (b : Bool) → length first ≤ most_bytes → length second ≤ most_bytes → IsTrue b ↔ HoldSameItems k l limit first second
+      → (out : Kind) (v w : List ℕ) → IsCanonical order k out limit first v → IsCanonical order l out limit second w → IsTrue b ↔ (v ≡ w)
+  same_forms k l limit first second b p q s out v w c d =
+      let same = alike order laws k l out limit first second v w p q c d in
+      (λ h. same.1 (s.0 h), λ e. s.1 (same.0 e))

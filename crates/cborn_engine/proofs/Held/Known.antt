@@ -1,5 +1,5 @@
 -- Inputs that are known.
-use Rattle.std.proofs.Common.{◌≡◌, ◌≤◌, ℕ, List, [], ◌∷◌, ◌++◌, length, inl, inr, Option, None, Some, Err, append-nil, sym, ◌∙◌, ap, subst, arith}
+use Rattle.std.proofs.Common.{◌≡◌, ◌≤◌, ℕ, List, [], ◌∷◌, ◌++◌, length, inl, inr, Option, None, Some, Err, append-nil, sym, ◌∙◌, ap, arith}
 use Rattle.std.specs.Io.KnownBytes.{Consumes, IsAtEnd}
 use Rattle.std.specs.List.{AllZip}
 use Rattle.cborn_model.specs.Tree.{Tree, trees}
@@ -25,7 +25,7 @@ use Rattle.cborn_engine.specs.declared.kinds.Kind.TheVariants as kind
 use Rattle.cborn_engine.specs.Holding.{IsNotation, Spells, Holds}
 use Rattle.cborn_engine.specs.Refusing.{IsWireFault, IsNotationFault, IsEdnFault, IsTextInputFault, IsRefused, IsNoRefusal}
 use Rattle.cborn_engine.specs.Loading.{LoadAnswers, IsNoFlaw}
-use Rattle.cborn_engine.proofs.Held.Meant.{spells_once}
+use Rattle.cborn_engine.proofs.Held.Meant.{in_place, means_too}
 use Rattle.cborn_engine.proofs.Held.Notated.{no_stop, no_jam, no_slip}
 
 pub whole : (x input : List ℕ) (after : Option (List ℕ)) → Consumes (Some x) after input → IsAtEnd after → input ≡ x
@@ -33,7 +33,7 @@ whole x input None t e = absurd t
 whole x input (Some rest) t e = sym (t ∙ ap (λ r. input ++ r) e ∙ append-nil input)
 
 spells_more : (k : Kind) (limit most : ℕ) (x : List ℕ) (ns : List Tree) → limit ≤ most → Spells k limit x ns → Spells k most x ns
-spells_more kind.Wire limit most x ns l h = (larger_limit limit most (trees ns) x l h.0, h.1)
+spells_more kind.Wire limit most x ns l h = larger_limit limit most (trees ns) x l h
 spells_more kind.Notation limit most x ns l h = (h.0, larger profile.One limit most x (trees ns) l h.1)
 spells_more kind.Notation2 limit most x ns l h = (h.0, larger profile.Two limit most x (trees ns) l h.1)
 
@@ -62,7 +62,7 @@ notated kind.Notation limit x ns why h f = told profile.One limit x ns why h f
 notated kind.Notation2 limit x ns why h f = told profile.Two limit x ns why h f
 
 wellformed : (k : Kind) (limit : ℕ) (x : List ℕ) (ns : List Tree) (why : WireFault) → Spells k limit x ns → IsWireFault k limit x why → ⊥
-wellformed kind.Wire limit x ns (wire.Refused p r) h f = not_both limit x p r (trees ns, h.0) f
+wellformed kind.Wire limit x ns (wire.Refused p r) h f = not_both limit x p r (trees ns, h) f
 wellformed kind.Wire limit x ns wire.OutOfMemory h f = absurd f
 wellformed kind.Notation limit x ns why h f = absurd f
 wellformed kind.Notation2 limit x ns why h f = absurd f
@@ -88,6 +88,6 @@ nodes_loaded k limit most x ns why l h f = unloaded k limit most x ns why l h f.
 
 pub input_read : (k : Kind) (limit most : ℕ) (x : List ℕ) (vs : List Value) (why : EngineFault) → length x ≤ most → Holds k limit x vs → IsRefused k limit most x why → IsNoRefusal why
 input_read k limit most x vs (fault.Invalid (invalid.Refused p r)) l h f =
-    flawless h.nodes vs p r h.meant (subst (λ (ns : List Tree). IsRefusalOfAll ns (invalid.Refused p r)) (spells_once k limit x f.1.nodes h.nodes f.1.spelled h.spelled) f.1.flaw)
+    flawless f.1.nodes vs p r (means_too k limit x h.nodes f.1.nodes vs h.spelled (in_place k limit x f.1.nodes f.1.spelled) h.meant) f.1.flaw
 input_read k limit most x vs (fault.Invalid invalid.OutOfMemory) l h f = absurd f.1
 input_read k limit most x vs why l h f = unloaded k limit most x h.nodes why l h.spelled f tt

@@ -1,5 +1,5 @@
 -- What an input holds is one, valid, and no deeper than the limit.
-use Rattle.std.proofs.Common.{◌≡◌, ◌≤◌, ◌<◌, ◌^◌, ℕ, List, [], ◌∷◌, length, sym, subst, arith}
+use Rattle.std.proofs.Common.{◌≡◌, ◌≤◌, ◌<◌, ◌^◌, ℕ, List, [], ◌∷◌, length, sym, ap, ◌∙◌, subst, arith}
 use Rattle.std.specs.List.{AllZip, AllByRecursion}
 use Rattle.cborn_model.specs.Tree.{Tree, trees, depth_all}
 use Rattle.cborn_model.specs.Spelled.{spelled_all, spelled, FitsAll}
@@ -11,19 +11,23 @@ use Rattle.cborn_model.proofs.SameItems.Sameness.{same_itself, same_turned}
 use Rattle.cborn_wire.proofs.Spelled.OneReading.{one_placed_reading}
 use Rattle.cborn_lex.specs.declared.classes.Profile.{Profile}
 use Rattle.cborn_lex.specs.declared.classes.Profile.TheVariants as profile
+use Rattle.cborn_edn.specs.ReadingBack.{unplaced_all}
 use Rattle.cborn_edn.proofs.RoundTrip.ReadBack.{one_notation}
+use Rattle.cborn_edn.proofs.RoundTrip.Unplaced.{same_meaning}
+use Rattle.cborn_transcode.proofs.Lists.{all_mean}
 use Rattle.cborn_judge.proofs.Meaning.Meanings.{means_once, meaning_valid, meaning_shallow, left, right}
 use Rattle.cborn_engine.specs.declared.kinds.Kind.{Kind}
 use Rattle.cborn_engine.specs.declared.kinds.Kind.TheVariants as kind
-use Rattle.cborn_engine.specs.Holding.{Spells, Holds, IsNotation}
+use Rattle.cborn_engine.specs.Holding.{Spells, SpellsInPlace, Holds, IsNotation}
 use Rattle.cborn_engine.proofs.Held.ReadsBack.{AreShallow}
+use Rattle.cborn_engine.proofs.Held.SameNodes.{same_nodes}
 
 -- a text notates one list of nodes
 notates_once : (p : Profile) (limit : ℕ) (input : List ℕ) (ns ms : List Tree) → IsNotation p limit input ns → IsNotation p limit input ms → ns ≡ ms
 notates_once p limit input ns ms h g = trees-injective ns ms (one_notation p limit limit input (trees ns) (trees ms) h.1 g.1)
 
--- an input spells one list of nodes
-pub spells_once : (k : Kind) (limit : ℕ) (input : List ℕ) (ns ms : List Tree) → Spells k limit input ns → Spells k limit input ms → ns ≡ ms
+-- an input spells one list of nodes in place
+pub spells_once : (k : Kind) (limit : ℕ) (input : List ℕ) (ns ms : List Tree) → SpellsInPlace k limit input ns → SpellsInPlace k limit input ms → ns ≡ ms
 spells_once kind.Wire limit input ns ms h g = trees-injective ns ms (one_placed_reading limit 0 (trees ns) (trees ms) input h.0 g.0 h.1 g.1)
 spells_once kind.Notation limit input ns ms h g = notates_once profile.One limit input ns ms h g
 spells_once kind.Notation2 limit input ns ms h g = notates_once profile.Two limit input ns ms h g
@@ -36,17 +40,33 @@ all_mean_once (n ∷ ns) [] ws h g = absurd h
 all_mean_once (n ∷ ns) (v ∷ vs) [] h g = absurd g
 all_mean_once (n ∷ ns) (v ∷ vs) (w ∷ ws) h g = λ i. means_once n v w h.0 g.0 i ∷ all_mean_once ns vs ws h.1 g.1 i
 
--- an input holds one list of items
-pub holds_once : (k : Kind) (limit : ℕ) (input : List ℕ) (vs ws : List Value) → Holds k limit input vs → Holds k limit input ws → vs ≡ ws
-holds_once k limit input vs ws h g =
-    all_mean_once h.nodes vs ws h.meant (subst (λ (ns : List Tree). AllZip Means ns ws) (sym (spells_once k limit input h.nodes g.nodes h.spelled g.spelled)) g.meant)
-
 -- what nodes of a sequence mean is what they mean one by one
 pub zip_mean : (ns : List Tree) (vs : List Value) → AllMean (trees ns) (values_of vs) → AllZip Means ns vs
 zip_mean [] [] h = tt
 zip_mean [] (v ∷ vs) h = absurd h
 zip_mean (n ∷ ns) [] h = absurd h
 zip_mean (n ∷ ns) (v ∷ vs) h = (h.0, zip_mean ns vs h.1)
+
+-- what is spelled in place is spelled
+pub in_place : (k : Kind) (limit : ℕ) (input : List ℕ) (ns : List Tree) → SpellsInPlace k limit input ns → Spells k limit input ns
+in_place kind.Wire limit input ns h = h.0
+in_place kind.Notation limit input ns h = h
+in_place kind.Notation2 limit input ns h = h
+
+-- an input spells one list of nodes, but for their places
+pub unplaced_once : (k : Kind) (limit : ℕ) (input : List ℕ) (ns ms : List Tree) → Spells k limit input ns → Spells k limit input ms → unplaced_all (trees ns) ≡ unplaced_all (trees ms)
+unplaced_once kind.Wire limit input ns ms h g = same_nodes (trees ns) (trees ms) h.fit g.fit (h.spells ∙ sym g.spells)
+unplaced_once kind.Notation limit input ns ms h g = ap (λ (us : List Tree). unplaced_all (trees us)) (notates_once profile.One limit input ns ms h g)
+unplaced_once kind.Notation2 limit input ns ms h g = ap (λ (us : List Tree). unplaced_all (trees us)) (notates_once profile.Two limit input ns ms h g)
+
+-- nodes that an input spells mean the same items, wherever they say that they stand
+pub means_too : (k : Kind) (limit : ℕ) (input : List ℕ) (ns ms : List Tree) (vs : List Value) → Spells k limit input ns → Spells k limit input ms → AllZip Means ns vs → AllZip Means ms vs
+means_too k limit input ns ms vs h g m = zip_mean ms vs (same_meaning (trees ns) (trees ms) (unplaced_once k limit input ns ms h g) (values_of vs) (all_mean ns vs m))
+
+-- an input holds one list of items
+pub holds_once : (k : Kind) (limit : ℕ) (input : List ℕ) (vs ws : List Value) → Holds k limit input vs → Holds k limit input ws → vs ≡ ws
+holds_once k limit input vs ws h g =
+    all_mean_once h.nodes vs ws h.meant (means_too k limit input g.nodes h.nodes ws g.spelled h.spelled g.meant)
 
 -- what fits, is short and shallow means valid items that are shallow
 pub record AreSound (limit : ℕ) (vs : List Value) : Type 0 where
@@ -66,7 +86,7 @@ nodes_sound limit (n ∷ ns) (v ∷ vs) f d l h =
 
 pub held_is_sound : (limit : ℕ) (input : List ℕ) (vs : List Value) → length input < 2 ^ 64 → Holds kind.Wire limit input vs → AreSound limit vs
 held_is_sound limit input vs l h =
-    nodes_sound limit h.nodes vs h.spelled.0.fit h.spelled.0.shallow (subst (λ (x : List ℕ). length x < 2 ^ 64) (sym h.spelled.0.spells) l) h.meant
+    nodes_sound limit h.nodes vs h.spelled.fit h.spelled.shallow (subst (λ (x : List ℕ). length x < 2 ^ 64) (sym h.spelled.spells) l) h.meant
 
 -- ---- sequences that are the same
 

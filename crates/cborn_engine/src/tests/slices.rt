@@ -1,6 +1,7 @@
 //! Worked examples over inputs that are held whole.
 use crate::{
-    CompareFault, EngineFault, Kind, check_slice, compare_slices, normalise_slice, show_slice,
+    CompareFault, EngineFault, Kind, check_slice, compare_slices, normalise_slice, same_items,
+    show_slice,
 };
 use cborn_edn::ShowFault;
 use cborn_judge::{Defect, DefectReason, Invalid, InvalidReason};
@@ -192,4 +193,15 @@ fn compared(rt: HostRuntime) {
     let fault = EngineFault::Invalid(Invalid::Refused { place, reason });
     let found = compare_slices::<Bytewise>(rt.alloc(), Limit::USUAL, kind, b"\x01", kind, TWICE);
     assert_eq!(rt; found, Err(CompareFault::Second(fault)));
+}
+
+#[test]
+fn tells_whether_slices_hold_the_same(rt: HostRuntime) {
+    let ours = Kind::Notation;
+    let theirs = Kind::Wire;
+    let limit = Limit::USUAL;
+    let same = same_items::<Bytewise>(rt.alloc(), limit, ours, b"[1]", theirs, b"\x98\x01\x01");
+    assert_eq!(rt; same, Ok(true));
+    let same = same_items::<Bytewise>(rt.alloc(), limit, ours, b"[1]", theirs, b"\x81\x02");
+    assert_eq!(rt; same, Ok(false));
 }

@@ -1,6 +1,18 @@
 use Rattle.cborn_engine.specs.Reading.{most_bytes}
 use Rattle.cborn_engine.proofs.Answers.Whole.{deterministic}
+use Rattle.cborn_engine.specs.declared.kinds.Kind.TheVariants as kind
+use Rattle.cborn_model.specs.Tree.{trees}
+use Rattle.cborn_engine.proofs.Answers.Malformed.{wellformed, refused}
 use Rattle.cborn_engine.proofs.checks.check_input.Goals as goal
 
 pub returns-then-is_deterministic-clause-answers : goal.returns-then-is_deterministic-clause-answers
 returns-then-is_deterministic-clause-answers g c within = deterministic c.args.limit most_bytes c.args.input.now within g.O.KeyOrder.order (c.is_deterministic.ensures c.if-is_deterministic.true)
+
+pub returns-then-is_deterministic-clause-malformed : goal.returns-then-is_deterministic-clause-malformed
+returns-then-is_deterministic-clause-malformed g c = let n = c.is_deterministic.ensures c.if-is_deterministic.true in wellformed kind.Wire c.args.limit c.args.input.now (trees n.nodes) _ (λ e. n.read)
+
+pub returns-in-Some-scan-clause-malformed : goal.returns-in-Some-scan-clause-malformed
+returns-in-Some-scan-clause-malformed g c = refused kind.Wire c.args.limit c.args.input.now c.in-Some-scan.place c.in-Some-scan.reason c.in-Some-scan.ensures
+
+pub returns-in-None-clause-malformed : goal.returns-in-None-clause-malformed
+returns-in-None-clause-malformed g c = wellformed kind.Wire c.args.limit c.args.input.now c.in-None.ensures.0 _ (λ e. c.in-None.ensures.1)

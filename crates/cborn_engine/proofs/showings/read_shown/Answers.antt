@@ -15,7 +15,7 @@ returns-in_err-input-clause-tells g c =
 pub returns-then-is_own_spelling-clause-tells : goal.returns-then-is_own_spelling-clause-tells
 returns-then-is_own_spelling-clause-tells g c =
     read_whole (TellAnswers c.args.in_kind c.args.out_kind c.args.limit most_bytes) most_bytes _ (g.R.Source.remaining c.read_bytes.new.reader) c.in_ok-input.input c.deref.result.now c.in_ok-input.ensures.collects c.deref.ensures.value (Ok c.in_ok-input.input)
-    (λ l. (l, subst (λ (x : List ℕ). IsShown c.args.in_kind c.args.out_kind c.args.limit c.deref.result.now x) c.deref.ensures.value (c.is_own_spelling.ensures c.if-is_own_spelling.true)))
+    (λ l. (l, subst (λ (x : List ℕ). IsShown c.args.in_kind c.args.out_kind c.args.limit c.deref.result.now x) c.deref.ensures.value (c.is_own_spelling.ensures.own c.if-is_own_spelling.true)))
 
 pub returns-clause-tells : goal.returns-clause-tells
 returns-clause-tells g c =

@@ -1,5 +1,9 @@
 use Rattle.std.specs.Cow.{cow_slice_items}
 use Rattle.cborn_engine.proofs.Answers.AtHand.{held, room}
+use Rattle.cborn_engine.specs.Whole.{TellsFault}
+use Rattle.cborn_engine.proofs.Answers.Malformed.{handed, answered}
+use Rattle.cborn_engine.proofs.Answers.Told.{told}
+use Rattle.cborn_engine.proofs.Canonical.OfBytes.{encoded_bytes}
 use Rattle.cborn_engine.proofs.slices.normalise_slice.Goals as goal
 
 pub written_as-requires : goal.written_as-requires
@@ -10,3 +14,17 @@ written_as-requires g c =
 pub returns-clause-room : goal.returns-clause-room
 returns-clause-room g c =
     room g.O.KeyOrder.order c.args.in_kind c.args.out_kind c.args.limit c.args.input.now (cow_slice_items c.in_ok-bytes.bytes) (cow_slice_items c.in_ok-written_as.field-0) c.in_ok-bytes.ensures.encoded.1 c.in_ok-written_as.ensures
+
+pub returns-in_err-bytes-clause-malformed : goal.returns-in_err-bytes-clause-malformed
+returns-in_err-bytes-clause-malformed g c l =
+    told (λ r. TellsFault c.args.in_kind c.args.limit c.args.input.now r) _ _ c.from_residual.ensures.1 (handed c.args.in_kind c.args.limit c.args.input.now c.in_err-bytes.field-0.0 (c.in_err-bytes.ensures.malformed l))
+
+pub returns-in_err-written_as-clause-malformed : goal.returns-in_err-written_as-clause-malformed
+returns-in_err-written_as-clause-malformed g c l = answered c.args.in_kind c.args.limit c.args.input.now c.in_ok-bytes.bytes _ (c.in_ok-bytes.ensures.malformed l)
+
+pub returns-clause-malformed : goal.returns-clause-malformed
+returns-clause-malformed g c l = answered c.args.in_kind c.args.limit c.args.input.now c.in_ok-bytes.bytes _ (c.in_ok-bytes.ensures.malformed l)
+
+pub returns-clause-bytes : goal.returns-clause-bytes
+returns-clause-bytes g c =
+    encoded_bytes g.O.KeyOrder.order c.args.in_kind c.args.out_kind c.args.limit c.args.input.now (cow_slice_items c.in_ok-bytes.bytes) (cow_slice_items c.in_ok-written_as.field-0) c.in_ok-bytes.ensures.encoded.1 c.in_ok-written_as.ensures

@@ -1,0 +1,47 @@
+-- Bytes that aren't well-formed are refused for their one fault.
+use Rattle.std.proofs.Common.{◌≡◌, ℕ, List, ap, Result, Ok, Err}
+use Rattle.cborn_model.specs.Tree.{Tree, Trees, trees}
+use Rattle.cborn_model.specs.Spelled.{Wellformed}
+use Rattle.cborn_model.specs.Value.{Value}
+use Rattle.cborn_wire.specs.declared.faults.WireFault.TheVariants as wire
+use Rattle.cborn_wire.specs.declared.faults.WireReason.{WireReason}
+use Rattle.cborn_wire.specs.Faults.{Fault}
+use Rattle.cborn_wire.proofs.Spelled.FaultLaws.{not_both, one_fault}
+use Rattle.cborn_engine.specs.declared.faults.EngineFault.{EngineFault}
+use Rattle.cborn_engine.specs.declared.faults.EngineFault.TheVariants as fault
+use Rattle.cborn_engine.specs.declared.kinds.Kind.{Kind}
+use Rattle.cborn_engine.specs.declared.kinds.Kind.TheVariants as kind
+use Rattle.cborn_engine.specs.Holding.{Spells, Holds}
+use Rattle.cborn_engine.specs.Whole.{TellsFault}
+
+-- nothing is to be told of what spells nodes
+pub wellformed : {A : Type 0} (k : Kind) (limit : ℕ) (input : List ℕ) (ts : Trees) (result : Result A EngineFault) → (k ≡ kind.Wire → Wellformed limit ts input) → TellsFault k limit input result
+wellformed k limit input ts result w p r e f = absurd (not_both limit input p r (ts, w e) f)
+
+pub spelled : {A : Type 0} (k : Kind) (limit : ℕ) (input : List ℕ) (nodes : List Tree) (result : Result A EngineFault) → Spells k limit input nodes → TellsFault k limit input result
+spelled k limit input nodes result s = wellformed k limit input (trees nodes) result (read k s)
+  where
+    read : (k : Kind) → Spells k limit input nodes → k ≡ kind.Wire → Wellformed limit (trees nodes) input
+    read kind.Wire s e = s
+    read kind.Notation s e = absurd cc
+    read kind.Notation2 s e = absurd cc
+
+pub held : {A : Type 0} (k : Kind) (limit : ℕ) (input : List ℕ) (vs : List Value) (result : Result A EngineFault) → Holds k limit input vs → TellsFault k limit input result
+held k limit input vs result h = spelled k limit input h.nodes result h.spelled
+
+-- what was found is told
+pub refused : {A : Type 0} (k : Kind) (limit : ℕ) (input : List ℕ) (q : ℕ) (s : WireReason) → Fault limit input q s → TellsFault {A = A} k limit input (Err (fault.Wire (wire.Refused q s)))
+refused k limit input q s g p r e f =
+    let t = one_fault limit input q p s r g f in
+    λ i. Err (fault.Wire (wire.Refused (t.0 i) (t.1 i)))
+
+-- a fault is handed on
+pub handed : {A B : Type 0} (k : Kind) (limit : ℕ) (input : List ℕ) (why : EngineFault) → TellsFault {A = A} k limit input (Err why) → TellsFault {A = B} k limit input (Err why)
+handed k limit input why h p r e f = ap Err (fault_of (h p r e f))
+  where
+    fault_of : {A : Type 0} {x y : EngineFault} → ◌≡◌ {A = Result A EngineFault} (Err x) (Err y) → x ≡ y
+    fault_of e = cc
+
+-- what was answered was not malformed
+pub answered : {A B : Type 0} (k : Kind) (limit : ℕ) (input : List ℕ) (a : A) (result : Result B EngineFault) → TellsFault k limit input (Ok a) → TellsFault k limit input result
+answered k limit input a result h p r e f = absurd (let clash = h p r e f in cc)

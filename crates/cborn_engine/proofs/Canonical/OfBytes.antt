@@ -1,0 +1,148 @@
+-- What bytes hold is one list of items, each encoding of which holds the same.
+use Rattle.std.proofs.Common.{◌≡◌, ◌+◌, ◌≤◌, ◌↔◌, ℕ, max, List, [], ◌∷◌, ◌++◌, length, append-nil, refl, sym, ap, ◌∙◌, subst, arith, Ordering}
+use Rattle.std.specs.List.{AllZip}
+use Rattle.cborn_model.specs.Orders.{IsKeyOrder}
+use Rattle.cborn_model.specs.Tree.{Trees, no_item, more, trees, depth_all}
+use Rattle.cborn_model.specs.Spelled.{Wellformed, FitsAll, spelled_all}
+use Rattle.cborn_model.specs.Value.{Value, Values, no_values, value, values_of, Same, SameValues}
+use Rattle.cborn_model.specs.Meaning.{Means, AllMean}
+use Rattle.cborn_det.specs.Det.{DetSeq, DetValues}
+use Rattle.cborn_det.proofs.Canon.{seq_of_one, one_of_seq}
+use Rattle.cborn_det.proofs.Steps.{values_of_seq, seq_of_values}
+use Rattle.cborn_wire.proofs.Spelled.TreeLists.{tree_list, trees-tree_list}
+use Rattle.cborn_transcode.specs.Transcoding.{ItemsTranscoded}
+use Rattle.cborn_transcode.proofs.Lists.{all_append, all_mean, normalised}
+use Rattle.cborn_engine.specs.declared.kinds.Kind.{Kind}
+use Rattle.cborn_engine.specs.declared.kinds.Kind.TheVariants as kind
+use Rattle.cborn_engine.specs.Bytes.{BytesHold}
+use Rattle.cborn_engine.specs.Canonical.{IsCanonical}
+use Rattle.cborn_engine.specs.Holding.{Holds}
+use Rattle.cborn_engine.specs.devices.Encoding.{IsEncoded, IsWrittenAs}
+use Rattle.cborn_engine.proofs.Canonical.Canonicity.{same_encoded}
+use Rattle.cborn_engine.proofs.Canonical.Proper.{sequence_proper, sequence_shallow}
+use Rattle.cborn_engine.proofs.Held.Meant.{AreSound, holds_once, all_turned, zip_mean}
+use Rattle.cborn_engine.proofs.Held.ReadsBack.{sequence_back}
+
+-- ---- lists, as the contents of an array
+
+abbrev value_list : Values → List Value
+value_list no_values = []
+value_list (value v vs) = v ∷ value_list vs
+
+values-listed : (vs : Values) → values_of (value_list vs) ≡ vs
+values-listed no_values = refl
+values-listed (value v vs) = ap (value v) (values-listed vs)
+
+mean_listed : (ts : Trees) (vs : Values) → AllMean ts vs → AllZip Means (tree_list ts) (value_list vs)
+mean_listed no_item no_values h = tt
+mean_listed no_item (value v vs) h = absurd h
+mean_listed (more t ts) no_values h = absurd h
+mean_listed (more t ts) (value v vs) h = (h.0, mean_listed ts vs h.1)
+
+same_listed : (vs ws : Values) → SameValues vs ws → AllZip Same (value_list vs) (value_list ws)
+same_listed no_values no_values h = tt
+same_listed no_values (value w ws) h = absurd h
+same_listed (value v vs) no_values h = absurd h
+same_listed (value v vs) (value w ws) h = (h.0, same_listed vs ws h.1)
+
+same_values : (vs ws : Values) → AllZip Same (value_list vs) (value_list ws) → SameValues vs ws
+same_values no_values no_values h = tt
+same_values no_values (value w ws) h = absurd h
+same_values (value v vs) no_values h = absurd h
+same_values (value v vs) (value w ws) h = (h.0, same_values vs ws h.1)
+
+same_of : (vs : Values) (ws : List Value) → AllZip Same (value_list vs) ws → SameValues vs (values_of ws)
+same_of no_values [] h = tt
+same_of no_values (w ∷ ws) h = absurd h
+same_of (value v vs) [] h = absurd h
+same_of (value v vs) (w ∷ ws) h = (h.0, same_of vs ws h.1)
+
+-- ---- what an input of bytes holds, its bytes hold
+
+pub bytes_hold : (limit : ℕ) (x : List ℕ) (vs : List Value) → Holds kind.Wire limit x vs → BytesHold x (values_of vs)
+bytes_hold limit x vs h = record { nodes = trees h.nodes; fit = h.spelled.fit; spelled = h.spelled.spells; meant = all_mean h.nodes vs h.meant }
+
+nodes_read : (limit : ℕ) (x : List ℕ) (vs : Values) (b : BytesHold x vs) → depth_all (trees (tree_list b.nodes)) ≤ limit → Wellformed limit (trees (tree_list b.nodes)) x
+nodes_read limit x vs b l =
+    let same : trees (tree_list b.nodes) ≡ b.nodes = trees-tree_list b.nodes in
+    record { spells = ap spelled_all same ∙ b.spelled; fit = subst FitsAll (sym same) b.fit; shallow = l }
+
+as_input : (limit : ℕ) (x : List ℕ) (vs : Values) (b : BytesHold x vs) → depth_all (trees (tree_list b.nodes)) ≤ limit → Holds kind.Wire limit x (value_list vs)
+as_input limit x vs b l = record { nodes = tree_list b.nodes; spelled = nodes_read limit x vs b l; meant = mean_listed b.nodes vs b.meant }
+
+pub held_within : (x : List ℕ) (vs : List Value) → BytesHold x (values_of vs) → (limit : ℕ) × Holds kind.Wire limit x vs
+held_within x vs b =
+    let limit : ℕ = depth_all (trees (tree_list b.nodes)) in
+    let same : trees (tree_list b.nodes) ≡ b.nodes = trees-tree_list b.nodes in
+    (limit, record { nodes = tree_list b.nodes; spelled = nodes_read limit x (values_of vs) b (omega arith); meant = zip_mean (tree_list b.nodes) vs (subst (λ (ts : Trees). AllMean ts (values_of vs)) (sym same) b.meant) })
+
+pub items_once : (x : List ℕ) (vs ws : Values) → BytesHold x vs → BytesHold x ws → vs ≡ ws
+items_once x vs ws a b =
+    let limit : ℕ = max (depth_all (trees (tree_list a.nodes))) (depth_all (trees (tree_list b.nodes))) in
+    let once : value_list vs ≡ value_list ws = holds_once kind.Wire limit x (value_list vs) (value_list ws) (as_input limit x vs a (omega arith)) (as_input limit x ws b (omega arith)) in
+    sym (values-listed vs) ∙ ap values_of once ∙ values-listed ws
+
+module _ (order : List ℕ → List ℕ → Ordering) where
+  det_listed : (vs : Values) (x : List ℕ) → DetValues order vs x → DetSeq order (value_list vs) x
+  det_listed vs x d = seq_of_values order (value_list vs) x (subst (λ (us : Values). DetValues order us x) (sym (values-listed vs)) d)
+
+  -- what has an encoding is valid
+  sound : (limit : ℕ) (x v : List ℕ) (vs : List Value) → Holds kind.Wire limit x vs → DetSeq order vs v → AreSound limit vs
+  sound limit x v vs a d = record { proper = sequence_proper order a.nodes vs v a.spelled.fit a.meant d; shallow = sequence_shallow limit a.nodes vs a.spelled.fit a.spelled.shallow a.meant }
+
+  pub canonical_bytes : (limit : ℕ) (x v : List ℕ) → IsCanonical order kind.Wire kind.Wire limit x v → (vs : Values) × BytesHold x vs × DetValues order vs v
+  canonical_bytes limit x v c = (values_of c.items, bytes_hold limit x c.items c.held, values_of_seq order c.items v c.written)
+
+  pub encoded_bytes : (k out : Kind) (limit : ℕ) (x bytes output : List ℕ) → IsEncoded order k limit x bytes → IsWrittenAs out bytes output → k ≡ kind.Wire → out ≡ kind.Wire → (vs : Values) × BytesHold x vs × DetValues order vs output
+  encoded_bytes kind.Wire kind.Wire limit x bytes output e w p q = canonical_bytes limit x output (record { items = e.items; held = e.held; written = subst (DetSeq order e.items) (sym w) e.encoded })
+  encoded_bytes kind.Wire _ limit x bytes output e w p q = absurd cc
+  encoded_bytes _ out limit x bytes output e w p q = absurd cc
+
+  module _ (laws : IsKeyOrder order) where
+    pub bytes_alike : (x y v w : List ℕ) (vs ws : Values) → BytesHold x vs → BytesHold y ws → DetValues order vs v → DetValues order ws w → (v ≡ w) ↔ SameValues vs ws
+    bytes_alike x y v w vs ws a b d e =
+        let m : ℕ = depth_all (trees (tree_list a.nodes)) in
+        let n : ℕ = depth_all (trees (tree_list b.nodes)) in
+        let f = det_listed vs v d in
+        let g = det_listed ws w e in
+        let p = (sound m x v (value_list vs) (as_input m x vs a (omega arith)) f).proper in
+        let q = (sound n y w (value_list ws) (as_input n y ws b (omega arith)) g).proper in (
+          λ h. same_values vs ws (seq_of_one order laws (value_list vs) (value_list ws) v p q f (subst (DetSeq order (value_list ws)) (sym h) g)),
+          λ s. one_of_seq order laws (value_list vs) (value_list ws) v w p q (same_listed vs ws s) f g,
+        )
+
+    pub bytes_again : (x v : List ℕ) (vs : Values) → BytesHold x vs → DetValues order vs v → (ws : Values) × BytesHold v ws × SameValues vs ws × DetValues order ws v
+    bytes_again x v vs a d =
+        let m : ℕ = depth_all (trees (tree_list a.nodes)) in
+        let f = det_listed vs v d in
+        let s = sound m x v (value_list vs) (as_input m x vs a (omega arith)) f in
+        let back = sequence_back order laws m 0 (value_list vs) v s.proper s.shallow f in
+        let same = all_turned back.items (value_list vs) back.same in (
+          values_of back.items,
+          record { nodes = trees back.nodes; fit = back.fits; spelled = back.spells; meant = all_mean back.nodes back.items back.mean },
+          same_of vs back.items same,
+          values_of_seq order back.items v (same_encoded order laws (value_list vs) back.items v s.proper back.proper f same),
+        )
+
+  -- ---- one input behind another
+
+  transcoded_items : (limit : ℕ) (x z old v : List ℕ) → (a : IsCanonical order kind.Wire kind.Wire limit x v) → ItemsTranscoded order limit (length a.held.nodes) (x ++ z) z old (old ++ v)
+  transcoded_items limit x z old v a = record {
+    nodes = a.held.nodes;
+    items = a.items;
+    read = ap (λ l. l ++ z) (sym a.held.spelled.spells);
+    fits = a.held.spelled.fit;
+    shallow = a.held.spelled.shallow;
+    meant = a.held.meant;
+    written = (v, a.written, refl);
+    count = refl;
+  }
+
+  pub joined : (limit : ℕ) (x y v w : List ℕ) → IsCanonical order kind.Wire kind.Wire limit x v → IsCanonical order kind.Wire kind.Wire limit y w → IsCanonical order kind.Wire kind.Wire limit (x ++ y) (v ++ w)
+  joined limit x y v w a b =
+      let n : ℕ = length a.held.nodes in
+      let m : ℕ = length b.held.nodes in
+      let last : ItemsTranscoded order limit m y [] v (v ++ w) = subst (λ (z : List ℕ). ItemsTranscoded order limit m z [] v (v ++ w)) (append-nil y) (transcoded_items limit y [] v w b) in
+      let all = all_append order limit n m (x ++ y) y [] [] v (v ++ w) (transcoded_items limit x y [] v a) last in
+      let t = normalised order limit (n + m) (x ++ y) (v ++ w) all in
+      record { items = t.items; held = record { nodes = t.nodes; spelled = t.read; meant = t.meant }; written = t.encoded }

@@ -1,0 +1,16 @@
+use Rattle.std.proofs.lemmas.Bool.Decides.{Decides-eqb}
+use Rattle.std.proofs.lemmas.Slice.Eq.{slice_eq-Decides}
+use Rattle.std.specs.Cow.{cow_slice_items}
+use Rattle.cborn_engine.proofs.Comparison.Compared.{same_encodings, same_forms}
+use Rattle.cborn_engine.proofs.slices.same_items.Goals as goal
+
+pub returns-clause-same : goal.returns-clause-same
+returns-clause-same g c =
+    let m = c.in_ok-ours in
+    same_encodings g.O.KeyOrder.order g.met.O.KeyOrder.laws c.args.kind_a c.args.kind_b c.args.limit c.args.first.now c.args.second.now (cow_slice_items m.ours) (cow_slice_items m.theirs) c.deref.result.now c.deref-2.result.now c.eq.result
+    m.ensures.short.0 m.ensures.short.1 m.ensures.encoded.0 m.ensures.encoded.1 c.deref.ensures.value c.deref-2.ensures.value (slice_eq-Decides Decides-eqb _ _ _ c.eq.ensures)
+
+pub returns-clause-forms : goal.returns-clause-forms
+returns-clause-forms g c out v w a b =
+    let m = c.in_ok-ours in
+    same_forms g.O.KeyOrder.order g.met.O.KeyOrder.laws c.args.kind_a c.args.kind_b c.args.limit c.args.first.now c.args.second.now c.eq.result m.ensures.short.0 m.ensures.short.1 (returns-clause-same g c) out v w a b
