@@ -3,6 +3,7 @@ ghost use Rattle.std.specs.Prelude.{◌≡◌, ◌≤◌, ◌+◌, ℕ, length, 
 ghost use Rattle.cborn_judge.specs.Flaws.{IsRefusalOfAll};
 ghost use Rattle.cborn_engine.specs.declared.kinds.Kind.TheVariants as kinds;
 ghost use Rattle.cborn_engine.specs.Whole.{TellsFault};
+ghost use Rattle.cborn_transcode.specs.Departing.{IsFirstDeparture};
 ghost use Rattle.cborn_engine.specs.Checking.{Checks, CheckAnswers};
 ghost use Rattle.cborn_engine.specs.devices.Defects.{Finds};
 ghost use Rattle.cborn_engine.specs.Reading.{most_bytes, read_failures};
@@ -13,8 +14,8 @@ use crate::sources::Source;
 use crate::texts::read_bytes;
 use cborn_judge::{Defect, Invalid, first_defect};
 use cborn_model::{KeyOrder, Limit, Spelled};
-use cborn_search::{defect_of_items, first_flaw};
-use cborn_transcode::is_deterministic;
+use cborn_search::first_flaw;
+use cborn_transcode::first_departure;
 use cborn_wire::{WireFault, read_all, scan};
 use std::alloc::Global;
 
@@ -66,10 +67,11 @@ pub fn check_input<O: KeyOrder>(
     ensures malformed { TellsFault kinds.Wire limit input.now result }
     ensures failures { (n : ℕ) → read_failures result n ≡ n }
 {
-    if is_deterministic::<O>(limit, input) {
+    let departure = first_departure::<O>(alloc, limit, input);
+    if let Some(None) = departure {
         return Ok(None);
     }
-    if let Some(answer) = search::<O>(alloc, limit, input) {
+    if let Some(answer) = search::<O>(alloc, limit, input, departure) {
         return answer;
     }
     match scan(limit, input) {
@@ -78,12 +80,15 @@ pub fn check_input<O: KeyOrder>(
     }
 }
 
-/// What `check_input` answers, where searches that keep no tree tell it.
+/// What `check_input` answers of bytes with this first departure, where a search that keeps no tree
+/// tells it.
 fn search<O: KeyOrder>(
     alloc: Global,
     limit: Limit,
     input: &[u8],
+    departure: Option<Option<Defect>>,
 ) -> Option<Result<Option<Defect>, EngineFault>>
+    requires { IfSome departure (λ d. IsFirstDeparture O.order limit input.now d) }
     ensures answers { IfSome result (λ answer. length input.now ≤ most_bytes → CheckAnswers O.order limit most_bytes input.now answer) }
     ensures malformed { IfSome result (λ answer. TellsFault kinds.Wire limit input.now answer) }
     ensures failures { IfSome result (λ answer. (n : ℕ) → read_failures answer n ≡ n) }
@@ -94,7 +99,7 @@ fn search<O: KeyOrder>(
             Some(Err(EngineFault::Invalid(Invalid::Refused { place, reason })))
         }
         None => {
-            let defect = defect_of_items::<O>(alloc, limit, input)?;
+            let defect = departure??;
             Some(Ok(Some(defect)))
         }
     }

@@ -36,7 +36,7 @@ pub fn read_encoded<O: KeyOrder, R: Source>(
     ensures calls { R.asked reader.new ≤ R.asked reader.old + most_bytes + 1 }
 {
     let input = read_bytes(alloc, MOST, reader)?;
-    if is_own_encoding::<O>(limit, kind, &input) {
+    if is_own_encoding::<O>(alloc, limit, kind, &input) {
         return Ok(input);
     }
     encode_input::<O>(alloc, limit, kind, &input)
@@ -44,10 +44,10 @@ pub fn read_encoded<O: KeyOrder, R: Source>(
 
 /// Whether an input is bytes that are the deterministic encodings of what they hold. No promises
 /// nothing.
-pub fn is_own_encoding<O: KeyOrder>(limit: Limit, kind: Kind, input: &[u8]) -> bool
+pub fn is_own_encoding<O: KeyOrder>(alloc: Global, limit: Limit, kind: Kind, input: &[u8]) -> bool
     ensures { IsTrue result → IsEncoded O.order kind limit input.now input.now }
 {
-    kind == Kind::Wire && is_deterministic::<O>(limit, input)
+    kind == Kind::Wire && is_deterministic::<O>(alloc, limit, input)
 }
 
 /// The deterministic encodings of what an input holds, one after another.
@@ -94,7 +94,7 @@ fn encode_by_pass<O: KeyOrder>(
 fn encode_spelled<O: KeyOrder>(alloc: Global, limit: Limit, bytes: Vec<u8>) -> Option<Vec<u8>>
     ensures { IfSome result (λ encodings. IsTranscoded O.order limit bytes.items encodings.items) }
 {
-    if is_deterministic::<O>(limit, &bytes) {
+    if is_deterministic::<O>(alloc, limit, &bytes) {
         return Some(bytes);
     }
     transcode::<O>(alloc, limit, &bytes)

@@ -170,7 +170,7 @@ fn encode_slice<'a, O: KeyOrder>(
     if is_too_long(input) {
         return Err(EngineFault::TooLong);
     }
-    if is_own_encoding::<O>(limit, kind, input) {
+    if is_own_encoding::<O>(alloc, limit, kind, input) {
         return Ok(CowSlice::Borrowed(input));
     }
     Ok(CowSlice::Owned(encode_input::<O>(alloc, limit, kind, input)?))

@@ -8,7 +8,7 @@ use Rattle.cborn_model.specs.Tree.{Tree, Pairs, entries, count_entries, depth_en
 use Rattle.cborn_model.specs.Spelled.{spelled, spelled_entries, Fits, FitsEntries, ending}
 use Rattle.cborn_model.specs.Placed.{Placed, PlacedEntries}
 use Rattle.cborn_search.specs.Reading.{Pair, NodeRead, PairsRead}
-use Rattle.cborn_search.proofs.Nodes.{behind}
+use Rattle.cborn_transcode.proofs.Opening.{behind}
 
 spelled_one : (ns : List Pair) (n : Pair) → spelled_entries (entries (ns ++ n ∷ [])) ≡ spelled_entries (entries ns) ++ (spelled n.0 ++ spelled n.1)
 spelled_one [] n = append-nil (spelled n.0 ++ spelled n.1)

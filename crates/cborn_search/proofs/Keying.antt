@@ -16,22 +16,10 @@ use Rattle.cborn_judge.specs.Flaws.{Flaw}
 use Rattle.cborn_judge.proofs.Meaning.Judging.{no_flaw}
 use Rattle.cborn_judge.proofs.Meaning.Meanings.{meaning_valid, some_bytes}
 use Rattle.cborn_transcode.specs.Transcoding.{IsTranscoded}
+use Rattle.cborn_transcode.proofs.Opening.{put_there}
 use Rattle.cborn_transcode.proofs.Placing.{means-from}
 use Rattle.cborn_search.specs.Reading.{NodeRead}
 use Rattle.cborn_search.specs.Flawed.{Told, FindsTold, Scanned}
-
-abbrev first_of : Trees → Tree → Tree
-first_of no_item d = d
-first_of (more t ts) d = t
-
--- a node that spells what a placed one spells, put where that stands, is that one
-pub put_there : (p : ℕ) (t u : Tree) → Fits t → Fits u → Placed p t → spelled t ≡ spelled u → placed_from p u ≡ t
-put_there p t u f g h e =
-    let ts : Trees = more t no_item in
-    let us : Trees = more u no_item in
-    let same : all_from p ts ≡ all_from p us = one_spelling ts us (f, tt) (g, tt) (ap (λ l. l ++ []) e) p in
-    let stays : all_from p ts ≡ ts = same_all-from ts p (h, tt) in
-    ap (λ xs. first_of xs t) (sym same ∙ stays)
 
 module _ (order : List ℕ → List ℕ → Ordering) where
   -- of nodes that spell what one node spells
@@ -63,16 +51,3 @@ cut_out P room total x rest k =
 -- a key with a flaw
 pub key_unknown : (room total : ℕ) (x rest : List ℕ) (s : Bool) (flaw : Option Told) (f : Told) → flaw ≡ Some f → (k : Scanned room total x rest flaw s) → (v : Value) → Means k.node v → ⊥
 key_unknown room total x rest s flaw f e k v m = no_flaw k.node v m f.0 f.1 (subst (λ (o : Option Told). FindsTold (Flaw k.node) o) e k.holds.0).is
-
--- where a node stands
-pub stands : (p : ℕ) (t : Tree) → Placed p t → place t ≡ p
-stands p (Uint q w n) h = h
-stands p (Nint q w n) h = h
-stands p (Bytes q w b) h = h
-stands p (Text q w b) h = h
-stands p (ByteChunks q cs) h = h.0
-stands p (TextChunks q cs) h = h.0
-stands p (Items q s ts) h = h.0
-stands p (Pairs q s es) h = h.0
-stands p (Tagged q w n t) h = h.0
-stands p (Simple q n) h = h

@@ -5,7 +5,3 @@ pub mod Keying
 pub mod Mapping
 pub mod Marking
 pub mod Sequencing
-pub mod Opening
-pub mod Stopping
-pub mod Heads
-pub mod Walking

@@ -20,7 +20,8 @@ use Rattle.cborn_search.specs.Reading.{Pair, NodeRead}
 use Rattle.cborn_search.specs.Flawed.{Told, IsEarliestTold, FindsTold, SeenKey, seen_bytes, seen_position, seen_place, AreSeen, HasFlaw, Scanned, PairsFlaw, PairsSeen}
 use Rattle.cborn_search.specs.devices.Marks.{Joins, MapFlaw, MapSeen}
 use Rattle.cborn_search.proofs.Couples.{no_pair, pair_more, map_read, endless_map_read}
-use Rattle.cborn_search.proofs.Keying.{key_coded, cut_out, key_unknown, stands}
+use Rattle.cborn_transcode.proofs.Opening.{stands}
+use Rattle.cborn_search.proofs.Keying.{key_coded, cut_out, key_unknown}
 use Rattle.cborn_search.proofs.Scanning.{both_told, alike_told}
 
 one_pair : (ns : List Pair) (n : Pair) (p : ℕ) (r : InvalidReason) → Either (Either (FlawAmong (entries ns)) (Flaw n.0)) (Flaw n.1) p r ↔ FlawAmong (entries (ns ++ n ∷ [])) p r

@@ -16,12 +16,9 @@ use Rattle.cborn_wire.specs.declared.heads.Head.{Head}
 use Rattle.cborn_wire.specs.HeadReading.{major_at, IsHeadOf, seen_argument, ArgumentFits}
 use Rattle.cborn_wire.proofs.Machine.SoundItems.{fits_chunks-snoc, placed_chunks-snoc, chunk_bytes-snoc}
 use Rattle.cborn_transcode.proofs.Heading.{head_split}
+use Rattle.cborn_transcode.proofs.Opening.{behind}
 use Rattle.cborn_transcode.specs.devices.Walking.{Leaves}
 use Rattle.cborn_search.specs.Reading.{StringRead, IsSimpleArgument, ChunkRead, ChunksRead, NodeRead, NodesRead}
-
--- the place of what follows
-pub behind : (total : ℕ) (input front rest : List ℕ) → length input ≤ total → input ≡ front ++ rest → total - length rest ≡ (total - length input) + length front
-behind total input front rest l e = omega (arith, l, ap length e ∙ length-append front rest)
 
 -- ---- leaves
 

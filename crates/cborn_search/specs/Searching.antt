@@ -1,15 +1,12 @@
 -- What a search of a whole input answers.
 use Rattle.std.specs.Prelude.{ℕ, List, Option, None, Some}
-use Rattle.std.specs.declared.cmp.Ordering.{Ordering}
 use Rattle.std.specs.List.{AllZip}
-use Rattle.cborn_model.specs.Meaning.{Means, AllMean}
+use Rattle.cborn_model.specs.Meaning.{Means}
 use Rattle.cborn_model.specs.Placed.{PlacedAll}
 use Rattle.cborn_model.specs.Spelled.{Wellformed}
 use Rattle.cborn_model.specs.Tree.{Tree, trees}
-use Rattle.cborn_model.specs.Value.{Value, Values}
-use Rattle.cborn_judge.specs.Defects.{IsFirstOfSequence}
+use Rattle.cborn_model.specs.Value.{Value}
 use Rattle.cborn_judge.specs.Flaws.{IsRefusalOfAll}
-use Rattle.cborn_judge.specs.declared.defects.Defect.{Defect}
 use Rattle.cborn_judge.specs.declared.faults.Invalid.TheVariants.{Refused}
 use Rattle.cborn_search.specs.Flawed.{Told}
 
@@ -24,7 +21,3 @@ pub record IsFirstFlawOf (limit : ℕ) (input : List ℕ) (flaw : Option Told) :
   pub read : Wellformed limit (trees nodes) input
   pub placed : PlacedAll 0 (trees nodes)
   pub verdict : FlawVerdict nodes flaw
-
--- of whatever nodes the bytes spell under the limit, each at its offset, this is the first defect if they mean items
-abbrev pub IsFirstDefectOfItems : (List ℕ → List ℕ → Ordering) → ℕ → List ℕ → Defect → Type 0
-IsFirstDefectOfItems order limit input d = (nodes : List Tree) (items : Values) → Wellformed limit (trees nodes) input → PlacedAll 0 (trees nodes) → AllMean (trees nodes) items → IsFirstOfSequence order (trees nodes) d.place d.reason

@@ -1,4 +1,1 @@
-pub mod Departed
-pub mod Digits
 pub mod Marks
-pub mod Stopping

@@ -83,7 +83,7 @@ impl Keys {
         ensures { OnSome result ((encoding : List ℕ) × IsTranscoded bytewise 1024 key.now encoding × ((ks : List SeenKey) (n : ℕ) → AreMarked ks self.old → AreMarked (ks ++ (encoding, n, place) ∷ []) self.new)) }
     {
         let limit = Limit::new(1024)?;
-        if is_deterministic::<Bytewise>(limit, key) {
+        if is_deterministic::<Bytewise>(alloc, limit, key) {
             return self.push(key, place);
         }
         let encoding = transcode::<Bytewise>(alloc, limit, key)?;
@@ -117,14 +117,6 @@ impl Keys {
         sort(&self.bytes, &mut self.marks);
         first_tie(&self.bytes, &self.marks)
     }
-}
-
-/// The encoding of the key at the front of `bytes`, up to `rest`. None promises nothing.
-pub(crate) fn encoded<O: KeyOrder>(alloc: Global, bytes: &[u8], rest: &[u8]) -> Option<Vec<u8>>
-    ensures { IfSome result (λ v. IsTranscoded O.order 1024 (take (length bytes.now - length rest.now) bytes.now) v.items) }
-{
-    let limit = Limit::new(1024)?;
-    transcode::<O>(alloc, limit, before(bytes, rest)?)
 }
 
 /// The bytes of which `rest` are the last, without these. None promises nothing.

@@ -7,3 +7,9 @@ pub mod Iteming
 pub mod Placing
 pub mod Walking
 pub mod Walked
+pub mod Opening
+pub mod Departing
+pub mod Departed
+pub mod Telling
+pub mod Falling
+pub mod Tagging

@@ -1,2 +1,3 @@
+pub mod Departing
 pub mod Transcoding
 pub mod devices

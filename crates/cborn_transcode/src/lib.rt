@@ -22,11 +22,14 @@
 //! * `items`: what holds other items, which calls itself for each level.
 //! * `passes`: a whole input.
 //!
-//! [`is_deterministic`] walks over bytes that are deterministic as they stand: the same anatomy,
-//! with nothing written and no memory taken. `walks` has what holds other items, `walked_leaves`
-//! the rest.
+//! [`first_departure`] walks over bytes up to where they first aren't deterministic: the same
+//! anatomy, with nothing written. `walks` has what holds other items, `walked_leaves` the rest, and
+//! `departures` what is told where it stops.
 #![tactic(auto)]
 
+#[cfg(test)]
+mod departure_tests;
+mod departures;
 mod entries;
 #[cfg(test)]
 mod item_tests;
@@ -44,4 +47,4 @@ mod walked_leaves;
 mod walks;
 
 pub use passes::{transcode, transcode_item};
-pub use walks::is_deterministic;
+pub use walks::{first_departure, is_deterministic};

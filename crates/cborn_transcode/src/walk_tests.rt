@@ -105,16 +105,16 @@ const IN_NEITHER: [&[u8]; 56] = [
 ];
 
 /// The bytes are found deterministic in place, no deeper than the default limit.
-fn holds<O: KeyOrder>(bytes: &[u8]) -> bool {
-    is_deterministic::<O>(Limit::USUAL, bytes)
+fn holds<O: KeyOrder>(alloc: Global, bytes: &[u8]) -> bool {
+    is_deterministic::<O>(alloc, Limit::USUAL, bytes)
 }
 
 /// Catches a walk that gives up on a head, a string, a bignum or a map that is as it should be.
 #[test]
 fn finds_what_is_in_order(rt: HostRuntime) {
     for bytes in IN_BOTH {
-        assert!(rt; holds::<Bytewise>(bytes), "{bytes:?}");
-        assert!(rt; holds::<LengthFirst>(bytes), "{bytes:?}");
+        assert!(rt; holds::<Bytewise>(rt.alloc(), bytes), "{bytes:?}");
+        assert!(rt; holds::<LengthFirst>(rt.alloc(), bytes), "{bytes:?}");
     }
 }
 
@@ -122,8 +122,8 @@ fn finds_what_is_in_order(rt: HostRuntime) {
 #[test]
 fn finds_no_defect_in_order(rt: HostRuntime) {
     for bytes in IN_NEITHER {
-        assert!(rt; !holds::<Bytewise>(bytes), "{bytes:?}");
-        assert!(rt; !holds::<LengthFirst>(bytes), "{bytes:?}");
+        assert!(rt; !holds::<Bytewise>(rt.alloc(), bytes), "{bytes:?}");
+        assert!(rt; !holds::<LengthFirst>(rt.alloc(), bytes), "{bytes:?}");
     }
 }
 
@@ -139,12 +139,12 @@ fn tells_the_orders_apart(rt: HostRuntime) {
         b"\xa2\x20\x00\x18\x64\x00",
     ];
     for bytes in bytewise {
-        assert!(rt; holds::<Bytewise>(bytes), "{bytes:?}");
-        assert!(rt; !holds::<LengthFirst>(bytes), "{bytes:?}");
+        assert!(rt; holds::<Bytewise>(rt.alloc(), bytes), "{bytes:?}");
+        assert!(rt; !holds::<LengthFirst>(rt.alloc(), bytes), "{bytes:?}");
     }
     for bytes in length_first {
-        assert!(rt; !holds::<Bytewise>(bytes), "{bytes:?}");
-        assert!(rt; holds::<LengthFirst>(bytes), "{bytes:?}");
+        assert!(rt; !holds::<Bytewise>(rt.alloc(), bytes), "{bytes:?}");
+        assert!(rt; holds::<LengthFirst>(rt.alloc(), bytes), "{bytes:?}");
     }
 }
 
@@ -155,14 +155,14 @@ fn goes_over_integers_of_each_width(rt: HostRuntime) -> Result<(), Fail> {
         if let [0..64, ..] = bytes {
             let list = nested(rt.alloc(), bytes, 10, b"")?;
             let list = nested(rt.alloc(), b"\x8a", 1, &list)?;
-            assert!(rt; holds::<Bytewise>(&list), "{bytes:?}");
+            assert!(rt; holds::<Bytewise>(rt.alloc(), &list), "{bytes:?}");
         }
     }
     for bytes in IN_NEITHER {
         if let [0..64, ..] = bytes {
             let list = nested(rt.alloc(), bytes, 10, b"")?;
             let list = nested(rt.alloc(), b"\x8a", 1, &list)?;
-            assert!(rt; !holds::<Bytewise>(&list), "{bytes:?}");
+            assert!(rt; !holds::<Bytewise>(rt.alloc(), &list), "{bytes:?}");
         }
     }
     Ok(())
@@ -191,15 +191,15 @@ fn goes_as_deep_as_the_limit(rt: HostRuntime) -> Result<(), Fail> {
     ] {
         let limit = Limit::new(most as u64).ok_or("no limit")?;
         let within = nested(rt.alloc(), front, most, last)?;
-        assert!(rt; is_deterministic::<Bytewise>(limit, &within));
+        assert!(rt; is_deterministic::<Bytewise>(rt.alloc(), limit, &within));
         let deeper = nested(rt.alloc(), front, most.saturating_add(1), last)?;
-        assert!(rt; !is_deterministic::<Bytewise>(limit, &deeper));
+        assert!(rt; !is_deterministic::<Bytewise>(rt.alloc(), limit, &deeper));
         let big = nested(rt.alloc(), front, most.saturating_sub(1), b"\xc2")?;
         let big = nested(rt.alloc(), &big, 1, bignum)?;
-        assert!(rt; is_deterministic::<Bytewise>(limit, &big));
+        assert!(rt; is_deterministic::<Bytewise>(rt.alloc(), limit, &big));
         let big = nested(rt.alloc(), front, most, b"\xc2")?;
         let big = nested(rt.alloc(), &big, 1, bignum)?;
-        assert!(rt; !is_deterministic::<Bytewise>(limit, &big));
+        assert!(rt; !is_deterministic::<Bytewise>(rt.alloc(), limit, &big));
     }
     Ok(())
 }

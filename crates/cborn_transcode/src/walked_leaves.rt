@@ -4,6 +4,7 @@ ghost use Rattle.std.specs.Prelude.{◌≡◌, ◌≤◌, ◌++◌, ℕ, List, f
 ghost use Rattle.std.specs.declared.cmp.Ordering.{Ordering};
 ghost use Rattle.cborn_det.proofs.Cutting.{Below};
 ghost use Rattle.cborn_model.specs.Bytes.{IsShortest};
+ghost use Rattle.cborn_transcode.specs.devices.Departing.{IsFallen};
 ghost use Rattle.cborn_transcode.specs.devices.Walking.{Leaves, IsLast, LeastHeadRead, ContentWalked, BignumWalked, WalkedBehind};
 
 use crate::leaves::is_text;
@@ -110,7 +111,8 @@ pub(crate) fn split_before(bytes: &[u8], len: usize) -> (&[u8], &[u8])
 /// The key before, where there is one, comes before this key.
 #[inline(always)]
 pub(crate) fn rises_above<O: KeyOrder>(before: Option<&[u8]>, key: &[u8]) -> bool
-    ensures { IsTrue result → Below O.order before.entry key.now }
+    ensures rises { IsTrue result → Below O.order before.entry key.now }
+    ensures falls { result ≡ false → IsFallen O.order before.entry key.now }
 {
     match before {
         Some(before) => O::compare(before, key).is_lt(),

@@ -1,137 +1,173 @@
-//! A walk over bytes that are deterministic as they stand: nothing is written, and nothing is kept
-//! but the key before.
+//! A walk over bytes up to their first departure from the deterministic encoding: nothing is
+//! written, and nothing is kept but the key before.
 
-ghost use Rattle.std.specs.Prelude.{ℕ, ◌≤◌, [], IsTrue, IfSome};
+ghost use Rattle.std.specs.Prelude.{◌≡◌, ◌≤◌, ℕ, [], Some, None, length, IsTrue, IfSome};
 ghost use Rattle.cborn_model.specs.declared.heads.Major.TheVariants.{Array, Map, Tag};
+ghost use Rattle.cborn_transcode.specs.Departing.{IsFirstDeparture};
 ghost use Rattle.cborn_transcode.specs.Transcoding.{IsTranscoded};
-ghost use Rattle.cborn_transcode.specs.devices.Walking.{Leaves, ItemWalked, ItemsWalked, WalkedBehind};
+ghost use Rattle.cborn_transcode.specs.devices.Departing.{Walks, WalksBehind};
 
+use crate::departures::{Walked, bignum_departure, head_departure, key_departure};
 use crate::walked_integers::int_len;
 use crate::walked_leaves::{last, read_least, rises_above, split_before, walk_bignum, walk_leaf};
+use cborn_judge::Defect;
 use cborn_model::{KeyOrder, Limit, Major};
+use std::alloc::Global;
 
 /// Whether the bytes are the deterministic encodings of the items that they hold, one after
 /// another, none deeper than `limit`, the keys of maps in the order `O` (RFC 8949 section 4.2).
-/// They are walked over once, in place: no memory is taken. False promises nothing: `transcode`, or
-/// the reader that keeps a tree, tells more.
-pub fn is_deterministic<O: KeyOrder>(limit: Limit, bytes: &[u8]) -> bool
+/// False promises nothing: `first_departure`, `transcode`, or the reader that keeps a tree, tells
+/// more.
+pub fn is_deterministic<O: KeyOrder>(alloc: Global, limit: Limit, bytes: &[u8]) -> bool
     ensures { IsTrue result → IsTranscoded O.order limit bytes.now bytes.now }
 {
-    walk_all::<O>(limit.get(), bytes)
+    matches!(first_departure::<O>(alloc, limit, bytes), Some(None))
 }
 
-/// The bytes are items, none deeper than `room`.
-fn walk_all<O: KeyOrder>(room: u64, bytes: &[u8]) -> bool
-    requires { room ≤ 1024 }
-    ensures { IsTrue result → (n : ℕ) × ItemsWalked O.order room n bytes.now [] }
+/// The first departure of the bytes from the deterministic encodings of the items that they hold,
+/// one after another, none deeper than `limit`, the keys of maps in the order `O` (RFC 8949 section
+/// 4.2): its offset in bytes, and why. No departure: they are those encodings.
+///
+/// The bytes are walked over once, in place, up to the departure. So a departure says nothing of
+/// bytes that hold no items, as of what stands behind it. Memory is taken only where a bignum or a
+/// key departs, for its encoding. None promises nothing: the bytes may hold no items, or memory was
+/// refused.
+pub fn first_departure<O: KeyOrder>(
+    alloc: Global,
+    limit: Limit,
+    bytes: &[u8],
+) -> Option<Option<Defect>>
+    ensures { IfSome result (λ departure. IsFirstDeparture O.order limit bytes.now departure) }
 {
+    let room = limit.get();
     let mut rest = bytes;
     'items: for _ in 0..bytes.len() {
         if rest.is_empty() {
             break;
         }
-        match walk_item::<O>(room, rest) {
-            Some(behind) => rest = last(rest, behind),
-            None => return false,
+        match walk_item::<O>(alloc, room, rest) {
+            Walked::Behind(behind) => rest = last(rest, behind),
+            stop => return Some(Some(stop.departure(bytes.len())?)),
         }
     }
-    rest.is_empty()
+    if !rest.is_empty() {
+        return None;
+    }
+    Some(None)
 }
 
-/// How many bytes follow the item at the front, which is no deeper than `room`. A number stays in
-/// registers, where a slice would not.
+/// How many bytes follow the item at the front, which is no deeper than `room`, or where it first
+/// departs.
 #[cycle(walked)]
 #[inline(always)]
-fn walk_item<O: KeyOrder>(room: u64, bytes: &[u8]) -> Option<usize>
+fn walk_item<O: KeyOrder>(alloc: Global, room: u64, bytes: &[u8]) -> Walked
     requires { room ≤ 1024 }
-    ensures { IfSome result (Leaves (ItemWalked O.order room bytes.now)) }
+    ensures { Walks O.order room bytes.now result }
 {
-    let (major, n, rest) = read_least(bytes)?;
+    let Some((major, n, rest)) = read_least(bytes) else {
+        return head_departure(bytes);
+    };
     match major {
-        Major::Array => walk_array::<O>(room, n, rest),
-        Major::Map => walk_map::<O>(room, n, rest),
-        Major::Tag => walk_tagged::<O>(room, n, rest),
-        _ => walk_leaf(major, n, rest),
+        Major::Array => walk_array::<O>(alloc, room, n, rest),
+        Major::Map => walk_map::<O>(alloc, room, n, rest),
+        Major::Tag => walk_tagged::<O>(alloc, room, n, rest),
+        _ => match walk_leaf(major, n, rest) {
+            Some(behind) => Walked::Behind(behind),
+            None => Walked::Unknown,
+        },
     }
 }
 
-/// How many bytes follow the `n` items of an array.
+/// The same of the `n` items of an array, from behind its head.
 #[cycle(walked)]
 #[inline(never)]
-fn walk_array<O: KeyOrder>(room: u64, n: u64, bytes: &[u8]) -> Option<usize>
+fn walk_array<O: KeyOrder>(alloc: Global, room: u64, n: u64, bytes: &[u8]) -> Walked
     requires { room ≤ 1024 }
-    ensures { IfSome result (Leaves (WalkedBehind O.order room Array n bytes.now)) }
+    ensures { WalksBehind O.order room Array n bytes.now result }
 {
     if room == 0 {
-        return None;
+        return Walked::Unknown;
     }
     let mut rest = bytes;
     let mut left = n;
     'items: while left > 0 {
-        let behind = walk_element::<O>(room - 1, rest)?;
-        rest = last(rest, behind);
+        match walk_element::<O>(alloc, room - 1, rest) {
+            Walked::Behind(behind) => rest = last(rest, behind),
+            stop => return stop,
+        }
         left -= 1;
     }
-    Some(rest.len())
+    Walked::Behind(rest.len())
 }
 
 /// The same as `walk_item`, quicker where an integer comes first.
 #[cycle(walked)]
 #[inline(always)]
-fn walk_element<O: KeyOrder>(room: u64, bytes: &[u8]) -> Option<usize>
+fn walk_element<O: KeyOrder>(alloc: Global, room: u64, bytes: &[u8]) -> Walked
     requires { room ≤ 1024 }
-    ensures { IfSome result (Leaves (ItemWalked O.order room bytes.now)) }
+    ensures { Walks O.order room bytes.now result }
 {
     let len = int_len(bytes);
     if len > 0 {
-        return Some(bytes.len() - len);
+        return Walked::Behind(bytes.len() - len);
     }
-    walk_item::<O>(room, bytes)
+    walk_item::<O>(alloc, room, bytes)
 }
 
-/// How many bytes follow the `n` pairs of a map, whose keys rise.
+/// The same of the `n` pairs of a map, from behind its head.
 #[cycle(walked)]
 #[inline(never)]
-fn walk_map<O: KeyOrder>(room: u64, n: u64, bytes: &[u8]) -> Option<usize>
+fn walk_map<O: KeyOrder>(alloc: Global, room: u64, n: u64, bytes: &[u8]) -> Walked
     requires { room ≤ 1024 }
-    ensures { IfSome result (Leaves (WalkedBehind O.order room Map n bytes.now)) }
+    ensures { WalksBehind O.order room Map n bytes.now result }
 {
     let _most = bytes.len() as u64;
     if room == 0 {
-        return None;
+        return Walked::Unknown;
     }
     let mut rest = bytes;
     let mut before: Option<&[u8]> = None;
     let mut left = n;
     'pairs: while left > 0 {
-        let behind = walk_item::<O>(room - 1, rest)?;
+        let behind = match walk_item::<O>(alloc, room - 1, rest) {
+            Walked::Behind(behind) => behind,
+            stop => return key_departure::<O>(alloc, before, rest, stop),
+        };
         let (key, after) = split_before(rest, behind);
         if !rises_above::<O>(before, key) {
-            return None;
+            return Walked::KeyOrder(rest.len());
         }
         before = Some(key);
-        let behind = walk_item::<O>(room - 1, after)?;
-        rest = last(after, behind);
+        match walk_item::<O>(alloc, room - 1, after) {
+            Walked::Behind(behind) => rest = last(after, behind),
+            stop => return stop,
+        }
         left -= 1;
     }
-    Some(rest.len())
+    Walked::Behind(rest.len())
 }
 
-/// How many bytes follow the item under the tag `n`.
+/// The same of the item under the tag `n`, from behind that.
 #[cycle(walked)]
 #[inline(never)]
-fn walk_tagged<O: KeyOrder>(room: u64, n: u64, bytes: &[u8]) -> Option<usize>
+fn walk_tagged<O: KeyOrder>(alloc: Global, room: u64, n: u64, bytes: &[u8]) -> Walked
     requires { room ≤ 1024 }
-    ensures { IfSome result (Leaves (WalkedBehind O.order room Tag n bytes.now)) }
+    ensures { WalksBehind O.order room Tag n bytes.now result }
 {
     if room == 0 {
-        return None;
+        return Walked::Unknown;
     }
     if n == 2 {
-        return walk_bignum(bytes);
+        return match walk_bignum(bytes) {
+            Some(behind) => Walked::Behind(behind),
+            None => bignum_departure::<O>(alloc, n, bytes),
+        };
     }
     if n == 3 {
-        return walk_bignum(bytes);
+        return match walk_bignum(bytes) {
+            Some(behind) => Walked::Behind(behind),
+            None => bignum_departure::<O>(alloc, n, bytes),
+        };
     }
-    walk_item::<O>(room - 1, bytes)
+    walk_item::<O>(alloc, room - 1, bytes)
 }

@@ -23,7 +23,8 @@ use Rattle.cborn_engine.specs.devices.Encoding.{IsEncoded}
 use Rattle.cborn_engine.specs.Checking.{CheckAnswers, Checks}
 use Rattle.cborn_engine.specs.devices.Defects.{Finds}
 use Rattle.cborn_engine.specs.Reading.{most_bytes}
-use Rattle.cborn_search.specs.Searching.{IsFirstFlawOf, IsFirstDefectOfItems}
+use Rattle.cborn_search.specs.Searching.{IsFirstFlawOf}
+use Rattle.cborn_transcode.specs.Departing.{IsFirstDefectOfItems}
 use Rattle.cborn_engine.proofs.Answers.Checked.{mean_found, verdict, with_defect}
 
 ended : (why : EngineFault) (rest : Option (List ℕ)) → IsAtEnd rest → IsReadBefore why rest

@@ -1,3 +1,6 @@
+use Rattle.std.proofs.Common.{◌≡◌, Some, None, rules, subst}
+use Rattle.std.specs.Prelude.{IfSome}
+use Rattle.cborn_transcode.specs.Departing.{IsFirstDeparture}
 use Rattle.cborn_engine.specs.Reading.{most_bytes}
 use Rattle.cborn_engine.proofs.Answers.Whole.{deterministic}
 use Rattle.cborn_engine.specs.declared.kinds.Kind.TheVariants as kind
@@ -5,11 +8,16 @@ use Rattle.cborn_model.specs.Tree.{trees}
 use Rattle.cborn_engine.proofs.Answers.Malformed.{wellformed, refused}
 use Rattle.cborn_engine.proofs.checks.check_input.Goals as goal
 
-pub returns-then-is_deterministic-clause-answers : goal.returns-then-is_deterministic-clause-answers
-returns-then-is_deterministic-clause-answers g c within = deterministic c.args.limit most_bytes c.args.input.now within g.O.KeyOrder.order (c.is_deterministic.ensures c.if-is_deterministic.true)
+pub returns-in-Some-None-clause-answers : goal.returns-in-Some-None-clause-answers
+returns-in-Some-None-clause-answers g c within =
+    let is : c.first_departure-departure.result ≡ Some None = search rules in
+    deterministic c.args.limit most_bytes c.args.input.now within g.O.KeyOrder.order (subst (λ d. IfSome d (IsFirstDeparture g.O.KeyOrder.order c.args.limit c.args.input.now)) is c.first_departure-departure.ensures)
 
-pub returns-then-is_deterministic-clause-malformed : goal.returns-then-is_deterministic-clause-malformed
-returns-then-is_deterministic-clause-malformed g c = let n = c.is_deterministic.ensures c.if-is_deterministic.true in wellformed kind.Wire c.args.limit c.args.input.now (trees n.nodes) _ (λ e. n.read)
+pub returns-in-Some-None-clause-malformed : goal.returns-in-Some-None-clause-malformed
+returns-in-Some-None-clause-malformed g c =
+    let is : c.first_departure-departure.result ≡ Some None = search rules in
+    let n = subst (λ d. IfSome d (IsFirstDeparture g.O.KeyOrder.order c.args.limit c.args.input.now)) is c.first_departure-departure.ensures in
+    wellformed kind.Wire c.args.limit c.args.input.now (trees n.nodes) _ (λ e. n.read)
 
 pub returns-in-Some-scan-clause-malformed : goal.returns-in-Some-scan-clause-malformed
 returns-in-Some-scan-clause-malformed g c = refused kind.Wire c.args.limit c.args.input.now c.in-Some-scan.place c.in-Some-scan.reason c.in-Some-scan.ensures

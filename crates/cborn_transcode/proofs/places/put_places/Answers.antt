@@ -19,7 +19,7 @@ pairs-preserved g c =
     = subst (λ (s : Span). c.in_ok-pair_in.field-0.now ≡ (spanned c.args.bytes.now s).0 ++ (spanned c.args.bytes.now s).1) place c.in_ok-pair_in.ensures in
     subst (λ (ps : List PairPlace). WrittenUpTo g.O.KeyOrder.order c.args.bytes.now (Some c.in_ok-key.key) ps c.sort_falling.new.places.items c.args.out.now.items c.extend_from_slice.new.self.items) (sym c.give_back.ensures)
     (written_more g.O.KeyOrder.order c.args.bytes.now c.pairs.before c.in_ok-key.key c.pairs.places.items c.pop.new.self.items c.sort_falling.new.places.items c.in-Some.place c.in_ok-pair_in.field-0.now c.args.out.now.items c.pairs.out.items c.extend_from_slice.new.self.items
-    c.pairs.invariant taken key pair (c.rises_above.ensures c.if-not-rises_above.false) added)
+    c.pairs.invariant taken key pair (c.rises_above.ensures.rises c.if-not-rises_above.false) added)
 
 pub returns : goal.returns
 returns g c =

@@ -1,4 +1,5 @@
 use Rattle.std.proofs.Common.{◌+◌, ◌*◌, ◌-◌, ◌≤◌}
+use Rattle.cborn_transcode.specs.devices.Departing.{Leads, LeadsPairs}
 use Rattle.cborn_transcode.specs.devices.Walking.{ItemsWalked, PairsWalked}
 use Rattle.cborn_transcode.proofs.walks.+walked.Given as goal
 
@@ -28,6 +29,7 @@ abbrev pub invariant-walk_array-items : goal.invariant-walk_array-items
 invariant-walk_array-items g l = record {
   most : l.left ≤ l.n;
   items : ItemsWalked g.O.KeyOrder.order (l.room - 1) (l.n - l.left) l.bytes l.rest;
+  leads : Leads g.O.KeyOrder.order l.n l.left l.bytes l.rest;
 }
 
 -- the pairs so far
@@ -35,4 +37,5 @@ abbrev pub invariant-walk_map-pairs : goal.invariant-walk_map-pairs
 invariant-walk_map-pairs g l = record {
   most : l.left ≤ l.n;
   pairs : PairsWalked g.O.KeyOrder.order (l.room - 1) (l.n - l.left) l.before l.bytes l.rest;
+  leads : LeadsPairs g.O.KeyOrder.order l.n l.left l.before l.bytes l.rest;
 }

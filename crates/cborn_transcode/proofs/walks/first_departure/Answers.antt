@@ -1,0 +1,33 @@
+use Rattle.std.proofs.Common.{◌≡◌, ◌+◌, ◌-◌, ◌^◌, ◌<◌, ◌≤◌, ℕ, length, length-append, ap, arith, rules, subst, sym}
+use Rattle.cborn_judge.specs.declared.defects.Defect.{Defect}
+use Rattle.cborn_transcode.specs.devices.Departing.{Stops, Tells}
+use Rattle.cborn_transcode.specs.devices.Walking.{Leaves, ItemWalked}
+use Rattle.cborn_transcode.specs.Departing.{IsFirstDefectOfItems}
+use Rattle.cborn_transcode.proofs.Departing.{item_clears, on_first, on_more, on_end}
+use Rattle.cborn_transcode.proofs.Telling.{told_both}
+use Rattle.cborn_transcode.proofs.Walking.{items_none, items_more, item_last}
+use Rattle.cborn_transcode.proofs.walks.first_departure.Goals as goal
+
+pub items-init : goal.items-init
+items-init g c = ((0, items_none g.O.KeyOrder.order c.get-room.result c.args.bytes.now), on_first g.O.KeyOrder.order c.args.bytes.now)
+
+pub returns-in_default : goal.returns-in_default
+returns-in_default g c =
+    let i = c.items.invariant in
+    let some : 0 < length c.items.rest.now = search rules in
+    let within : length c.items.rest.now ≤ length c.args.bytes.now = omega (arith, ap length i.0.1.read, length-append i.0.1.front c.items.rest.now) in
+    let told : Tells (length c.args.bytes.now) c.walk_item.result c.in_ok-departure-in_default.field-0 = search rules in
+    told_both (IsFirstDefectOfItems g.O.KeyOrder.order c.args.limit c.args.bytes.now c.in_ok-departure-in_default.field-0) (Leaves (ItemWalked g.O.KeyOrder.order c.get-room.result c.items.rest.now)) (Stops g.O.KeyOrder.order c.items.rest.now) (λ r left. (left ≤ length c.args.bytes.now) × (c.in_ok-departure-in_default.field-0.place ≡ length c.args.bytes.now - left) × (c.in_ok-departure-in_default.field-0.reason ≡ r)) c.walk_item.result
+    (λ r left stop tells. on_end g.O.KeyOrder.order c.args.limit c.args.bytes.now c.items.rest.now r left c.in_ok-departure-in_default.field-0 within some i.1 stop tells.1 tells.2)
+    told c.walk_item.ensures
+
+pub items-preserved : goal.items-preserved
+items-preserved g c =
+    let i = c.items.invariant in
+    let some : 0 < length c.items.rest.now = search rules in
+    let within : length c.items.rest.now ≤ length c.args.bytes.now = omega (arith, ap length i.0.1.read, length-append i.0.1.front c.items.rest.now) in
+    let short : length c.items.rest.now < 2 ^ 64 = omega arith in
+    let walked = item_last g.O.KeyOrder.order c.get-room.result c.items.rest.now c.last-rest.result.now c.in-Behind.behind c.in-Behind.ensures c.last-rest.ensures in (
+      (i.0.0 + 1, items_more g.O.KeyOrder.order c.get-room.result i.0.0 c.args.bytes.now c.items.rest.now c.last-rest.result.now i.0.1 walked),
+      on_more g.O.KeyOrder.order c.args.bytes.now c.items.rest.now c.last-rest.result.now within some i.1 (λ total. item_clears g.O.KeyOrder.order g.met.O.KeyOrder.laws c.get-room.result total c.items.rest.now c.last-rest.result.now short walked),
+    )

@@ -1,0 +1,8 @@
+use Rattle.std.proofs.Common.{ℕ, length}
+use Rattle.cborn_transcode.specs.devices.Departing.{LeadsOn}
+use Rattle.cborn_transcode.specs.devices.Walking.{ItemsWalked}
+use Rattle.cborn_transcode.proofs.walks.first_departure.Given as goal
+
+-- the items so far
+abbrev pub invariant-items : goal.invariant-items
+invariant-items g l = ((n : ℕ) × ItemsWalked g.O.KeyOrder.order l.room n l.bytes l.rest) × LeadsOn g.O.KeyOrder.order l.bytes l.rest

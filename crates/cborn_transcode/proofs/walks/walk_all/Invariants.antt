@@ -1,7 +1,0 @@
-use Rattle.std.proofs.Common.{ℕ}
-use Rattle.cborn_transcode.specs.devices.Walking.{ItemsWalked}
-use Rattle.cborn_transcode.proofs.walks.walk_all.Given as goal
-
--- the items so far
-abbrev pub invariant-items : goal.invariant-items
-invariant-items g l = (n : ℕ) × ItemsWalked g.O.KeyOrder.order l.room n l.bytes l.rest

@@ -1,0 +1,144 @@
+-- A device of the proofs: what a walk knows that stops at the first departure of bytes that hold items. It speaks of any nodes that the bytes may spell. No public contract cites it.
+use Rattle.std.specs.Prelude.{◌≡◌, ◌≢◌, ◌⊎◌, ◌↔◌, ℕ, ◌+◌, ◌-◌, ◌≤◌, List, [], ◌++◌, length, Bool, IsTrue, Option, None, Some, ⊤}
+use Rattle.std.specs.declared.cmp.Ordering.{Ordering}
+use Rattle.std.specs.declared.cmp.Ordering.TheVariants.{Less}
+use Rattle.std.proofs.Common.{Bor}
+use Rattle.cborn_model.specs.declared.heads.Major.{Major}
+use Rattle.cborn_model.specs.Heads.{Given, head, WidthFits, least}
+use Rattle.cborn_model.specs.Meaning.{IsByteString, Means, AllMean, EntriesMean}
+use Rattle.cborn_model.specs.Placed.{Placed, PlacedAll, PlacedEntries}
+use Rattle.cborn_model.specs.Spelled.{spelled, spelled_all, spelled_entries, Fits, FitsAll, FitsEntries}
+use Rattle.cborn_model.specs.Tree.{Tree, Trees, Entries, no_entry, entry, count, count_entries, place}
+use Rattle.cborn_model.specs.Value.{Value, Values, Couples}
+use Rattle.cborn_det.specs.Det.{Det}
+use Rattle.cborn_judge.specs.Departures.{FindsDefect}
+use Rattle.cborn_judge.specs.Defects.{Descends, IsLoose}
+use Rattle.cborn_judge.specs.devices.Checked.{DefectIn, DefectInAll, DefectAmong, MapDefect}
+use Rattle.cborn_judge.specs.declared.defects.Defect.{Defect}
+use Rattle.cborn_judge.specs.declared.defects.DefectReason.{DefectReason}
+use Rattle.cborn_judge.specs.declared.defects.DefectReason.TheVariants as reasons
+use Rattle.cborn_transcode.specs.declared.departures.Walked.{Walked}
+use Rattle.cborn_transcode.specs.declared.departures.Walked.TheVariants.{Behind, LongHead, EndlessLength, LooseBignum, KeyOrder, Unknown}
+use Rattle.cborn_transcode.specs.Transcoding.{ItemTranscoded}
+use Rattle.cborn_transcode.specs.devices.Walking.{Leaves, ItemWalked, WalkedBehind}
+
+-- the node stands at the front of the input, and means an item
+pub record Stands (total : ℕ) (t : Tree) (input rest : List ℕ) : Type 0 where
+  pub item : Value
+  pub read : input ≡ spelled t ++ rest
+  pub fits : Fits t
+  pub placed : Placed (total - length input) t
+  pub meant : Means t item
+
+-- the n nodes stand at the front of the input one after another, and mean items
+pub record AllStand (total n : ℕ) (ts : Trees) (input rest : List ℕ) : Type 0 where
+  pub items : Values
+  pub read : input ≡ spelled_all ts ++ rest
+  pub fits : FitsAll ts
+  pub placed : PlacedAll (total - length input) ts
+  pub meant : AllMean ts items
+  pub count : count ts ≡ n
+
+-- the n pairs stand at the front of the input one after another, and mean items
+pub record PairsStand (total n : ℕ) (es : Entries) (input rest : List ℕ) : Type 0 where
+  pub items : Couples
+  pub read : input ≡ spelled_entries es ++ rest
+  pub fits : FitsEntries es
+  pub placed : PlacedEntries (total - length input) es
+  pub meant : EntriesMean es items
+  pub count : count_entries es ≡ n
+
+-- what is known of what a walk found: that so many bytes follow the item, that so many follow the place of its first departure, or nothing
+abbrev pub Tell : (ℕ → Type 0) → (DefectReason → ℕ → Type 0) → Type 0 → Walked → Type 0
+Tell behind stops unknown (Behind left) = behind left
+Tell behind stops unknown (LongHead left) = stops reasons.LongHead left
+Tell behind stops unknown (EndlessLength left) = stops reasons.EndlessLength left
+Tell behind stops unknown (LooseBignum left) = stops reasons.LooseBignum left
+Tell behind stops unknown (KeyOrder left) = stops reasons.KeyOrder left
+Tell behind stops unknown Unknown = unknown
+
+-- it is a departure of which this holds
+abbrev pub Departs : (DefectReason → ℕ → Type 0) → Walked → Type 0
+Departs stops = Tell (λ left. ⊥) stops ⊥
+
+-- of an input of so many bytes it is this defect
+abbrev pub Tells : ℕ → Walked → Defect → Type 0
+Tells total w d = Departs (λ r left. (left ≤ total) × (d.place ≡ total - left) × (d.reason ≡ r)) w
+
+-- whether a byte string at the front is loose as a bignum
+abbrev pub TellsLoose : List ℕ → Bool → Type 0
+TellsLoose input loose = (total : ℕ) (t : Tree) (rest b : List ℕ) → Stands total t input rest → IsByteString t b → IsTrue loose ↔ IsLoose b
+
+module _ (order : List ℕ → List ℕ → Ordering) where
+  -- the node at the front has no defect, and this follows it
+  abbrev pub Clears : ℕ → List ℕ → List ℕ → Type 0
+  Clears total input after = (t : Tree) (rest : List ℕ) → Stands total t input rest → (rest ≡ after) × FindsDefect (DefectIn order t) None
+
+  -- the first defect of the node at the front has this reason, and so many bytes from its place on
+  abbrev pub Stops : List ℕ → DefectReason → ℕ → Type 0
+  Stops input r left = (left ≤ length input) × ((total : ℕ) (t : Tree) (rest : List ℕ) → length input ≤ total → Stands total t input rest → FindsDefect (DefectIn order t) (Some (record { place = total - left; reason = r })))
+
+  -- the same of an item behind the shortest head of this major type with the argument n
+  abbrev pub StopsBehind : Major → ℕ → List ℕ → DefectReason → ℕ → Type 0
+  StopsBehind m n input r left = WidthFits (least n) n → Stops (head m (Given (least n) n) ++ input) r left
+
+  -- where the item at the front stops a walk
+  abbrev pub Halts : List ℕ → Walked → Type 0
+  Halts input = Tell (λ left. ⊥) (Stops input) ⊤
+
+  abbrev pub Walks : ℕ → List ℕ → Walked → Type 0
+  Walks room input = Tell (Leaves (ItemWalked order room input)) (Stops input) ⊤
+
+  abbrev pub WalksBehind : ℕ → Major → ℕ → List ℕ → Walked → Type 0
+  WalksBehind room m n input = Tell (Leaves (WalkedBehind order room m n input)) (StopsBehind m n input) ⊤
+
+  -- what is found of these nodes is found of those
+  abbrev pub Decides : Trees → Trees → Type 0
+  Decides us ts = (o : Option Defect) → FindsDefect (DefectInAll order us) o → FindsDefect (DefectInAll order ts) o
+
+  -- the nodes before the last `left` of n at the front of the input have no defect, and these stand at the front of what follows
+  abbrev pub Leads : ℕ → ℕ → List ℕ → List ℕ → Type 0
+  Leads n left input mid = (total : ℕ) (ts : Trees) (rest : List ℕ) → length input ≤ total → AllStand total n ts input rest → (us : Trees) × AllStand total left us mid rest × Decides us ts
+
+  -- the same of all nodes up to the end of the input
+  abbrev pub LeadsOn : List ℕ → List ℕ → Type 0
+  LeadsOn input mid = (n : ℕ) (ts : Trees) → AllStand (length input) n ts input [] → (left : ℕ) × (us : Trees) × AllStand (length input) left us mid [] × Decides us ts
+
+  -- the key before, if there is one, is not below the encoding of what l means
+  abbrev pub IsBelowKey : Option (Bor (List ℕ)) → Tree → Type 0
+  IsBelowKey None l = ⊥
+  IsBelowKey (Some x) l = (b : Value) × (y : List ℕ) × Means l b × Det order b y × (order x.now y ≢ Less)
+
+  abbrev pub Falls : Option (Bor (List ℕ)) → Entries → ℕ → Type 0
+  Falls before no_entry p = ⊥
+  Falls before (entry l v es) p = ((p ≡ place l) × IsBelowKey before l) ⊎ Descends order l es p
+
+  -- what a map is checked for from some pairs on, beside its head
+  abbrev pub DefectOn : Option (Bor (List ℕ)) → Entries → ℕ → DefectReason → Type 0
+  DefectOn before es p r = ((r ≡ reasons.KeyOrder) × Falls before es p) ⊎ DefectAmong order es p r
+
+  -- the pairs before the last `left` of n have no defect, and these stand behind the key before
+  abbrev pub LeadsPairs : ℕ → ℕ → Option (Bor (List ℕ)) → List ℕ → List ℕ → Type 0
+  LeadsPairs n left before input mid = (total : ℕ) (es : Entries) (rest : List ℕ) → length input ≤ total → PairsStand total n es input rest
+      → (us : Entries) × PairsStand total left us mid rest × ((o : Option Defect) → FindsDefect (DefectOn before us) o → FindsDefect (MapDefect order es) o)
+
+  -- the key before, if there is one, is not below
+  abbrev pub IsFallen : Option (Bor (List ℕ)) → List ℕ → Type 0
+  IsFallen None y = ⊥
+  IsFallen (Some x) y = order x.now y ≢ Less
+
+  -- the encoding of the item at the front is above the key before, or isn't
+  abbrev pub IsAbove : Option (Bor (List ℕ)) → List ℕ → Type 0
+  IsAbove None input = ⊤
+  IsAbove (Some x) input = (rest y : List ℕ) × ItemTranscoded order 1024 input rest [] y × (order x.now y ≡ Less)
+
+  abbrev pub IsNotAbove : Option (Bor (List ℕ)) → List ℕ → Type 0
+  IsNotAbove None input = ⊥
+  IsNotAbove (Some x) input = (rest y : List ℕ) × ItemTranscoded order 1024 input rest [] y × (order x.now y ≢ Less)
+
+  -- where a map departs at the key at the front, in which this was found first
+  abbrev pub KeyStops : Option (Bor (List ℕ)) → List ℕ → Walked → Walked → Type 0
+  KeyStops before input found w =
+      (w ≡ Unknown)
+      ⊎ ((w ≡ found) × Departs (λ r left. (left ≡ length input) ⊎ IsAbove before input) found)
+      ⊎ ((w ≡ KeyOrder (length input)) × Departs (λ r left. left ≢ length input) found × IsNotAbove before input)

@@ -1,0 +1,144 @@
+//! Where a walk stops: at the first departure from the deterministic encoding (RFC 8949 section
+//! 4.2). Nothing here runs for bytes that don't depart, so all of it stands out of line.
+
+ghost use Rattle.std.specs.Prelude.{◌≡◌, ◌⊎◌, ◌-◌, ◌≤◌, ℕ, List, IfSome};
+ghost use Rattle.std.specs.declared.cmp.Ordering.{Ordering};
+ghost use Rattle.cborn_model.specs.declared.heads.Major.TheVariants.{Tag};
+ghost use Rattle.cborn_transcode.specs.devices.Departing.{Departs, Halts, KeyStops, Tells, TellsLoose, WalksBehind};
+
+use crate::items::put_item;
+use crate::walked_leaves::read_least;
+use cborn_judge::{Defect, DefectReason, loose_defect};
+use cborn_model::{KeyOrder, Major, shortest};
+use cborn_wire::{Argument, HeadRead, read_head};
+use std::alloc::Global;
+
+/// What a walk finds of an item. Each case has one number, so that it comes back in registers.
+#[derive(Clone, Copy)]
+pub(crate) enum Walked {
+    /// The item is its own encoding, and so many bytes follow it.
+    Behind(usize),
+    /// Its first departure is a long head, with so many bytes from there on.
+    LongHead(usize),
+    /// Its first departure is an indefinite length, with so many bytes from there on.
+    EndlessLength(usize),
+    /// Its first departure is a loose bignum, with so many bytes from there on.
+    LooseBignum(usize),
+    /// Its first departure is the order of a key, with so many bytes from there on.
+    KeyOrder(usize),
+    /// Nothing is promised.
+    Unknown,
+}
+
+impl Walked {
+    /// The departure in an input of `total` bytes.
+    #[inline(never)]
+    pub(crate) fn departure(self, total: usize) -> Option<Defect>
+        ensures { IfSome result (Tells total self) }
+    {
+        match self {
+            Walked::LongHead(left) => told(total, left, DefectReason::LongHead),
+            Walked::EndlessLength(left) => told(total, left, DefectReason::EndlessLength),
+            Walked::LooseBignum(left) => told(total, left, DefectReason::LooseBignum),
+            Walked::KeyOrder(left) => told(total, left, DefectReason::KeyOrder),
+            _ => None,
+        }
+    }
+
+    /// How many bytes there are from a departure on.
+    fn left(self) -> Option<usize>
+        ensures { IfSome result (λ left. Departs (λ r n. n ≡ left) self) }
+    {
+        match self {
+            Walked::LongHead(left) => Some(left),
+            Walked::EndlessLength(left) => Some(left),
+            Walked::LooseBignum(left) => Some(left),
+            Walked::KeyOrder(left) => Some(left),
+            _ => None,
+        }
+    }
+}
+
+/// The defect with `left` of `total` bytes from there on.
+fn told(total: usize, left: usize, reason: DefectReason) -> Option<Defect>
+    ensures { IfSome result (λ defect. (left ≤ total) × (defect.place ≡ total - left) × (defect.reason ≡ reason)) }
+{
+    if left > total {
+        return None;
+    }
+    let place = (total - left) as u64;
+    Some(Defect { place, reason })
+}
+
+/// Where the item at the front departs, whose head isn't the shortest.
+#[inline(never)]
+pub(crate) fn head_departure(bytes: &[u8]) -> Walked
+    ensures { (order : List ℕ → List ℕ → Ordering) → Halts order bytes.now result }
+{
+    let HeadRead::Full(head, _) = read_head(bytes) else {
+        return Walked::Unknown;
+    };
+    match head.argument {
+        Argument::Given(width, n) => {
+            if head.major_type() == Major::Other || width == shortest(n) {
+                return Walked::Unknown;
+            }
+            Walked::LongHead(bytes.len())
+        }
+        Argument::Endless => Walked::EndlessLength(bytes.len()),
+    }
+}
+
+/// Where a bignum departs, whose content at the front isn't the shortest, or is loose.
+#[inline(never)]
+pub(crate) fn bignum_departure<O: KeyOrder>(alloc: Global, n: u64, bytes: &[u8]) -> Walked
+    requires { (n ≡ 2) ⊎ (n ≡ 3) }
+    ensures { (room : ℕ) → WalksBehind O.order room Tag n bytes.now result }
+{
+    match is_loose::<O>(alloc, bytes) {
+        Some(true) => Walked::LooseBignum(bytes.len() + 1),
+        Some(false) => head_departure(bytes),
+        None => Walked::Unknown,
+    }
+}
+
+/// Whether the byte string at the front, whole or in chunks, is loose as a bignum. None promises
+/// nothing.
+fn is_loose<O: KeyOrder>(alloc: Global, bytes: &[u8]) -> Option<bool>
+    ensures { IfSome result (TellsLoose bytes.now) }
+{
+    let mut out = Vec::new(alloc);
+    put_item::<O>(alloc, 0, bytes, &mut out)?;
+    let (_, _, content) = read_least(&out)?;
+    Some(loose_defect(0, content).is_some())
+}
+
+/// Where a map departs at the key at the front, in which `found` is the first departure, after the
+/// key `before`: a key that isn't above the one before it departs at its own place.
+#[inline(never)]
+pub(crate) fn key_departure<O: KeyOrder>(
+    alloc: Global,
+    before: Option<&[u8]>,
+    bytes: &[u8],
+    found: Walked,
+) -> Walked
+    ensures { KeyStops O.order before.entry bytes.now found result }
+{
+    let Some(left) = found.left() else {
+        return Walked::Unknown;
+    };
+    if left == bytes.len() {
+        return found;
+    }
+    let Some(before) = before else {
+        return found;
+    };
+    let mut out = Vec::new(alloc);
+    if put_item::<O>(alloc, 1024, bytes, &mut out).is_none() {
+        return Walked::Unknown;
+    }
+    if O::compare(before, &out).is_lt() {
+        return found;
+    }
+    Walked::KeyOrder(bytes.len())
+}
