@@ -8,6 +8,8 @@ use Rattle.cborn_edn.specs.declared.faults.ShowFault.{ShowFault}
 use Rattle.cborn_edn.specs.declared.faults.ShowFault.TheVariants as unshown
 use Rattle.cborn_judge.specs.declared.faults.Invalid.{Invalid}
 use Rattle.cborn_judge.specs.declared.faults.Invalid.TheVariants as invalid
+use Rattle.cborn_engine.specs.declared.faults.CompareFault.{CompareFault}
+use Rattle.cborn_engine.specs.declared.faults.CompareFault.TheVariants as compared
 use Rattle.cborn_engine.specs.declared.faults.EngineFault.{EngineFault}
 use Rattle.cborn_engine.specs.declared.faults.EngineFault.TheVariants as fault
 
@@ -28,3 +30,12 @@ of_show unshown.OutOfMemory = fault.OutOfMemory
 abbrev pub of_invalid : Invalid → EngineFault
 of_invalid (invalid.Refused p r) = fault.Invalid (invalid.Refused p r)
 of_invalid invalid.OutOfMemory = fault.OutOfMemory
+
+-- a fault of one of two inputs, as their comparison tells it
+abbrev pub of_first : EngineFault → CompareFault
+of_first fault.OutOfMemory = compared.OutOfMemory
+of_first why = compared.First why
+
+abbrev pub of_second : EngineFault → CompareFault
+of_second fault.OutOfMemory = compared.OutOfMemory
+of_second why = compared.Second why

@@ -2,4 +2,3 @@ pub mod Defects
 pub mod Encoding
 pub mod Pieces
 pub mod Sending
-pub mod Stopping

@@ -2,7 +2,7 @@
 //! of the second is read; the encodings are equal exactly if the items are the same.
 ghost use Rattle.std.specs.Prelude.{◌≡◌, ◌≤◌, ◌⊎◌, ◌+◌, IfErr};
 ghost use Rattle.cborn_engine.specs.Comparing.{Compares, IsOfFirst, IsHeldWhole, first_failures, second_failures};
-ghost use Rattle.cborn_engine.specs.devices.Stopping.{of_first, of_second};
+ghost use Rattle.cborn_engine.specs.Faults.{of_first, of_second};
 ghost use Rattle.cborn_engine.specs.Reading.{most_bytes};
 
 use crate::differences::difference;

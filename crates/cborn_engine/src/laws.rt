@@ -60,26 +60,28 @@ pub fn two_calls<'a, 'b, O: KeyOrder>(
     Ok((ours, theirs))
 }
 
-/// The headline of bytes alone, of any length and depth. Two lists of bytes have the same deterministic encoding
-/// of what they hold exactly if they hold the same items. That encoding holds these items, and is
-/// the deterministic encoding of what it holds. Bytes hold at most one list of items.
+/// The headline of bytes alone, of any length and depth. Two inputs of bytes have the same
+/// deterministic encoding exactly if they hold the same items. That encoding holds items that are
+/// the same as those of the input, and is the deterministic encoding of what it holds. Bytes hold
+/// at most one list of items.
 pub fn headline_of_bytes<O: KeyOrder>()
     ensures alike { (x y v w : List ℕ) (items others : Values) → BytesHold x items → BytesHold y others → DetValues O.order items v → DetValues O.order others w → (v ≡ w) ↔ SameValues items others }
     ensures again { (x v : List ℕ) (items : Values) → BytesHold x items → DetValues O.order items v → (others : Values) × BytesHold v others × SameValues items others × DetValues O.order others v }
     ensures one { (x : List ℕ) (items others : Values) → BytesHold x items → BytesHold x others → items ≡ others }
 {}
 
-/// What an input of bytes holds, under some limit, is what the bytes hold, and so its canonical
-/// form, as bytes, is the deterministic encoding of that.
+/// What an input of bytes holds under some limit is what the bytes hold, and what bytes hold an
+/// input of them holds under some limit. So its canonical form, as bytes, is the deterministic
+/// encoding of what the bytes hold.
 pub fn bytes_alone<O: KeyOrder>()
     ensures held { (limit : ℕ) (x : List ℕ) (items : List Value) → Holds kinds.Wire limit x items → BytesHold x (values_of items) }
     ensures within { (x : List ℕ) (items : List Value) → BytesHold x (values_of items) → (limit : ℕ) × Holds kinds.Wire limit x items }
     ensures canonical { (limit : ℕ) (x v : List ℕ) → IsCanonical O.order kinds.Wire kinds.Wire limit x v → (items : Values) × BytesHold x items × DetValues O.order items v }
 {}
 
-/// Where the canonical form of an input, no longer than allowed, is normalised again, that is
-/// refused only where the reader, the writer or memory failed, and a front of the same bytes went
-/// out.
+/// Where a canonical form that is no longer than an input may be is normalised again, that is
+/// refused only where the reader, the writer or memory failed, and what went out is a front of the
+/// same bytes.
 pub fn refused_again<O: KeyOrder>()
     ensures { (k out : Kind) (limit most : ℕ) (x v w : List ℕ) (why : EngineFault) → length x ≤ most_bytes → length v ≤ most → IsCanonical O.order k out limit x v → NormaliseAnswers O.order out out limit most v w (Err why) → IsTrouble why × IsFront w v }
 {}
@@ -100,8 +102,8 @@ pub fn joined<O: KeyOrder>()
     ensures { (limit : ℕ) (x y v w : List ℕ) → IsCanonical O.order kinds.Wire kinds.Wire limit x v → IsCanonical O.order kinds.Wire kinds.Wire limit y w → IsCanonical O.order kinds.Wire kinds.Wire limit (x ++ y) (v ++ w) }
 {}
 
-/// Bytes that are shown, in whatever kind, and shown as bytes again are the same bytes; and what is
-/// shown of an input is one.
+/// What is shown of bytes, of whatever kind, is shown as those bytes again; and what is shown of an
+/// input is one.
 pub fn shown_back()
     ensures back { (out : Kind) (limit : ℕ) (x v : List ℕ) → IsShown kinds.Wire out limit x v → IsShown out kinds.Wire limit v x }
     ensures one { (k out : Kind) (limit : ℕ) (x v w : List ℕ) → IsShown k out limit x v → IsShown k out limit x w → v ≡ w }

@@ -8,14 +8,14 @@ ghost use Rattle.cborn_model.specs.Placed.{PlacedAll};
 ghost use Rattle.cborn_model.specs.Spelled.{Wellformed};
 ghost use Rattle.cborn_model.specs.Tree.{Tree, trees};
 ghost use Rattle.cborn_edn.specs.declared.faults.ShowFault.TheVariants.{NotUtf8};
+ghost use Rattle.cborn_wire.specs.declared.faults.WireReason.{WireReason};
+ghost use Rattle.cborn_wire.specs.Faults.{Fault};
 ghost use Rattle.cborn_engine.specs.declared.kinds.Kind.TheVariants as kinds;
 ghost use Rattle.cborn_engine.specs.devices.Encoding.{kind_of};
 ghost use Rattle.cborn_engine.specs.devices.Pieces.{Reads};
 ghost use Rattle.cborn_engine.specs.Reading.{most_bytes, read_failures};
-ghost use Rattle.cborn_engine.specs.Whole.{TellsFault};
-ghost use Rattle.cborn_wire.specs.declared.faults.WireReason.{WireReason};
-ghost use Rattle.cborn_wire.specs.Faults.{Fault};
 ghost use Rattle.cborn_engine.specs.Showing.{TellAnswers, IsShown, IsSpelledAs, IsUnshownAs, IsUnspelledAs};
+ghost use Rattle.cborn_engine.specs.Whole.{TellsFault};
 
 use crate::faults::EngineFault;
 use crate::inputs::MOST;
@@ -53,7 +53,8 @@ pub fn read_shown<R: Source>(
     show_input(alloc, limit, in_kind, out_kind, &input)
 }
 
-/// Whether an input is well-formed bytes that are to stay bytes. No promises nothing.
+/// Whether an input is well-formed bytes that are to stay bytes. Where it isn't, and is of bytes
+/// that are to stay bytes, it has a fault.
 pub fn is_own_spelling(limit: Limit, in_kind: Kind, out_kind: Kind, input: &[u8]) -> bool
     ensures own { IsTrue result → IsShown in_kind out_kind limit input.now input.now }
     ensures malformed { IsFalse result → in_kind ≡ kinds.Wire → out_kind ≡ kinds.Wire → (p : ℕ) × (r : WireReason) × Fault limit input.now p r }

@@ -125,8 +125,9 @@ pub fn compare_slices<O: KeyOrder>(
     Ok(difference::<O>(alloc, limit, &ours, &theirs)?)
 }
 
-/// Whether two inputs hold the same items. They do exactly if their canonical forms are the same
-/// bytes, under whichever order of keys `O`. Those are what is made and looked at here.
+/// Whether two inputs hold the same items. They do exactly if their canonical forms are equal. What
+/// each holds is encoded, the keys of maps in the order `O`, and the encodings are compared; the
+/// answer doesn't depend on `O`.
 ///
 /// # Errors
 /// `First`, where the first input gives no items, by the fault that `normalise_slice` tells of it.

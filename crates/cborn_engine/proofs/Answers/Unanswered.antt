@@ -4,7 +4,7 @@ use Rattle.std.specs.Io.KnownBytes.{Appends, Consumes}
 use Rattle.cborn_engine.specs.declared.faults.EngineFault.{EngineFault}
 use Rattle.cborn_engine.specs.declared.faults.EngineFault.TheVariants as fault
 use Rattle.cborn_engine.specs.declared.kinds.Kind.{Kind}
-use Rattle.cborn_engine.specs.devices.Stopping.{of_first}
+use Rattle.cborn_engine.specs.Faults.{of_first}
 use Rattle.cborn_engine.specs.devices.Pieces.{Reads}
 use Rattle.cborn_engine.specs.Refusing.{IsRefused, IsReadBefore}
 use Rattle.cborn_engine.specs.devices.Encoding.{EncodeAnswers}
