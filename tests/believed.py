@@ -26,6 +26,7 @@ CALLS = {
 HEADLINE = {"cborn_engine/src/laws.rt": ["fn headline"], "cborn_engine/src/slices.rt": ["fn normalise_slice: canonical"], **ORDERS}
 BYTES = {"cborn_engine/src/laws.rt": ["fn headline_of_bytes"], "cborn_engine/src/slices.rt": ["fn normalise_slice: bytes"], **ORDERS}
 SAID_IN = ["README.md", "docs/DEFINITIONS.md"]
+CHAPTERS = {"First chapter: bytes": "bytes", "Second chapter: notation": "headline"}
 USE = re.compile(r"(?:pub )?use ([\w.-]+?)(?:\.\{([^}]*)\}| as ([\w-]+))?;?$")
 HEAD = re.compile(r"(?:(?:abbrev|pub|unfoldable|opaque) )*(?:(?:record|data) )?([^\s(){}]+)")
 ROW = re.compile(r"^\| `(\w+/specs/\w+\.antt)` \| (\d+) \|", re.M)
@@ -270,6 +271,14 @@ def show(found, counts, base):
                 print(f"            {len(d.lines):4} {d.name}")
 
 
+def misprinted(text, chapter, counts):
+    """The files of which a chapter's table says another count, or none."""
+    rows = {name: int(count) for name, count in ROW.findall(text.partition(f"\n## {chapter}\n")[2].partition("\n## ")[0])}
+    for name in sorted({*rows, *counts}):
+        if rows.get(name) != counts.get(name):
+            yield f"docs/DEFINITIONS.md, {chapter}: {rows.get(name)} for {name}, not {counts.get(name)}"
+
+
 def main():
     found = {"calls": reached(CALLS), "headline": reached(HEADLINE), "bytes": reached(BYTES)}
     every = list({id(d): d for ds in found.values() for d in ds}.values())
@@ -289,11 +298,13 @@ def main():
         f"{sums['calls']:,} lines of definitions in {len(counts['calls'])} files",
         f"{sums['headline']:,} lines in {len(counts['headline'])} files",
         f"{sums['bytes']:,} lines in {len(counts['bytes'])} files",
+        f"{types:,} lines of types",
+        f"{std:,} lines of the kit's std",
     ]
     texts = {name: (ROOT / name).read_text() for name in SAID_IN}
     wrong = [f"{name} doesn't say: {words}" for name, text in texts.items() for words in told if words not in text]
-    rows, headline = {name: int(count) for name, count in ROW.findall(texts["docs/DEFINITIONS.md"])}, counts["headline"]
-    wrong += [f"docs/DEFINITIONS.md says {rows.get(name)} for {name}, not {headline.get(name)}" for name in sorted({*rows, *headline}) if rows.get(name) != headline.get(name)]
+    for chapter, name in CHAPTERS.items():
+        wrong += misprinted(texts["docs/DEFINITIONS.md"], chapter, counts[name])
     if wrong:
         sys.exit("\n".join(wrong))
 
