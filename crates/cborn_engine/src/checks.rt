@@ -15,7 +15,7 @@ use crate::texts::read_bytes;
 use cborn_judge::{Defect, Invalid, first_defect};
 use cborn_model::{KeyOrder, Limit, Spelled};
 use cborn_search::first_flaw;
-use cborn_transcode::first_departure;
+use cborn_transcode::{Departure, first_departure};
 use cborn_wire::{WireFault, read_all, scan};
 use std::alloc::Global;
 
@@ -68,7 +68,7 @@ pub fn check_input<O: KeyOrder>(
     ensures failures { (n : ℕ) → read_failures result n ≡ n }
 {
     let departure = first_departure::<O>(alloc, limit, input);
-    if let Some(None) = departure {
+    if let Departure::Deterministic = departure {
         return Ok(None);
     }
     if let Some(answer) = search::<O>(alloc, limit, input, departure) {
@@ -86,9 +86,9 @@ fn search<O: KeyOrder>(
     alloc: Global,
     limit: Limit,
     input: &[u8],
-    departure: Option<Option<Defect>>,
+    departure: Departure,
 ) -> Option<Result<Option<Defect>, EngineFault>>
-    requires { IfSome departure (λ d. IsFirstDeparture O.order limit input.now d) }
+    requires { IsFirstDeparture O.order limit input.now departure }
     ensures answers { IfSome result (λ answer. length input.now ≤ most_bytes → CheckAnswers O.order limit most_bytes input.now answer) }
     ensures malformed { IfSome result (λ answer. TellsFault kinds.Wire limit input.now answer) }
     ensures failures { IfSome result (λ answer. (n : ℕ) → read_failures answer n ≡ n) }
@@ -98,10 +98,10 @@ fn search<O: KeyOrder>(
         Some((place, reason)) => {
             Some(Err(EngineFault::Invalid(Invalid::Refused { place, reason })))
         }
-        None => {
-            let defect = departure??;
-            Some(Ok(Some(defect)))
-        }
+        None => match departure {
+            Departure::First(defect) => Some(Ok(Some(defect))),
+            _ => None,
+        },
     }
 }
 

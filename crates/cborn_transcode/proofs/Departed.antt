@@ -86,10 +86,13 @@ module _ (order : List ℕ → List ℕ → Ordering) where
       later q k d (inr l) there = inl l
 
   pub long_stops : (n k : ℕ) (w : Width) (input : List ℕ) (h : Head) → IsHeadOf input h n → (major_at h.major ≡ Other → ⊥) → h.argument ≡ arguments.Given w k → IsLong w k → Stops order input LongHead (length input)
-  long_stops n k w input h i other g long = (omega arith, λ total t rest l s.
-      let b = begun total n t (major_at h.major) input rest h i s in
-      let own = own_long t w k (λ z. other (sym b.0 ∙ z)) (b.1 ∙ ap seen_argument g) long in
-      at_front total t input rest LongHead s own (λ q r x y. rank_least r))
+  long_stops n k w input h i other g long = (
+    omega arith,
+    λ total t rest l s.
+        let b = begun total n t (major_at h.major) input rest h i s in
+        let own = own_long t w k (λ z. other (sym b.0 ∙ z)) (b.1 ∙ ap seen_argument g) long in
+        at_front total t input rest LongHead s own (λ q r x y. rank_least r),
+  )
 
   -- ---- indefinite lengths
 
@@ -139,7 +142,10 @@ module _ (order : List ℕ → List ℕ → Ordering) where
   own_endless t o = absurd cc
 
   pub endless_stops : (n : ℕ) (input : List ℕ) (h : Head) → IsHeadOf input h n → h.argument ≡ arguments.Endless → Stops order input EndlessLength (length input)
-  endless_stops n input h i g = (omega arith, λ total t rest l s.
-      let b = begun total n t (major_at h.major) input rest h i s in
-      let unbounded = b.1 ∙ ap seen_argument g in
-      at_front total t input rest EndlessLength s (own_endless t unbounded) (λ q r x y. endless_rank total t input rest s unbounded q r x y))
+  endless_stops n input h i g = (
+    omega arith,
+    λ total t rest l s.
+        let b = begun total n t (major_at h.major) input rest h i s in
+        let unbounded = b.1 ∙ ap seen_argument g in
+        at_front total t input rest EndlessLength s (own_endless t unbounded) (λ q r x y. endless_rank total t input rest s unbounded q r x y),
+  )

@@ -94,10 +94,12 @@ module _ (order : List ℕ → List ℕ → Ordering) where
 
   pub array_stops : (n : ℕ) (mid : List ℕ) (r : DefectReason) (left : ℕ) → StopsAll n mid r left → StopsBehind order Array n mid r left
   array_stops n mid r left h fits =
-      let long = length-append (head Array (Given (least n) n)) mid in
-      (omega (arith, h.0, long), λ total t rest l s.
-      let i = is_array total n t mid rest l fits s in
-      subst (λ z. FindsDefect (DefectIn order z) (Some (record { place = total - left; reason = r }))) (sym i.is) (array_found i.place i.width i.items (Some (record { place = total - left; reason = r })) i.shortest (h.1 total i.items rest (omega (arith, l, long)) i.stand)))
+      let long = length-append (head Array (Given (least n) n)) mid in (
+        omega (arith, h.0, long),
+        λ total t rest l s.
+            let i = is_array total n t mid rest l fits s in
+            subst (λ z. FindsDefect (DefectIn order z) (Some (record { place = total - left; reason = r }))) (sym i.is) (array_found i.place i.width i.items (Some (record { place = total - left; reason = r })) i.shortest (h.1 total i.items rest (omega (arith, l, long)) i.stand)),
+      )
 
   -- ---- what was encoded of the front is the encoding of what the node there means
 

@@ -104,10 +104,12 @@ module _ (order : List ℕ → List ℕ → Ordering) where
 
   pub map_stops : (n : ℕ) (mid : List ℕ) (r : DefectReason) (left : ℕ) → StopsPairs n mid r left → StopsBehind order Map n mid r left
   map_stops n mid r left h fits =
-      let long = length-append (head Map (Given (least n) n)) mid in
-      (omega (arith, h.0, long), λ total t rest l s.
-      let i = is_map total n t mid rest l fits s in
-      subst (λ z. FindsDefect (DefectIn order z) (Some (record { place = total - left; reason = r }))) (sym i.is) (map_found i.place i.width i.pairs (Some (record { place = total - left; reason = r })) i.shortest (h.1 total i.pairs rest (omega (arith, l, long)) i.stand)))
+      let long = length-append (head Map (Given (least n) n)) mid in (
+        omega (arith, h.0, long),
+        λ total t rest l s.
+            let i = is_map total n t mid rest l fits s in
+            subst (λ z. FindsDefect (DefectIn order z) (Some (record { place = total - left; reason = r }))) (sym i.is) (map_found i.place i.width i.pairs (Some (record { place = total - left; reason = r })) i.shortest (h.1 total i.pairs rest (omega (arith, l, long)) i.stand)),
+      )
 
   -- ---- a key and its value
 

@@ -94,26 +94,30 @@ module _ (order : List ℕ → List ℕ → Ordering) where
 
   pub tag_stops : (n : ℕ) (mid : List ℕ) (r : DefectReason) (left : ℕ) → n ≢ 2 → n ≢ 3 → Stops order mid r left → StopsBehind order Tag n mid r left
   tag_stops n mid r left two three h fits =
-      let long = length-append (head Tag (Given (least n) n)) mid in
-      (omega (arith, h.0, long), λ total t rest l s.
-      let i = is_tag total n t mid rest l fits s in
-      let q = total - length (head Tag (Given (least n) n) ++ mid) in
-      let d : Option Defect = Some (record { place = total - left; reason = r }) in
-      subst (λ z. FindsDefect (DefectIn order z) d) (sym i.is)
-      (under_head q i.width n i.content d i.shortest (plain_found order q n i.content d two three (h.1 total i.content rest (omega (arith, l, long)) i.stand))))
+      let long = length-append (head Tag (Given (least n) n)) mid in (
+        omega (arith, h.0, long),
+        λ total t rest l s.
+            let i = is_tag total n t mid rest l fits s in
+            let q = total - length (head Tag (Given (least n) n) ++ mid) in
+            let d : Option Defect = Some (record { place = total - left; reason = r }) in
+            subst (λ z. FindsDefect (DefectIn order z) d) (sym i.is)
+            (under_head q i.width n i.content d i.shortest (plain_found order q n i.content d two three (h.1 total i.content rest (omega (arith, l, long)) i.stand))),
+      )
 
   -- a bignum that isn't loose departs where its content does
   pub tight_stops : (n : ℕ) (mid : List ℕ) (r : DefectReason) (left : ℕ) → (n ≡ 2) ⊎ (n ≡ 3) → TellsLoose mid false → Stops order mid r left → StopsBehind order Tag n mid r left
   tight_stops n mid r left tag tight h fits =
-      let long = length-append (head Tag (Given (least n) n)) mid in
-      (omega (arith, h.0, long), λ total t rest l s.
-      let i = is_tag total n t mid rest l fits s in
-      let q = total - length (head Tag (Given (least n) n) ++ mid) in
-      let d : Option Defect = Some (record { place = total - left; reason = r }) in
-      subst (λ z. FindsDefect (DefectIn order z) d) (sym i.is)
-      (under_head q i.width n i.content d i.shortest
-      (alike (DefectIn order i.content) (TagDefect order q n i.content) d (λ p k. ((λ x. inr x), (λ x. elim x [ inl y ↦ absurd (not (tight total i.content rest y.3 i.stand y.4) y.5) | inr y ↦ y ])))
-      (h.1 total i.content rest (omega (arith, l, long)) i.stand))))
+      let long = length-append (head Tag (Given (least n) n)) mid in (
+        omega (arith, h.0, long),
+        λ total t rest l s.
+            let i = is_tag total n t mid rest l fits s in
+            let q = total - length (head Tag (Given (least n) n) ++ mid) in
+            let d : Option Defect = Some (record { place = total - left; reason = r }) in
+            subst (λ z. FindsDefect (DefectIn order z) d) (sym i.is)
+            (under_head q i.width n i.content d i.shortest
+            (alike (DefectIn order i.content) (TagDefect order q n i.content) d (λ p k. ((λ x. inr x), (λ x. elim x [ inl y ↦ absurd (not (tight total i.content rest y.3 i.stand y.4) y.5) | inr y ↦ y ])))
+            (h.1 total i.content rest (omega (arith, l, long)) i.stand))),
+      )
     where
       not : {A : Type 0} → (IsTrue false ↔ A) → A → ⊥
       not f a = let e : false ≡ true = f.1 a in cc
@@ -121,22 +125,24 @@ module _ (order : List ℕ → List ℕ → Ordering) where
   pub loose_stops : (n : ℕ) (mid : List ℕ) → (n ≡ 2) ⊎ (n ≡ 3) → TellsLoose mid true → StopsBehind order Tag n mid LooseBignum (length mid + 1)
   loose_stops n mid tag loose fits =
       let long = length-append (head Tag (Given (least n) n)) mid in
-      let one = one_byte n tag in
-      (omega (arith, long, one), λ total t rest l s.
-      let i = is_tag total n t mid rest l fits s in
-      let q = total - length (head Tag (Given (least n) n) ++ mid) in
-      let b = string_under q i.width n i.content i.item tag i.meant in
-      let at : q ≡ total - (length mid + 1) = omega (arith, long, one) in
-      subst (λ z. FindsDefect (DefectIn order z) (Some (record { place = total - (length mid + 1); reason = LooseBignum }))) (sym i.is)
-      (subst (λ p. FindsDefect (DefectIn order (Tagged q i.width n i.content)) (Some (record { place = p; reason = LooseBignum }))) at
-      (under_head q i.width n i.content (Some (record { place = q; reason = LooseBignum })) i.shortest
-      (record {
-        is = inl (refl, refl, tag, b.0, b.1, (loose total i.content rest b.0 i.stand b.1).0 refl);
-        first = λ p k x. elim x [
-          | inl y ↦ inr (sym y.0, (let e : defect_rank LooseBignum ≡ defect_rank k = ap defect_rank (sym y.1) in omega (arith, e)))
-          | inr y ↦ inl (let w = (defect_within order i.content (total - length mid) p k i.stand.placed (i.stand.item, i.stand.meant, y.0, y.1, y.2)).0 in omega (arith, w, i.further, one))
-        ];
-      }))))
+      let one = one_byte n tag in (
+        omega (arith, long, one),
+        λ total t rest l s.
+            let i = is_tag total n t mid rest l fits s in
+            let q = total - length (head Tag (Given (least n) n) ++ mid) in
+            let b = string_under q i.width n i.content i.item tag i.meant in
+            let at : q ≡ total - (length mid + 1) = omega (arith, long, one) in
+            subst (λ z. FindsDefect (DefectIn order z) (Some (record { place = total - (length mid + 1); reason = LooseBignum }))) (sym i.is)
+            (subst (λ p. FindsDefect (DefectIn order (Tagged q i.width n i.content)) (Some (record { place = p; reason = LooseBignum }))) at
+            (under_head q i.width n i.content (Some (record { place = q; reason = LooseBignum })) i.shortest
+            (record {
+              is = inl (refl, refl, tag, b.0, b.1, (loose total i.content rest b.0 i.stand b.1).0 refl);
+              first = λ p k x. elim x [
+                | inl y ↦ inr (sym y.0, (let e : defect_rank LooseBignum ≡ defect_rank k = ap defect_rank (sym y.1) in omega (arith, e)))
+                | inr y ↦ inl (let w = (defect_within order i.content (total - length mid) p k i.stand.placed (i.stand.item, i.stand.meant, y.0, y.1, y.2)).0 in omega (arith, w, i.further, one))
+              ];
+            }))),
+      )
 
 -- the content of a byte string, by its encoding
 pub content_is : (order : List ℕ → List ℕ → Ordering) (total k : ℕ) (t : Tree) (input rest tail out content b : List ℕ) (m : Major) → Stands total t input rest → IsByteString t b → ItemTranscoded order 0 input tail [] out → LeastHeadRead m k out content → content ≡ b

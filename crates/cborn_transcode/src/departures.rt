@@ -13,7 +13,19 @@ use cborn_model::{KeyOrder, Major, shortest};
 use cborn_wire::{Argument, HeadRead, read_head};
 use std::alloc::Global;
 
-/// What a walk finds of an item. Each case has one number, so that it comes back in registers.
+/// Whether bytes depart from the deterministic encodings of the items that they hold.
+#[derive(Clone, Copy, PartialEq, Eq, Debug)]
+pub enum Departure {
+    /// The bytes are those encodings.
+    Deterministic,
+    /// If the bytes hold items, this is their first departure.
+    First(Defect),
+    /// Nothing is promised: the bytes may hold no items, or memory was refused.
+    Unknown,
+}
+
+/// What a walk finds of an item. Each case has at most one number, so that it comes back in
+/// registers.
 #[derive(Clone, Copy)]
 pub(crate) enum Walked {
     /// The item is its own encoding, and so many bytes follow it.
@@ -31,9 +43,9 @@ pub(crate) enum Walked {
 }
 
 impl Walked {
-    /// The departure in an input of `total` bytes.
+    /// The departure, in an input of `total` bytes. None promises nothing.
     #[inline(never)]
-    pub(crate) fn departure(self, total: usize) -> Option<Defect>
+    pub(crate) fn defect(self, total: usize) -> Option<Defect>
         ensures { IfSome result (Tells total self) }
     {
         match self {
@@ -45,7 +57,7 @@ impl Walked {
         }
     }
 
-    /// How many bytes there are from a departure on.
+    /// How many bytes there are from the departure on. None: no departure was found.
     fn left(self) -> Option<usize>
         ensures { IfSome result (λ left. Departs (λ r n. n ≡ left) self) }
     {

@@ -46,5 +46,6 @@ mod walked_integers;
 mod walked_leaves;
 mod walks;
 
+pub use departures::Departure;
 pub use passes::{transcode, transcode_item};
 pub use walks::{first_departure, is_deterministic};

@@ -1,16 +1,15 @@
 //! A walk over bytes up to their first departure from the deterministic encoding: nothing is
 //! written, and nothing is kept but the key before.
 
-ghost use Rattle.std.specs.Prelude.{◌≡◌, ◌≤◌, ℕ, [], Some, None, length, IsTrue, IfSome};
+ghost use Rattle.std.specs.Prelude.{◌≡◌, ◌≤◌, ℕ, [], length, IsTrue};
 ghost use Rattle.cborn_model.specs.declared.heads.Major.TheVariants.{Array, Map, Tag};
 ghost use Rattle.cborn_transcode.specs.Departing.{IsFirstDeparture};
 ghost use Rattle.cborn_transcode.specs.Transcoding.{IsTranscoded};
 ghost use Rattle.cborn_transcode.specs.devices.Departing.{Walks, WalksBehind};
 
-use crate::departures::{Walked, bignum_departure, head_departure, key_departure};
+use crate::departures::{Departure, Walked, bignum_departure, head_departure, key_departure};
 use crate::walked_integers::int_len;
 use crate::walked_leaves::{last, read_least, rises_above, split_before, walk_bignum, walk_leaf};
-use cborn_judge::Defect;
 use cborn_model::{KeyOrder, Limit, Major};
 use std::alloc::Global;
 
@@ -21,23 +20,21 @@ use std::alloc::Global;
 pub fn is_deterministic<O: KeyOrder>(alloc: Global, limit: Limit, bytes: &[u8]) -> bool
     ensures { IsTrue result → IsTranscoded O.order limit bytes.now bytes.now }
 {
-    matches!(first_departure::<O>(alloc, limit, bytes), Some(None))
+    matches!(
+        first_departure::<O>(alloc, limit, bytes),
+        Departure::Deterministic
+    )
 }
 
-/// The first departure of the bytes from the deterministic encodings of the items that they hold,
-/// one after another, none deeper than `limit`, the keys of maps in the order `O` (RFC 8949 section
-/// 4.2): its offset in bytes, and why. No departure: they are those encodings.
+/// Where the bytes first depart from the deterministic encodings of the items that they hold, one
+/// after another, none deeper than `limit`, the keys of maps in the order `O` (RFC 8949 section
+/// 4.2); or that they nowhere do.
 ///
-/// The bytes are walked over once, in place, up to the departure. So a departure says nothing of
-/// bytes that hold no items, as of what stands behind it. Memory is taken only where a bignum or a
-/// key departs, for its encoding. None promises nothing: the bytes may hold no items, or memory was
-/// refused.
-pub fn first_departure<O: KeyOrder>(
-    alloc: Global,
-    limit: Limit,
-    bytes: &[u8],
-) -> Option<Option<Defect>>
-    ensures { IfSome result (λ departure. IsFirstDeparture O.order limit bytes.now departure) }
+/// The bytes are walked over once, in place, up to the departure. What stands behind it isn't
+/// looked at, so that a departure promises nothing of bytes that hold no items. Memory is taken only
+/// where a bignum or a key departs, for its encoding.
+pub fn first_departure<O: KeyOrder>(alloc: Global, limit: Limit, bytes: &[u8]) -> Departure
+    ensures { IsFirstDeparture O.order limit bytes.now result }
 {
     let room = limit.get();
     let mut rest = bytes;
@@ -47,13 +44,18 @@ pub fn first_departure<O: KeyOrder>(
         }
         match walk_item::<O>(alloc, room, rest) {
             Walked::Behind(behind) => rest = last(rest, behind),
-            stop => return Some(Some(stop.departure(bytes.len())?)),
+            stop => {
+                return match stop.defect(bytes.len()) {
+                    Some(defect) => Departure::First(defect),
+                    None => Departure::Unknown,
+                };
+            }
         }
     }
     if !rest.is_empty() {
-        return None;
+        return Departure::Unknown;
     }
-    Some(None)
+    Departure::Deterministic
 }
 
 /// How many bytes follow the item at the front, which is no deeper than `room`, or where it first

@@ -1,5 +1,4 @@
-use Rattle.std.proofs.Common.{◌≡◌, Some, None, rules, subst}
-use Rattle.std.specs.Prelude.{IfSome}
+use Rattle.std.proofs.Common.{subst}
 use Rattle.cborn_transcode.specs.Departing.{IsFirstDeparture}
 use Rattle.cborn_engine.specs.Reading.{most_bytes}
 use Rattle.cborn_engine.proofs.Answers.Whole.{deterministic}
@@ -8,15 +7,13 @@ use Rattle.cborn_model.specs.Tree.{trees}
 use Rattle.cborn_engine.proofs.Answers.Malformed.{wellformed, refused}
 use Rattle.cborn_engine.proofs.checks.check_input.Goals as goal
 
-pub returns-in-Some-None-clause-answers : goal.returns-in-Some-None-clause-answers
-returns-in-Some-None-clause-answers g c within =
-    let is : c.first_departure-departure.result ≡ Some None = search rules in
-    deterministic c.args.limit most_bytes c.args.input.now within g.O.KeyOrder.order (subst (λ d. IfSome d (IsFirstDeparture g.O.KeyOrder.order c.args.limit c.args.input.now)) is c.first_departure-departure.ensures)
+pub returns-in-Deterministic-clause-answers : goal.returns-in-Deterministic-clause-answers
+returns-in-Deterministic-clause-answers g c within =
+    deterministic c.args.limit most_bytes c.args.input.now within g.O.KeyOrder.order (subst (IsFirstDeparture g.O.KeyOrder.order c.args.limit c.args.input.now) c.in-Deterministic.is c.first_departure-departure.ensures)
 
-pub returns-in-Some-None-clause-malformed : goal.returns-in-Some-None-clause-malformed
-returns-in-Some-None-clause-malformed g c =
-    let is : c.first_departure-departure.result ≡ Some None = search rules in
-    let n = subst (λ d. IfSome d (IsFirstDeparture g.O.KeyOrder.order c.args.limit c.args.input.now)) is c.first_departure-departure.ensures in
+pub returns-in-Deterministic-clause-malformed : goal.returns-in-Deterministic-clause-malformed
+returns-in-Deterministic-clause-malformed g c =
+    let n = subst (IsFirstDeparture g.O.KeyOrder.order c.args.limit c.args.input.now) c.in-Deterministic.is c.first_departure-departure.ensures in
     wellformed kind.Wire c.args.limit c.args.input.now (trees n.nodes) _ (λ e. n.read)
 
 pub returns-in-Some-scan-clause-malformed : goal.returns-in-Some-scan-clause-malformed

@@ -11,14 +11,14 @@ use Rattle.cborn_transcode.proofs.walks.first_departure.Goals as goal
 pub items-init : goal.items-init
 items-init g c = ((0, items_none g.O.KeyOrder.order c.get-room.result c.args.bytes.now), on_first g.O.KeyOrder.order c.args.bytes.now)
 
-pub returns-in_default : goal.returns-in_default
-returns-in_default g c =
+pub returns-in-Some : goal.returns-in-Some
+returns-in-Some g c =
     let i = c.items.invariant in
     let some : 0 < length c.items.rest.now = search rules in
     let within : length c.items.rest.now ≤ length c.args.bytes.now = omega (arith, ap length i.0.1.read, length-append i.0.1.front c.items.rest.now) in
-    let told : Tells (length c.args.bytes.now) c.walk_item.result c.in_ok-departure-in_default.field-0 = search rules in
-    told_both (IsFirstDefectOfItems g.O.KeyOrder.order c.args.limit c.args.bytes.now c.in_ok-departure-in_default.field-0) (Leaves (ItemWalked g.O.KeyOrder.order c.get-room.result c.items.rest.now)) (Stops g.O.KeyOrder.order c.items.rest.now) (λ r left. (left ≤ length c.args.bytes.now) × (c.in_ok-departure-in_default.field-0.place ≡ length c.args.bytes.now - left) × (c.in_ok-departure-in_default.field-0.reason ≡ r)) c.walk_item.result
-    (λ r left stop tells. on_end g.O.KeyOrder.order c.args.limit c.args.bytes.now c.items.rest.now r left c.in_ok-departure-in_default.field-0 within some i.1 stop tells.1 tells.2)
+    let told : Tells (length c.args.bytes.now) c.walk_item.result c.in-Some.defect = search rules in
+    told_both (IsFirstDefectOfItems g.O.KeyOrder.order c.args.limit c.args.bytes.now c.in-Some.defect) (Leaves (ItemWalked g.O.KeyOrder.order c.get-room.result c.items.rest.now)) (Stops g.O.KeyOrder.order c.items.rest.now) (λ r left. (left ≤ length c.args.bytes.now) × (c.in-Some.defect.place ≡ length c.args.bytes.now - left) × (c.in-Some.defect.reason ≡ r)) c.walk_item.result
+    (λ r left stop tells. on_end g.O.KeyOrder.order c.args.limit c.args.bytes.now c.items.rest.now r left c.in-Some.defect within some i.1 stop tells.1 tells.2)
     told c.walk_item.ensures
 
 pub items-preserved : goal.items-preserved
