@@ -45,6 +45,3 @@ pub use kinds::Kind;
 pub use sinks::Sink;
 pub use slices::{check_slice, compare_slices, normalise_slice, same_items, show_slice};
 pub use sources::Source;
-
-#[cfg(test)]
-mod tests;

@@ -1,9 +1,9 @@
 //! Worked examples over inputs that are held whole.
-use crate::{
+use cborn_edn::ShowFault;
+use cborn_engine::{
     CompareFault, EngineFault, Kind, check_slice, compare_slices, normalise_slice, same_items,
     show_slice,
 };
-use cborn_edn::ShowFault;
 use cborn_judge::{Defect, DefectReason, Invalid, InvalidReason};
 use cborn_model::{Bytewise, LengthFirst, Limit};
 use cborn_wire::{WireFault, WireReason};

@@ -1,6 +1,6 @@
 //! Worked examples of comparing and checking bytes.
 use super::memory::Bytes;
-use crate::{Kind, check, compare};
+use cborn_engine::{Kind, check, compare};
 use cborn_judge::{Defect, DefectReason};
 use cborn_model::{Bytewise, LengthFirst, Limit};
 use std::test::Fail;

@@ -1,7 +1,7 @@
 //! Every proper prefix of every example is read, or is refused for its content.
 use super::examples::vectors;
 use super::memory::Bytes;
-use crate::{EngineFault, Kind, load};
+use cborn_engine::{EngineFault, Kind, load};
 use cborn_model::{Limit, Spelled};
 use std::alloc::Global;
 use std::test::Fail;

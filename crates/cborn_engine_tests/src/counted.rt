@@ -1,7 +1,7 @@
 //! Readers and writers of std under a count: what fails is a failure at once, and a flush is handed
 //! on.
 use super::memory::Bytes;
-use crate::{Counted, EngineFault, Kind, Sink, Source, load, normalise};
+use cborn_engine::{Counted, EngineFault, Kind, Sink, Source, load, normalise};
 use cborn_model::{Bytewise, Limit};
 use std::alloc::Global;
 use std::io;

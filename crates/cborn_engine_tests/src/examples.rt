@@ -1,6 +1,6 @@
 //! Worked examples on bytes.
 use super::memory::{Bytes, Taken};
-use crate::{EngineFault, Kind, check, load, normalise, show_all};
+use cborn_engine::{EngineFault, Kind, check, load, normalise, show_all};
 use cborn_judge::{Defect, DefectReason, Invalid, InvalidReason};
 use cborn_model::{Bytewise, KeyOrder, LengthFirst, Limit};
 use cborn_wire::{WireFault, WireReason};

@@ -1,7 +1,7 @@
 //! Readers and writers over memory that fail when they are told to.
 ghost use Rattle.std.specs.Prelude.{Some};
 
-use crate::{Sink, Source};
+use cborn_engine::{Sink, Source};
 use std::alloc::{AllocError, Global};
 use std::io;
 use std::io::ErrorKind;

@@ -1,7 +1,7 @@
 //! Worked examples on notation.
 use super::memory::{Bytes, Taken};
-use crate::{CompareFault, EngineFault, Kind, compare, normalise, show_all};
 use cborn_edn::{EdnFault, EdnReason, ShowFault};
+use cborn_engine::{CompareFault, EngineFault, Kind, compare, normalise, show_all};
 use cborn_lex::{LexFault, LexReason};
 use cborn_model::{Bytewise, Limit};
 use std::test::Fail;

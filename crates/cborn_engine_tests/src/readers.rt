@@ -1,6 +1,6 @@
 //! Readers and writers that give or take little, or fail.
 use super::memory::{Bytes, Taken, Trouble};
-use crate::{
+use cborn_engine::{
     CompareFault, Counted, EngineFault, Kind, Sink, Source, compare, load, load_within, normalise,
 };
 use cborn_model::{Bytewise, Limit};

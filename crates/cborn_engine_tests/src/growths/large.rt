@@ -1,6 +1,6 @@
 //! Inputs that take many growths, and limits other than the usual one.
 use super::{normalised, shown};
-use crate::Kind;
+use cborn_engine::Kind;
 use cborn_model::Limit;
 use cborn_wire::{Feeder, spell_all};
 use std::alloc::{AllocError, Global};

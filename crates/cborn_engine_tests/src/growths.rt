@@ -8,8 +8,8 @@ mod large;
 mod nodes;
 
 use super::memory::{Bytes, Taken};
-use crate::{CompareFault, EngineFault, Kind, check, compare, normalise, show_all};
 use cborn_edn::{EdnFault, EdnReason};
+use cborn_engine::{CompareFault, EngineFault, Kind, check, compare, normalise, show_all};
 use cborn_judge::{Defect, DefectReason, Invalid, InvalidReason};
 use cborn_lex::{LexFault, LexReason};
 use cborn_model::{Bytewise, Limit};

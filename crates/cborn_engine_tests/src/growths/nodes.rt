@@ -1,7 +1,7 @@
 //! The calls that give or take nodes.
 use super::super::memory::Bytes;
-use crate::{Kind, load, load_within};
 use cborn_det::{encode, encode_all, equal_bytes};
+use cborn_engine::{Kind, load, load_within};
 use cborn_judge::{Defect, DefectReason, first_defect, judge_all};
 use cborn_model::{Bytewise, Limit};
 use cborn_wire::{Feeder, WireFault, read_all, read_one, spell_all};
