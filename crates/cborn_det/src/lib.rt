@@ -22,6 +22,3 @@ mod parts;
 pub use encoding::{encode, encode_all, equal_bytes, push_encoding};
 pub use heads::{put_head, set_head};
 pub use integers::{integer_major, number_of};
-
-#[cfg(test)]
-mod tests;

@@ -32,6 +32,3 @@ pub use faults::{Invalid, InvalidReason};
 pub use judgments::{judge, judge_all};
 pub use precedence::{Fault, earlier, earliest};
 pub use spellings::{head_defect, loose_defect, order_defect};
-
-#[cfg(test)]
-mod tests;

@@ -42,8 +42,6 @@ mod nodes;
 mod orders;
 mod spellings;
 mod strings;
-#[cfg(test)]
-mod tests;
 mod validity;
 
 pub use comparisons::same;

@@ -39,6 +39,3 @@ pub use heads::{Argument, Head, HeadRead, head_bytes, push_head, read_head, read
 pub use readers::{read_all, read_one};
 pub use scanning::scan;
 pub use spelling::{spell, spell_all};
-
-#[cfg(test)]
-mod tests;

@@ -1,9 +1,9 @@
 //! Bytes that are well-formed, and bytes that aren't, with the fault that they have.
-use crate::WireReason::{
+use cborn_model::Limit;
+use cborn_wire::WireReason::{
     BadChunk, BadSimple, EndlessNotAllowed, FloatLeftOut, ReservedInfo, Truncated, UnexpectedBreak,
 };
-use crate::{WireFault, WireReason, read_all, spell_all};
-use cborn_model::Limit;
+use cborn_wire::{WireFault, WireReason, read_all, spell_all};
 use std::alloc::{AllocError, Global};
 use std::test::Fail;
 

@@ -1,4 +1,4 @@
-use super::*;
+use cborn_det::{encode, encode_all, equal_bytes, push_encoding, put_head, set_head};
 use cborn_model::{
     ByteString, Bytewise, Item, ItemBox, ItemList, LengthFirst, Magnitude, Major, PairList, Valid,
     is_valid,

@@ -1,4 +1,8 @@
-use super::*;
+use cborn_model::{
+    ByteString, Bytewise, Form, Item, ItemBox, ItemList, KeyOrder, LengthFirst, Limit, Magnitude,
+    Node, Number, PairList, Size, Spelled, Valid, Width, depth, fits, is_simple_value, is_valid,
+    laws, push_doubling, same, shortest, without_zeros,
+};
 use std::alloc::{AllocError, Global};
 use std::mem::size_of;
 use std::test::Fail;

@@ -1,9 +1,9 @@
 //! The words of faults.
-use crate::WireReason::{
+use cborn_wire::WireReason::{
     BadChunk, BadSimple, EndlessNotAllowed, FloatLeftOut, ReservedInfo, TooDeep, Truncated,
     UnexpectedBreak,
 };
-use crate::{WireFault, WireReason};
+use cborn_wire::{WireFault, WireReason};
 use std::test::Fail;
 
 /// Each reason, and how it is told at the offset 4.

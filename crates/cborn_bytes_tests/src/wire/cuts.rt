@@ -1,8 +1,8 @@
 //! Input in pieces: what is read doesn't depend on where it is cut.
 use super::checks::spells;
 use super::vectors::{refused, wellformed};
-use crate::{Feeder, WireFault};
 use cborn_model::{Limit, Spelled};
+use cborn_wire::{Feeder, WireFault};
 use std::alloc::Global;
 use std::process::Abort;
 use std::test::Fail;

@@ -1,8 +1,8 @@
 //! One item of bytes that go on.
 use super::checks::is_item;
-use crate::WireReason::{BadChunk, ReservedInfo, TooDeep, Truncated};
-use crate::{WireFault, WireReason, read_all, read_one};
 use cborn_model::{Chunk, Form, Limit, Size, Width};
+use cborn_wire::WireReason::{BadChunk, ReservedInfo, TooDeep, Truncated};
+use cborn_wire::{WireFault, WireReason, read_all, read_one};
 use std::process::Abort;
 use std::test::Fail;
 

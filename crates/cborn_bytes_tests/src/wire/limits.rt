@@ -2,9 +2,9 @@
 use super::checks::spells;
 use super::cuts::{by_bytes, refuses_cut};
 use super::vectors::{shallow, wellformed};
-use crate::WireReason::{TooDeep, Truncated};
-use crate::{WireFault, WireReason, read_all, scan};
 use cborn_model::Limit;
+use cborn_wire::WireReason::{TooDeep, Truncated};
+use cborn_wire::{WireFault, WireReason, read_all, scan};
 use std::alloc::{AllocError, Global};
 use std::test::Fail;
 

@@ -1,7 +1,7 @@
 //! Scans: where and why bytes aren't well-formed.
 use super::vectors::{refused, wellformed};
-use crate::scan;
 use cborn_model::Limit;
+use cborn_wire::scan;
 use std::test::Fail;
 
 /// Catches a fault that is found where there is none.

@@ -1,6 +1,6 @@
 //! What more than one test compares.
-use crate::{WireFault, spell, spell_all};
 use cborn_model::Spelled;
+use cborn_wire::{WireFault, spell, spell_all};
 use std::alloc::Global;
 use std::process::Abort;
 

@@ -1,8 +1,8 @@
 //! A feeder's answers, piece by piece.
 use super::checks::is_item;
-use crate::WireReason::{BadSimple, ReservedInfo, Truncated};
-use crate::{Feeder, WireFault, WireReason, read_all};
 use cborn_model::Limit;
+use cborn_wire::WireReason::{BadSimple, ReservedInfo, Truncated};
+use cborn_wire::{Feeder, WireFault, WireReason, read_all};
 use std::alloc::Global;
 use std::process::Abort;
 

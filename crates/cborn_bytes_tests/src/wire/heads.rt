@@ -1,8 +1,8 @@
 //! Heads alone.
-use crate::WireReason::{BadSimple, EndlessNotAllowed, FloatLeftOut, ReservedInfo};
-use crate::{Argument, Head, HeadRead, WireReason, head_bytes, push_head, read_head};
 use cborn_model::Width::{Direct, Eight, Four, One, Two};
 use cborn_model::{Major, Width};
+use cborn_wire::WireReason::{BadSimple, EndlessNotAllowed, FloatLeftOut, ReservedInfo};
+use cborn_wire::{Argument, Head, HeadRead, WireReason, head_bytes, push_head, read_head};
 use std::alloc::{AllocError, Global};
 use std::process::Abort;
 use std::test::Fail;

@@ -1,8 +1,8 @@
 //! Proper fronts of inputs.
 use super::checks::spells;
 use super::vectors::{refused, wellformed};
-use crate::{WireFault, WireReason, read_all};
 use cborn_model::Limit;
+use cborn_wire::{WireFault, WireReason, read_all};
 use std::alloc::Global;
 use std::process::Abort;
 use std::test::Fail;

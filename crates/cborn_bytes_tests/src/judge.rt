@@ -1,7 +1,7 @@
 //! Examples of what bytes mean, of their flaws and of their defects.
 
-use crate::{Defect, DefectReason, Invalid, InvalidReason, first_defect, judge, judge_all};
 use cborn_det::encode_all;
+use cborn_judge::{Defect, DefectReason, Invalid, InvalidReason, first_defect, judge, judge_all};
 use cborn_model::{Bytewise, LengthFirst, Limit};
 use cborn_wire::read_all;
 
