@@ -47,6 +47,3 @@ pub use readers::read_notation;
 pub use showing::show;
 pub use strings::StringKind;
 pub use writing::{push_between, push_escaped, push_indicator, push_simple};
-
-#[cfg(test)]
-mod tests;

@@ -31,8 +31,6 @@ mod keywords;
 pub mod laws;
 mod lexer;
 mod slices;
-#[cfg(test)]
-mod tests;
 mod units;
 
 pub use classes::{Class, Mark, Profile, Token};

@@ -1,6 +1,6 @@
 //! Texts with their tokens or faults, of the standards and of this project's rules.
 
-use crate::{Class, LexFault, LexReason, Mark, Profile, Token, token_from, tokens};
+use cborn_lex::{Class, LexFault, LexReason, Mark, Profile, Token, token_from, tokens};
 use cborn_model::Width;
 use std::alloc::{AllocError, Global};
 use std::test::Fail;

@@ -1,6 +1,6 @@
 //! Texts with the bytes that their items spell, or with their faults; and bytes, shown.
 
-use crate::{EdnFault, EdnReason, read_notation, show};
+use cborn_edn::{EdnFault, EdnReason, read_notation, show};
 use cborn_lex::{LexFault, Profile};
 use cborn_model::Limit;
 use cborn_wire::{read_all, spell_all};
