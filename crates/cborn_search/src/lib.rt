@@ -15,6 +15,3 @@ mod sequences;
 mod told;
 
 pub use sequences::first_flaw;
-
-#[cfg(test)]
-mod tests;

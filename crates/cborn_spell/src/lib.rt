@@ -41,6 +41,3 @@ mod tokens;
 mod units;
 
 pub use passes::spell_text;
-
-#[cfg(test)]
-mod tests;

@@ -1,8 +1,8 @@
 //! Examples of the first flaw of bytes, and of bytes without one.
 
-use crate::first_flaw;
 use cborn_judge::InvalidReason;
 use cborn_model::Limit;
+use cborn_search::first_flaw;
 
 /// Where, and why. Each row would catch a walk that tells a flaw too late or at the wrong head, or
 /// that misses a repeated key in one of the forms in which it may be written.

@@ -1,9 +1,9 @@
 //! Texts with the bytes that their items spell, and texts that get no bytes. That nothing is
 //! answered breaks no contract, so these tests hold that there is an answer.
 
-use crate::spell_text;
 use cborn_lex::Profile;
 use cborn_model::Limit;
+use cborn_spell::spell_text;
 use std::alloc::Global;
 use std::process::Abort;
 use std::test::Fail;
