@@ -1,9 +1,9 @@
 # cborn: a proved deterministic normaliser for CBOR.
 PREFIX ?= /usr/local
 PROGRAM := crates/cborn/out/cborn
-LIBRARIES := cborn_model cborn_wire cborn_det cborn_judge cborn_lex cborn_edn cborn_engine
-# their calls answer nothing where memory is refused, and no fault
-PASSES := cborn_transcode cborn_search cborn_show cborn_spell
+# The crates that hold the libraries' tests: of PASSES the calls answer nothing where memory is refused, and no fault.
+TESTS := cborn_bytes_tests cborn_texts_tests cborn_engine_tests
+PASSES := cborn_passes_tests cborn_transcode cborn_show
 
 # The stack, in KB, within which each command has to answer at 1,024 levels.
 STACK ?= 256
@@ -63,7 +63,7 @@ stack: build
 big: build
 	python3 tests/big.py $(PROGRAM) $(BIG)
 
-library-growths: $(LIBRARIES:%=growths-of-%) $(PASSES:%=growths-of-%)
+library-growths: $(TESTS:%=growths-of-%) $(PASSES:%=growths-of-%)
 
 growths-of-%:
 	cd crates/$* && rt test
