@@ -8,11 +8,13 @@ PASSES := cborn_passes_tests cborn_transcode cborn_show
 # The stack, in KB, within which each command has to answer at 1,024 levels.
 STACK ?= 256
 
-.PHONY: help build test tables vectors growths failures believed stack big library-growths bench install clean
+.PHONY: help build test check-quick layout tables vectors growths failures believed stack big library-growths bench install clean
 
 help:
 	@echo 'make build      prove every crate and build the program, $(PROGRAM)'
 	@echo 'make test       the merge gate from nothing, then make tables, believed, stack, vectors, growths, failures and library-tests'
+	@echo 'make check-quick   while you change something: proves what changed, then make layout, tables and believed, in minutes'
+	@echo 'make layout     whether each file of the crates is in the layout of rt fmt'
 	@echo 'make tables     the built program on the tables of tests/, and the examples of the documents'
 	@echo 'make vectors    the built program on each front of each worked input'
 	@echo 'make growths    the built program on those tables, each growth refused in turn'
@@ -21,6 +23,7 @@ help:
 	@echo 'make stack      the least stack that each command needs at 1,024 levels: no more than STACK KB (STACK is $(STACK))'
 	@echo 'make big        the largest inputs there are, 2^30 bytes, with time and memory: some minutes, 8 GB of memory, 3 GB of disk'
 	@echo 'make library-growths   the tests of the libraries, proved and built first, each growth refused in turn'
+	@echo 'make gate-cost  the merge gate, and how much processor time each crate took of it'
 	@echo 'make bench      time the commands on a corpus of 130 MB, made under bench/corpus'
 	@echo 'make bench-peers    the program beside its peers, whose drivers it builds (Debian packages; it says which): some ten minutes'
 	@echo 'make bench-growth   time and memory from 1 MB to 1 GB, beside two peers: some 20 minutes, 5 GB of disk'
@@ -39,6 +42,14 @@ build:
 test:
 	rt ci
 	$(MAKE) tables believed stack vectors growths failures library-tests
+
+# over what out/ keeps; it tries no must-fail edit, and runs no tests
+check-quick:
+	rt all check
+	$(MAKE) layout tables believed
+
+layout:
+	@find crates -name out -prune -o \( -name '*.rt' -o -name '*.antt' \) -print0 | xargs -0 '$(dir $(shell rt doc))bin/rattle' fmt --check
 
 tables: build
 	python3 tests/run.py $(PROGRAM)
@@ -69,7 +80,7 @@ growths-of-%:
 	cd crates/$* && rt test
 	python3 tests/growths.py $(if $(filter $*,$(PASSES)),--passes,--tests) crates/$*/out/$*_tests
 
-.PHONY: bench-peers bench-growth bench-cost
+.PHONY: bench-peers bench-growth bench-cost gate-cost
 
 # the last file that corpus.py writes
 CORPUS := bench/corpus/small-10000.cbor
@@ -89,6 +100,9 @@ bench-growth: build $(CORPUS)
 
 bench-cost: build
 	python3 bench/cost.py $(PROGRAM) $(BENCH)
+
+gate-cost:
+	python3 bench/gate.py rt ci
 
 install: build
 	install -D $(PROGRAM) $(DESTDIR)$(PREFIX)/bin/cborn
