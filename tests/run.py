@@ -23,7 +23,8 @@ A table is a list of cases, each a paragraph of lines 'WORD REST':
     status N             the exit status, which is else 0
 
 In BYTES 'X * N' repeats X, 'X * A..B' puts each number from A to B (up or down) in place of its {..}, formatted
-as Python does, and '+' stands between parts. The last five words tell of a run: several runs may stand
+as Python does, and '+' stands between parts. 'texts PARTS' is the same of texts, each in double quotes, with their
+escapes. The last five words tell of a run: several runs may stand
 in one case, on the same files and input, and where one stands right behind another they must do the same.
 'stdout holds' and 'stderr holds' may stand more than once. A line that begins with '#' is a comment.
 """
@@ -41,6 +42,7 @@ import sys
 import tempfile
 
 Outcome = collections.namedtuple("Outcome", "stdout stderr status")
+LONG = 4096
 OF_A_RUN = ("run", "argument", "stdout", "stderr", "status")
 
 
@@ -139,9 +141,9 @@ class Case:
         for word, got in (("stdout", outcome.stdout), ("stderr", outcome.stderr)):
             for is_part, want in self.wanted[word] or [(False, b"")]:
                 if is_part and want not in got:
-                    yield f"{word} lacks {want!r}: {got!r}"
+                    yield f"{word} lacks {want!r}: {told(got)}"
                 elif not is_part and want != got:
-                    yield f"{word} is {got!r}, not {want!r}"
+                    yield f"{word} is {told(got)}, not {told(want)}"
         if outcome.status != self.status:
             yield f"status is {outcome.status}, not {self.status}"
 
@@ -151,23 +153,42 @@ def text_bytes(text):
 
 
 def given_bytes(rest):
-    """The bytes that 'hex ..' or 'text ..' names."""
+    """The bytes that 'hex ..', 'text ..' or 'texts ..' names."""
     kind, _, value = rest.partition(" ")
     if kind == "text":
         return text_bytes(value)
-    if kind != "hex":
+    if kind not in READ:
         raise ValueError(f"neither hex nor text: {rest}")
     parts = [part.partition("*") for part in value.split("+")]
-    return b"".join(repeated(piece, times or "1") for piece, _, times in parts)
+    return b"".join(repeated(READ[kind], piece, times or "1") for piece, _, times in parts)
 
 
-def repeated(piece, times):
-    """The bytes of hexadecimal digits, N times, or once for each number of A..B."""
+def quoted_bytes(piece):
+    """The bytes of a text in double quotes."""
+    piece = piece.strip()
+    if len(piece) < 2 or piece[0] + piece[-1] != '""':
+        raise ValueError(f"no quotes: {piece}")
+    return text_bytes(piece[1:-1])
+
+
+# how a part of BYTES is read
+READ = {"hex": bytes.fromhex, "texts": quoted_bytes}
+
+
+def repeated(read, piece, times):
+    """The bytes of a part, N times, or once for each number of A..B."""
     first, is_range, last = times.partition("..")
     if not is_range:
-        return bytes.fromhex(piece) * int(times)
+        return read(piece) * int(times)
     step = 1 if int(first) <= int(last) else -1
-    return b"".join(bytes.fromhex(piece.format(n)) for n in range(int(first), int(last) + step, step))
+    return b"".join(read(piece.format(n)) for n in range(int(first), int(last) + step, step))
+
+
+def told(content):
+    """Bytes as a line of what is wrong tells them: of long ones their ends, and how many they are."""
+    if len(content) <= LONG:
+        return repr(content)
+    return f"{content[: LONG // 2]!r} .. {content[-LONG // 2 :]!r} ({len(content)} bytes)"
 
 
 def paragraphs(path):
