@@ -11,6 +11,8 @@ by $CC or cc, says what else is tested. Command lines that are no call (of files
 """
 import argparse
 import ast
+import collections
+import itertools
 import mmap
 import os
 import pathlib
@@ -19,6 +21,7 @@ import subprocess
 import sys
 import tempfile
 
+from reading import head
 from run import Case, Outcome, cases
 
 HERE = pathlib.Path(__file__).resolve().parent
@@ -54,7 +57,7 @@ def words_of_rust():
 
 def stack_of(path):
     """The figures of the stack in a file."""
-    return re.findall(r"\d+ \+ \d+ \* \(?depth\)?", path.read_text())
+    return [it.replace("(", "").replace(")", "") for it in re.findall(r"\d+ \+ \d+ \* \(?depth\)?", path.read_text())]
 
 
 class Options(argparse.ArgumentParser):
@@ -208,31 +211,71 @@ def differences(case, asked, answer, words, program):
         yield f"the program does otherwise: {program}"
 
 
+# An input of nested items, and what RFC 8949 and docs/FORMATS.md make of it: the bytes that it spells, their deterministic
+# encoding, both in notation, and what `check` prints of bytes.
+Nest = collections.namedtuple("Nest", "name kind data wire shortest text canonical defect")
+
+
+def spelled(name, data, text):
+    """A nest of bytes that are deterministic."""
+    return Nest(name, "wire", data, data, data, text, text, "deterministic")
+
+
+def embedded(levels):
+    """What `<<` and `>>` stand for, so many times in one another."""
+    item = b""
+    for _ in range(levels):
+        item = head(2, len(item)) + item
+    return item
+
+
+def nests_of(depth):
+    """Nests of this depth: of arrays, of maps, of maps in keys, of tags and so on; and an array that is as long."""
+
+    def around(opening, middle, closing):
+        return opening * depth + middle + closing * depth
+
+    indefinite, count = "offset 0: indefinite length", 65 * depth
+    zeros = ", ".join("0" * count)
+    turned, sorted_pairs = around(b"\xa2\x01\x00\x00", b"\x00", b""), around(b"\xa2\x00", b"\x00", b"\x01\x00")
+    turned_text, sorted_text = around("{1: 0, 0: ", "0", "}"), around("{0: ", "0", ", 1: 0}")
+    arrays, arrays_text = b"\x81" * (depth - 1) + b"\x80", around("[", "", "]")
+    strings = embedded(depth)
+    strings_text = f"h'{strings[len(head(2, len(embedded(depth - 1)))):].hex()}'"
+    return [
+        spelled("arrays", around(b"\x81", b"\x00", b""), around("[", "0", "]")),
+        spelled("maps", around(b"\xa1\x00", b"\x00", b""), around("{0: ", "0", "}")),
+        spelled("keys", around(b"\xa1", b"\x00", b"\x00"), around("{", "0", ": 0}")),
+        spelled("tags", around(b"\xc6", b"\x00", b""), around("6(", "0", ")")),
+        Nest("wide-arrays", "wire", *[around(b"\x9f", b"", b"\xff")] * 2, arrays, around("[_ ", "", "]"), arrays_text, indefinite),
+        Nest("wide-maps", "wire", *[around(b"\xbf\x00", b"\x00", b"\xff")] * 2, around(b"\xa1\x00", b"\x00", b""),
+             around("{_ 0: ", "0", "}"), around("{0: ", "0", "}"), indefinite),
+        Nest("turned-maps", "wire", turned, turned, sorted_pairs, turned_text, sorted_text, "offset 3: key order"),
+        Nest("long-array", "wire", *[b"\x9f" + bytes(count) + b"\xff"] * 2, head(4, count) + bytes(count), f"[_ {zeros}]", f"[{zeros}]", indefinite),
+        Nest("array-notation", "notation", arrays_text.encode(), arrays, arrays, arrays_text, arrays_text, None),
+        Nest("map-notation", "notation", around("{1:0, 0:", "0", "}").encode(), turned, sorted_pairs, turned_text, sorted_text, None),
+        Nest("embedded-notation", "notation", around("<<", "", ">>").encode(), strings, strings, strings_text, strings_text, None),
+    ]
+
+
 def nests():
-    """Command lines of nests: of arrays, of maps, of maps in keys, of tags and so on; and of an array that gets longer."""
+    """Command lines of nests at the least, the usual and the largest limit, each with what it has to answer."""
     for depth in (1, 128, 1024):
-        forms = {
-            "arrays": b"\x81" * depth + b"\x00",
-            "maps": b"\xa1\x00" * depth + b"\x00",
-            "keys": b"\xa1" * depth + b"\x00" * (depth + 1),
-            "tags": b"\xc6" * depth + b"\x00",
-            "wide-arrays": b"\x9f" * depth + b"\xff" * depth,
-            "wide-maps": b"\xbf\x00" * depth + b"\x00" + b"\xff" * depth,
-            "turned-maps": b"\xa2\x01\x00\x00" * depth + b"\x00",
-            "long-array": b"\x9f" + b"\x00" * (65 * depth) + b"\xff",
-            "array-notation": b"[" * depth + b"]" * depth,
-            "map-notation": b"{1:0, 0:" * depth + b"0" + b"}" * depth,
-            "embedded-notation": b"<<" * depth + b">>" * depth,
-        }
-        for name, data in forms.items():
-            kind = "notation" if name.endswith("notation") else "wire"
-            file = ("file", f"nest hex {data.hex()}")
-            for line in ("normalise nest --from KIND", "normalise nest --from KIND --to notation",
-                         "show nest --from KIND", "show nest --from KIND --to wire", "check nest",
-                         "compare nest nest --from-a KIND --from-b KIND"):
-                if kind == "wire" or not line.startswith("check"):
-                    run = ("run", f"{line.replace('KIND', kind)} --depth {depth}")
-                    yield f"{name} of {depth}", [("case", name), file, run]
+        for nest in nests_of(depth):
+            answers = {
+                "normalise nest --from KIND": nest.shortest,
+                "normalise nest --from KIND --to notation": f"{nest.canonical}\n".encode(),
+                "show nest --from KIND": f"{nest.text}\n".encode(),
+                "show nest --from KIND --to wire": nest.wire,
+                "compare nest nest --from-a KIND --from-b KIND": b"same\n",
+            }
+            if nest.defect:
+                answers["check nest"] = f"{nest.defect}\n".encode()
+            for line, answer in answers.items():
+                run = ("run", f"{line.replace('KIND', nest.kind)} --depth {depth}")
+                status = ("status", "1" if answer.startswith(b"offset ") else "0")
+                lines = [("case", nest.name), ("file", f"nest hex {nest.data.hex()}"), run, ("stdout", f"hex {answer.hex()}"), status]
+                yield f"{nest.name} of {depth}", lines
 
 
 def tables_of_words(met):
@@ -244,18 +287,16 @@ def tables_of_words(met):
                 yield f"{number:#x} is {words.get(number)!r} in the table of {name}, {tables['header'].get(number)!r} in the header"
     for number in sorted(set(tables["header"]) - met):
         yield f"no command line has the fault {number:#x}"
-    figures = {tuple(stack_of(TOP / name)) for name in ("include/cborn.h", "bindings/rust/src/calls.rs", "bindings/python/cborn/__init__.py")}
-    if len({tuple(it.replace("(", "").replace(")", "") for it in figure) for figure in figures}) != 1:
-        yield f"the stack has several figures: {figures}"
+    figures = {name: stack_of(TOP / name) for name in ("include/cborn.h", "bindings/rust/src/calls.rs", "bindings/python/cborn/__init__.py")}
+    if any(len(set(found)) != 1 for found in figures.values()) or len(set(itertools.chain(*figures.values()))) != 1:
+        yield f"the stack hasn't one figure in each: {figures}"
 
 
 def all_cases(folder):
     yield from ((table, case) for table, case in cases([]))
     for name, lines in nests():
         with tempfile.TemporaryDirectory(dir=folder) as place:
-            case = Case(lines, place)
-            case.is_nest = True
-            yield name, case
+            yield name, Case(lines, place)
 
 
 def main():
@@ -270,8 +311,6 @@ def main():
                 others += 1
                 continue
             done = case.run(program)
-            if hasattr(case, "is_nest"):
-                case.wanted, case.status = {"stdout": [(False, done.stdout)], "stderr": [(False, done.stderr)]}, done.status
             before = len(wrong)
             for name, caller in callers.items():
                 answer = caller.answer(asked)

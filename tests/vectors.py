@@ -3,14 +3,17 @@
 
     vectors.py PROGRAM [FILE..]
 
-Each front is an input of `show --to wire`, which loads it and spells it, and of `normalise`. Bytes that are read are
-shown as they are. fronts.vectors says how its lines are read.
+Each front is an input of `show --to wire`, which loads it and spells it, of `normalise`, of `compare` on both sides,
+and, if it is of bytes, of `check`. What is printed of a front that is read is computed by reading.py, which has
+nothing of the program. fronts.vectors says how its lines are read.
 """
 import itertools
 import pathlib
 import subprocess
 import sys
+import tempfile
 
+import reading
 import shared
 from run import Outcome, given_bytes
 
@@ -44,11 +47,35 @@ def run(program, words, front):
     return Outcome(done.stdout, done.stderr, done.returncode)
 
 
-def is_right(outcome, refusal, shown):
-    """Whether a front was refused with its line, or was done: with this output, where it is known."""
-    if refusal is not None:
-        return outcome == Outcome(b"", refusal, 2)
-    return outcome.stderr == b"" and outcome.status == 0 and shown in (None, outcome.stdout)
+def of_side(which, refusal):
+    """The line of a refusal where the input is one of two."""
+    return refusal.replace(b"cborn: ", f"cborn: {which}: ".encode(), 1)
+
+
+def wanted(kind, front, answer, other):
+    """Each command line on a front, and its outcome. Of the file `other` the content is told beside each of them."""
+    shown, normalised = refusals(answer, len(front))
+    if shown is None:
+        spelled = reading.spelled(kind, front)
+        yield ["show", "--to", "wire", "--from", kind], None, Outcome(spelled, b"", 0)
+    else:
+        yield ["show", "--to", "wire", "--from", kind], None, Outcome(b"", shown, 2)
+    if normalised is not None:
+        refused = Outcome(b"", normalised, 2)
+        yield ["normalise", "--from", kind], None, refused
+        yield ["compare", "--from-a", kind, "/dev/stdin", other], b"", Outcome(b"", of_side("first", normalised), 2)
+        yield ["compare", "--from-b", kind, other, "/dev/stdin"], b"", Outcome(b"", of_side("second", normalised), 2)
+        if kind == "wire":
+            yield ["check"], None, refused
+        return
+    items = reading.canonical(spelled)
+    yield ["normalise", "--from", kind], None, Outcome(b"".join(items), b"", 0)
+    yield ["compare", "--from-a", kind, "/dev/stdin", other], b"".join(items), Outcome(b"same\n", b"", 0)
+    longer = b"".join([*items, b"\x00"])
+    yield ["compare", "--from-b", kind, other, "/dev/stdin"], longer, Outcome(f"different at item {len(items)}\n".encode(), b"", 1)
+    if kind == "wire":
+        told = reading.first_defect(front)
+        yield ["check"], None, Outcome(told, b"", int(told != b"deterministic\n"))
 
 
 def fronts(path):
@@ -63,16 +90,16 @@ def fronts(path):
 def tried(program, paths, *which):
     """A share of the fronts: how many answers there were, and a line for each wrong one."""
     count, wrong = 0, []
-    for kind, front, answer in shared.share(itertools.chain.from_iterable(map(fronts, paths)), *which):
-        shown, normalised = refusals(answer, len(front))
-        for words, refusal, output in [
-            (["show", "--to", "wire"], shown, front if kind == "wire" else None),
-            (["normalise"], normalised, None if front else b""),
-        ]:
-            count += 1
-            outcome = run(program, [*words, "--from", kind], front)
-            if not is_right(outcome, refusal, output):
-                wrong.append(f"{kind} {front!r}: {words[0]}: {outcome}, not {answer}")
+    with tempfile.TemporaryDirectory() as folder:
+        other = pathlib.Path(folder, "other")
+        for kind, front, answer in shared.share(itertools.chain.from_iterable(map(fronts, paths)), *which):
+            for words, beside, right in wanted(kind, front, answer, str(other)):
+                if beside is not None:
+                    other.write_bytes(beside)
+                count += 1
+                outcome = run(program, words, front)
+                if outcome != right:
+                    wrong.append(f"{kind} {front!r}: {' '.join(words)}: {outcome}, not {right} ({answer})")
     return count, wrong
 
 
