@@ -11,6 +11,7 @@ The commands run in bash, with the program's folder in front of PATH; those of o
 import os
 import pathlib
 import re
+import shlex
 import subprocess
 import sys
 import tempfile
@@ -41,6 +42,44 @@ def examples(path):
             printed.append(line[4:] + "\n")
 
 
+def clauses_of(files):
+    """The functions that stand in some files, and the names of the clauses of each, behind `ensures`."""
+    found = {}
+    for file in files:
+        _, *parts = re.split(r"\bfn (?=\w)", file.read_text())
+        for part in parts:
+            found.setdefault(re.match(r"\w+", part)[0], set()).update(re.findall(r"\bensures (\w+) \{", part))
+    return found
+
+
+def lacking_clauses(source, functions, where):
+    """What a cell `Where` names and the source lacks. A clause has to be one of the function that the cell names in front of
+    it, or else of one of those of its row; behind a file, in brackets, of any in that file, as the clauses of a type are."""
+    named = [source / name for name in re.findall(r"`(\w+\.rt)`", where)]
+    yield from (str(file) for file in named if not file.exists())
+    files = [file for file in named or sorted(source.glob("*.rt")) if file.exists()]
+    all_of, text = clauses_of(files), "".join(file.read_text() for file in files)
+    anywhere = set().union(*all_of.values())
+    of_row = [name for name in functions if name in all_of]
+    allowed = set().union(*(all_of[name] for name in of_row)) if of_row else anywhere
+    inner, is_inner, before = anywhere, False, []
+    for name, mark in re.findall(r"`([\w.]+)`|([();])", where):
+        if mark:
+            is_inner = mark == "(" or (is_inner and mark != ")")
+            before = []
+        elif name.endswith(".rt"):
+            before += [source / name] if (source / name).exists() else []
+            inner = set().union(*clauses_of(before).values())
+        elif is_inner:
+            if name not in inner:
+                yield f"{source}: {name}"
+        elif name in all_of and (name in functions or not of_row):
+            inner = all_of[name]
+            allowed = inner if name in functions else allowed
+        elif name not in allowed and not re.search(rf"\b(struct|trait) {name}\b", text):
+            yield f"{source}: {name}"
+
+
 def lacking(root):
     """The names in docs/PROMISES.md that the source of their crate lacks: `Function` is a column of functions, `Where` of files and clauses."""
     source = None
@@ -49,13 +88,10 @@ def lacking(root):
         if line.startswith("## `"):
             source = root / "crates" / line.strip("#` ") / "src"
         elif source and len(cells) == 3 and not line.startswith(("|---", "| Function")):
-            functions, names = (re.findall(r"`([\w.]+)`", cells[column]) for column in (0, 2))
-            files = [source / name for name in names if name.endswith(".rt")] or sorted(source.glob("*.rt"))
-            text = "".join(file.read_text() if file.exists() else "" for file in files)
-            yield from (str(file) for file in files if not file.exists())
-            kinds = [(name, "fn|struct|trait") for name in functions if name != "laws"]
-            kinds += [(name, "fn|trait|ensures") for name in names if not name.endswith(".rt")]
-            yield from (f"{source}: {name}" for name, kind in kinds if not re.search(rf"\b({kind}) {name}\b", text))
+            functions = [name.rpartition("::")[2] for name in re.findall(r"`([\w:]+)`", cells[0]) if name != "laws"]
+            text = "".join(file.read_text() for file in sorted(source.glob("*.rt")))
+            yield from (f"{source}: {name}" for name in functions if not re.search(rf"\b(fn|struct|trait) {name}\b", text))
+            yield from lacking_clauses(source, functions, cells[2])
 
 
 def slug(heading):
@@ -86,6 +122,16 @@ def lost(root):
         yield from (f"{page.relative_to(root)}: no target {name}" for name in {"".join(it) for it in named} - targets)
 
 
+def words_of_faults(name, text):
+    """The words that a page tells of faults: in a table's row behind its number, or in its first cell, up to what explains them; in
+    a man page in italics in the chapters of faults and defects."""
+    if name.endswith(".1"):
+        chapters = re.findall(r"^\.SH (?:FAULTS|DEFECTS)\n(.*?)^(?=\.SH )", text.replace("\\-", "-"), re.MULTILINE | re.DOTALL)
+        lines = re.findall(r"^\.(I|IR) (.*)", "".join(chapters), re.MULTILINE)
+        return {it for kind, line in lines for it in ([line] if kind == "I" else shlex.split(line)[::2])}
+    return set(re.findall(r"^\| (?:\d+ \| )?([^|:,]+?)(?:[:,][^|]*)? \|", text, re.MULTILINE))
+
+
 def untold(root):
     """The words of faults, as docs/LIBRARY.md numbers them, that the formats or the man page lack."""
     page = (root / "docs/LIBRARY.md").read_text()
@@ -93,8 +139,8 @@ def untold(root):
     if not words:
         yield "docs/LIBRARY.md numbers no fault"
     for name in ("docs/FORMATS.md", "man/cborn.1"):
-        text = (root / name).read_text().replace("\\-", "-")
-        yield from (f"{name}: there is no {it}" for it in sorted(words) if it not in text)
+        missing = words - words_of_faults(name, (root / name).read_text())
+        yield from (f"{name}: there is no {it}" for it in sorted(missing))
 
 
 def other_versions(root):
