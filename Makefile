@@ -8,17 +8,18 @@ PASSES := cborn_passes_tests cborn_transcode cborn_show
 # The stack, in KB, within which each command has to answer at 1,024 levels.
 STACK ?= 256
 
-.PHONY: help build test check-quick layout tables vectors growths failures believed stack big library-growths bench install clean
+.PHONY: help build test check-quick layout tables vectors growths failures left-out believed stack big library-growths bench install clean
 
 help:
 	@echo 'make build      prove every crate and build the program, $(PROGRAM)'
-	@echo 'make test       the merge gate from nothing, then make tables, believed, stack, vectors, growths, failures and library-tests'
+	@echo 'make test       the merge gate from nothing, then make tables, believed, stack, vectors, growths, failures and library-tests, and which of it was left out'
 	@echo 'make check-quick   while you change something: proves what changed, then make layout, tables and believed, in minutes'
 	@echo 'make layout     whether each file of the crates is in the layout of rt fmt'
 	@echo 'make tables     the built program on the tables of tests/, and the examples of the documents'
 	@echo 'make vectors    the built program on each front of each worked input'
 	@echo 'make growths    the built program on those tables, each growth refused in turn'
 	@echo 'make failures   the built program on those tables, with trouble at each opening, read and write in turn'
+	@echo 'make left-out   what make test leaves out here, for want of its tools'
 	@echo 'make believed   the lines of definitions that a reader has to believe, and that the documents say so'
 	@echo 'make stack      the least stack that each command needs at 1,024 levels: no more than STACK KB (STACK is $(STACK))'
 	@echo 'make big        the largest inputs there are, 2^30 bytes, with time and memory: some minutes, 8 GB of memory, 3 GB of disk'
@@ -42,6 +43,7 @@ build:
 test:
 	rt ci
 	$(MAKE) tables believed stack vectors growths failures library-tests
+	$(MAKE) --no-print-directory left-out
 
 # over what out/ keeps; it tries no must-fail edit, and runs no tests
 check-quick:
@@ -60,6 +62,9 @@ growths: build
 
 failures: build
 	python3 tests/failures.py $(PROGRAM)
+
+left-out:
+	@python3 tests/tools.py
 
 vectors: build
 	python3 tests/vectors.py $(PROGRAM)

@@ -1,0 +1,55 @@
+#!/usr/bin/env python3
+"""Say what of `make test` was left out because its tools aren't there: one line, the last of the gate.
+
+    tools.py            the line
+    tools.py --missing  the Debian packages that would bring what is missing, one a line; those without which the gate
+                        can't run at all come behind the word 'needed'
+"""
+import importlib.util
+import os
+import shutil
+import sys
+
+JNA = "/usr/share/java/jna.jar"
+# what is tested, the commands and files that it takes, and their packages
+NEEDED = {
+    "the C compiler": (("cc", "ar", "ld", "objcopy"), ("gcc", "binutils")),
+    "the tests in Python": (("python3",), ("python3",)),
+    "the cost of memory": (("time",), ("time",)),
+}
+OPTIONAL = {
+    "the Rust crate": (("cargo", "rustc"), ("cargo", "rustc")),
+    "the archive from C by its name": (("pkg-config",), ("pkg-config",)),
+    "the archive from Python": (("pip",), ("python3-pip",)),
+    "the archive from Go": (("go",), ("golang-go",)),
+    "the archive from Java": (("javac", "java", JNA), ("default-jdk-headless", "libjna-java")),
+}
+
+
+def is_there(tool):
+    if tool == "pip":
+        return importlib.util.find_spec("pip") is not None
+    return shutil.which(tool) is not None or os.path.isfile(tool)
+
+
+def missing(what):
+    """What can't be tried, each with the tools that it lacks and with its packages."""
+    for name, (tools, packages) in what.items():
+        lacking = [tool for tool in tools if not is_there(tool)]
+        if lacking:
+            yield name, lacking, packages
+
+
+def main():
+    if sys.argv[1:] == ["--missing"]:
+        for word, what in (("needed", NEEDED), ("optional", OPTIONAL)):
+            for _, _, packages in missing(what):
+                print("\n".join(f"{word} {package}" for package in packages))
+        return 0
+    left_out = [f"{name} (no {', '.join(tools)})" for name, tools, _ in missing({**NEEDED, **OPTIONAL})]
+    print(f"LEFT OUT: {'; '.join(left_out)}" if left_out else "nothing was left out")
+    return 0
+
+
+if __name__ == "__main__":
+    sys.exit(main())
