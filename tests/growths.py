@@ -9,11 +9,13 @@
                                     the same of a crate of passes
 
 A command line has to answer as it does with ample memory, or to answer want of memory: status 4, nothing on
-standard output, and one line on standard error. A test has to pass with ample memory; with a growth refused it
+standard output, and one line on standard error. Where the growth was the path of a file that was to be opened, the line
+is that this file can't be read. A test has to pass with ample memory; with a growth refused it
 has to pass too, or to fail by want of memory: by the error that a call answered, and not by an answer that differs.
 A pass over bytes or a text answers nothing in place of that error, so a test of passes may also stop where an answer
 is missing. refuse.c, which is compiled by $CC or cc, refuses.
 """
+import collections
 import os
 import pathlib
 import re
@@ -21,6 +23,7 @@ import subprocess
 import sys
 
 import shared
+from failures import files_of, which_input
 from run import Outcome, cases
 
 WANT = re.compile(rb"AllocError|AllocFailed|OutOfMemory|[Oo]ut of memory")
@@ -29,36 +32,45 @@ FAILED, ABORTED = 101, -6
 STOPPED_AT = re.compile(rb"^test stopped at src/", re.MULTILINE)
 
 
+# the outcome of a run, how many bytes the request was for that was refused, and how many files had been opened
+Refused = collections.namedtuple("Refused", "outcome size opened")
+
+
 def refused_in_turn(library, run):
-    """The outcome of a run with its first request for memory refused, then with its second, to its last."""
+    """What came of a run with its first request for memory refused, then with its second, to its last."""
     nth = 1
     while True:
         reader, writer = os.pipe()
         settings = {"LD_PRELOAD": library, "REFUSE_NTH": str(nth), "REFUSE_TELL": str(writer)}
         outcome = run(env=settings, pass_fds=[writer])
         os.close(writer)
-        was_refused = os.read(reader, 1) != b""
-        os.close(reader)
-        if not was_refused:
+        with open(reader) as lines:
+            told = lines.read().split()
+        if not told:
             return
-        yield outcome
+        yield Refused(outcome, *map(int, told))
         nth += 1
 
 
-def wants_of_memory(words):
-    """What may answer want of memory: the run's, and no input's. Where an opening was refused, it is told as such."""
+def wants_of_memory(words, refused):
+    """What may answer want of memory: the run's, and no input's. Where the path of a file was refused, it can't be read."""
     yield Outcome(b"", b"cborn: out of memory\n", 4)
-    for which in ("first: ", "second: ") if words[:1] == ["compare"] else ("",):
-        for word in words[1:]:
-            yield Outcome(b"", os.fsencode(f"cborn: {which}cannot read {word}\n"), 4)
+    files = files_of(words)
+    if refused.opened < len(files) and refused.size == len(os.fsencode(files[refused.opened])) + 1:
+        which = which_input(words, refused.opened)
+        yield Outcome(b"", os.fsencode(f"cborn: {which}cannot read {files[refused.opened]}\n"), 4)
 
 
 def command_lines(library, program, tables, *which):
-    """Each command line of a share: its name, the outcomes of its runs, and which outcomes it may have."""
+    """Each command line of a share: its name, what came of its runs, and which outcomes it may have."""
     for table, case in shared.share(cases(tables), *which):
-        allowed = [case.run(program), *wants_of_memory(case.words)]
+        ample = case.run(program)
         outcomes = refused_in_turn(library, lambda **how: case.run(program, **how))
-        yield f"{table}: {case.name}", list(outcomes), allowed.__contains__
+
+        def is_allowed(refused, ample=ample, words=case.words):
+            return refused.outcome in (ample, *wants_of_memory(words, refused))
+
+        yield f"{table}: {case.name}", list(outcomes), is_allowed
 
 
 def run_test(tests, name, **how):
@@ -90,7 +102,7 @@ def built_tests(is_allowed, library, tests, words, *which):
         ample = run_test(tests, name)
         if ample.status == 0:
             outcomes = refused_in_turn(library, lambda **how: run_test(tests, name, **how))
-            yield name, list(outcomes), is_allowed
+            yield name, [it.outcome for it in outcomes], is_allowed
         else:
             yield f"{name}, with ample memory", [ample], lambda _: False
 
