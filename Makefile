@@ -8,7 +8,10 @@ PASSES := cborn_passes_tests cborn_transcode cborn_show
 # The stack, in KB, within which each command has to answer at 1,024 levels.
 STACK ?= 256
 
-.PHONY: help build test check-quick layout tables vectors growths failures left-out believed stack big library-growths bench install clean
+# The size in MB of the inputs whose cost in memory is tested.
+COST ?= 4
+
+.PHONY: help build test check-quick layout tables vectors growths failures counts cost left-out believed stack big library-growths bench install clean
 
 help:
 	@echo 'make build      prove every crate and build the program, $(PROGRAM)'
@@ -19,6 +22,8 @@ help:
 	@echo 'make vectors    the built program on each front of each worked input'
 	@echo 'make growths    the built program on those tables, each growth refused in turn'
 	@echo 'make failures   the built program on those tables, with trouble at each opening, read and write in turn'
+	@echo 'make counts     how often and for how much the built program asks for memory on inputs of 1 MB: no more than its bounds'
+	@echo 'make cost       the bounds of make bench-cost on memory, on inputs of COST MB (COST is $(COST)), without the times'
 	@echo 'make left-out   what make test leaves out here, for want of its tools'
 	@echo 'make believed   the lines of definitions that a reader has to believe, and that the documents say so'
 	@echo 'make stack      the least stack that each command needs at 1,024 levels: no more than STACK KB (STACK is $(STACK))'
@@ -62,6 +67,12 @@ growths: build
 
 failures: build
 	python3 tests/failures.py $(PROGRAM)
+
+counts: build
+	python3 tests/counts.py $(PROGRAM)
+
+cost: build
+	python3 bench/cost.py $(PROGRAM) --mb $(COST) --memory
 
 left-out:
 	@python3 tests/tools.py

@@ -1,12 +1,12 @@
 #!/usr/bin/env python3
 """What hostile bytes cost: peak memory over input and output, and time at two sizes.
 
-    cost.py PROGRAM [--mb N] [--most RATIO] [--only WORDS] [--cpu]
+    cost.py PROGRAM [--mb N] [--most RATIO] [--only WORDS] [--cpu] [--memory]
 
 Each shape is made at a quarter and at the whole of N MB (16). For each command: the peak memory, less 3 MB that the
 process itself has, as a multiple of input and output together; MB of input a second; and the status. Ends with status 1
 where a multiple is above RATIO (2.5; 6 for one great map of tiny pairs, whose keys have to be sorted), where time grows
-by more than 1.6 times as much as the input, or where a run was ended.
+by more than 1.6 times as much as the input, or where a run was ended. With --memory no time is judged.
 """
 import argparse
 import pathlib
@@ -59,6 +59,8 @@ def excess(name, command, small, great, given):
         yield f"{name}: {command} ended with status {last.status}"
     if cost(last, whole) > most:
         yield f"{name}: {command} takes {cost(last, whole):.1f} times input and output"
+    if given.memory:
+        return
     grows = last.seconds(given.cpu) / first.seconds(given.cpu)
     if last.seconds(given.cpu) > 0.2 and grows > 1.6 * whole / quarter:
         yield f"{name}: {command} grows {grows:.1f} times for {whole / quarter:.1f} times the input"
@@ -71,6 +73,7 @@ def main():
     words.add_argument("--most", type=float, default=2.5)
     words.add_argument("--only", default="")
     words.add_argument("--cpu", action="store_true")
+    words.add_argument("--memory", action="store_true")
     given = words.parse_args()
     program = str(given.program.resolve())
     if measuring.needs_time():

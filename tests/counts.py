@@ -1,0 +1,138 @@
+#!/usr/bin/env python3
+"""Count what the built program asks of memory on inputs of 1 MB: how often, for how much at one time, and at most at once.
+
+    counts.py PROGRAM [--tell]    with --tell each run is printed
+
+Each command has bounds for each shape of input: for requests, which no tree keeps since it has one for each node; and
+for what is held at one time, as a multiple of input and output together, which no reservation by a declared count keeps
+either. refuse.c, which is compiled by $CC or cc, counts.
+
+Left out, since they are known to cost more: texts that are refused for what they mean, and bignums in chunks, both of
+which are read into trees.
+"""
+import collections
+import os
+import pathlib
+import subprocess
+import sys
+import tempfile
+
+import shared
+from reading import head
+
+MB = 1_000_000
+# what the process has for itself: the words of the command line and their parser
+OWN, OWN_REQUESTS = 200_000, 600
+MOST = 2.5
+# a map's keys are sorted, or searched for one that is repeated
+MOST_OF_MAPS = 6
+
+Counts = collections.namedtuple("Counts", "requests asked held greatest")
+FROM_BYTES = ("normalise", "normalise --to notation", "show", "show --to wire", "check", "compare")
+FROM_TEXT = ("normalise --from notation", "normalise --from notation-2 --to notation", "show --from notation --to wire",
+             "show --from notation", "compare --from-a notation --from-b notation-2")
+
+
+def in_bytes(n):
+    """Inputs of about n bytes, each by its name."""
+    keys = [head(0, 65536 + i) for i in range(n // 6)]
+    pairs, turned = (b"".join(key + b"\x00" for key in order) for order in (keys, keys[::-1]))
+    return {
+        "sequence of integers": b"\x01" * n,
+        "array of integers": head(4, n) + b"\x01" * n,
+        "array of integers, indefinite": b"\x9f" + b"\x01" * n + b"\xff",
+        "integers in heads that are too wide": b"\x1b\0\0\0\0\0\0\0\x01" * (n // 9),
+        "texts": head(4, n // 4) + b"\x63abc" * (n // 4),
+        "one text": head(3, n) + b"a" * n,
+        "text in chunks": b"\x7f" + b"\x61a" * (n // 2) + b"\xff",
+        "tags": head(4, n // 2) + b"\xc1\x00" * (n // 2),
+        "bignums": head(4, n // 11) + b"\xc2\x49\x01\0\0\0\0\0\0\0\0" * (n // 11),
+        "nests": (b"\x81" * 100 + b"\x00") * (n // 101),
+        "map": head(5, len(keys)) + pairs,
+        "map, keys that fall": head(5, len(keys)) + turned,
+        "map, first key again": head(5, len(keys) + 1) + pairs + keys[0] + b"\x00",
+        "maps of two pairs": head(4, n // 5) + b"\xa2\x02\x00\x01\x00" * (n // 5),
+        "last text isn't UTF-8": head(4, n) + b"\x01" * (n - 1) + b"\x61\xff",
+        "last bignum is none": head(4, n) + b"\x01" * (n - 1) + b"\xc2\x01",
+        "last head is too wide": head(4, n) + b"\x01" * (n - 1) + b"\x18\x01",
+        "last item is too deep": head(4, n) + b"\x01" * (n - 1) + b"\x81" * 129 + b"\x00",
+        "last byte is a break": b"\x01" * n + b"\xff",
+        "array that is cut": head(4, n + 1) + b"\x01" * n,
+        "count of 2^64-1 items": head(4, 2**64 - 1) + b"\x01" * n,
+        "count of 2^64-1 pairs": head(5, 2**64 - 1) + b"\x01" * n,
+        "length of 2^64-1 bytes": head(2, 2**64 - 1) + b"\x01" * n,
+        "length of 2^30 characters": head(3, 2**30) + b"a" * n,
+    }
+
+
+def in_text(n):
+    return {
+        "integers": b", ".join([b"1"] * (n // 3)),
+        "array": b"[" + b", ".join([b"1"] * (n // 3)) + b"]",
+        "strings": b", ".join([b'"abc"'] * (n // 7)),
+        "one string": b'"' + b"a" * n + b'"',
+        "hexadecimal": b"h'" + b"61" * (n // 2) + b"'",
+        "tags in an array": b"[" + b", ".join([b"1(0)"] * (n // 6)) + b"]",
+        "map": b"{" + b", ".join(b"%d: 0" % (65536 + i) for i in range(n // 11)) + b"}",
+        "comments": b"1" + b" /c/" * (n // 4),
+    }
+
+
+def counted(library, program, words, data):
+    """What a run asked for, how much it printed, and its status."""
+    with tempfile.TemporaryDirectory() as folder:
+        names = [pathlib.Path(folder, name) for name in ("first", "second")][: 2 if words[0] == "compare" else 1]
+        for name in names:
+            name.write_bytes(data)
+        reader, writer = os.pipe()
+        settings = {"LD_PRELOAD": library, "REFUSE_COUNTS": str(writer)}
+        done = subprocess.run([program, *words, *names], capture_output=True, env=settings, pass_fds=[writer], timeout=60, check=False)
+        os.close(writer)
+        with open(reader) as lines:
+            told = lines.read().split()
+    return Counts(*map(int, told)) if told else None, len(done.stdout), done.returncode
+
+
+def excess(name, words, counts, size, status):
+    """What a run asked for too much, where input and output together have `size` bytes."""
+    if counts is None or status not in (0, 1, 2):
+        yield f"{name}: {words}: status {status}, {counts}"
+        return
+    most = MOST_OF_MAPS if name.startswith("map") else MOST
+    if counts.requests > OWN_REQUESTS:
+        yield f"{name}: {words}: {counts.requests} requests"
+    for number, what in ((counts.held, "held at one time"), (counts.greatest, "asked for at once")):
+        if number > most * size + OWN:
+            yield f"{name}: {words}: {number} bytes {what}, {number / size:.1f} times input and output"
+
+
+def runs():
+    for shapes, commands in ((in_bytes(MB), FROM_BYTES), (in_text(MB), FROM_TEXT)):
+        for name, data in shapes.items():
+            for command in commands:
+                yield name, command, data
+
+
+def tried(library, program, is_told, *which):
+    """A share of the runs: how many they were, and a line for each that asked for too much."""
+    count, wrong = 0, []
+    for name, command, data in shared.share(runs(), *which):
+        words = command.split()
+        counts, printed, status = counted(library, program, words, data)
+        size = len(data) * (2 if words[0] == "compare" else 1) + printed
+        if is_told:
+            print(f"{name:36}| {command:48}| s{status} {size:9} {counts} {counts.held / size:.2f}x")
+        count += 1
+        wrong += excess(name, command, counts, size, status)
+    return count, wrong
+
+
+def main():
+    program, *options = sys.argv[1:]
+    with shared.library("refuse.c") as library:
+        count, wrong = shared.over_processors(tried, library, str(pathlib.Path(program).resolve()), options == ["--tell"])
+    return shared.status(count, wrong, f"{count - len(wrong)} runs within their bounds on memory")
+
+
+if __name__ == "__main__":
+    sys.exit(main())
