@@ -15,7 +15,7 @@ COST ?= 4
 
 help:
 	@echo 'make build      prove every crate and build the program, $(PROGRAM)'
-	@echo 'make test       the merge gate from nothing, then make tables, believed, stack, vectors, growths, failures and library-tests, and which of it was left out'
+	@echo 'make test       the merge gate from nothing, then make tables, believed, stack, vectors, growths, failures, counts, cost, library-tests and dist-tests, and which of it was left out'
 	@echo 'make check-quick   while you change something: proves what changed, then make layout, tables and believed, in minutes'
 	@echo 'make layout     whether each file of the crates is in the layout of rt fmt'
 	@echo 'make tables     the built program on the tables of tests/, and the examples of the documents'
@@ -47,7 +47,7 @@ build:
 
 test:
 	rt ci
-	$(MAKE) tables believed stack vectors growths failures library-tests
+	$(MAKE) tables believed stack vectors growths failures counts cost library-tests dist-tests
 	$(MAKE) --no-print-directory left-out
 
 # over what out/ keeps; it tries no must-fail edit, and runs no tests
