@@ -11,9 +11,10 @@ STACK ?= 256
 # The size in MB of the inputs whose cost in memory is tested.
 COST ?= 4
 
-.PHONY: help build test check-quick layout tables vectors growths failures counts cost left-out believed stack big library-growths bench install clean
+.PHONY: help try build test check-quick layout tables vectors growths failures counts cost left-out believed stack big library-growths bench install clean
 
 help:
+	@echo 'make try        run the program from its source, before any proof: ARGS="check FILE", or seven bytes as an example'
 	@echo 'make build      prove every crate and build the program, $(PROGRAM)'
 	@echo 'make test       the merge gate from nothing, then make tables, believed, stack, vectors, growths, failures, counts, cost, library-tests and dist-tests, and which of it was left out'
 	@echo 'make check-quick   while you change something: proves what changed, then make layout, tables and believed, in minutes'
@@ -34,14 +35,24 @@ help:
 	@echo 'make bench-peers    the program beside its peers, whose drivers it builds (Debian packages; it says which): some ten minutes'
 	@echo 'make bench-growth   time and memory from 1 MB to 1 GB, beside two peers: some 20 minutes, 5 GB of disk'
 	@echo 'make bench-cost     what hostile bytes cost: memory beside input and output, and time at two sizes'
-	@echo 'make install    put the program and its man page under PREFIX (PREFIX is $(PREFIX))'
+	@echo 'make install    prove and build program and library, and put them under PREFIX (PREFIX is $(PREFIX)): bin/cborn,'
+	@echo '                its man page, include/cborn.h, libcborn.a, libcborn.so and cborn.pc; make build proves no library'
 	@echo 'make library    the library for C, build/libcborn.a and build/libcborn.so, and cborn.pc'
 	@echo 'make library-tests   the command lines of tests/ through the library, from C, Python and Rust'
 	@echo 'make dist       one archive of program, library, wheel and crate for whoever has no kit'
 	@echo 'make dist-tests the archive, unpacked and called with no kit on the path, from each language whose tools are there'
 	@echo 'make clean      drop what was built'
 
-build:
+# ARGS are the words behind cborn: make try ARGS='check FILE'
+try:
+	@python3 tests/try.py $(ARGS)
+
+# what needs the kit says so where it lacks
+.PHONY: kit
+kit:
+	@command -v rt > /dev/null || { echo "The command rt of the Rattle kit isn't on the path, and nothing is proved or built without it. README.md, 'Get it', says how to get it, and how to do without." >&2; exit 1; }
+
+build: kit
 	@test -e $(PROGRAM) || echo 'Each crate is proved, lowest first, and then $(PROGRAM) is built: a quarter of an hour on four idle processors, more than an hour where others use them too. A quiet minute is no hang.'
 	cd crates/cborn && rt run -- --version
 
@@ -121,6 +132,7 @@ gate-cost:
 	python3 bench/gate.py rt ci
 
 install: build
+	@echo 'Program, man page, and the library with its header and cborn.pc go below $(DESTDIR)$(PREFIX); the library is proved first.'
 	install -D $(PROGRAM) $(DESTDIR)$(PREFIX)/bin/cborn
 	install -D -m 644 man/cborn.1 $(DESTDIR)$(PREFIX)/share/man/man1/cborn.1
 

@@ -14,7 +14,7 @@ library: prove-library
 	$(MAKE) $(LIBRARY)
 
 .PHONY: prove-library
-prove-library:
+prove-library: kit
 	cd crates/cborn_c && rt lib
 
 # One object, whose only global names are cborn_*: two libraries that are written in Rattle can stand in one program.

@@ -114,7 +114,7 @@ fn program<'a>(alloc: Global) -> Result<Command<'a>, AllocError> {
     Command::new(alloc, "cborn")
         .version("0.2.0")
         .about(help::PROGRAM)
-        .after_help(help::PROGRAM_NOTES)
+        .after_long_help(help::PROGRAM_NOTES)
         .subcommand_required(true)
         .disable_help_subcommand(true)
         .subcommand(show(alloc)?)?
@@ -126,7 +126,7 @@ fn program<'a>(alloc: Global) -> Result<Command<'a>, AllocError> {
 fn show<'a>(alloc: Global) -> Result<Command<'a>, AllocError> {
     Command::new(alloc, "show")
         .about(help::SHOW)
-        .after_help(help::SHOW_NOTES)
+        .after_long_help(help::SHOW_NOTES)
         .arg(file_argument(alloc))?
         .arg(from_option(alloc, "from", help::FROM))?
         .arg(to_option(alloc, "notation"))?
@@ -136,7 +136,7 @@ fn show<'a>(alloc: Global) -> Result<Command<'a>, AllocError> {
 fn normalise<'a>(alloc: Global) -> Result<Command<'a>, AllocError> {
     Command::new(alloc, "normalise")
         .about(help::NORMALISE)
-        .after_help(help::NORMALISE_NOTES)
+        .after_long_help(help::NORMALISE_NOTES)
         .arg(file_argument(alloc))?
         .arg(from_option(alloc, "from", help::FROM))?
         .arg(to_option(alloc, "wire"))?
@@ -147,7 +147,7 @@ fn normalise<'a>(alloc: Global) -> Result<Command<'a>, AllocError> {
 fn compare<'a>(alloc: Global) -> Result<Command<'a>, AllocError> {
     Command::new(alloc, "compare")
         .about(help::COMPARE)
-        .after_help(help::COMPARE_NOTES)
+        .after_long_help(help::COMPARE_NOTES)
         .arg(Arg::new(alloc, "FILE_A").required(true).help(help::FILE_A))?
         .arg(Arg::new(alloc, "FILE_B").required(true).help(help::FILE_B))?
         .arg(from_option(alloc, "from-a", help::FROM_A))?
@@ -159,7 +159,7 @@ fn compare<'a>(alloc: Global) -> Result<Command<'a>, AllocError> {
 fn check<'a>(alloc: Global) -> Result<Command<'a>, AllocError> {
     Command::new(alloc, "check")
         .about(help::CHECK)
-        .after_help(help::CHECK_NOTES)
+        .after_long_help(help::CHECK_NOTES)
         .arg(file_argument(alloc))?
         .arg(order_option(alloc))?
         .arg(depth_option(alloc))
@@ -174,6 +174,7 @@ fn from_option<'a>(alloc: Global, name: &'a str, help: &'a str) -> Arg<'a> {
         .long(name)
         .value_name("KIND")
         .value_parser(ValueParser::Names(&["wire", "notation", "notation-2"]))
+        .hide_possible_values(true)
         .default_value("wire")
         .help(help)
 }
@@ -183,6 +184,7 @@ fn to_option<'a>(alloc: Global, default: &'a str) -> Arg<'a> {
         .long("to")
         .value_name("KIND")
         .value_parser(ValueParser::Names(&["wire", "notation"]))
+        .hide_possible_values(true)
         .default_value(default)
         .help(help::TO)
 }
@@ -192,6 +194,7 @@ fn order_option<'a>(alloc: Global) -> Arg<'a> {
         .long("order")
         .value_name("ORDER")
         .value_parser(ValueParser::Names(&["bytewise", "length-first"]))
+        .hide_possible_values(true)
         .default_value("bytewise")
         .help(help::ORDER)
 }
