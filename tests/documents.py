@@ -6,7 +6,7 @@ words of each fault, and whether all that tells a version tells that of bindings
 
     documents.py PROGRAM
 
-The commands run in bash, with the program's folder in front of PATH; those of one document run in one folder.
+The commands run in sh, those with <(..) in bash, with the program's folder in front of PATH; those of one document run in one folder.
 """
 import os
 import pathlib
@@ -171,7 +171,7 @@ def main():
         with tempfile.TemporaryDirectory() as folder:
             for command, printed in examples(root / name):
                 done = subprocess.run(
-                    ["bash", "-c", command],
+                    ["bash" if "<(" in command else "sh", "-c", command],
                     cwd=folder,
                     env=environment,
                     stdout=subprocess.PIPE,

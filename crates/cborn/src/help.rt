@@ -34,11 +34,11 @@ Exit status:
   4  a file can't be opened, a read or a write failed, or out of memory
 
 Examples:
-  printf '\\x98\\x02\\x18\\x01\\x58\\x01\\x61' | cborn normalise | od -An -tx1
-  prints  82 01 41 61
+  echo 98 02 18 01 58 01 61 | xxd -r -p | cborn normalise | xxd -p
+  prints  82014161
 
-  echo '[_ 1_1]' | cborn show --from notation --to wire | od -An -tx1
-  prints  9f 19 00 01 ff";
+  echo '[_ 1_1]' | cborn show --from notation --to wire | xxd -p
+  prints  9f190001ff";
 
 pub const SHOW: &str = "Writes the input's items as they are encoded, as notation or bytes";
 
@@ -63,11 +63,11 @@ Exit status:
   4  the file can't be opened, a read or a write failed, or out of memory
 
 Examples:
-  printf '\\x9f\\x19\\x00\\x01\\xff' | cborn show
+  echo 9f 19 00 01 ff | xxd -r -p | cborn show
   prints  [_ 1_1]
 
-  echo '[_ 1_1]' | cborn show --from notation --to wire | od -An -tx1
-  prints  9f 19 00 01 ff";
+  echo '[_ 1_1]' | cborn show --from notation --to wire | xxd -p
+  prints  9f190001ff";
 
 pub const NORMALISE: &str = "Writes the deterministic encoding of the input's items";
 
@@ -92,8 +92,8 @@ Exit status:
   4  the file can't be opened, a read or a write failed, or out of memory
 
 Examples:
-  printf '\\xa2\\x02\\x00\\x18\\x01\\x00' | cborn normalise | od -An -tx1
-  prints  a2 01 00 02 00
+  echo a2 02 00 18 01 00 | xxd -r -p | cborn normalise | xxd -p
+  prints  a201000200
 
   echo '{2: 0, 0x01: [_ ]}' | cborn normalise --from notation --to notation
   prints  {1: [], 2: 0}";
@@ -120,7 +120,7 @@ Exit status:
   4  a file can't be opened, a read or a write failed, or out of memory
 
 Example:
-  echo '{1: [_ 2], 3: 4}' > a; printf '\\xa2\\x03\\x04\\x01\\x81\\x02' > b
+  echo '{1: [_ 2], 3: 4}' > a; echo a2 03 04 01 81 02 | xxd -r -p > b
   cborn compare --from-a notation a b
   prints  same";
 
@@ -148,7 +148,7 @@ Exit status:
   4  the file can't be opened, a read or a write failed, or out of memory
 
 Example:
-  printf '\\x18\\x01' | cborn check
+  echo 18 01 | xxd -r -p | cborn check
   prints  offset 0: long head";
 
 pub const FROM: &str = "The input's format: wire (bytes), notation or\nnotation-2";
@@ -157,7 +157,7 @@ pub const FROM_A: &str = "The format of FILE_A: wire (bytes), notation or\nnotat
 
 pub const FROM_B: &str = "The format of FILE_B: wire (bytes), notation or\nnotation-2";
 
-pub const TO: &str = "The format to write: wire (bytes) or notation";
+pub const TO: &str = "The format to write: wire (bytes) or\nnotation";
 
 pub const FILE: &str = "The file to read, in place of standard input";
 
