@@ -6,20 +6,24 @@
  * threads, disturbs another. Memory comes from malloc, and all of it is freed
  * before a call returns.
  *
- * What is proved, of every input: a call reads and writes nothing but what it
- * was handed and its own memory, ends, and answers what the comment at its
- * declaration says. So much of the functions in the library, as the README of
- * cborn tells it; this header, the linking and the caller are only tested.
+ * For every input it is proved that a call ends, reads and writes nothing but its
+ * arguments and its own memory, and answers what the comment at its declaration
+ * says. That holds of the functions in the library, on the terms of cborn's
+ * README. This header, the linking and the bindings are tested, not proved.
  *
- * What a caller owes, and nothing checks:
- *  - input points to input_len bytes that may be read, out to out_len bytes that
- *    may be written, told and place to one value each, aligned. Where a length
- *    is 0 its pointer may be NULL.
+ * What the caller has to make sure of, since nothing checks it:
+ *  - input points to input_len readable bytes, out to out_len writable bytes, told
+ *    and place to one aligned value each. If a length is 0, its pointer may be
+ *    NULL.
  *  - out, told and place overlap neither each other nor an input, and no other
  *    thread writes an input, or touches the others, while the call runs.
  *  - a length is at most SIZE_MAX / 2.
  *  - the thread has the stack that the call takes: CBORN_STACK(depth) bytes.
- *    With less an input may end the process, so choose the depth by the stack.
+ *    With less, deeply nested input can overflow the stack and crash the process.
+ *    So choose the depth by the stack.
+ *
+ * A fault is why an input is refused: it is malformed, or has a validity error. A
+ * defect is why a valid input isn't in the deterministic encoding.
  */
 #ifndef CBORN_H
 #define CBORN_H
@@ -34,25 +38,25 @@ extern "C" {
 /* The version of this header: 65536 for each major one, 256 for each minor one, and the patch. */
 #define CBORN_VERSION 0x000200
 
-/* What an input or an output is. As an output both notations are the same. */
+/* The format of an input or an output. As output both notations are the same. */
 enum {
-    CBORN_WIRE = 0,      /* the bytes of data items, one after another (RFC 8742) */
+    CBORN_WIRE = 0,      /* CBOR bytes: data items one after another (RFC 8742) */
     CBORN_NOTATION = 1,  /* diagnostic notation (RFC 8949 section 8, RFC 8610 Appendix G) */
-    CBORN_NOTATION_2 = 2 /* that, with comments from # to the end of a line, and a comma behind the last item */
+    CBORN_NOTATION_2 = 2 /* the same, with comments from # to the end of a line, and trailing commas */
 };
 
-/* How the keys of maps rise: by their encodings (RFC 8949 section 4.2.1), or the
- * shorter encoding first (section 4.2.3). */
+/* The sort order of map keys: by encoded bytes (RFC 8949 section 4.2.1), or
+ * shortest first (section 4.2.3). */
 enum { CBORN_BYTEWISE = 0, CBORN_LENGTH_FIRST = 1 };
 
-/* How many arrays, maps and tags may stand in one another: from 1 to CBORN_MOST_DEPTH. */
+/* The maximum nesting depth of arrays, maps and tags: from 1 to CBORN_MOST_DEPTH. */
 enum { CBORN_USUAL_DEPTH = 128, CBORN_MOST_DEPTH = 1024 };
 
-/* What a call answers beside faults. */
+/* What a call answers, other than a fault or a defect. */
 enum {
     CBORN_OK = 0,            /* done; the same; deterministic */
-    CBORN_TOO_SMALL = 1,     /* out is too small, and as it was; told->length is what the answer takes */
-    CBORN_BAD_ARGUMENT = 2,  /* a kind, an order or a depth is none; nothing is told */
+    CBORN_TOO_SMALL = 1,     /* out is too small, and unchanged; told->length is the length needed */
+    CBORN_BAD_ARGUMENT = 2,  /* an invalid format, order or depth; *told and *place are unchanged */
     CBORN_OUT_OF_MEMORY = 3, /* malloc or realloc refused */
     CBORN_TOO_LONG = 4,      /* an input has more than 2^30 bytes */
     CBORN_DIFFERENT = 5      /* cborn_compare alone: *place is the index, from 0, of the first item that differs */
@@ -61,7 +65,7 @@ enum {
 /* The faults of an input: the class in the high byte, the reason in the low one.
  * A number never changes what it stands for; docs/FORMATS.md says when each applies. */
 enum {
-    /* bytes that aren't well-formed */
+    /* malformed bytes */
     CBORN_RESERVED_ADDITIONAL_INFORMATION = 0x101, /* reserved additional information */
     CBORN_INDEFINITE_LENGTH_NOT_ALLOWED = 0x102,   /* indefinite length not allowed */
     CBORN_BAD_CHUNK = 0x103,                       /* bad chunk */
@@ -70,7 +74,7 @@ enum {
     CBORN_BAD_SIMPLE = 0x106,                      /* bad simple */
     CBORN_TOO_DEEP = 0x107,                        /* too deep */
     CBORN_TRUNCATED = 0x108,                       /* truncated */
-    /* a text that has no tokens */
+    /* notation with an invalid token */
     CBORN_TEXT_UNEXPECTED_CHARACTER = 0x201,       /* unexpected character */
     CBORN_TEXT_UNCLOSED_STRING = 0x202,            /* unclosed string */
     CBORN_TEXT_UNCLOSED_COMMENT = 0x203,           /* unclosed comment */
@@ -82,7 +86,7 @@ enum {
     CBORN_TEXT_NUMBER_TOO_LARGE = 0x209,           /* number too large */
     CBORN_TEXT_BAD_INDICATOR = 0x20a,              /* bad indicator */
     CBORN_TEXT_FLOAT_LEFT_OUT = 0x20b,             /* float left out */
-    /* a text whose tokens make no items */
+    /* notation with invalid grammar, or faults of what it means */
     CBORN_TEXT_UNEXPECTED_TOKEN = 0x301,           /* unexpected token */
     CBORN_TEXT_UNEXPECTED_END = 0x302,             /* unexpected end */
     CBORN_TEXT_TOO_DEEP = 0x303,                   /* too deep */
@@ -93,14 +97,14 @@ enum {
     CBORN_TEXT_NOT_UTF8 = 0x308,                   /* text not UTF-8 */
     CBORN_TEXT_BAD_SIMPLE = 0x309,                 /* bad simple */
     CBORN_TEXT_TAG_TOO_LARGE = 0x30a,              /* tag too large */
-    /* bytes that should be UTF-8: a whole text, or a text string that is shown */
+    /* not UTF-8: a whole input of notation, or a text string to be shown */
     CBORN_INPUT_NOT_UTF8 = 0x401,                  /* not UTF-8 */
     CBORN_SHOWN_NOT_UTF8 = 0x402,                  /* not UTF-8 */
-    /* an item that isn't valid */
+    /* a validity error */
     CBORN_INVALID_NOT_UTF8 = 0x501,                /* not UTF-8 */
     CBORN_INVALID_BAD_BIGNUM = 0x502,              /* bad bignum */
     CBORN_INVALID_DUPLICATE_KEY = 0x503,           /* duplicate key */
-    /* cborn_check alone: valid, but not deterministic */
+    /* the defects, of cborn_check alone: valid, but not deterministic */
     CBORN_DEFECT_LONG_HEAD = 0x601,                /* long head */
     CBORN_DEFECT_INDEFINITE_LENGTH = 0x602,        /* indefinite length */
     CBORN_DEFECT_LOOSE_BIGNUM = 0x603,             /* loose bignum */
@@ -109,42 +113,45 @@ enum {
     CBORN_OF_SECOND = 0x10000
 };
 
-/* The bytes of stack that a call takes at most, measured. */
+/* The most bytes of stack that a call takes, as measured. */
 #define CBORN_STACK(depth) (32768 + 208 * (depth))
 
-/* What a call tells beside the number that it answers. */
+/* What a call tells in addition to its answer. */
 typedef struct {
     uint64_t place;  /* the offset of a fault, in bytes from the start of the input, else 0 */
-    uint64_t length; /* how many bytes the answer takes, also where it didn't fit; 0 at a fault */
+    uint64_t length; /* the length of the output in bytes, even if it didn't fit; 0 at a fault */
 } cborn_told;
 
 /* The version of the library that is linked, as CBORN_VERSION. */
 uint32_t cborn_version(void);
 
-/* Writes the canonical form of the items that the input holds to the front of out:
- * their deterministic encodings, or these in notation. CBORN_OK: that, and the bytes
- * behind told->length are as they were. Any other number: out is as it was, and the
- * input has the fault that is told, the buffer is too small, or memory was refused.
- * From bytes to bytes a buffer of input_len + input_len / 3 bytes is never too small. */
+/* Writes the canonical form of the items in the input to the start of out: their
+ * deterministic encodings, or these in notation. Returns CBORN_OK if it did; the
+ * bytes of out after told->length are then unchanged. Any other answer leaves out
+ * unchanged, and says what the input's fault is, that out is too small, that an
+ * argument is invalid, or that memory ran out.
+ * From bytes to bytes, input_len + input_len / 3 bytes of room are always enough. */
 uint32_t cborn_normalise(uint32_t from, uint32_t to, uint32_t order, uint64_t depth,
                          const uint8_t *input, size_t input_len,
                          uint8_t *out, size_t out_len, cborn_told *told);
 
-/* Likewise, the items as they are spelled, with each head as wide as it is, as bytes
- * or in notation. No item is refused for what it means. */
+/* Likewise, but writes the items as they are encoded, each head in its own width,
+ * as bytes or in notation. Validity errors are no faults here, with one exception: a
+ * text string that isn't UTF-8 can't be written in notation. */
 uint32_t cborn_show(uint32_t from, uint32_t to, uint64_t depth,
                     const uint8_t *input, size_t input_len,
                     uint8_t *out, size_t out_len, cborn_told *told);
 
-/* CBORN_OK: the bytes are the deterministic encodings of the items that they hold, so
- * that cborn_normalise would write these very bytes. Else their first defect or their
- * fault, whose offset *place gets. */
+/* Returns CBORN_OK if the input is deterministic: cborn_normalise would write the
+ * same bytes. Otherwise it returns the first defect or the fault, and sets *place to
+ * its offset. The contents of byte strings aren't checked, even if they are CBOR. */
 uint32_t cborn_check(uint32_t order, uint64_t depth,
                      const uint8_t *input, size_t input_len, uint64_t *place);
 
-/* CBORN_OK: both inputs hold the same items. CBORN_DIFFERENT: they don't. Else the
- * fault of the first input, or that of the second and CBORN_OF_SECOND, whose offset
- * in its input *place gets. */
+/* Returns CBORN_OK if both inputs hold the same items, and CBORN_DIFFERENT if they
+ * don't, with *place the index of the first item that differs. Otherwise it returns
+ * the fault of the first input, or that of the second plus CBORN_OF_SECOND, and sets
+ * *place to its offset in that input. */
 uint32_t cborn_compare(uint32_t from_a, uint32_t from_b, uint64_t depth,
                        const uint8_t *first, size_t first_len,
                        const uint8_t *second, size_t second_len, uint64_t *place);
