@@ -9,13 +9,16 @@
     Traceback (most recent call last):
     cborn.CbornError: offset 3: duplicate key
 
-An input is any number of data items, one after another, in any object that lends its bytes (bytes, bytearray,
-memoryview, mmap, array, NumPy arrays): they are read where they lie. Floats are left out, and refused by name.
-Calls may run in several threads at once, and don't hold the interpreter's lock while they work; nobody may write
-to an input meanwhile.
+An input is any number of data items, one after another, in any object with the buffer protocol (bytes, bytearray,
+memoryview, mmap, array, NumPy arrays). It is read without a copy. Floats are left out: an input with one is refused.
+Calls may run in several threads at once, and release the interpreter's lock while they work. Nothing may write to an
+input meanwhile.
 
-`depth` is how many arrays, maps and tags may stand in one another, from 1 to 1024. A thread needs some
-kilobytes of stack for it, which `stack` tells.
+`depth` is the maximum nesting depth of arrays, maps and tags, from 1 to 1024. `stack` tells how many bytes of stack
+a thread needs for it. With less, deeply nested input can overflow the stack and crash the process.
+
+A fault is why an input is refused: it is malformed, or has a validity error. A defect is why a valid input isn't in the
+deterministic encoding.
 """
 
 from __future__ import annotations
@@ -41,23 +44,23 @@ __all__ = [
 
 
 class Kind(enum.IntEnum):
-    """What an input or an output is. As an output both notations are the same."""
+    """The format of an input or an output. As output both notations are the same."""
 
     WIRE = 0
-    """The bytes of data items, one after another (RFC 8742)."""
+    """CBOR bytes: data items one after another (RFC 8742)."""
     NOTATION = 1
     """Diagnostic notation (RFC 8949 section 8, RFC 8610 Appendix G), in UTF-8."""
     NOTATION_2 = 2
-    """That, with comments from # to the end of a line, and with one comma behind the last item."""
+    """The same, with comments from # to the end of a line, and trailing commas."""
 
 
 class Order(enum.IntEnum):
-    """How the keys of maps rise."""
+    """The sort order of map keys."""
 
     BYTEWISE = 0
-    """By their encodings (RFC 8949 section 4.2.1)."""
+    """By encoded bytes (RFC 8949 section 4.2.1)."""
     LENGTH_FIRST = 1
-    """The shorter encoding first (RFC 8949 section 4.2.3)."""
+    """Shortest first (RFC 8949 section 4.2.3)."""
 
 
 REASONS: typing.Final[dict[int, str]] = {
@@ -100,7 +103,7 @@ REASONS: typing.Final[dict[int, str]] = {
     0x603: "loose bignum",
     0x604: "key order",
 }
-"""The words of each number of a fault or a defect. No number ever changes what it stands for."""
+"""The words for the number of each fault and defect. No number ever changes its meaning."""
 
 _WIRE, _NOTATION = 0, 1
 _OK, _TOO_SMALL, _BAD_ARGUMENT, _OUT_OF_MEMORY, _TOO_LONG, _DIFFERENT = range(6)
@@ -108,11 +111,11 @@ _OF_SECOND = 0x10000
 
 
 class CbornError(ValueError):
-    """An input holds no items.
+    """An input is refused: it is malformed, has a validity error, or is too long (more than 2**30 bytes).
 
-    `reason` says why in words, `place` where, in bytes from the start of the input; it is None where the input is
-    too long (more than 2**30 bytes). `number` is the fault's number in cborn.h, without what `compare` adds.
-    `input` is 1 where `compare` means its second input, else 0.
+    `reason` says why in words. `place` is the offset of the fault, in bytes from the start of the input, and None
+    if the input is too long. `number` is the fault's number in cborn.h, without CBORN_OF_SECOND. `input` is 1 if
+    `compare` means its second input, else 0.
     """
 
     def __init__(self, number: int, place: int | None, input: int = 0) -> None:
@@ -129,7 +132,7 @@ class CbornError(ValueError):
 
 
 class Defect(typing.NamedTuple):
-    """Why bytes aren't deterministic, where they aren't first."""
+    """Why an input isn't deterministic: the first reason, and its offset."""
 
     place: int
     """The offset of the first defect, in bytes from the start of the input."""
@@ -270,35 +273,37 @@ def normalise(
     order: int = Order.BYTEWISE,
     depth: int = 128,
 ) -> bytes:
-    """The canonical form of the items in `data`: their deterministic encodings, or these in notation (in UTF-8).
+    """Return the canonical form of the items in `data`: their deterministic encodings, or these in notation (UTF-8).
 
-    Raises CbornError where `data` holds no items, MemoryError, and ValueError for a kind, an order or a depth
-    that is none.
+    Raises CbornError if `data` is refused, MemoryError, and ValueError for an invalid format, order or depth.
     """
     _tested(depth, source, to, order)
     return _filled(_normalise, (source, to, order, depth), data, 1 if to == _WIRE else 3)
 
 
 def show(data: typing.Any, source: int = Kind.WIRE, depth: int = 128) -> str:
-    """The items in `data` as they are spelled, in diagnostic notation.
+    """Return the items in `data` as they are encoded, in diagnostic notation.
 
-    Raises what `normalise` raises, but refuses no item for what it means, unless a text string isn't UTF-8.
+    Raises what `normalise` raises, but accepts validity errors other than a text string that isn't UTF-8.
     """
     _tested(depth, source)
     return _filled(_show, (source, _NOTATION, depth), data, 3).decode()
 
 
 def spell(data: typing.Any, source: int = Kind.NOTATION, depth: int = 128) -> bytes:
-    """The items in `data` as they are spelled, in bytes: what `show` wrote, turned back.
+    """Return the bytes that the notation in `data` stands for: the inverse of `show`.
 
-    Raises what `normalise` raises, but refuses no item for what it means.
+    Raises what `normalise` raises, but accepts validity errors.
     """
     _tested(depth, source)
     return _filled(_show, (source, _WIRE, depth), data, 1)
 
 
 def check(data: typing.Any, order: int = Order.BYTEWISE, depth: int = 128) -> Defect | None:
-    """None exactly if `normalise` gives these very bytes, else the first defect. Raises what `normalise` raises."""
+    """Return None if `data` is deterministic, else its first defect. Raises what `normalise` raises.
+
+    None means that `normalise` would return the same bytes. The contents of byte strings aren't checked.
+    """
     _tested(depth, order)
     address, length, lent = _address(data)
     place = _u64()
@@ -321,9 +326,9 @@ def compare(
     source_b: int = Kind.WIRE,
     depth: int = 128,
 ) -> int | None:
-    """None exactly if both hold the same items, else the index, from 0, of the first at which they differ.
+    """Return None if both hold the same items, else the index, from 0, of the first item that differs.
 
-    Raises what `normalise` raises; a CbornError says by `input` which of them is refused.
+    Raises what `normalise` raises; the `input` of a CbornError says which of them is refused.
     """
     _tested(depth, source_a, source_b)
     place = _u64()
@@ -348,11 +353,11 @@ def compare(
 
 
 def stack(depth: int = 128) -> int:
-    """How many bytes of stack a call takes at most, as measured: CBORN_STACK of cborn.h."""
+    """Return the most bytes of stack that a call takes, as measured: CBORN_STACK of cborn.h."""
     return 32768 + 208 * depth
 
 
 def version() -> str:
-    """The version of the library."""
+    """Return the version of the library."""
     number = _library.cborn_version()
     return f"{number >> 16}.{number >> 8 & 255}.{number & 255}"
