@@ -2,7 +2,7 @@
 
 use std::fmt;
 
-/// Why an input is refused, or isn't deterministic: a number of `cborn.h`, which never changes what it stands for.
+/// Why an input is refused, or isn't deterministic: a number of `cborn.h`, which never changes its meaning.
 #[derive(Clone, Copy, Debug, PartialEq, Eq, Hash)]
 pub struct Reason(u32);
 
@@ -11,8 +11,8 @@ impl Reason {
         Reason(number)
     }
 
-    /// The number in `cborn.h`: the class in the high byte (1 bytes, 2 tokens, 3 notation, 4 text that isn't UTF-8,
-    /// 5 an item that isn't valid, 6 a defect), the reason in the low one.
+    /// The number in `cborn.h`: the class in the high byte (1 malformed bytes, 2 tokens of notation, 3 its grammar or
+    /// meaning, 4 not UTF-8, 5 a validity error, 6 a defect), the reason in the low one.
     pub fn number(self) -> u32 {
         self.0
     }
@@ -29,10 +29,10 @@ impl fmt::Display for Reason {
     }
 }
 
-/// Why an input gives no answer.
+/// Why a call gives no answer.
 #[derive(Clone, Copy, Debug, PartialEq, Eq, Hash)]
 pub enum Fault {
-    /// The input holds no items: why, and where, in bytes from its start.
+    /// The input is malformed or has a validity error.
     Refused {
         /// Why.
         reason: Reason,
@@ -41,7 +41,7 @@ pub enum Fault {
     },
     /// The input has more than 2^30 bytes.
     TooLong,
-    /// Memory was refused.
+    /// Out of memory.
     OutOfMemory,
 }
 
@@ -74,7 +74,7 @@ pub enum CompareFault {
     First(Fault),
     /// The first input holds items, and the second gives none.
     Second(Fault),
-    /// Memory was refused.
+    /// Out of memory.
     OutOfMemory,
 }
 

@@ -9,9 +9,12 @@
 //! assert_eq!(why.to_string(), "offset 3: duplicate key");
 //! ```
 //!
-//! An input is any number of data items, one after another, as bytes or in diagnostic notation. Floats are left out,
-//! and refused by name. Nothing is kept between calls, and any threads may call at once; [`Depth::stack`] tells how
-//! much stack a call takes.
+//! An input is any number of data items, one after another, as bytes or in diagnostic notation. Floats are left out: an
+//! input with a float is refused. Nothing is kept between calls, and any threads may call at once. [`Depth::stack`]
+//! tells how much stack a call takes: with less, deeply nested input can overflow the stack and crash the process.
+//!
+//! A [`Fault`] is why an input is refused: it is malformed, has a validity error, or is too long. A [`Defect`] is why a
+//! valid input isn't in the deterministic encoding.
 #![warn(missing_docs)]
 
 mod calls;
@@ -20,41 +23,41 @@ mod faults;
 use calls::filled;
 pub use faults::{CompareFault, Defect, Fault, Reason};
 
-/// What an input or an output is. As an output both notations are the same.
+/// The format of an input or an output. As output both notations are the same.
 #[derive(Clone, Copy, Debug, Default, PartialEq, Eq, Hash)]
 #[repr(u32)]
 pub enum Kind {
-    /// The bytes of data items, one after another (RFC 8742).
+    /// CBOR bytes: data items one after another (RFC 8742).
     #[default]
     Wire = 0,
     /// Diagnostic notation (RFC 8949 section 8, RFC 8610 Appendix G), in UTF-8.
     Notation = 1,
-    /// That, with comments from `#` to the end of a line, and with one comma behind the last item.
+    /// The same, with comments from `#` to the end of a line, and trailing commas.
     Notation2 = 2,
 }
 
-/// How the keys of maps rise.
+/// The sort order of map keys.
 #[derive(Clone, Copy, Debug, Default, PartialEq, Eq, Hash)]
 #[repr(u32)]
 pub enum Order {
-    /// By their encodings (RFC 8949 section 4.2.1).
+    /// By encoded bytes (RFC 8949 section 4.2.1).
     #[default]
     Bytewise = 0,
-    /// The shorter encoding first (RFC 8949 section 4.2.3).
+    /// Shortest first (RFC 8949 section 4.2.3).
     LengthFirst = 1,
 }
 
-/// How many arrays, maps and tags may stand in one another: from 1 to 1,024, and 128 by default.
+/// The maximum nesting depth of arrays, maps and tags: from 1 to 1,024, and 128 by default.
 #[derive(Clone, Copy, Debug, PartialEq, Eq, PartialOrd, Ord, Hash)]
 pub struct Depth(u64);
 
 impl Depth {
-    /// The limit of this number, if it is from 1 to 1,024.
+    /// This depth, if it is from 1 to 1,024.
     pub fn new(most: u64) -> Option<Depth> {
         (1..=1024).contains(&most).then_some(Depth(most))
     }
 
-    /// How many bytes of stack a call under this limit takes at most, as measured.
+    /// The most bytes of stack that a call under this limit takes, as measured.
     pub fn stack(self) -> usize {
         calls::stack(self.0 as usize)
     }
@@ -69,20 +72,21 @@ impl Default for Depth {
 /// What [`normalise`] reads and writes; by default bytes, bytewise, at most 128 deep.
 #[derive(Clone, Copy, Debug, Default, PartialEq, Eq, Hash)]
 pub struct Options {
-    /// What the input is.
+    /// The format of the input.
     pub from: Kind,
-    /// What the answer is to be.
+    /// The format of the output.
     pub to: Kind,
-    /// How the keys of maps rise.
+    /// The sort order of map keys.
     pub order: Order,
-    /// How deep the input may be.
+    /// The maximum nesting depth of the input.
     pub depth: Depth,
 }
 
-/// The canonical form of the items that the input holds: their deterministic encodings, or these in notation.
+/// The canonical form of the items in the input: their deterministic encodings, or these in notation.
 ///
 /// # Errors
-/// [`Fault::Refused`] where the input holds no items, [`Fault::TooLong`] where it has more than 2^30 bytes.
+/// [`Fault::Refused`] if the input is malformed or has a validity error, [`Fault::TooLong`] if it has more than 2^30
+/// bytes.
 pub fn normalise(input: &[u8], options: Options) -> Result<Vec<u8>, Fault> {
     let Options { from, to, order, depth } = options;
     let room = if to == Kind::Wire { input.len() + input.len() / 3 } else { 3 * input.len() + 64 };
@@ -94,11 +98,11 @@ pub fn normalise(input: &[u8], options: Options) -> Result<Vec<u8>, Fault> {
     })
 }
 
-/// The items that the input holds as they are spelled, each head as wide as it is: as bytes or in notation.
+/// The items in the input as they are encoded, each head in its own width: as bytes or in notation.
 ///
 /// # Errors
-/// Those of [`normalise`], but no item is refused for what it means, unless a text string isn't UTF-8 and the
-/// answer is to be notation.
+/// Those of [`normalise`], but validity errors are accepted, other than a text string that isn't UTF-8 where the output
+/// is notation.
 pub fn show(input: &[u8], from: Kind, to: Kind, depth: Depth) -> Result<Vec<u8>, Fault> {
     let room = if to == Kind::Wire { input.len() + 8 } else { 3 * input.len() + 64 };
     filled(room, |out, room, told| unsafe {
@@ -107,7 +111,8 @@ pub fn show(input: &[u8], from: Kind, to: Kind, depth: Depth) -> Result<Vec<u8>,
     })
 }
 
-/// None exactly if [`normalise`] gives these very bytes, else their first defect.
+/// None if the input is deterministic, so that [`normalise`] would give the same bytes, else its first defect. The
+/// contents of byte strings aren't checked, even if they are CBOR.
 ///
 /// # Errors
 /// Those of [`normalise`].
@@ -122,10 +127,10 @@ pub fn check(input: &[u8], order: Order, depth: Depth) -> Result<Option<Defect>,
     }
 }
 
-/// None exactly if both inputs hold the same items, else the index, from 0, of the first at which they differ.
+/// None if both inputs hold the same items, else the index, from 0, of the first item that differs.
 ///
 /// # Errors
-/// The fault of an input, as [`normalise`] tells it, and which input it is; that of the first comes first.
+/// The fault of an input, as [`normalise`] tells it, and which input has it. If both have one, that of the first.
 pub fn compare(
     first: &[u8],
     from_first: Kind,
