@@ -70,9 +70,9 @@ impl std::error::Error for Fault {}
 /// Why two inputs aren't compared.
 #[derive(Clone, Copy, Debug, PartialEq, Eq, Hash)]
 pub enum CompareFault {
-    /// The first input gives no items.
+    /// The first input is refused.
     First(Fault),
-    /// The first input holds items, and the second gives none.
+    /// The second input is refused, and the first is not.
     Second(Fault),
     /// Out of memory.
     OutOfMemory,
