@@ -37,3 +37,10 @@ IsNoNotation profile limit text (LexPart (LexRefused p r)) = Stop profile text p
 IsNoNotation profile limit text (LexPart LexOutOfMemory) = ⊥
 IsNoNotation profile limit text (Refused p r) = Jams profile limit text p r ⊎ Slips profile limit text p r
 IsNoNotation profile limit text OutOfMemory = Unit {0}
+
+-- The same of a text without a tree: nothing is said of what a tree means.
+abbrev pub IsNoTree : Profile → ℕ → List ℕ → EdnFault → Type 0
+IsNoTree profile limit text (LexPart (LexRefused p r)) = Stop profile text p r
+IsNoTree profile limit text (LexPart LexOutOfMemory) = ⊥
+IsNoTree profile limit text (Refused p r) = Jams profile limit text p r
+IsNoTree profile limit text OutOfMemory = Unit {0}

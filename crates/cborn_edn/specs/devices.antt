@@ -7,3 +7,4 @@ pub mod Escaping
 pub mod Levels
 pub mod Ready
 pub mod Texts
+pub mod Shapes

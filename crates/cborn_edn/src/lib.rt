@@ -19,8 +19,8 @@
 //! - *Showing*: `specs/Shown.antt` has the fixed notation, one text for each list of nodes, places
 //!   aside.
 //!
-//! [`read_notation`] gives what a text notates, or why it notates nothing, and [`show`] gives the
-//! fixed notation. Start with `Notates` and follow the definitions that it names; [`laws`] has what
+//! [`recognise`] tells whether a text has a tree, with nothing kept of it; [`read_notation`] gives
+//! what a text notates, or why it notates nothing, and [`show`] gives the fixed notation. Start with `Notates` and follow the definitions that it names; [`laws`] has what
 //! is proved of them alone, above all that the fixed notation notates the nodes that it shows. In
 //! the code start with `readers` and `showing`: the reader takes one token at a time from the text
 //! (`states`), keeps in `brackets` what is open, and keeps no token.
@@ -35,6 +35,8 @@ mod lists;
 mod numbers;
 mod openings;
 mod readers;
+mod recognisers;
+mod shapes;
 mod showing;
 mod slips;
 mod states;
@@ -44,6 +46,7 @@ mod writing;
 
 pub use faults::{EdnFault, EdnReason, ShowFault};
 pub use readers::read_notation;
+pub use recognisers::recognise;
 pub use showing::show;
 pub use strings::StringKind;
 pub use writing::{push_between, push_escaped, push_indicator, push_simple};

@@ -2,15 +2,14 @@
 
 ghost use Rattle.std.specs.Prelude.{◌≡◌, ◌≤◌, ◌⊎◌, ℕ, List, length, Option, Some, None, IfOk, IfErr};
 ghost use Rattle.cborn_model.specs.Tree.{Trees, trees};
-ghost use Rattle.cborn_lex.specs.Lex.{Lex, Between, IsStopFrom};
-ghost use Rattle.cborn_lex.specs.declared.faults.LexFault.{LexFault as LexStop};
+ghost use Rattle.cborn_lex.specs.Lex.{Lex};
 ghost use Rattle.cborn_edn.specs.Notates.{Notates, IsNoNotation};
-ghost use Rattle.cborn_edn.specs.declared.faults.EdnFault.TheVariants.{Refused};
 ghost use Rattle.cborn_edn.specs.declared.slips.Slip.{Slip as FoundSlip};
-ghost use Rattle.cborn_edn.specs.devices.Draft.{IsFirstSlip, Done, draft_run, first_state, finished, lexical};
+ghost use Rattle.cborn_edn.specs.devices.Draft.{IsFirstSlip, Done, draft_run, first_state, finished};
 ghost use Rattle.cborn_edn.specs.devices.Ready.{IsReady, IsTold, Steps};
 
 use crate::lists::SpelledList;
+use crate::recognisers::{first_fault, recognise, refused};
 use crate::slips::Slip;
 use crate::states::{State, finished};
 use crate::{EdnFault, EdnReason};
@@ -21,6 +20,9 @@ use std::alloc::{AllocError, Global};
 /// The items of `text`, under that profile of the notation, none deeper than `limit`. The place of
 /// a node is the offset of its first token, in bytes from the start of the text; a chunk's is that
 /// of its first piece.
+///
+/// A text without a tree is refused before a node is made, in the memory that `recognise` takes: a
+/// fault at the end of a long text would else be told only once all nodes before it stand.
 ///
 /// # Errors
 /// A text without tokens is `Lex`. Else `Refused` tells the first token with which no text of the
@@ -35,6 +37,7 @@ pub fn read_notation(
     ensures notates { IfOk result (λ items. Notates profile limit text.now (trees items.items)) }
     ensures refused { IfErr result (IsNoNotation profile limit text.now) }
 {
+    recognise(alloc, limit, profile, text)?;
     let state = parsed(alloc, limit, profile, text)?;
     let ended = finished(alloc, state)?;
     match ended {
@@ -57,13 +60,6 @@ fn told(whole: (Option<SpelledList>, Option<Slip>)) -> Result<Vec<Spelled>, EdnF
             None => unreachable!(),
         },
     }
-}
-
-/// The refusal of what stands at `place`.
-fn refused(place: u64, reason: EdnReason) -> EdnFault
-    ensures { result ≡ Refused place reason }
-{
-    EdnFault::Refused { place, reason }
 }
 
 /// The state behind all tokens of the text.
@@ -109,21 +105,4 @@ fn step(
         return Ok(Some(EdnReason::TooDeep));
     }
     Ok(None)
-}
-
-/// A fault of the grammar, or the lexical fault that follows from `at` on, which comes first.
-fn first_fault(alloc: Global, profile: Profile, text: &str, at: u64, fault: EdnFault) -> EdnFault
-    requires { at ≤ length text.now }
-    ensures { ((tokens : List Token) × Between profile text.now at (length text.now) tokens × (result ≡ fault)) ⊎ ((stop : LexStop) × IsStopFrom profile text.now at stop × (result ≡ lexical stop)) }
-{
-    let mut at = at;
-    'tokens: loop {
-        let token = match token_from(alloc, profile, text, at) {
-            Ok(Some(token)) => token,
-            Ok(None) => return fault,
-            Err(stop) => return EdnFault::from(stop),
-        };
-        at = token.stop;
-        drop(token);
-    }
 }

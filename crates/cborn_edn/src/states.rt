@@ -10,7 +10,7 @@ ghost use Rattle.cborn_edn.specs.declared.states.Phase.TheVariants.{Wants, Has};
 use crate::brackets::{Bracket, Brackets};
 use crate::contents::Sequence;
 use crate::lists::SpelledList;
-use crate::numbers::is_small;
+use crate::shapes::depth_at;
 use crate::slips::{Slip, earlier};
 use crate::strings::Pieces;
 use cborn_lex::{Class, Token};
@@ -61,24 +61,7 @@ impl State {
     pub(crate) fn reach(&self, class: &Class) -> u64
         ensures { result ≡ reach (levels_in self.now.brackets) class.now }
     {
-        let levels = self.brackets.levels();
-        match class {
-            Class::ArrayOpen(_) | Class::MapOpen(_) | Class::EmbedOpen | Class::TagOpen { .. } => {
-                levels + 1
-            }
-            Class::Number {
-                negative,
-                magnitude,
-                ..
-            } => {
-                if is_small(*negative, *magnitude) {
-                    levels
-                } else {
-                    levels + 1
-                }
-            }
-            _ => 0,
-        }
+        depth_at(self.brackets.levels(), class)
     }
 
     /// Whether a token of this class is a bracket behind a comma.

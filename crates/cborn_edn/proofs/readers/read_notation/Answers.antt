@@ -4,6 +4,7 @@ use Rattle.cborn_model.specs.Tree.{trees}
 use Rattle.cborn_edn.specs.Notates.{IsNoNotation}
 use Rattle.cborn_edn.proofs.Reader.Reading.{no_end, notated, whole_told}
 use Rattle.cborn_edn.proofs.Reader.Underway.{passed_on}
+use Rattle.cborn_edn.proofs.Shaped.Recognised.{notates_nothing}
 use Rattle.cborn_edn.proofs.readers.read_notation.Goals as goal
 
 if_ok : {A E : Type 0} (r : Result A E) (P Q : A → Type 0) → ((x : A) → P x → Q x) → IfOk r P → IfOk r Q
@@ -15,7 +16,7 @@ if_err (Ok x) P Q f h = tt
 if_err (Err e) P Q f h = f e h
 
 pub returns-in_err-state-clause-refused : goal.returns-in_err-state-clause-refused
-returns-in_err-state-clause-refused c = passed_on c.from_residual.result c.in_err-state.field-0.0 (IsNoNotation c.args.profile c.args.limit c.args.text.now) c.in_err-state.ensures.refused c.from_residual.ensures
+returns-in_err-state-clause-refused c = passed_on c.from_residual-in_err-state.result c.in_err-state.field-0.0 (IsNoNotation c.args.profile c.args.limit c.args.text.now) c.in_err-state.ensures.refused c.from_residual-in_err-state.ensures
 
 pub returns-in-Some-clause-notates : goal.returns-in-Some-clause-notates
 returns-in-Some-clause-notates c =
@@ -31,3 +32,7 @@ pub returns-in-None-clause-refused : goal.returns-in-None-clause-refused
 returns-in-None-clause-refused c =
     let p = c.in_ok-state.ensures.parsed in
     rw c.refused.ensures (no_end c.args.profile c.args.limit c.args.text.now p.0 p.1 c.in_ok-state.state p.2 (sym c.in_ok-ended.ensures ∙ c.in-None.is))
+
+pub returns-in_err-recognise-clause-refused : goal.returns-in_err-recognise-clause-refused
+returns-in_err-recognise-clause-refused c =
+    passed_on c.from_residual.result c.in_err-recognise.field-0.0 (IsNoNotation c.args.profile c.args.limit c.args.text.now) (notates_nothing c.args.profile c.args.limit c.args.text.now c.in_err-recognise.field-0.0 c.in_err-recognise.ensures.refused) c.from_residual.ensures

@@ -1,7 +1,7 @@
 use Rattle.std.proofs.Common.{◌≤◌, ◌-◌, List, length}
 use Rattle.cborn_lex.specs.Lex.{Between}
 use Rattle.cborn_lex.specs.declared.classes.Token.{Token}
-use Rattle.cborn_edn.proofs.readers.first_fault.Given as goal
+use Rattle.cborn_edn.proofs.recognisers.first_fault.Given as goal
 
 abbrev pub invariant-tokens : goal.invariant-tokens
 invariant-tokens l = ((ts : List Token) × Between l.fn.profile l.fn.text l.fn.at l.at ts) × (l.at ≤ length l.fn.text)

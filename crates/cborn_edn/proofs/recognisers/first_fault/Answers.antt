@@ -1,7 +1,7 @@
 use Rattle.std.proofs.Common.{subst, ◌∷◌, [], ◌++◌, inl, inr, refl, arith}
 use Rattle.cborn_lex.specs.Lex.{IsNext}
 use Rattle.cborn_lex.proofs.WholeTexts.Progress.{nothing, joins, inside, few, stops}
-use Rattle.cborn_edn.proofs.readers.first_fault.Goals as goal
+use Rattle.cborn_edn.proofs.recognisers.first_fault.Goals as goal
 
 pub tokens-init : goal.tokens-init
 tokens-init c = (([], nothing c.args.profile c.args.text.now c.args.at), c.requires)
