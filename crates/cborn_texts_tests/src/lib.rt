@@ -5,3 +5,5 @@
 mod edn;
 #[cfg(test)]
 mod lex;
+#[cfg(test)]
+mod recognise;
