@@ -58,6 +58,7 @@ build: kit
 
 test:
 	rt ci
+	python3 tests/built.py
 	$(MAKE) tables believed stack vectors growths failures counts cost library-tests dist-tests
 	$(MAKE) --no-print-directory left-out
 
