@@ -77,6 +77,10 @@ def main():
     given = words.parse_args()
     program = str(given.program.resolve())
     if measuring.needs_time():
+        # the gate goes on, and its last line says what it left out
+        if given.memory:
+            print(measuring.needs_time())
+            return 0
         sys.exit(measuring.needs_time())
     bad = []
     with tempfile.TemporaryDirectory() as folder:

@@ -7,8 +7,8 @@ Each command has bounds for each shape of input: for requests, which no tree kee
 for what is held at one time, as a multiple of input and output together, which no reservation by a declared count keeps
 either. refuse.c, which is compiled by $CC or cc, counts.
 
-Left out, since they are known to cost more: texts that are refused for what they mean, and bignums in chunks, both of
-which are read into trees.
+Shapes that are known to ask for more have bounds of their own, by name. Left out, since they cost far more: texts that
+are refused for what they mean, and bignums in chunks, both of which are read into trees.
 """
 import collections
 import os
@@ -26,6 +26,19 @@ OWN, OWN_REQUESTS = 200_000, 600
 MOST = 2.5
 # a map's keys are sorted, or searched for one that is repeated
 MOST_OF_MAPS = 6
+# what is known to hold more: lists of keys, and texts that `show` has written when the input turns out to be refused
+HELD = {
+    "map, first key again": 9,
+    "map, keys that fall": 7.5,
+    "count of 2^64-1 pairs": 11.5,
+    "last byte is a break": 7.5,
+    "last item is too deep": 4.5,
+    "last text isn't UTF-8": 4.5,
+    "array of integers, indefinite": 4,
+    "one string": 3.5,
+}
+# two lists for each map whose keys fall, and of both inputs where they are compared
+REQUESTS = {"maps of two pairs": 810_000}
 
 Counts = collections.namedtuple("Counts", "requests asked held greatest")
 FROM_BYTES = ("normalise", "normalise --to notation", "show", "show --to wire", "check", "compare")
@@ -98,8 +111,8 @@ def excess(name, words, counts, size, status):
     if counts is None or status not in (0, 1, 2):
         yield f"{name}: {words}: status {status}, {counts}"
         return
-    most = MOST_OF_MAPS if name.startswith("map") else MOST
-    if counts.requests > OWN_REQUESTS:
+    most = HELD.get(name, MOST_OF_MAPS if name.startswith("map") else MOST)
+    if counts.requests > REQUESTS.get(name, OWN_REQUESTS):
         yield f"{name}: {words}: {counts.requests} requests"
     for number, what in ((counts.held, "held at one time"), (counts.greatest, "asked for at once")):
         if number > most * size + OWN:

@@ -1,9 +1,8 @@
 #!/usr/bin/env python3
 """Say what of `make test` was left out because its tools aren't there: one line, the last of the gate.
 
-    tools.py            the line
-    tools.py --missing  the Debian packages that would bring what is missing, one a line; those without which the gate
-                        can't run at all come behind the word 'needed'
+    tools.py            the line, with the packages that would bring what is missing
+    tools.py --needed   the Debian packages that bring what is missing and without which the gate can't run at all
 """
 import importlib.util
 import os
@@ -15,9 +14,9 @@ JNA = "/usr/share/java/jna.jar"
 NEEDED = {
     "the C compiler": (("cc", "ar", "ld", "objcopy"), ("gcc", "binutils")),
     "the tests in Python": (("python3",), ("python3",)),
-    "the cost of memory": (("time",), ("time",)),
 }
 OPTIONAL = {
+    "the cost of memory": (("time",), ("time",)),
     "the Rust crate": (("cargo", "rustc"), ("cargo", "rustc")),
     "the archive from C by its name": (("pkg-config",), ("pkg-config",)),
     "the archive from Python": (("pip",), ("python3-pip",)),
@@ -41,12 +40,10 @@ def missing(what):
 
 
 def main():
-    if sys.argv[1:] == ["--missing"]:
-        for word, what in (("needed", NEEDED), ("optional", OPTIONAL)):
-            for _, _, packages in missing(what):
-                print("\n".join(f"{word} {package}" for package in packages))
+    if sys.argv[1:] == ["--needed"]:
+        print(" ".join(package for _, _, packages in missing(NEEDED) for package in packages))
         return 0
-    left_out = [f"{name} (no {', '.join(tools)})" for name, tools, _ in missing({**NEEDED, **OPTIONAL})]
+    left_out = [f"{name} (no {', '.join(tools)}: {' '.join(packages)})" for name, tools, packages in missing({**NEEDED, **OPTIONAL})]
     print(f"LEFT OUT: {'; '.join(left_out)}" if left_out else "nothing was left out")
     return 0
 
