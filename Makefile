@@ -9,7 +9,7 @@ PASSES := cborn_passes_tests cborn_transcode cborn_show
 STACK ?= 256
 
 # The size in MB of the inputs whose cost in memory is tested.
-COST ?= 4
+COST ?= 8
 
 .PHONY: help try build test check-quick layout tables vectors growths failures counts cost left-out believed stack big library-growths bench install clean
 
