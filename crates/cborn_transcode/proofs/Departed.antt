@@ -20,7 +20,6 @@ use Rattle.cborn_judge.specs.Departures.{FindsDefect}
 use Rattle.cborn_judge.specs.devices.Checked.{DefectIn, DefectAmong}
 use Rattle.cborn_judge.specs.Defects.{defect_rank, IsLong, HasLongChunk, DefectAt}
 use Rattle.cborn_judge.specs.Flaws.{Within}
-use Rattle.cborn_judge.specs.declared.defects.Defect.{Defect}
 use Rattle.cborn_judge.specs.declared.defects.DefectReason.{DefectReason}
 use Rattle.cborn_judge.specs.declared.defects.DefectReason.TheVariants.{LongHead, EndlessLength, LooseBignum, KeyOrder}
 use Rattle.cborn_judge.proofs.Meaning.Placing.{defect_within}

@@ -1,5 +1,5 @@
 -- A walk over the pairs of a map, that stops at the first departure.
-use Rattle.std.proofs.Common.{◌≡◌, ◌≢◌, ◌^◌, ℕ, suc, ◌+◌, ◌-◌, ◌<◌, ◌≤◌, ◌⊎◌, inl, inr, List, [], ◌++◌, length, refl, sym, ap, ◌∙◌, subst, arith, append_assoc, append-nil, length-append, Option, None, Some, Bor, Ordering, Less}
+use Rattle.std.proofs.Common.{◌≡◌, ◌≢◌, ◌^◌, ℕ, suc, ◌+◌, ◌-◌, ◌<◌, ◌≤◌, ◌⊎◌, inl, inr, List, ◌++◌, length, refl, sym, ap, ◌∙◌, subst, arith, append_assoc, append-nil, length-append, Option, None, Some, Bor, Ordering}
 use Rattle.std.specs.Prelude.{◌↔◌}
 use Rattle.std.proofs.Math.Nat.{eq-or-lt_of_le}
 use Rattle.cborn_model.specs.First.{NoLater}
@@ -10,7 +10,7 @@ use Rattle.cborn_model.specs.Heads.{Given, head, WidthFits, least}
 use Rattle.cborn_model.specs.Meaning.{Means, EntriesMean}
 use Rattle.cborn_model.specs.Orders.{IsKeyOrder}
 use Rattle.cborn_model.specs.Placed.{Placed, PlacedEntries}
-use Rattle.cborn_model.specs.Spelled.{spelled, spelled_entries, Fits}
+use Rattle.cborn_model.specs.Spelled.{spelled, spelled_entries}
 use Rattle.cborn_model.specs.Tree.{Tree, Pairs, Entries, no_entry, entry, count_entries, place}
 use Rattle.cborn_model.specs.Valid.{IsProper}
 use Rattle.cborn_model.specs.Value.{Value, Couples, no_pairs, pair}
@@ -29,7 +29,7 @@ use Rattle.cborn_judge.specs.declared.defects.DefectReason.TheVariants.{LongHead
 use Rattle.cborn_judge.proofs.FirstDefect.Departing.{alike}
 use Rattle.cborn_judge.proofs.Meaning.Meanings.{means_once, meaning_valid, some_bytes}
 use Rattle.cborn_judge.proofs.Meaning.Placing.{defect_within}
-use Rattle.cborn_transcode.specs.devices.Departing.{Stands, PairsStand, Clears, Stops, StopsBehind, IsBelowKey, Falls, DefectOn, LeadsPairs, IsFallen, IsAbove, IsNotAbove}
+use Rattle.cborn_transcode.specs.devices.Departing.{Stands, PairsStand, Stops, StopsBehind, IsBelowKey, Falls, DefectOn, LeadsPairs, IsFallen, IsAbove, IsNotAbove}
 use Rattle.cborn_transcode.specs.devices.Walking.{ItemWalked}
 use Rattle.cborn_transcode.proofs.Departed.{low_entries}
 use Rattle.cborn_transcode.proofs.Departing.{width_of, number_of, coded, item_clears}

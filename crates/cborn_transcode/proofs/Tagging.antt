@@ -1,18 +1,18 @@
 -- A walk under a tag, that stops at the first departure.
-use Rattle.std.proofs.Common.{◌≡◌, ◌≢◌, ◌⊎◌, ℕ, suc, ◌+◌, ◌-◌, ◌<◌, ◌≤◌, inl, inr, List, [], ◌++◌, length, refl, sym, ap, ◌∙◌, subst, arith, length-append, Option, None, Some, Ordering}
+use Rattle.std.proofs.Common.{◌≡◌, ◌≢◌, ◌⊎◌, ℕ, ◌+◌, ◌-◌, ◌≤◌, inl, inr, List, [], ◌++◌, length, refl, sym, ap, ◌∙◌, subst, arith, length-append, Option, None, Some, Ordering}
 use Rattle.std.specs.Prelude.{◌↔◌, IsTrue, true, false}
 use Rattle.cborn_model.specs.declared.heads.Major.{Major}
 use Rattle.cborn_model.specs.declared.heads.Major.TheVariants.{ByteString, Tag}
 use Rattle.cborn_model.specs.declared.heads.Width.{Width}
-use Rattle.cborn_model.specs.Heads.{Given, head, head_bytes, WidthFits, least}
+use Rattle.cborn_model.specs.Heads.{Given, head, WidthFits, least}
 use Rattle.cborn_model.specs.Meaning.{IsByteString, Means}
 use Rattle.cborn_model.specs.Placed.{Placed}
 use Rattle.cborn_model.specs.Tree.{Tree, Bytes, ByteChunks, Tagged}
 use Rattle.cborn_model.specs.Value.{Value, bytes}
 use Rattle.cborn_det.specs.Det.{Det}
-use Rattle.cborn_judge.specs.Departures.{FindsDefect, LongAt}
-use Rattle.cborn_judge.specs.devices.Checked.{DefectIn, LooseAt, TagDefect}
-use Rattle.cborn_judge.specs.Defects.{defect_rank, IsLoose}
+use Rattle.cborn_judge.specs.Departures.{FindsDefect}
+use Rattle.cborn_judge.specs.devices.Checked.{DefectIn, TagDefect}
+use Rattle.cborn_judge.specs.Defects.{defect_rank}
 use Rattle.cborn_judge.specs.declared.defects.Defect.{Defect}
 use Rattle.cborn_judge.specs.declared.defects.DefectReason.{DefectReason}
 use Rattle.cborn_judge.specs.declared.defects.DefectReason.TheVariants.{LooseBignum}

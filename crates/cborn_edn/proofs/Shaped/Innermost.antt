@@ -1,5 +1,5 @@
 -- Open brackets by their kinds, the innermost first.
-use Rattle.std.proofs.Common.{◌≡◌, refl, sym, ap, ◌∙◌, ◌≤◌, ◌<◌, ◌-◌, ℕ, suc, List, [], ◌∷◌, ◌++◌, length, arith}
+use Rattle.std.proofs.Common.{◌≡◌, List, [], ◌∷◌, ◌++◌, length}
 use mathlib.Core.List.{reverse}
 use Rattle.std.proofs.lemmas.List.{reverse-append, length-reverse}
 use Rattle.cborn_edn.specs.declared.shapes.Level.{Level}

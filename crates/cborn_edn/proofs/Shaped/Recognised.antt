@@ -1,6 +1,6 @@
 -- A text that is taken up to some place, by the shape of what is open.
-use Rattle.std.proofs.Common.{◌≡◌, refl, sym, ap, ◌∙◌, subst, ℕ, ◌≤◌, ◌<◌, List, [], ◌∷◌, ◌++◌, length, Bool, true, false, cond, leb, Option, Some, None, append_assoc, arith, ◌⊎◌, inl, inr}
-use Rattle.std.proofs.lemmas.Bool.{leb-true, le-leb, lt-leb}
+use Rattle.std.proofs.Common.{◌≡◌, refl, sym, ap, ◌∙◌, subst, ℕ, List, [], ◌∷◌, ◌++◌, length, Bool, true, false, cond, leb, Option, Some, None, append_assoc, arith, ◌⊎◌, inl, inr}
+use Rattle.std.proofs.lemmas.Bool.{le-leb, lt-leb}
 use Rattle.cborn_lex.specs.Lex.{Lex, Between, IsStopAt, IsStopFrom}
 use Rattle.cborn_lex.specs.declared.classes.Profile.{Profile}
 use Rattle.cborn_lex.specs.declared.classes.Token.{Token}
@@ -20,7 +20,7 @@ use Rattle.cborn_edn.specs.devices.Shapes.{shape_step, first_shape, is_whole, Ta
 use Rattle.cborn_edn.proofs.Grammar.Machine.{State, start, step}
 use Rattle.cborn_edn.proofs.Grammar.Takes.{finish}
 use Rattle.cborn_edn.proofs.Grammar.Held.{open_levels}
-use Rattle.cborn_edn.proofs.Grammar.Parser.{Answer, Whole, Jams, at_end, checked, parse, Meets, parses}
+use Rattle.cborn_edn.proofs.Grammar.Parser.{Answer, Jams, at_end, checked, parse, Meets, parses}
 use Rattle.cborn_edn.proofs.Shaped.ShapeSteps.{shape, shape_option, shape_count, shape_steps, whole_same, is_some}
 
 -- the tokens up to a place lead to a state of this shape

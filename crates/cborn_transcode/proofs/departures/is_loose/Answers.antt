@@ -1,4 +1,4 @@
-use Rattle.std.proofs.Common.{◌≡◌, List, ℕ, [], refl, sym, subst, Option, None, Some, ◌∙◌, ap}
+use Rattle.std.proofs.Common.{◌≡◌, List, ℕ, [], refl, sym, subst, Option, None, Some}
 use Rattle.std.specs.Prelude.{◌↔◌, IsTrue}
 use Rattle.std.specs.Option.{is_some}
 use Rattle.cborn_judge.specs.Defects.{IsLoose}

@@ -7,7 +7,7 @@ use Rattle.cborn_transcode.proofs.Departing.{array_stops, item_clears, leads_fir
 use Rattle.cborn_transcode.proofs.Falling.{map_stops, pairs_first, pairs_more, stops_in_key, stops_before_key, stops_at_key, stops_in_value}
 use Rattle.cborn_transcode.proofs.Tagging.{tag_stops}
 use Rattle.cborn_transcode.proofs.Telling.{tell, tell_on, tell_both, told_both, walks_from}
-use Rattle.cborn_transcode.proofs.Walking.{walked_from, array_walked, map_walked, tagged_walked, bignum_walked, items_none, items_more, pairs_start, pairs_on, leaf_walked, item_last, item_within}
+use Rattle.cborn_transcode.proofs.Walking.{array_walked, map_walked, tagged_walked, bignum_walked, items_none, items_more, pairs_start, pairs_on, leaf_walked, item_last, item_within}
 use Rattle.cborn_transcode.proofs.walks.+walked.Goals as goal
 
 pub walk_item-returns-in_default : goal.walk_item-returns-in_default

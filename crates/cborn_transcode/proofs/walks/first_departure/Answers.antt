@@ -1,5 +1,4 @@
-use Rattle.std.proofs.Common.{◌≡◌, ◌+◌, ◌-◌, ◌^◌, ◌<◌, ◌≤◌, ℕ, length, length-append, ap, arith, rules, subst, sym}
-use Rattle.cborn_judge.specs.declared.defects.Defect.{Defect}
+use Rattle.std.proofs.Common.{◌≡◌, ◌+◌, ◌-◌, ◌^◌, ◌<◌, ◌≤◌, length, length-append, ap, arith, rules}
 use Rattle.cborn_transcode.specs.devices.Departing.{Stops, Tells}
 use Rattle.cborn_transcode.specs.devices.Walking.{Leaves, ItemWalked}
 use Rattle.cborn_transcode.specs.Departing.{IsFirstDefectOfItems}
