@@ -29,9 +29,10 @@ build/libcborn.a: build/cborn.o
 	rm -f $@
 	ar rcsD $@ build/cborn.o
 
+# no symbolic link: rt refuses a repository that holds one
 build/libcborn.so: build/cborn.o
 	$(CC) -shared -nostartfiles -Wl,-soname,$(SONAME) -Wl,-z,defs -Wl,-z,relro,-z,now -Wl,--build-id=none -s -o build/$(SONAME) build/cborn.o
-	ln -sf $(SONAME) $@
+	ln -f build/$(SONAME) $@
 
 build/cborn.pc: bindings/cborn.pc.in bindings/library.mk
 	mkdir -p build
@@ -77,6 +78,7 @@ dist: build library
 	python3 bindings/python/make_wheel.py $(VERSION) build/$(SONAME) build/$(DIST)/python/$(WHEEL)
 	rt version > build/$(DIST)/PROVED-WITH
 	cd build && tar --sort=name --format=ustar --owner=0 --group=0 --numeric-owner --mode=u=rwX,go=rX --mtime=@0 -cf - $(DIST) | gzip -9n > $(DIST).tar.gz
+	rm -rf build/$(DIST)
 	sha256sum build/$(DIST).tar.gz
 
 .PHONY: dist-tests
