@@ -17,7 +17,7 @@ help:
 	@echo 'make try        run the program from its source, before any proof: ARGS="check FILE", or seven bytes as an example'
 	@echo 'make build      prove every crate and build the program, $(PROGRAM)'
 	@echo 'make test       the merge gate from nothing, then make tables, believed, stack, vectors, growths, failures, counts, cost, library-tests and dist-tests, and which of it was left out'
-	@echo 'make check-quick   while you change something: proves what changed, then make layout, tables and believed, in minutes'
+	@echo 'make check-quick   while you change something: proves what changed, then make layout, tables and believed'
 	@echo 'make layout     whether each file of the crates is in the layout of rt fmt'
 	@echo 'make tables     the built program on the tables of tests/, and the examples of the documents'
 	@echo 'make vectors    the built program on each front of each worked input'
