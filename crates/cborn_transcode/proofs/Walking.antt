@@ -1,7 +1,7 @@
 -- Items that stand as they are encoded.
 use Rattle.std.proofs.Common.{◌≡◌, ◌≢◌, ℕ, ◌+◌, ◌-◌, ◌⊎◌, ◌<◌, ◌≤◌, List, [], ◌∷◌, ◌++◌, length, take, drop, drop_at, IsPermutation, Bool, true, false, refl, sym, ap, ◌∙◌, subst, arith, append_assoc, append-nil, length-append, Option, Some, None, Bor, Ordering, Equal}
 use Rattle.std.specs.Prelude.{IfSome, IsTrue}
-use Rattle.std.proofs.lemmas.List.{map-append, take-append-drop, length-take-le, length-drop}
+use Rattle.std.proofs.lemmas.List.{append_cancel_right, map-append, take-append-drop, length-take-le, length-drop}
 use Rattle.std.proofs.lemmas.List.Sorted.{IsPermutation-refl}
 use Rattle.cborn_model.specs.declared.heads.Width.{Width}
 use Rattle.cborn_model.specs.Bytes.{AreBytes, IsShortest}
@@ -304,6 +304,12 @@ leaving (Some n) f h = (h.0, h.1, f h.0 h.2)
 module _ (order : List ℕ → List ℕ → Ordering) (room : ℕ) where
   pub item_last : (input x : List ℕ) (len : ℕ) → (s : Leaves (ItemWalked order room input) len) → IsLast input len x → ItemWalked order room input x
   item_last input x len s l = subst (ItemWalked order room input) (same_last input s.0 x len s.1 s.2.front s.2.read l) s.2
+
+  -- the bytes before the last are the item
+  pub item_before : (input front rest : List ℕ) (len : ℕ) → Leaves (ItemWalked order room input) len → input ≡ front ++ rest → IsLast input len rest → ItemTranscoded order room input rest [] front
+  item_before input front rest len s e l =
+      let walked = item_last input rest len s l in
+      subst (ItemTranscoded order room input rest []) (append_cancel_right walked.front front rest (sym walked.read ∙ e)) walked.item
 
   pub item_within : (input : List ℕ) (len : ℕ) → Leaves (ItemWalked order room input) len → len ≤ length input
   item_within input len s = left_within input s.0 s.2.front len s.1 s.2.read

@@ -48,4 +48,4 @@ mod walks;
 
 pub use departures::Departure;
 pub use passes::{transcode, transcode_item};
-pub use walks::{first_departure, is_deterministic};
+pub use walks::{first_departure, is_deterministic, split_item};

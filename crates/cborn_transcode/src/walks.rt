@@ -1,10 +1,10 @@
 //! A walk over bytes up to their first departure from the deterministic encoding: nothing is
 //! written, and nothing is kept but the key before.
 
-ghost use Rattle.std.specs.Prelude.{◌≡◌, ◌≤◌, ℕ, [], length, IsTrue};
+ghost use Rattle.std.specs.Prelude.{◌≡◌, ◌≤◌, ◌++◌, ℕ, [], length, IsTrue, IfSome};
 ghost use Rattle.cborn_model.specs.declared.heads.Major.TheVariants.{Array, Map, Tag};
 ghost use Rattle.cborn_transcode.specs.Departing.{IsFirstDeparture};
-ghost use Rattle.cborn_transcode.specs.Transcoding.{IsTranscoded};
+ghost use Rattle.cborn_transcode.specs.Transcoding.{ItemTranscoded, IsTranscoded};
 ghost use Rattle.cborn_transcode.specs.devices.Departing.{Walks, WalksBehind};
 
 use crate::departures::{Departure, Walked, bignum_departure, head_departure, key_departure};
@@ -56,6 +56,20 @@ pub fn first_departure<O: KeyOrder>(alloc: Global, limit: Limit, bytes: &[u8]) -
         return Departure::Unknown;
     }
     Departure::Deterministic
+}
+
+/// The item at the front of the bytes, which is its own deterministic encoding, no deeper than
+/// `limit`, the keys of maps in the order `O` (RFC 8949 section 4.2); and what follows it, which
+/// isn't looked at. None promises nothing: the item may depart from that encoding, or there may be
+/// none.
+pub fn split_item<O: KeyOrder>(alloc: Global, limit: Limit, bytes: &[u8]) -> Option<(&[u8], &[u8])>
+    ensures parts { IfSome result (λ r. bytes.now ≡ r.0.now ++ r.1.now) }
+    ensures item { IfSome result (λ r. ItemTranscoded O.order limit bytes.now r.1.now [] r.0.now) }
+{
+    let Walked::Behind(behind) = walk_item::<O>(alloc, limit.get(), bytes) else {
+        return None;
+    };
+    Some(split_before(bytes, behind))
 }
 
 /// How many bytes follow the item at the front, which is no deeper than `room`, or where it first
