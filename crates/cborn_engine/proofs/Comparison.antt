@@ -1,4 +1,3 @@
--- What is answered where two inputs are compared, item by item or by their encodings.
-pub mod Differing
+-- What is answered where two inputs are compared by their encodings.
 pub mod Apart
 pub mod Compared

@@ -1,4 +1,3 @@
-pub mod Defects
 pub mod Encoding
 pub mod Pieces
 pub mod Sending

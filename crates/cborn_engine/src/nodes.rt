@@ -19,7 +19,7 @@ use cborn_edn::read_notation;
 use cborn_judge::Invalid;
 use cborn_lex::Profile;
 use cborn_model::{Limit, Spelled};
-use cborn_search::first_flaw;
+use cborn_search::{Validity, first_flaw};
 use cborn_wire::{WireFault, read_all, scan};
 use std::alloc::{AllocError, Global};
 
@@ -79,7 +79,7 @@ pub fn unjudged_nodes(
         if let Some((place, reason)) = scan(limit, input) {
             return Err(EngineFault::Wire(WireFault::Refused { place, reason }));
         }
-        if let Some(Some((place, reason))) = first_flaw(alloc, limit, input) {
+        if let Validity::Flaw { place, reason } = first_flaw(alloc, limit, input) {
             return Err(EngineFault::Invalid(Invalid::Refused { place, reason }));
         }
     }

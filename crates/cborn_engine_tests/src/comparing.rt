@@ -5,6 +5,8 @@ use cborn_judge::{Defect, DefectReason};
 use cborn_model::{Bytewise, LengthFirst, Limit};
 use std::test::Fail;
 
+/// The walk over two answers goes through each form that a deterministic encoding has: one that it
+/// gave up on would be told as want of memory.
 #[test]
 fn comparisons(rt: HostRuntime) -> Result<(), Fail> {
     let cases = [
@@ -22,6 +24,21 @@ fn comparisons(rt: HostRuntime) -> Result<(), Fail> {
         (
             b"\xa2\x01\x9f\x02\xff\x03\x04".as_slice(),
             b"\xa2\x03\x04\x01\x81\x02\x0a".as_slice(),
+            Some(1),
+        ),
+        (
+            b"\xc2\x49\x01\x00\x00\x00\x00\x00\x00\x00\x00\xf8\xff\x00".as_slice(),
+            b"\xc2\x5f\x42\x00\x01\x48\x00\x00\x00\x00\x00\x00\x00\x00\xff\xf8\xff".as_slice(),
+            Some(2),
+        ),
+        (
+            b"\xc1\x1a\x51\x4b\x67\xb0\x62\xc3\xbc\xa1\x61\x61\x82\x02\x03\x44\x01\x02\x03\x04\xf6".as_slice(),
+            b"\xc1\x1a\x51\x4b\x67\xb0\x62\xc3\xbc\xa1\x61\x61\x82\x02\x03\x44\x01\x02\x03\x04\xf7".as_slice(),
+            Some(4),
+        ),
+        (
+            b"\x81\x81\x81\x00\xa1\xa1\x01\x02\x03".as_slice(),
+            b"\x81\x81\x81\x00\xa1\xa1\x01\x02\x04".as_slice(),
             Some(1),
         ),
     ];
@@ -104,6 +121,17 @@ fn defects(rt: HostRuntime) -> Result<(), Fail> {
         (b"\x00\x18\x01".as_slice(), long_head(1), long_head(1)),
         (b"\xd8\x18\x00".as_slice(), None, None),
         (b"\xf8\xff".as_slice(), None, None),
+        // a bignum in chunks within a key, and a key of which it is a part
+        (
+            b"\xa1\xc2\x5f\x41\x01\xff\x00".as_slice(),
+            loose(1),
+            loose(1),
+        ),
+        (
+            b"\xa2\x82\x01\xc3\x5f\x40\xff\x00\x00\x00".as_slice(),
+            loose(3),
+            loose(3),
+        ),
     ];
     for (input, bytewise, length_first) in cases {
         let mut bytes = Bytes::new(input, 1);

@@ -2,13 +2,13 @@
 
 use cborn_judge::InvalidReason;
 use cborn_model::Limit;
-use cborn_search::first_flaw;
+use cborn_search::{Validity, first_flaw};
 
 /// Where, and why. Each row would catch a walk that tells a flaw too late or at the wrong head, or
 /// that misses a repeated key in one of the forms in which it may be written.
 #[test]
 fn tells_the_first_flaw(rt: HostRuntime) {
-    let cases: [(&[u8], u64, InvalidReason); 18] = [
+    let cases: [(&[u8], u64, InvalidReason); 19] = [
         (&[0x62, 0xc3, 0x28], 0, InvalidReason::NotUtf8),
         (
             &[0x7f, 0x61, 0xc3, 0x61, 0xbc, 0xff],
@@ -27,6 +27,12 @@ fn tells_the_first_flaw(rt: HostRuntime) {
         (
             &[0, 0xa2, 1, 0, 0xc2, 0x41, 1, 0],
             4,
+            InvalidReason::DuplicateKey,
+        ),
+        // and as one in chunks
+        (
+            &[0xa2, 1, 0, 0xc2, 0x5f, 0x40, 0x41, 1, 0xff, 0],
+            3,
             InvalidReason::DuplicateKey,
         ),
         // with a longer head
@@ -71,7 +77,7 @@ fn tells_the_first_flaw(rt: HostRuntime) {
     ];
     for (bytes, place, reason) in cases {
         let found = first_flaw(rt.alloc(), Limit::USUAL, bytes);
-        assert!(rt; found == Some(Some((place, reason))), "{bytes:?}");
+        assert!(rt; found == Validity::Flaw { place, reason }, "{bytes:?}");
     }
 }
 
@@ -79,7 +85,7 @@ fn tells_the_first_flaw(rt: HostRuntime) {
 /// that aren't.
 #[test]
 fn finds_no_flaw(rt: HostRuntime) {
-    let cases: [&[u8]; 16] = [
+    let cases: [&[u8]; 18] = [
         &[],
         &[0, 0x20, 0xf4, 0xf8, 0xff],
         &[0x18, 0x01],
@@ -95,17 +101,22 @@ fn finds_no_flaw(rt: HostRuntime) {
         &[0xbf, 0x61, 0x7a, 1, 0x0a, 0x5f, 0x41, 1, 0xff, 0xff],
         &[0xa2, 0xa2, 1, 2, 3, 4, 0, 0xa2, 3, 4, 1, 5, 0],
         &[0xa2, 0x80, 0, 0xa0, 0],
+        &[0xa1, 0xc2, 0x5f, 0x41, 1, 0xff, 0],
+        // keys of which the first four bytes are the same, out of order
+        &[
+            0xa3, 0x45, 1, 1, 1, 1, 2, 0, 0x45, 1, 1, 1, 1, 1, 0, 0x43, 1, 1, 1, 0,
+        ],
         &[0x9f, 0xa1, 1, 0, 0xa1, 1, 0, 0xff],
     ];
     for bytes in cases {
         let found = first_flaw(rt.alloc(), Limit::USUAL, bytes);
-        assert!(rt; found == Some(None), "{bytes:?}");
+        assert!(rt; found == Validity::Valid, "{bytes:?}");
     }
 }
 
-/// What isn't well-formed, or too deep, has no answer here.
+/// Of what isn't well-formed, or too deep, nothing is known here.
 #[test]
-fn answers_none(rt: HostRuntime) {
+fn knows_nothing(rt: HostRuntime) {
     let cases: [&[u8]; 8] = [
         &[0x18],
         &[0x61],
@@ -121,6 +132,6 @@ fn answers_none(rt: HostRuntime) {
             return;
         };
         let found = first_flaw(rt.alloc(), limit, bytes);
-        assert!(rt; found.is_none(), "{bytes:?}");
+        assert!(rt; found == Validity::Unknown, "{bytes:?}");
     }
 }

@@ -1,5 +1,5 @@
 -- What a search of a whole input answers.
-use Rattle.std.specs.Prelude.{ℕ, List, Option, None, Some}
+use Rattle.std.specs.Prelude.{ℕ, List, Option, None, Some, ⊤}
 use Rattle.std.specs.List.{AllZip}
 use Rattle.cborn_model.specs.Meaning.{Means}
 use Rattle.cborn_model.specs.Placed.{PlacedAll}
@@ -9,6 +9,8 @@ use Rattle.cborn_model.specs.Value.{Value}
 use Rattle.cborn_judge.specs.Flaws.{IsRefusalOfAll}
 use Rattle.cborn_judge.specs.declared.faults.Invalid.TheVariants.{Refused}
 use Rattle.cborn_search.specs.Flawed.{Told}
+use Rattle.cborn_search.specs.declared.sequences.Validity.{Validity}
+use Rattle.cborn_search.specs.declared.sequences.Validity.TheVariants.{Valid, Flaw, Unknown}
 
 -- each node means an item, or the first that means nothing has this first flaw
 abbrev pub FlawVerdict : List Tree → Option Told → Type 0
@@ -21,3 +23,9 @@ pub record IsFirstFlawOf (limit : ℕ) (input : List ℕ) (flaw : Option Told) :
   pub read : Wellformed limit (trees nodes) input
   pub placed : PlacedAll 0 (trees nodes)
   pub verdict : FlawVerdict nodes flaw
+
+-- each item that the bytes spell means something; or this is the first flaw of the first that doesn't; or nothing is known
+abbrev pub IsValidity : ℕ → List ℕ → Validity → Type 0
+IsValidity limit input Valid = IsFirstFlawOf limit input None
+IsValidity limit input (Flaw place reason) = IsFirstFlawOf limit input (Some (place, reason))
+IsValidity limit input Unknown = ⊤

@@ -261,7 +261,7 @@ fn scan_pairs<'a>(
         let middle = scan_item(maps, room, total, rest, found)?;
         map.take_key(maps.alloc(), total, rest, middle, found)?;
         rest = scan_item(maps, room, total, middle, found)?;
-        map.take_value(found);
+        map.note(found.flaw);
         count += 1;
     }
     map.conclude(found)?;

@@ -68,6 +68,9 @@ pub(crate) fn string_at(n: u64, bytes: &[u8]) -> Option<(&[u8], &[u8])>
 pub(crate) fn text_flaw(place: u64, bytes: &[u8]) -> Option<(u64, InvalidReason)>
     ensures { FindsTold (TextFlaw place bytes.now) result }
 {
+    if bytes.is_ascii() {
+        return None;
+    }
     match simdutf8::compat::from_utf8(bytes) {
         Ok(_) => None,
         Err(_) => Some((place, InvalidReason::NotUtf8)),

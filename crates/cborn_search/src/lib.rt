@@ -2,7 +2,7 @@
 //!
 //! [`first_flaw`] tells why bytes that are well-formed hold no items, or that they do. It goes
 //! through the bytes once, writes nothing, and keeps no more than the encodings of the keys of the
-//! maps that it is in. Where it answers none, the reader and the judge, which keep trees, answer.
+//! maps that it is in.
 //!
 //! A reader of the definitions starts at `specs/Searching.antt`.
 #![tactic(auto)]
@@ -14,4 +14,4 @@ mod scanned_maps;
 mod sequences;
 mod told;
 
-pub use sequences::first_flaw;
+pub use sequences::{Validity, first_flaw};

@@ -55,17 +55,19 @@ impl ScannedMap {
         ensures { OnSome result (TakesKey total bytes.now rest.now found.now.flaw self.old.keys self.new.keys × IsEarliestTold self.old.first found.now.flaw self.new.first) }
     {
         self.keys.take(alloc, total, bytes, rest, found.flaw)?;
-        self.first = earliest(self.first, found.flaw);
+        self.note(found.flaw);
         Some(())
     }
 
-    /// Takes in a value of which this was found.
-    #[inline(never)]
-    pub(crate) fn take_value(&mut self, found: &Finding)
+    /// Takes in the flaw of a key or of a value, which has none as a rule.
+    #[inline(always)]
+    pub(crate) fn note(&mut self, flaw: Option<(u64, InvalidReason)>)
         ensures keys { self.new.keys ≡ self.old.keys }
-        ensures first { IsEarliestTold self.old.first found.now.flaw self.new.first }
+        ensures first { IsEarliestTold self.old.first flaw self.new.first }
     {
-        self.first = earliest(self.first, found.flaw);
+        if flaw.is_some() {
+            self.first = earliest(self.first, flaw);
+        }
     }
 
     /// Tells the first flaw of the map. None promises nothing.

@@ -1,7 +1,6 @@
 //! The first flaw of a whole input.
 
-ghost use Rattle.std.specs.Prelude.{IfSome};
-ghost use Rattle.cborn_search.specs.Searching.{IsFirstFlawOf};
+ghost use Rattle.cborn_search.specs.Searching.{IsValidity};
 
 use crate::flaws::scan_item;
 use crate::scanned_maps::SpareMaps;
@@ -10,15 +9,30 @@ use cborn_judge::InvalidReason;
 use cborn_model::Limit;
 use std::alloc::Global;
 
-/// The first flaw of the first item of the bytes that means nothing: the offset of the string,
-/// chunk, tag or key in bytes, and why (RFC 8949 sections 3.1, 3.4.3 and 5.6). No flaw: each item
-/// means something.
+/// Whether each of the items that bytes spell means something (RFC 8949 section 5.3.1).
+#[derive(Clone, Copy, PartialEq, Eq, Debug)]
+pub enum Validity {
+    /// Each does.
+    Valid,
+    /// The first flaw of the first that doesn't.
+    Flaw {
+        /// The offset in bytes of the string, chunk, tag or key, from the start of the input.
+        place: u64,
+        /// Why it means nothing.
+        reason: InvalidReason,
+    },
+    /// Nothing is promised: the bytes aren't well-formed, or memory was refused.
+    Unknown,
+}
+
+/// The first flaw of the first item of the bytes that means nothing (RFC 8949 sections 3.1, 3.4.3
+/// and 5.6); or that each item means something.
 ///
-/// It takes memory only for the keys of maps. It answers none where the bytes aren't well-formed
+/// It takes memory only for the keys of maps. Nothing is known where the bytes aren't well-formed
 /// under the limit, where memory was refused, and where a key holds what `cborn_transcode` doesn't
 /// encode.
-pub fn first_flaw(alloc: Global, limit: Limit, bytes: &[u8]) -> Option<Option<(u64, InvalidReason)>>
-    ensures { IfSome result (λ flaw. IsFirstFlawOf limit bytes.now flaw) }
+pub fn first_flaw(alloc: Global, limit: Limit, bytes: &[u8]) -> Validity
+    ensures { IsValidity limit bytes.now result }
 {
     let total = bytes.len() as u64;
     let room = limit.get();
@@ -33,11 +47,17 @@ pub fn first_flaw(alloc: Global, limit: Limit, bytes: &[u8]) -> Option<Option<(u
         if rest.is_empty() {
             break;
         }
-        rest = scan_item(&mut maps, room, total, rest, &mut found)?;
+        let Some(behind) = scan_item(&mut maps, room, total, rest, &mut found) else {
+            return Validity::Unknown;
+        };
+        rest = behind;
         first = first.or(found.flaw);
     }
     if !rest.is_empty() {
-        return None;
+        return Validity::Unknown;
     }
-    Some(first)
+    match first {
+        Some((place, reason)) => Validity::Flaw { place, reason },
+        None => Validity::Valid,
+    }
 }

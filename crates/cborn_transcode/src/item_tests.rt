@@ -1,58 +1,60 @@
-//! The pass over one item answers, and takes no more than that item.
+//! The walk over one item tells where it ends, and takes no more than that item.
 
-use crate::transcode_item;
+use crate::split_item;
 use cborn_model::{Bytewise, KeyOrder, LengthFirst, Limit};
 use std::alloc::Global;
 use std::process::Abort;
 use std::test::Fail;
 
-/// Behind what stands in the buffer comes `want`, and `rest` is left.
-fn takes<O: KeyOrder>(
+/// Of the item before `rest` it gives the bytes, and leaves `rest`.
+fn splits<O: KeyOrder>(
     rt: &impl Abort,
     alloc: Global,
-    bytes: &[u8],
-    want: &[u8],
+    item: &[u8],
     rest: &[u8],
 ) -> Result<(), Fail> {
-    let mut out = Vec::from_slice(alloc, b"\x07")?;
-    let left = transcode_item::<O>(alloc, Limit::USUAL, bytes, &mut out);
-    assert_eq!(rt; left, Some(rest), "{bytes:?}");
-    assert_eq!(rt; &out[..1], b"\x07".as_slice());
-    assert_eq!(rt; &out[1..], want, "{bytes:?}");
+    let mut bytes = Vec::from_slice(alloc, item)?;
+    bytes.extend_from_slice(rest)?;
+    let parts = split_item::<O>(alloc, Limit::USUAL, &bytes);
+    assert_eq!(rt; parts, Some((item, rest)), "{bytes:?}");
     Ok(())
 }
 
-/// Arrays of the standard's examples (RFC 8949 appendix A), before more bytes, which may be no
-/// item. A pass that answers nothing, takes all items, or forgets what the buffer held shows here.
+/// Examples of the standard (RFC 8949 appendix A), before more bytes, which may be no item. A walk
+/// that answers nothing, or that takes all items for one, shows here.
 #[test]
-fn takes_one_item(rt: HostRuntime) -> Result<(), Fail> {
+fn splits_one_item(rt: HostRuntime) -> Result<(), Fail> {
     let alloc = rt.alloc();
-    takes::<Bytewise>(&rt, alloc, b"\x18\x18\x00", b"\x18\x18", b"\x00")?;
-    takes::<Bytewise>(
+    splits::<Bytewise>(&rt, alloc, b"\x18\x18", b"\x00")?;
+    splits::<Bytewise>(&rt, alloc, b"\x83\x01\x02\x03", b"\xff")?;
+    splits::<Bytewise>(&rt, alloc, b"\x62\xc3\xbc", b"")?;
+    splits::<Bytewise>(&rt, alloc, b"\xf8\xff", b"\x18")?;
+    splits::<LengthFirst>(&rt, alloc, b"\xa2\x61\x61\x01\x61\x62\x82\x02\x03", b"\x80")?;
+    splits::<LengthFirst>(
         &rt,
         alloc,
-        b"\x83\x01\x02\x03\xff",
-        b"\x83\x01\x02\x03",
+        b"\xc2\x49\x01\x00\x00\x00\x00\x00\x00\x00\x00",
+        b"\xc2",
+    )?;
+    Ok(())
+}
+
+/// Where no item stands at the front, or one that isn't its own encoding, nothing is answered.
+#[test]
+fn splits_no_item(rt: HostRuntime) {
+    let alloc = rt.alloc();
+    let cases: [&[u8]; 8] = [
+        b"",
         b"\xff",
-    )?;
-    takes::<LengthFirst>(
-        &rt,
-        alloc,
-        b"\x9f\x01\x82\x02\x03\x9f\x04\x05\xff\xff\xf6",
-        b"\x83\x01\x82\x02\x03\x82\x04\x05",
-        b"\xf6",
-    )?;
-    Ok(())
-}
-
-/// Where no item stands at the front nothing is answered.
-#[test]
-fn takes_no_item(rt: HostRuntime) {
-    let alloc = rt.alloc();
-    let cases: [&[u8]; 4] = [b"", b"\xff", b"\x82\x01", b"\x62\xc3\x28"];
+        b"\x82\x01",
+        b"\x62\xc3\x28",
+        b"\x18\x01",
+        b"\x9f\xff",
+        b"\xa2\x02\x00\x01\x00",
+        b"\xc2\x41\x01",
+    ];
     for bytes in cases {
-        let mut out = Vec::new(alloc);
-        let left = transcode_item::<Bytewise>(alloc, Limit::USUAL, bytes, &mut out);
-        assert!(rt; left.is_none(), "{bytes:?}");
+        let parts = split_item::<Bytewise>(alloc, Limit::USUAL, bytes);
+        assert!(rt; parts.is_none(), "{bytes:?}");
     }
 }

@@ -47,5 +47,5 @@ mod walked_leaves;
 mod walks;
 
 pub use departures::Departure;
-pub use passes::{transcode, transcode_item};
+pub use passes::transcode;
 pub use walks::{first_departure, is_deterministic, split_item};

@@ -1,7 +1,7 @@
 //! A whole input.
 
 ghost use Rattle.std.specs.Prelude.{ℕ, ◌≤◌, [], IfSome};
-ghost use Rattle.cborn_transcode.specs.Transcoding.{ItemTranscoded, ItemsTranscoded, IsTranscoded};
+ghost use Rattle.cborn_transcode.specs.Transcoding.{ItemsTranscoded, IsTranscoded};
 
 use crate::items::put_item;
 use cborn_model::{KeyOrder, Limit};
@@ -34,19 +34,4 @@ fn put_all<O: KeyOrder>(alloc: Global, room: u64, bytes: &[u8]) -> Option<Vec<u8
         return None;
     }
     Some(out)
-}
-
-/// Appends the deterministic encoding of the one item at the front of the bytes to `out`, the keys
-/// of maps in the order `O` (RFC 8949 section 4.2), and answers what follows the item, which isn't
-/// looked at. None promises nothing, as with `transcode`, and leaves anything behind what stood in
-/// `out`.
-pub fn transcode_item<'a, O: KeyOrder>(
-    alloc: Global,
-    limit: Limit,
-    bytes: &'a [u8],
-    out: &mut Vec<u8>,
-) -> Option<&'a [u8]>
-    ensures { IfSome result (λ rest. ItemTranscoded O.order limit bytes.now rest.now out.old.items out.new.items) }
-{
-    put_item::<O>(alloc, limit.get(), bytes, out)
 }

@@ -21,11 +21,10 @@ use Rattle.cborn_engine.specs.Refusing.{IsRefused, IsReadBefore, IsRead}
 use Rattle.cborn_engine.specs.devices.Pieces.{Collects, CollectAnswers, Reads}
 use Rattle.cborn_engine.specs.devices.Encoding.{IsEncoded}
 use Rattle.cborn_engine.specs.Checking.{CheckAnswers, Checks}
-use Rattle.cborn_engine.specs.devices.Defects.{Finds}
 use Rattle.cborn_engine.specs.Reading.{most_bytes}
 use Rattle.cborn_search.specs.Searching.{IsFirstFlawOf}
 use Rattle.cborn_transcode.specs.Departing.{IsFirstDefectOfItems}
-use Rattle.cborn_engine.proofs.Answers.Checked.{mean_found, verdict, with_defect}
+use Rattle.cborn_engine.proofs.Answers.Checked.{with_defect}
 
 ended : (why : EngineFault) (rest : Option (List ℕ)) → IsAtEnd rest → IsReadBefore why rest
 ended fault.TooLong rest h = tt
@@ -98,10 +97,3 @@ module _ (limit most : ℕ) (input : List ℕ) (within : length input ≤ most) 
       let held : Holds kind.Wire limit input items = record { nodes = f.nodes; spelled = f.read; meant = f.verdict.1 } in
       let is : IsFirstOfSequence order (trees f.nodes) d.place d.reason = first f.nodes (values_of items) f.read f.placed (all_mean f.nodes items f.verdict.1) in
       (within, record { items = items; held = held; verdict = with_defect order laws limit input items held d (omega (arith, within, bounded)) f.placed is })
-
-  pub checked_trees : (order : List ℕ → List ℕ → Ordering) → IsKeyOrder order → most ≤ most_bytes → (nodes xs : List Tree) (o : Option Defect) → Wellformed limit (trees nodes) input × PlacedAll 0 (trees nodes) → xs ≡ nodes → Finds order xs o → CheckAnswers order limit most input (Ok o)
-  checked_trees order laws bounded nodes xs o s e f =
-      let found : Finds order nodes o = subst (λ (ns : List Tree). Finds order ns o) e f in
-      let meant = mean_found order nodes o found in
-      let held : Holds kind.Wire limit input meant.0 = record { nodes = nodes; spelled = s.0; meant = meant.1 } in
-      (within, record { items = meant.0; held = held; verdict = verdict order laws limit input meant.0 held o (omega (arith, within, bounded)) s.1 found })

@@ -1,6 +1,5 @@
 -- What is known of two deterministic encodings that are walked side by side.
 use Rattle.std.proofs.Common.{◌≡◌, ◌<◌, ◌+◌, ℕ, zero, suc, ◌⊎◌, inl, inr, List, [], ◌∷◌, ◌++◌, length, Option, None, Some, Ordering, refl, sym, ◌∙◌, ap, subst, arith}
-use Rattle.std.specs.Prelude.{IfSome}
 use Rattle.std.specs.List.{AllZip, AllByRecursion}
 use Rattle.cborn_model.specs.Orders.{IsKeyOrder}
 use Rattle.cborn_model.specs.Valid.{IsProper}
@@ -14,7 +13,6 @@ use Rattle.cborn_engine.specs.declared.kinds.Kind.TheVariants as kind
 use Rattle.cborn_engine.specs.Comparing.{AreAlikeAt, IsFirstDifference, Difference, AreCompared}
 use Rattle.cborn_engine.specs.devices.Encoding.{IsEncoded}
 use Rattle.cborn_engine.specs.Holding.{Holds}
-use Rattle.cborn_engine.proofs.Comparison.Differing.{unwrapped}
 use Rattle.cborn_engine.proofs.Held.Meant.{all_turned}
 use Rattle.cborn_engine.proofs.Canonical.Proper.{sequence_proper}
 
@@ -23,6 +21,9 @@ nothing [] e = refl
 nothing (c ∷ x) e = absurd (omega (arith, e))
 
 -- ---- where items differ
+
+unwrapped : {x y : Value} → Some x ≡ Some y → x ≡ y
+unwrapped e = cc
 
 ours_longer : (v : Value) (vs : List Value) → IsFirstDifference (v ∷ vs) [] 0
 ours_longer v vs = record { alike = λ k l. absurd (omega (arith, l)); differs = λ h. let never = h.there in cc; within = omega arith }
@@ -175,14 +176,10 @@ module _ (order : List ℕ → List ℕ → Ordering) (laws : IsKeyOrder order) 
           lift = λ j q. let same : suc j + k ≡ j + (k + 1) = omega arith in subst (IsFirstDifference s.a s.b) same (s.lift (suc j) (t.lift j q));
         }
 
--- ---- an encoding that was put into an empty buffer
+-- ---- an encoding at the front
 
-pub whatever : {A P : Type 0} (r : Option A) → P → IfSome r (λ _. P)
-whatever None p = tt
-whatever (Some x) p = p
-
-pub encoding_taken : (order : List ℕ → List ℕ → Ordering) (limit : ℕ) (bytes rest old new : List ℕ) → old ≡ [] → ItemTranscoded order limit bytes rest old new → (v : Value) × Det order v new
-encoding_taken order limit bytes rest old new e t = (t.item, subst (Det order t.item) (sym (t.written.2 ∙ ap (λ (z : List ℕ). z ++ t.written.0) e)) t.written.1)
+pub encoding_taken : (order : List ℕ → List ℕ → Ordering) (limit : ℕ) (bytes rest x : List ℕ) → ItemTranscoded order limit bytes rest [] x → (v : Value) × Det order v x
+encoding_taken order limit bytes rest x t = (t.item, subst (Det order t.item) (sym t.written.2) t.written.1)
 
 -- ---- items that are the same as those that were compared
 

@@ -2,13 +2,7 @@
 use Rattle.std.proofs.Common.{◌≡◌, ◌≤◌, ◌↔◌, ℕ, Bool, true, false, IsTrue, Decides, refl, List, length, arith, sym, ◌∙◌, subst, Option, Ok, Vec, Global, Ordering}
 use Rattle.std.specs.List.{AllZip}
 use Rattle.cborn_model.specs.Orders.{IsKeyOrder}
-use Rattle.cborn_model.specs.Tree.{Tree, trees}
-use Rattle.cborn_model.specs.Spelled.{Wellformed}
-use Rattle.cborn_model.specs.Placed.{PlacedAll}
 use Rattle.cborn_model.specs.Value.{Value, Same}
-use Rattle.cborn_judge.specs.declared.faults.InvalidReason.{InvalidReason}
-use Rattle.cborn_judge.specs.declared.faults.Invalid.TheVariants as invalid
-use Rattle.cborn_judge.specs.Flaws.{IsRefusalOfAll}
 use Rattle.cborn_engine.specs.declared.kinds.Kind.{Kind}
 use Rattle.cborn_engine.specs.declared.kinds.Kind.TheVariants as kind
 use Rattle.cborn_engine.specs.Comparing.{AreCompared, Compares}
@@ -20,13 +14,7 @@ use Rattle.cborn_engine.specs.Reading.{most_bytes}
 use Rattle.cborn_engine.proofs.Comparison.Apart.{difference_too}
 use Rattle.cborn_engine.proofs.Canonical.Canonicity.{own_bytes}
 use Rattle.cborn_engine.proofs.Canonical.Headline.{alike}
-use Rattle.cborn_engine.proofs.Held.Known.{flawless}
-use Rattle.cborn_engine.proofs.Held.Meant.{holds_once, means_too}
-
--- bytes that hold items spell nodes without a flaw
-pub no_flaw_held : (limit : ℕ) (bytes : List ℕ) (nodes : List Tree) (p : ℕ) (r : InvalidReason) → (items : List Value) × Holds kind.Wire limit bytes items → Wellformed limit (trees nodes) bytes × PlacedAll 0 (trees nodes) → IsRefusalOfAll nodes (invalid.Refused p r) → ⊥
-no_flaw_held limit bytes nodes p r h w f =
-    flawless nodes h.0 p r (means_too kind.Wire limit bytes h.1.nodes nodes h.0 h.1.spelled w.0 h.1.meant) f
+use Rattle.cborn_engine.proofs.Held.Meant.{holds_once}
 
 from_decides : (b : Bool) (P : Type 0) → Decides b P → IsTrue b ↔ P
 from_decides true P d = (λ _. d.0 refl, λ _. refl)

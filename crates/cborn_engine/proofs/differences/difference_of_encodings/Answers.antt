@@ -1,5 +1,5 @@
 use Rattle.std.proofs.Common.{rules}
-use Rattle.cborn_engine.proofs.Comparison.Apart.{at_first, ours_ended, theirs_ended, apart_here, passed}
+use Rattle.cborn_engine.proofs.Comparison.Apart.{at_first, ours_ended, theirs_ended, apart_here, passed, encoding_taken}
 use Rattle.cborn_engine.proofs.differences.difference_of_encodings.Goals as goal
 
 pub items-init : goal.items-init
@@ -13,10 +13,14 @@ returns-then-is_empty-2 g c = theirs_ended g.O.KeyOrder.order g.met.O.KeyOrder.l
 
 pub returns-in-None : goal.returns-in-None
 returns-in-None g c =
-    apart_here g.O.KeyOrder.order g.met.O.KeyOrder.laws c.args.limit c.args.ours.now c.args.theirs.now c.items.left.now c.items.right.now c.take_item.new.item.items c.in_ok-left.left.now c.items.index c.items.invariant
-    c.in_ok-left.ensures.encoding c.in_ok-left.ensures.front (rw c.deref.ensures.value at c.in-None.ensures)
+    let item = c.in_ok-split_item.field-0.now in
+    let rest = c.in_ok-split_item.field-1.now in
+    apart_here g.O.KeyOrder.order g.met.O.KeyOrder.laws c.args.limit c.args.ours.now c.args.theirs.now c.items.left.now c.items.right.now item rest c.items.index c.items.invariant
+    (encoding_taken g.O.KeyOrder.order c.args.limit c.items.left.now rest item c.in_ok-split_item.ensures.item) c.in_ok-split_item.ensures.parts c.in-None.ensures
 
 pub items-preserved : goal.items-preserved
 items-preserved g c =
-    passed g.O.KeyOrder.order g.met.O.KeyOrder.laws c.args.limit c.args.ours.now c.args.theirs.now c.items.left.now c.items.right.now c.take_item.new.item.items c.in_ok-left.left.now c.in-Some.rest.now c.items.index c.items.invariant
-    c.in_ok-left.ensures.encoding c.in_ok-left.ensures.front (rw c.deref.ensures.value at c.in-Some.ensures) (search rules) (search rules)
+    let item = c.in_ok-split_item.field-0.now in
+    let rest = c.in_ok-split_item.field-1.now in
+    passed g.O.KeyOrder.order g.met.O.KeyOrder.laws c.args.limit c.args.ours.now c.args.theirs.now c.items.left.now c.items.right.now item rest c.in-Some.rest.now c.items.index c.items.invariant
+    (encoding_taken g.O.KeyOrder.order c.args.limit c.items.left.now rest item c.in_ok-split_item.ensures.item) c.in_ok-split_item.ensures.parts c.in-Some.ensures (search rules) (search rules)

@@ -12,13 +12,14 @@ pub items-preserved : goal.items-preserved
 items-preserved c =
     let i = c.items.invariant in
     let total : ℕ = length c.args.bytes.now in
-    let x : Scanned c.get-room.result total c.items.rest.now c.in_ok-rest.rest.now c.scan_item.new.found.flaw c.scan_item.new.found.is_string = c.in_ok-rest.ensures in (
+    let x : Scanned c.get-room.result total c.items.rest.now c.in-Some.behind.now c.scan_item.new.found.flaw c.scan_item.new.found.is_string = c.in-Some.ensures in (
       i.0 + 1,
-      judged_more c.get-room.result total i.0 c.args.bytes.now c.items.rest.now c.in_ok-rest.rest.now c.items.first c.scan_item.new.found.flaw c.or-first.result c.scan_item.new.found.is_string (omega arith) i.1 x c.or-first.ensures,
-      node_left (HasFlaw c.scan_item.new.found.flaw c.scan_item.new.found.is_string) c.get-room.result total c.items.rest.now c.in_ok-rest.rest.now i.2 x,
+      judged_more c.get-room.result total i.0 c.args.bytes.now c.items.rest.now c.in-Some.behind.now c.items.first c.scan_item.new.found.flaw c.or-first.result c.scan_item.new.found.is_string (omega arith) i.1 x c.or-first.ensures,
+      node_left (HasFlaw c.scan_item.new.found.flaw c.scan_item.new.found.is_string) c.get-room.result total c.items.rest.now c.in-Some.behind.now i.2 x,
     )
 
-pub returns : goal.returns
-returns c =
+pub returns-in-Some-first : goal.returns-in-Some-first
+returns-in-Some-first c =
     let none : length c.items.rest.now ≡ 0 = search rules in
-    subst (λ (l : ℕ). IsFirstFlawOf l c.args.bytes.now c.items.first) c.get-room.ensures.value (flaw_found c.get-room.result c.items.invariant.0 c.args.bytes.now c.items.rest.now c.items.first none c.items.invariant.1)
+    let found = flaw_found c.get-room.result c.items.invariant.0 c.args.bytes.now c.items.rest.now c.items.first none c.items.invariant.1 in
+    subst (IsFirstFlawOf c.args.limit c.args.bytes.now) c.in-Some-first.is (subst (λ (l : ℕ). IsFirstFlawOf l c.args.bytes.now c.items.first) c.get-room.ensures.value found)

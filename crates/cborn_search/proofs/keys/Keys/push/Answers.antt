@@ -8,7 +8,7 @@ use Rattle.cborn_search.proofs.keys.Keys.push.Goals as goal
 pub returns : goal.returns
 returns c ks n h =
     let new : Keys = record { bytes = c.extend_from_slice.new.self; marks = c.push.new.self } in
-    let mark : Mark = record { start = c.in_ok-start.start; len = c.in_ok-len.len; place = c.in_ok-place.place } in
+    let mark : Mark = record { hint = c.hint.result; start = c.in_ok-start.start; len = c.in_ok-len.len; place = c.in_ok-place.place } in
     let bytes : new.bytes.items ≡ c.args.self.now.bytes.items ++ c.args.encoding.now = search rules in
     let marks : new.marks.items ≡ c.args.self.now.marks.items ++ mark ∷ [] = search rules in
     let start : mark.start ≡ length c.args.self.now.bytes.items = search rules in
