@@ -2,14 +2,13 @@
 use Rattle.std.proofs.Common.{◌≡◌, ℕ, ◌-◌, ◌<◌, ◌^◌, List, [], ◌∷◌, ◌++◌, length, take, Bool, sym, ap, ◌∙◌, subst, arith, append-nil, length-append, Option, Some, Ordering}
 use Rattle.std.specs.List.{AllZip}
 use Rattle.std.proofs.Math.Seq.{take-append_seam}
-use Rattle.cborn_model.specs.Tree.{Tree, Uint, Nint, Bytes, Text, ByteChunks, TextChunks, Items, Pairs, Tagged, Simple, Trees, no_item, more, trees, count, place}
+use Rattle.cborn_model.specs.Tree.{Tree, no_item, more, trees, count}
 use Rattle.cborn_model.specs.Spelled.{spelled, spelled_all, Fits, FitsAll}
 use Rattle.cborn_model.specs.Placed.{Placed}
 use Rattle.cborn_model.specs.Valid.{IsProper}
 use Rattle.cborn_model.specs.Value.{Value}
 use Rattle.cborn_model.specs.Meaning.{Means}
-use Rattle.cborn_wire.specs.Places.{placed_from, all_from}
-use Rattle.cborn_wire.proofs.Spelled.AsPlaced.{same_all-from}
+use Rattle.cborn_wire.specs.Places.{placed_from}
 use Rattle.cborn_wire.proofs.Spelled.OneReading.{one_spelling}
 use Rattle.cborn_det.specs.Det.{Det, DetSeq}
 use Rattle.cborn_judge.specs.Flaws.{Flaw}

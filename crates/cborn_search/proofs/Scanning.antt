@@ -30,6 +30,11 @@ both_told = found_both flaw_rank told_place told_reason
 pub alike_told : (F G : ℕ → InvalidReason → Type 0) (o : Option Told) → ((p : ℕ) (r : InvalidReason) → F p r ↔ G p r) → FindsTold F o → FindsTold G o
 alike_told = found_alike flaw_rank told_place told_reason
 
+-- nothing is found beside what was found
+pub still : (a : Option Told) → IsEarliestTold a None a
+still None = refl
+still (Some x) = refl
+
 -- ---- leaves
 
 module _ (room total : ℕ) where

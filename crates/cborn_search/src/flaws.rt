@@ -13,8 +13,8 @@ ghost use Rattle.cborn_search.specs.Flawed.{Scanned, ScannedAll};
 ghost use Rattle.cborn_search.specs.devices.Marks.{MapSeen};
 
 use crate::leaves::{
-    behind_break, is_bignum, is_done, is_simple, last, scan_long_bytes, scan_long_text, scan_text,
-    string_at,
+    behind_break, integer_len, is_bignum, is_done, is_simple, last, scan_long_bytes,
+    scan_long_text, scan_text, string_at,
 };
 use crate::scanned_maps::SpareMaps;
 use crate::told::Finding;
@@ -179,6 +179,11 @@ fn scan_items<'a>(
     'items: for _ in 0..bytes.len() {
         if is_done(count, most, may_end, rest) {
             break;
+        }
+        if let Some(len) = integer_len(rest) {
+            rest = &rest[len..];
+            count += 1;
+            continue;
         }
         rest = scan_item(maps, room, total, rest, found)?;
         first = earliest(first, found.flaw);

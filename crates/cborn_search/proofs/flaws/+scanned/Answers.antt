@@ -1,4 +1,4 @@
-use Rattle.std.proofs.Common.{rules, [], ◌++◌, Bool, List, Option, ◌≢◌, ◌≤◌, ◌+◌, ◌-◌, refl, sym, length, ℕ, true, false, subst, arith, None, ◌∙◌}
+use Rattle.std.proofs.Common.{rules, [], ◌++◌, Bool, List, Option, ◌≢◌, ◌≤◌, ◌+◌, ◌-◌, refl, sym, length, ℕ, true, false, subst, arith, None, ◌∙◌, take, drop}
 use Rattle.std.proofs.lemmas.List.{take_rest}
 use Rattle.cborn_wire.specs.declared.heads.Argument.TheVariants.{Given, Endless}
 use Rattle.cborn_model.specs.declared.heads.Major.TheVariants.{Map, Unsigned, Negative, ByteString, TextString, Array, Tag, Other}
@@ -10,7 +10,7 @@ use Rattle.cborn_search.specs.Flawed.{Told, IsEarliestTold, HasFlaw, Scanned, Sc
 use Rattle.cborn_search.specs.devices.Marks.{AreMarked, MapSeen}
 use Rattle.cborn_search.proofs.Mapping.{pairs_none, pairs_more, map_of, map_seen, endless_map_seen}
 use Rattle.cborn_search.proofs.Nodes.{node_left, nodes_left, node_last, head_alone, head_before}
-use Rattle.cborn_search.proofs.Scanning.{uint_seen, nint_seen, bytes_seen, simple_seen, all_more, array_seen, endless_array_seen, tagged_seen, bignum_seen, bad_bignum_seen}
+use Rattle.cborn_search.proofs.Scanning.{still, uint_seen, nint_seen, bytes_seen, simple_seen, all_more, array_seen, endless_array_seen, tagged_seen, bignum_seen, bad_bignum_seen}
 use Rattle.cborn_search.proofs.flaws.+scanned.Goals as goal
 
 pub scan_item-returns : goal.scan_item-returns
@@ -101,6 +101,16 @@ scan_node-returns-in-Map-major t c =
     (λ left s. head_before (HasFlaw c.scan_endless_map.new.found.flaw c.scan_endless_map.new.found.is_string) c.args.room c.args.total (c.args.total - length c.args.bytes.now) c.args.bytes.now _ left c.in-Full.head c.in-Full.len Map Endless (take_rest c.args.bytes.now c.in-Full.len) c.in-Full.ensures (sym c.major_type-major.ensures ∙ c.in-Map-major.is) c.in-Endless.is c.requires.within refl
     (λ fits l p. s l))
     c.scan_endless_map.ensures
+
+pub scan_items-items-preserved-in-Some : goal.scan_items-items-preserved-in-Some
+scan_items-items-preserved-in-Some t c =
+    let left : List ℕ = c.items.rest.now in
+    let rest : List ℕ = take (length left - c.in-Some.len) (drop c.in-Some.len left) in
+    let x : Scanned c.args.room c.args.total left rest None false = subst (λ (y : List ℕ). Scanned c.args.room c.args.total left y None false) (sym (take_rest left c.in-Some.len)) (c.in-Some.ensures.integer c.args.room c.args.total c.items.invariant.2) in
+    let some : ScannedAll c.args.room c.args.total (c.items.count + 1) c.args.bytes.now rest c.items.first =
+    all_more c.args.room c.args.total c.items.count c.args.bytes.now left rest c.items.first None c.items.first false c.requires.within c.items.invariant.0 x (still c.items.first) in
+    let more : c.items.count ≢ c.args.most = c.is_done.ensures c.if-is_done.false in
+    (some, omega (arith, c.items.invariant.1), nodes_left _ c.args.room c.args.total (c.items.count + 1) c.args.bytes.now rest c.requires.within some)
 
 pub scan_items-items-preserved : goal.scan_items-items-preserved
 scan_items-items-preserved t c =

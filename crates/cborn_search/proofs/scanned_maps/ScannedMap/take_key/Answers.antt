@@ -1,4 +1,4 @@
-use Rattle.std.proofs.Common.{◌≡◌, subst, sym, rules}
+use Rattle.std.proofs.Common.{subst, sym}
 use Rattle.cborn_search.specs.devices.Marks.{TakesKey}
 use Rattle.cborn_search.specs.declared.keys.Keys.{Keys}
 use Rattle.cborn_search.proofs.scanned_maps.ScannedMap.take_key.Goals as goal
