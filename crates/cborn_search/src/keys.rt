@@ -161,18 +161,36 @@ fn bytes_of<'a>(bytes: &'a [u8], mark: &Mark) -> &'a [u8]
     found
 }
 
-/// Arranges the marks by their bytes, and those of the same bytes by where they begin.
+/// Arranges the marks by their bytes, and those of the same bytes by where they begin. Where the
+/// last comes before the first they are turned round at first, since keys that fall then rise.
 fn sort(bytes: &[u8], marks: &mut Vec<Mark>)
     ensures { IsPermutation marks.old.items marks.new.items }
 {
-    marks.sort_unstable_by(|a, b| match a.hint.cmp(&b.hint) {
-        Ordering::Equal => compare_marks(bytes, a, b),
-        unequal => unequal,
-    });
+    if is_falling(bytes, marks) {
+        marks.reverse();
+    }
+    marks.sort_unstable_by(|a, b| compare_marks(bytes, a, b));
+}
+
+/// Whether the last mark comes before the first.
+fn is_falling(bytes: &[u8], marks: &[Mark]) -> bool {
+    match marks {
+        [first, .., last] => compare_marks(bytes, last, first).is_lt(),
+        _ => false,
+    }
 }
 
 /// How two marks compare by their bytes, and those of the same bytes by where they begin.
+#[inline(always)]
 fn compare_marks(bytes: &[u8], a: &Mark, b: &Mark) -> Ordering {
+    match a.hint.cmp(&b.hint) {
+        Ordering::Equal => compare_bytes(bytes, a, b),
+        unequal => unequal,
+    }
+}
+
+/// The same of marks with one hint.
+fn compare_bytes(bytes: &[u8], a: &Mark, b: &Mark) -> Ordering {
     match bytes_of(bytes, a).cmp(bytes_of(bytes, b)) {
         Ordering::Equal => a.start.cmp(&b.start),
         unequal => unequal,

@@ -1,6 +1,5 @@
-use Rattle.std.proofs.Common.{arith, subst, None}
+use Rattle.std.proofs.Common.{arith, subst}
 use Rattle.cborn_transcode.specs.Departing.{IsFirstDeparture}
-use Rattle.cborn_search.specs.Searching.{IsFirstFlawOf, IsValidity}
 use Rattle.cborn_engine.specs.Reading.{most_bytes}
 use Rattle.cborn_engine.proofs.Answers.Whole.{deterministic, checked_searched}
 use Rattle.cborn_engine.specs.declared.kinds.Kind.TheVariants as kind
@@ -20,12 +19,19 @@ returns-in-Deterministic-clause-malformed g c =
 pub returns-in-First-clause-answers : goal.returns-in-First-clause-answers
 returns-in-First-clause-answers g c within =
     checked_searched c.args.limit most_bytes c.args.input.now within g.O.KeyOrder.order g.met.O.KeyOrder.laws (omega arith) c.in-First.defect
-    (subst (IsValidity c.args.limit c.args.input.now) c.in-Valid.is c.first_flaw.ensures) (subst (IsFirstDeparture g.O.KeyOrder.order c.args.limit c.args.input.now) c.in-First.is c.first_departure-departure.ensures)
+    c.in-Valid.ensures (subst (IsFirstDeparture g.O.KeyOrder.order c.args.limit c.args.input.now) c.in-First.is c.first_departure-departure.ensures)
 
 pub returns-in-First-clause-malformed : goal.returns-in-First-clause-malformed
-returns-in-First-clause-malformed g c =
-    let n : IsFirstFlawOf c.args.limit c.args.input.now None = subst (IsValidity c.args.limit c.args.input.now) c.in-Valid.is c.first_flaw.ensures in
-    wellformed kind.Wire c.args.limit c.args.input.now (trees n.nodes) _ (λ e. n.read)
+returns-in-First-clause-malformed g c = wellformed kind.Wire c.args.limit c.args.input.now (trees c.in-Valid.ensures.nodes) _ (λ e. c.in-Valid.ensures.read)
 
 pub returns-in-Some-clause-malformed : goal.returns-in-Some-clause-malformed
 returns-in-Some-clause-malformed g c = refused kind.Wire c.args.limit c.args.input.now c.in-Some.place c.in-Some.reason c.in-Some.ensures
+
+pub returns-in-Flaw-clause-malformed : goal.returns-in-Flaw-clause-malformed
+returns-in-Flaw-clause-malformed g c = wellformed kind.Wire c.args.limit c.args.input.now (trees c.in-Flaw.ensures.nodes) _ (λ e. c.in-Flaw.ensures.read)
+
+pub returns-in_default-departure-clause-malformed : goal.returns-in_default-departure-clause-malformed
+returns-in_default-departure-clause-malformed g c = wellformed kind.Wire c.args.limit c.args.input.now (trees c.in-Valid.ensures.nodes) _ (λ e. c.in-Valid.ensures.read)
+
+pub returns-in-None-clause-malformed : goal.returns-in-None-clause-malformed
+returns-in-None-clause-malformed g c = wellformed kind.Wire c.args.limit c.args.input.now c.in-None.ensures.0 _ (λ e. c.in-None.ensures.1)

@@ -13,14 +13,14 @@ returns-then-is_empty-2 g c = theirs_ended g.O.KeyOrder.order g.met.O.KeyOrder.l
 
 pub returns-in-None : goal.returns-in-None
 returns-in-None g c =
-    let item = c.in_ok-split_item.field-0.now in
-    let rest = c.in_ok-split_item.field-1.now in
+    let item = c.in_ok-item.item.now in
+    let rest = c.in_ok-item.rest.now in
     apart_here g.O.KeyOrder.order g.met.O.KeyOrder.laws c.args.limit c.args.ours.now c.args.theirs.now c.items.left.now c.items.right.now item rest c.items.index c.items.invariant
-    (encoding_taken g.O.KeyOrder.order c.args.limit c.items.left.now rest item c.in_ok-split_item.ensures.item) c.in_ok-split_item.ensures.parts c.in-None.ensures
+    (encoding_taken g.O.KeyOrder.order c.args.limit c.items.left.now rest item c.in_ok-item.ensures.item) c.in_ok-item.ensures.parts c.in-None.ensures
 
 pub items-preserved : goal.items-preserved
 items-preserved g c =
-    let item = c.in_ok-split_item.field-0.now in
-    let rest = c.in_ok-split_item.field-1.now in
+    let item = c.in_ok-item.item.now in
+    let rest = c.in_ok-item.rest.now in
     passed g.O.KeyOrder.order g.met.O.KeyOrder.laws c.args.limit c.args.ours.now c.args.theirs.now c.items.left.now c.items.right.now item rest c.in-Some.rest.now c.items.index c.items.invariant
-    (encoding_taken g.O.KeyOrder.order c.args.limit c.items.left.now rest item c.in_ok-split_item.ensures.item) c.in_ok-split_item.ensures.parts c.in-Some.ensures (search rules) (search rules)
+    (encoding_taken g.O.KeyOrder.order c.args.limit c.items.left.now rest item c.in_ok-item.ensures.item) c.in_ok-item.ensures.parts c.in-Some.ensures (search rules) (search rules)
