@@ -22,6 +22,15 @@ use Rattle.cborn_wire.specs.HeadReading.{major_at, IsHeadOf, seen_argument, Argu
 use Rattle.cborn_transcode.proofs.Heading.{head_split}
 use Rattle.cborn_transcode.specs.Transcoding.{ItemTranscoded, StringTaken, LongStringTaken, BignumTaken, SimpleTaken, IsIntegral, IsLeast}
 
+-- a string in chunks, behind its head
+pub chunks_read : (m : Major) (cs : List Chunk) (input rest : List ℕ) → input ≡ flat_map (chunk_bytes m) cs ++ 255 ∷ rest
+    → head m Unbounded ++ input ≡ ((head m Unbounded ++ flat_map (chunk_bytes m) cs) ++ ending Endless) ++ rest
+chunks_read m cs input rest e =
+    let x = flat_map (chunk_bytes m) cs in
+    ap (λ l. head m Unbounded ++ l) e
+    ∙ sym (append_assoc (head m Unbounded) (flat_map (chunk_bytes m) cs) (255 ∷ rest))
+    ∙ sym (append_assoc (head m Unbounded ++ flat_map (chunk_bytes m) cs) (ending Endless) rest)
+
 module _ (order : List ℕ → List ℕ → Ordering) (room : ℕ) where
   -- an integer within 64 bits
   pub uint_done : (w : Width) (n : ℕ) (rest old new : List ℕ) → WidthFits w n → Appends (IsLeastHead 0 n) old new → ItemTranscoded order room (head Unsigned (Given w n) ++ rest) rest old new
@@ -73,14 +82,6 @@ module _ (order : List ℕ → List ℕ → Ordering) (room : ℕ) where
     meant = (s.text refl, refl);
     written = s.written;
   }
-
-  chunks_read : (m : Major) (cs : List Chunk) (input rest : List ℕ) → input ≡ flat_map (chunk_bytes m) cs ++ 255 ∷ rest
-      → head m Unbounded ++ input ≡ ((head m Unbounded ++ flat_map (chunk_bytes m) cs) ++ ending Endless) ++ rest
-  chunks_read m cs input rest e =
-      let x = flat_map (chunk_bytes m) cs in
-      ap (λ l. head m Unbounded ++ l) e
-      ∙ sym (append_assoc (head m Unbounded) (flat_map (chunk_bytes m) cs) (255 ∷ rest))
-      ∙ sym (append_assoc (head m Unbounded ++ flat_map (chunk_bytes m) cs) (ending Endless) rest)
 
   pub byte_chunks_done : (input rest old new : List ℕ) → LongStringTaken ByteString input rest old new → ItemTranscoded order room (head ByteString Unbounded ++ input) rest old new
   byte_chunks_done input rest old new s = record {

@@ -1,8 +1,6 @@
 -- A head at the front of bytes, and strings behind it.
-use Rattle.std.proofs.Common.{◌≡◌, ℕ, ◌-◌, ◌<◌, ◌≤◌, List, [], ◌∷◌, ◌++◌, length, take, drop, refl, sym, ap, ◌∙◌, subst, arith, append_assoc, append-nil, length-append, drop_at, inr, Bool}
-use Rattle.std.proofs.lemmas.List.{take-append-drop, length-take-le}
-use Rattle.cborn_model.specs.Bytes.{AreBytes, IsShortest, big_endian}
-use Rattle.cborn_model.specs.Tree.{Bytes}
+use Rattle.std.proofs.Common.{◌≡◌, ℕ, ◌-◌, ◌<◌, List, [], ◌∷◌, ◌++◌, length, drop, refl, sym, ap, ◌∙◌, subst, arith, append_assoc, append-nil, length-append, drop_at, inr, Bool}
+use Rattle.cborn_model.specs.Bytes.{IsShortest}
 use Rattle.cborn_model.proofs.Numbers.OneMagnitude.{large}
 use Rattle.cborn_det.specs.Det.{IsInteger, bignum_tag}
 use Rattle.cborn_det.specs.Appending.{Appends}
@@ -10,7 +8,6 @@ use Rattle.std.specs.List.{flat_map}
 use Rattle.cborn_model.specs.declared.heads.Width.{Width}
 use Rattle.cborn_model.specs.declared.nodes.Chunk.{Chunk}
 use Rattle.cborn_model.specs.declared.heads.Major.{Major}
-use Rattle.cborn_model.specs.declared.heads.Major.TheVariants.{ByteString}
 use Rattle.cborn_model.specs.Heads.{code, Given, head, WidthFits, IsLeastHead}
 use Rattle.cborn_model.specs.Spelled.{chunk_bytes}
 use Rattle.cborn_model.specs.Meaning.{joined_chunks}
@@ -19,13 +16,16 @@ use Rattle.cborn_wire.specs.declared.heads.Argument.{Argument}
 use Rattle.cborn_wire.specs.declared.heads.Argument.TheVariants as arguments
 use Rattle.cborn_wire.specs.HeadReading.{major_at, IsHeadOf, seen_argument, ArgumentFits}
 use Rattle.cborn_wire.proofs.Machine.SoundItems.{fits_chunks-snoc, chunk_bytes-snoc}
-use Rattle.cborn_wire.proofs.Spelled.AllBytes.{bytes-left, bytes-right}
 use Rattle.cborn_judge.proofs.FirstFlaw.Texts.{are_text}
-use Rattle.cborn_transcode.specs.Transcoding.{ContentTaken, ChunkTaken, ChunksTaken, LongStringTaken, BignumTaken}
+use Rattle.cborn_transcode.specs.Transcoding.{ContentTaken, ChunkTaken, ChunksTaken, LongStringTaken}
 
 pub head_split : (x : List ℕ) (h : Head) (n : ℕ) → IsHeadOf x h n → x ≡ head (major_at h.major) (seen_argument h.argument) ++ drop n x
 head_split x h n i =
     i.whole ∙ ap (λ l. head (major_at h.major) (seen_argument h.argument) ++ l) (sym (ap (drop n) i.whole ∙ drop_at (head (major_at h.major) (seen_argument h.argument)) i.rest n (sym i.len)))
+
+-- the same, where its major type is known
+pub head_read : (x tail : List ℕ) (h : Head) (n : ℕ) (m : Major) → tail ≡ drop n x → IsHeadOf x h n → major_at h.major ≡ m → x ≡ head m (seen_argument h.argument) ++ tail
+head_read x tail h n m t i e = head_split x h n i ∙ (λ j. head (e j) (seen_argument h.argument) ++ sym t j)
 
 pub chunk_taken : (x tail rest old new : List ℕ) (h : Head) (n k : ℕ) (major : Major) (w : Width) → tail ≡ drop n x → IsHeadOf x h n → major_at h.major ≡ major → h.argument ≡ arguments.Given w k → ContentTaken major k tail rest old new → ChunkTaken major x rest old new
 chunk_taken x tail rest old new h n k major w t i e f c =
@@ -67,28 +67,6 @@ long_string_taken major n input after rest old mid new h s e l =
     }
 
 -- ---- integers outside 64 bits
-
-pub bytes_behind : (x tail : List ℕ) (h : Head) (n k : ℕ) → tail ≡ drop n x → IsHeadOf x h n → AreBytes x → AreBytes (take k tail)
-bytes_behind x tail h n k t i b =
-    let split : x ≡ head (major_at h.major) (seen_argument h.argument) ++ (take k tail ++ drop k tail) = head_split x h n i ∙ ap (λ l. head (major_at h.major) (seen_argument h.argument) ++ l) (sym t ∙ sym (take-append-drop k tail)) in
-    bytes-left (take k tail) (drop k tail) (bytes-right (head (major_at h.major) (seen_argument h.argument)) (take k tail ++ drop k tail) (subst AreBytes split b))
-
-pub bignum_taken : (x tail old new digits : List ℕ) (h : Head) (n k : ℕ) (w : Width) (negative : Bool) → tail ≡ drop n x → IsHeadOf x h n → major_at h.major ≡ ByteString → h.argument ≡ arguments.Given w k → k ≤ length tail → AreBytes x
-    → AreBytes digits → IsShortest digits → big_endian digits ≡ big_endian (take k tail) → Appends (IsInteger negative digits) old new
-    → BignumTaken negative x (drop k tail) old new
-bignum_taken x tail old new digits h n k w negative t i e f l b bs ss v a =
-    let fits : WidthFits w k = subst (λ (a : Argument). ArgumentFits (seen_argument a)) f i.fits in
-    let len : length (take k tail) ≡ k = length-take-le k tail l in
-    let split : x ≡ head ByteString (Given w k) ++ tail = head_split x h n i ∙ (λ j. head (e j) (seen_argument (f j)) ++ sym t j) in
-    record {
-      node = Bytes 0 w (take k tail);
-      magnitude = digits;
-      read = split ∙ (λ j. head ByteString (Given w (sym len j)) ++ sym (take-append-drop k tail) j) ∙ sym (append_assoc (head ByteString (Given w (length (take k tail)))) (take k tail) (drop k tail));
-      fits = (subst (WidthFits w) (sym len) fits, bytes_behind x tail h n k t i b);
-      flat = omega arith;
-      meant = (take k tail, refl, (digits, bs, ss, v, refl));
-      written = a;
-    }
 
 pub big_integer : (negative : Bool) (tag : ℕ) (digits old mid most new : List ℕ) → tag ≡ bignum_tag negative → IsShortest digits → 8 < length digits → Appends (IsLeastHead 6 tag) old mid → Appends (IsLeastHead 2 (length digits)) mid most → new ≡ most ++ digits
     → Appends (IsInteger negative digits) old new

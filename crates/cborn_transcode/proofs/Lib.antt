@@ -2,6 +2,7 @@ pub mod Closing
 pub mod Lists
 pub mod Pairing
 pub mod Heading
+pub mod Bignums
 pub mod Keying
 pub mod Iteming
 pub mod Placing

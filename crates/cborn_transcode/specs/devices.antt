@@ -1,2 +1,4 @@
+pub mod Backwards
 pub mod Departing
+pub mod Placing
 pub mod Walking

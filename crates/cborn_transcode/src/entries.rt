@@ -75,8 +75,8 @@ pub(crate) fn arrange<O: KeyOrder>(
     Some(())
 }
 
-/// The `len` bytes of the pairs, so arranged that the keys rise. The sort may do as it likes: what
-/// came out is tested.
+/// The `len` bytes of the pairs, so arranged that the keys rise. None
+/// where two keys are equal.
 fn arranged<O: KeyOrder>(
     alloc: Global,
     len: usize,
@@ -85,8 +85,7 @@ fn arranged<O: KeyOrder>(
 ) -> Option<Vec<u8>>
     ensures { IfSome result (λ v. (fs : List Entry) × IsPermutation (all_spanned written.now spans.old.items) fs × Rising O.order (keys fs) × (v.items ≡ joined fs)) }
 {
-    sort::<O>(written, spans);
-    if !are_rising::<O>(written, spans) {
+    if !sort_rising::<O>(written, spans) {
         return None;
     }
     let mut out = Vec::with_capacity(alloc, len).ok()?;
@@ -94,14 +93,36 @@ fn arranged<O: KeyOrder>(
     Some(out)
 }
 
+/// Arranges pairs so that their keys rise: by their hints, and where those don't suit the order, by
+/// the order alone. No where two keys are equal. The sorts may do as they like: what came out is
+/// tested.
+fn sort_rising<O: KeyOrder>(written: &[u8], spans: &mut Vec<Span>) -> bool
+    ensures moved { IsPermutation spans.old.items spans.new.items }
+    ensures rising { IsTrue result → Rising O.order (keys (all_spanned written.now spans.new.items)) }
+{
+    sort_by_hints::<O>(written, spans);
+    if are_rising::<O>(written, spans) {
+        return true;
+    }
+    sort_by_order::<O>(written, spans);
+    are_rising::<O>(written, spans)
+}
+
 /// Arranges pairs so that their keys rise, where the hints suit the order.
-fn sort<O: KeyOrder>(written: &[u8], spans: &mut Vec<Span>)
+fn sort_by_hints<O: KeyOrder>(written: &[u8], spans: &mut Vec<Span>)
     ensures { IsPermutation spans.old.items spans.new.items }
 {
     spans.sort_unstable_by(|a, b| match whole(a.hint).cmp(&whole(b.hint)) {
         Ordering::Equal => compare_keys::<O>(written, a, b),
         unequal => unequal,
     });
+}
+
+/// Arranges pairs so that their keys rise.
+fn sort_by_order<O: KeyOrder>(written: &[u8], spans: &mut Vec<Span>)
+    ensures { IsPermutation spans.old.items spans.new.items }
+{
+    spans.sort_unstable_by(|a, b| compare_keys::<O>(written, a, b));
 }
 
 /// How the keys of two pairs compare. A pair that doesn't lie in the bytes has an empty key.

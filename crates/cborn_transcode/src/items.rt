@@ -10,7 +10,7 @@ use crate::entries::{Span, arrange, push_span};
 use crate::leaves::{
     behind_break, put_bignum, put_long_string_leaving, put_simple, put_string_leaving,
 };
-use crate::places::{find_pairs, put_places};
+use crate::places::{find_pairs, put_great};
 use crate::runs::put_run;
 use cborn_det::{put_head, set_head};
 use cborn_model::{KeyOrder, Major};
@@ -199,8 +199,7 @@ fn put_fixed_map<O: KeyOrder>(
     if n >= GREAT {
         let mut places = Vec::new(alloc);
         if let Some(left) = find_pairs::<O>(n, bytes, &mut places) {
-            put_places::<O>(bytes, &mut places, out)?;
-            return Some(left);
+            return put_great::<O>(n, left, bytes, &mut places, out);
         }
     }
     let mut spans = Vec::with_capacity(alloc, n.min(64) as usize).ok()?;
@@ -305,11 +304,11 @@ fn put_tagged<O: KeyOrder>(
         return None;
     }
     if n == 2 {
-        let rest = put_bignum(false, bytes, out)?;
+        let rest = put_bignum(alloc, false, bytes, out)?;
         return Some(rest.len());
     }
     if n == 3 {
-        let rest = put_bignum(true, bytes, out)?;
+        let rest = put_bignum(alloc, true, bytes, out)?;
         return Some(rest.len());
     }
     put_head(Major::Tag, n, out)?;

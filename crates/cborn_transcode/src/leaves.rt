@@ -1,16 +1,19 @@
 //! Items without children.
 
-ghost use Rattle.std.specs.Prelude.{◌≡◌, ◌<◌, ◌∷◌, ℕ, List, length, IsTrue, IsUtf8, IfSome, OnSome};
-ghost use Rattle.cborn_model.specs.Bytes.{AreBytes, IsShortest};
+ghost use Rattle.std.specs.Prelude.{◌≡◌, ◌<◌, ◌≤◌, ◌++◌, ◌∷◌, ℕ, List, length, take, drop, IsTrue, IsUtf8, IfSome, OnSome};
+ghost use Rattle.cborn_model.specs.declared.heads.Width.{Width as WidthSpec};
+ghost use Rattle.cborn_model.specs.declared.heads.Major.TheVariants.{ByteString};
+ghost use Rattle.cborn_model.specs.Bytes.{AreBytes, IsShortest, big_endian};
 ghost use Rattle.cborn_det.specs.Appending.{Appends};
 ghost use Rattle.cborn_det.specs.Det.{IsInteger, bignum_tag};
-ghost use Rattle.cborn_model.specs.Heads.{IsLeastHead};
+ghost use Rattle.cborn_model.specs.Heads.{IsLeastHead, Given, Unbounded, head, WidthFits};
 ghost use Rattle.cborn_wire.specs.HeadReading.{ArgumentFits, seen_argument};
 ghost use Rattle.cborn_transcode.specs.Transcoding.{ContentTaken, StringTaken, ChunkTaken, ChunksTaken, LongStringTaken, BignumTaken, SimpleTaken};
 
 use cborn_det::{integer_major, number_of, put_head};
 use cborn_model::{Major, Width, without_zeros};
 use cborn_wire::{Argument, HeadRead, read_head};
+use std::alloc::Global;
 
 /// A string of the major type of `n` bytes.
 #[inline]
@@ -150,23 +153,79 @@ fn put_chunk<'a>(major: Major, bytes: &'a [u8], out: &mut Vec<u8>) -> Option<&'a
     }
 }
 
-/// The integer of tag 2, or 3 where negative, over a byte string.
-pub(crate) fn put_bignum<'a>(negative: bool, bytes: &'a [u8], out: &mut Vec<u8>) -> Option<&'a [u8]>
+/// The integer of tag 2, or 3 where negative, over a byte string, which may come in chunks (RFC
+/// 8949 section 3.4.3).
+pub(crate) fn put_bignum<'a>(
+    alloc: Global,
+    negative: bool,
+    bytes: &'a [u8],
+    out: &mut Vec<u8>,
+) -> Option<&'a [u8]>
     ensures { IfSome result (λ rest. BignumTaken negative bytes.now rest.now out.old.items out.new.items) }
 {
     let HeadRead::Full(head, len) = read_head(bytes) else {
         return None;
     };
-    let Argument::Given(_, n) = head.argument else {
+    if head.major_type() != Major::ByteString {
         return None;
-    };
-    let bytes = &bytes[len..];
-    if head.major_type() != Major::ByteString || n > bytes.len() as u64 {
+    }
+    let behind = &bytes[len..];
+    match head.argument {
+        Argument::Given(_, n) => put_fixed_bignum(negative, n, behind, out),
+        Argument::Endless => put_long_bignum(alloc, negative, behind, out),
+    }
+}
+
+/// The integer over a byte string of `n` bytes.
+#[inline(always)]
+fn put_fixed_bignum<'a>(
+    negative: bool,
+    n: u64,
+    bytes: &'a [u8],
+    out: &mut Vec<u8>,
+) -> Option<&'a [u8]>
+    ensures { IfSome result (λ rest. (w : WidthSpec) → WidthFits w n → BignumTaken negative (head ByteString (Given w n) ++ bytes.now) rest.now out.old.items out.new.items) }
+{
+    if n > bytes.len() as u64 {
         return None;
     }
     let (content, rest) = bytes.split_at(n as usize);
     put_integer(negative, without_zeros(content), out)?;
     Some(rest)
+}
+
+/// The integer over the chunks of a byte string, up to their break. They are gathered where the
+/// integer is to stand.
+#[inline(never)]
+fn put_long_bignum<'a>(
+    alloc: Global,
+    negative: bool,
+    bytes: &'a [u8],
+    out: &mut Vec<u8>,
+) -> Option<&'a [u8]>
+    ensures { IfSome result (λ rest. BignumTaken negative (head ByteString Unbounded ++ bytes.now) rest.now out.old.items out.new.items) }
+{
+    let start = out.len();
+    let rest = put_chunks(Major::ByteString, bytes, out)?;
+    let after = behind_break(rest)?;
+    set_integer(alloc, negative, start, out)?;
+    Some(after)
+}
+
+/// Puts the integer in the place of its digits, which `out` has from `start` on.
+fn set_integer(alloc: Global, negative: bool, start: usize, out: &mut Vec<u8>) -> Option<()>
+    requires { start ≤ length out.old.items }
+    ensures { OnSome result ((m : List ℕ) × AreBytes m × IsShortest m × (big_endian m ≡ big_endian (drop start out.old.items)) × Appends (IsInteger negative m) (take start out.old.items) out.new.items) }
+{
+    let digits = without_zeros(&out[start..]);
+    if digits.len() <= 8 {
+        let n = number_of(digits);
+        out.truncate(start);
+        return put_head(integer_major(negative), n, out);
+    }
+    let digits = Vec::from_slice(alloc, digits).ok()?;
+    out.truncate(start);
+    put_long(negative, &digits, out)
 }
 
 /// The integer of these digits, the first of which isn't zero: a head alone within 64 bits, and

@@ -7,13 +7,15 @@
 //! contents: then a byte holds the head's place, and the head is set there later. The pairs of a
 //! map are written as they come; where their keys don't rise, the map's part of the buffer is
 //! arranged anew. Where a map of many pairs holds nothing but items without children, all in order
-//! as they stand, its pairs are written from the input, in their order, and nothing is moved. How
-//! the pairs are sorted is of no account, as long as none is lost: what came out is tested, key by
-//! key, and equal keys have no answer.
+//! as they stand, its pairs are written from the input, in their order, and nothing is moved. Pairs
+//! are sorted by hints, and by the order itself where it isn't that of the hints. How they are
+//! sorted is of no account, as long as none is lost: what came out is tested, key by key, and equal
+//! keys have no answer.
 //!
 //! An answer is always right: the contract says that the bytes spell items, and that the answer is
-//! their encoding. No answer says nothing. The bytes may be at fault, or hold a flaw, or memory may
-//! be wanting; the reader and the judge, which keep trees, tell which.
+//! their encoding. No answer promises nothing. But the pass takes every form of what is valid, in
+//! any lawful order of keys, so the bytes are at fault then, or hold a flaw, or memory was refused;
+//! tests hold that, and no clause does.
 //!
 //! * `leaves`: strings, chunks, bignums and simple values.
 //! * `runs`: integers that are copied as they stand.

@@ -8,9 +8,8 @@ use cborn_model::{KeyOrder, Limit};
 use std::alloc::Global;
 
 /// The deterministic encodings of the items that the bytes hold, one after another, the keys of
-/// maps in the order `O` (RFC 8949 section 4.2). None promises nothing: the bytes may hold no
-/// items, or memory was refused, or they hold items in a form that is left to the reader that keeps
-/// a tree.
+/// maps in the order `O` (RFC 8949 section 4.2). None promises nothing: the bytes hold no items, or
+/// memory was refused.
 pub fn transcode<O: KeyOrder>(alloc: Global, limit: Limit, bytes: &[u8]) -> Option<Vec<u8>>
     ensures { IfSome result (λ out. IsTranscoded O.order limit bytes.now out.items) }
 {

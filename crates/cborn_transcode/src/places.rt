@@ -3,11 +3,10 @@
 
 ghost use Rattle.std.specs.Prelude.{◌≡◌, ◌-◌, ◌≤◌, ◌++◌, ◌∷◌, ℕ, List, [], length, drop, IsPermutation, IfSome, OnSome};
 ghost use Rattle.std.specs.declared.cmp.Ordering.{Ordering};
-ghost use Rattle.cborn_det.specs.Det.{Entry, joined, keys};
-ghost use Rattle.cborn_model.specs.Orders.{Rising};
-ghost use Rattle.cborn_transcode.specs.declared.places.PairPlace.{PairPlace};
-ghost use Rattle.cborn_transcode.specs.Transcoding.{all_spanned};
+ghost use Rattle.cborn_transcode.specs.declared.places.PairPlace.{PairPlace as PairPlaceSpec};
+ghost use Rattle.cborn_transcode.specs.Transcoding.{MapTranscoded};
 ghost use Rattle.cborn_transcode.specs.devices.Walking.{Leaves, ItemWalked, PairsFound, span_of, spans_of};
+ghost use Rattle.cborn_transcode.specs.devices.Placing.{PlacesPut};
 
 use crate::entries::{Span, compare_keys, hint_at, key_in, pair_in, whole};
 use crate::walked_integers::int_len;
@@ -99,7 +98,7 @@ fn push_place<O: KeyOrder>(
     bytes: &[u8],
     places: &mut Vec<PairPlace>,
 ) -> Option<()>
-    ensures { OnSome result ((p : PairPlace) × (places.new.items ≡ places.old.items ++ p ∷ []) × (p.start ≡ start) × (p.key_len ≡ middle - start) × (p.value_len ≡ end - middle)) }
+    ensures { OnSome result ((p : PairPlaceSpec) × (places.new.items ≡ places.old.items ++ p ∷ []) × (p.start ≡ start) × (p.key_len ≡ middle - start) × (p.value_len ≡ end - middle)) }
 {
     let place = PairPlace {
         hint: hint_at::<O>(bytes, start, middle),
@@ -122,41 +121,128 @@ fn short_length(start: usize, end: usize) -> Option<u16>
     u16::try_from(end - start).ok()
 }
 
-/// Appends the pairs that lie in `bytes` at `places`, so arranged that their keys rise. None where
-/// two keys are equal. Room for places is given back on the way, so that what is written takes its
-/// place.
+/// Appends the `n` pairs at the front of `bytes`, which lie at `places`, straight from there, so
+/// arranged that their keys rise; answers how many bytes follow them, which are `left`. Where the
+/// hints turn out not to suit the order, the pairs are found once more, and sorted by the order
+/// alone. None where two keys are equal, or memory was refused.
 #[inline(never)]
-pub(crate) fn put_places<O: KeyOrder>(
+pub(crate) fn put_great<O: KeyOrder>(
+    n: u64,
+    left: usize,
     bytes: &[u8],
     places: &mut Vec<PairPlace>,
     out: &mut Vec<u8>,
-) -> Option<()>
-    ensures { OnSome result ((fs : List Entry) × IsPermutation (all_spanned bytes.now (spans_of places.old.items)) fs × Rising O.order (keys fs) × (out.new.items ≡ out.old.items ++ joined fs)) }
+) -> Option<usize>
+    ensures { IfSome result (λ after. (room : ℕ) → Leaves (PairsFound O.order room n (spans_of places.old.items) bytes.now) left → Leaves (λ rest. MapTranscoded O.order room n bytes.now rest out.old.items out.new.items) after) }
 {
-    sort_falling::<O>(bytes, places);
+    let start = out.len();
+    match put_places::<O>(Sorting::ByHints, bytes, places, out) {
+        Placed::All => Some(left),
+        Placed::Stuck => None,
+        Placed::UpToFall => {
+            out.truncate(start);
+            put_by_order::<O>(n, bytes, places, out)
+        }
+    }
+}
+
+/// What `put_great` does, where the hints don't suit the order.
+fn put_by_order<O: KeyOrder>(
+    n: u64,
+    bytes: &[u8],
+    places: &mut Vec<PairPlace>,
+    out: &mut Vec<u8>,
+) -> Option<usize>
+    ensures { IfSome result (λ left. (room : ℕ) → Leaves (λ rest. MapTranscoded O.order room n bytes.now rest out.old.items out.new.items) left) }
+{
+    places.clear();
+    let left = find_pairs::<O>(n, bytes, places)?;
+    match put_places::<O>(Sorting::ByOrder, bytes, places, out) {
+        Placed::All => Some(left),
+        Placed::UpToFall | Placed::Stuck => None,
+    }
+}
+
+/// How places are sorted.
+#[derive(Clone, Copy)]
+enum Sorting {
+    /// By the hints, and by the order where these are equal.
+    ByHints,
+    /// By the order alone.
+    ByOrder,
+}
+
+/// How far pairs were written.
+#[derive(Clone, Copy)]
+enum Placed {
+    All,
+    /// Up to a key that is below the one before it.
+    UpToFall,
+    /// Up to a key that is equal to the one before it, or to where memory was refused.
+    Stuck,
+}
+
+/// Appends the pairs that lie in `bytes` at `places`, so arranged that their keys rise. Room for
+/// places is given back on the way, so that what is written takes its place.
+fn put_places<O: KeyOrder>(
+    sorting: Sorting,
+    bytes: &[u8],
+    places: &mut Vec<PairPlace>,
+    out: &mut Vec<u8>,
+) -> Placed
+    ensures { PlacesPut O.order bytes.now places.old.items out.old.items out.new.items result }
+{
+    sort_falling::<O>(sorting, bytes, places);
     let mut before: Option<&[u8]> = None;
     'pairs: while let Some(place) = places.pop() {
         let span = place.span();
-        let key = key_in(bytes, &span)?;
+        let Some(key) = key_in(bytes, &span) else {
+            return Placed::Stuck;
+        };
         if !rises_above::<O>(before, key) {
-            return None;
+            if before == Some(key) {
+                return Placed::Stuck;
+            }
+            return Placed::UpToFall;
         }
         before = Some(key);
-        out.extend_from_slice(pair_in(bytes, &span)?).ok()?;
+        let Some(pair) = pair_in(bytes, &span) else {
+            return Placed::Stuck;
+        };
+        if out.extend_from_slice(pair).is_err() {
+            return Placed::Stuck;
+        }
         give_back(places);
     }
-    Some(())
+    Placed::All
 }
 
-/// Arranges places so that their keys fall, where the hints suit the order: the last is the next to
-/// be written. The sort may do as it likes: what is written is tested.
-fn sort_falling<O: KeyOrder>(bytes: &[u8], places: &mut Vec<PairPlace>)
+/// Arranges places so that their keys fall, where the hints suit the order if it goes by them: the
+/// last is the next to be written. The sort may do as it likes: what is written is tested.
+fn sort_falling<O: KeyOrder>(sorting: Sorting, bytes: &[u8], places: &mut Vec<PairPlace>)
+    ensures { IsPermutation places.old.items places.new.items }
+{
+    match sorting {
+        Sorting::ByHints => sort_by_hints::<O>(bytes, places),
+        Sorting::ByOrder => sort_by_order::<O>(bytes, places),
+    }
+}
+
+/// The same by the hints.
+fn sort_by_hints<O: KeyOrder>(bytes: &[u8], places: &mut Vec<PairPlace>)
     ensures { IsPermutation places.old.items places.new.items }
 {
     places.sort_unstable_by(|a, b| match whole(b.hint).cmp(&whole(a.hint)) {
         Ordering::Equal => compare_keys::<O>(bytes, &b.span(), &a.span()),
         unequal => unequal,
     });
+}
+
+/// The same by the order alone.
+fn sort_by_order<O: KeyOrder>(bytes: &[u8], places: &mut Vec<PairPlace>)
+    ensures { IsPermutation places.old.items places.new.items }
+{
+    places.sort_unstable_by(|a, b| compare_keys::<O>(bytes, &b.span(), &a.span()));
 }
 
 /// Gives back the room of places that are used up, now and then.

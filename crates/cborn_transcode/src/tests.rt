@@ -2,8 +2,10 @@
 //! refused. An answer of none meets the contract everywhere, so a form that is forgotten shows here
 //! alone.
 
+mod bignums;
 mod great_maps;
 mod maps;
+mod orders;
 mod refusals;
 
 use crate::transcode;

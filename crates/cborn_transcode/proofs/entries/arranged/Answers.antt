@@ -7,9 +7,8 @@ use Rattle.cborn_transcode.proofs.entries.arranged.Goals as goal
 
 pub returns : goal.returns
 returns g c =
-    let same : c.deref.result.now ≡ c.sort.new.spans.items = search rules in
-    let same2 : c.deref-2.result.now ≡ c.sort.new.spans.items = search rules in
-    let rises : Rising g.O.KeyOrder.order (keys (all_spanned c.args.written.now c.deref.result.now)) = search rules in
-    let put : c.push_pairs.new.out.items ≡ joined (all_spanned c.args.written.now c.deref-2.result.now) = search rules in
-    let moved : IsPermutation (all_spanned c.args.written.now c.args.spans.now.items) (all_spanned c.args.written.now c.sort.new.spans.items) = IsPermutation-map (spanned c.args.written.now) _ _ c.sort.ensures in
-    (all_spanned c.args.written.now c.sort.new.spans.items, moved, rw same at rises, put ∙ ap (λ l. joined (all_spanned c.args.written.now l)) same2)
+    let same : c.deref.result.now ≡ c.sort_rising.new.spans.items = search rules in
+    let rises : Rising g.O.KeyOrder.order (keys (all_spanned c.args.written.now c.sort_rising.new.spans.items)) = search rules in
+    let put : c.push_pairs.new.out.items ≡ joined (all_spanned c.args.written.now c.deref.result.now) = search rules in
+    let moved : IsPermutation (all_spanned c.args.written.now c.args.spans.now.items) (all_spanned c.args.written.now c.sort_rising.new.spans.items) = IsPermutation-map (spanned c.args.written.now) _ _ c.sort_rising.ensures.moved in
+    (all_spanned c.args.written.now c.sort_rising.new.spans.items, moved, rises, put ∙ ap (λ l. joined (all_spanned c.args.written.now l)) same)

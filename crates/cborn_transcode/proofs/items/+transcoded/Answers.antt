@@ -7,8 +7,6 @@ use Rattle.cborn_transcode.specs.Transcoding.{ItemsTranscoded, PairsTranscoded, 
 use Rattle.cborn_transcode.proofs.Closing.{uint_done, nint_done, bytes_done, text_done, byte_chunks_done, text_chunks_done, simple_done, bignum_done, tagged_done}
 use Rattle.cborn_transcode.proofs.Lists.{all_none, run_more, all_more, array_done, endless_array_done}
 use Rattle.cborn_transcode.proofs.Pairing.{pairs_none, pairs_more, map_fused, endless_map_fused, arranged_map}
-use Rattle.cborn_transcode.specs.devices.Walking.{spans_of}
-use Rattle.cborn_transcode.proofs.Walking.{map_found}
 use Rattle.cborn_transcode.proofs.Iteming.{inside, alone, item_last, under}
 use Rattle.cborn_transcode.proofs.items.+transcoded.Goals.{put_items-else-items-test, put_items-then-items-test+in_ok-after+then-is_done}
 use Rattle.cborn_transcode.proofs.items.+transcoded.Goals as goal
@@ -131,14 +129,16 @@ put_fixed_map-returns g t c w h =
     )
 
 pub put_fixed_map-returns-in-Some : goal.put_fixed_map-returns-in-Some
-put_fixed_map-returns-in-Some g t c w h =
+put_fixed_map-returns-in-Some g t c =
     let short : length c.args.bytes.now < 2 ^ 64 = omega arith in
-    let found = c.in-Some.ensures (search rules) (c.args.room - 1) in (
+    under c.put_great.result
+    (λ left s w h.
+    let found = s (c.args.room - 1) (c.in-Some.ensures (search rules) (c.args.room - 1)) in (
       found.0,
       found.1,
-      map_fused g.O.KeyOrder.order g.met.O.KeyOrder.laws c.args.room w c.args.n c.args.bytes.now found.0 c.args.out.now.items c.put_head.new.out.items c.put_places.new.out.items (omega arith) short h c.in_ok-put_head.ensures
-          (map_found g.O.KeyOrder.order (c.args.room - 1) c.args.n (spans_of c.find_pairs.new.places.items) c.args.bytes.now found.0 c.put_head.new.out.items c.put_places.new.out.items found.2 c.in_ok-put_places.ensures),
-    )
+      map_fused g.O.KeyOrder.order g.met.O.KeyOrder.laws c.args.room w c.args.n c.args.bytes.now found.0 c.args.out.now.items c.put_head.new.out.items c.put_great.new.out.items (omega arith) short h c.in_ok-put_head.ensures found.2,
+    ))
+    c.put_great.ensures
 
 pub put_endless_map-returns : goal.put_endless_map-returns
 put_endless_map-returns g t c =

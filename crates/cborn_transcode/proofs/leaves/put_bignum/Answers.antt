@@ -1,15 +1,20 @@
 use Rattle.cborn_model.specs.declared.heads.Major.TheVariants.{ByteString}
-use Rattle.std.proofs.Common.{◌≡◌, rules, sym, ◌∙◌, ap, List, ℕ, subst}
+use Rattle.std.proofs.Common.{◌≡◌, rules, sym, ◌∙◌}
 use Rattle.std.proofs.lemmas.List.{take_rest}
-use Rattle.cborn_model.specs.Bytes.{big_endian}
-use Rattle.cborn_wire.proofs.Spelled.ByteLists.{are_bytes}
-use Rattle.cborn_transcode.specs.Transcoding.{BignumTaken}
-use Rattle.cborn_transcode.proofs.Heading.{bignum_taken}
+use Rattle.cborn_transcode.proofs.Bignums.{behind_fixed, behind_endless}
+use Rattle.cborn_transcode.proofs.Iteming.{under}
 use Rattle.cborn_transcode.proofs.leaves.put_bignum.Goals as goal
 
-pub returns : goal.returns
-returns c =
+pub returns-in-Given : goal.returns-in-Given
+returns-in-Given c =
     let same : c.major_type.result ≡ ByteString = search rules in
-    subst (λ (l : List ℕ). BignumTaken c.args.negative c.args.bytes.now l c.args.out.now.items c.put_integer.new.out.items) (sym c.split_at.ensures.back)
-    (bignum_taken c.args.bytes.now _ c.args.out.now.items c.put_integer.new.out.items c.without_zeros.result.now c.in-Full.head c.in-Full.len c.in-Given.n c.in-Given.field-0 c.args.negative (take_rest c.args.bytes.now c.in-Full.len) c.in-Full.ensures (sym c.major_type.ensures ∙ same) c.in-Given.is
-    c.if-n-bytes.false (are_bytes c.args.bytes.now c.type_inv.bytes) c.without_zeros.ensures.bytes c.without_zeros.ensures.shortest (c.without_zeros.ensures.number ∙ ap big_endian c.split_at.ensures.front) c.in_ok-put_integer.ensures)
+    under c.put_fixed_bignum.result
+    (λ rest t. behind_fixed c.args.negative c.args.bytes.now _ rest.now c.args.out.now.items c.put_fixed_bignum.new.out.items c.in-Full.head c.in-Full.len c.in-Given.n c.in-Given.field-0 (take_rest c.args.bytes.now c.in-Full.len) c.in-Full.ensures (sym c.major_type.ensures ∙ same) c.in-Given.is t)
+    c.put_fixed_bignum.ensures
+
+pub returns-in-Endless : goal.returns-in-Endless
+returns-in-Endless c =
+    let same : c.major_type.result ≡ ByteString = search rules in
+    under c.put_long_bignum.result
+    (λ rest t. behind_endless c.args.negative c.args.bytes.now _ rest.now c.args.out.now.items c.put_long_bignum.new.out.items c.in-Full.head c.in-Full.len (take_rest c.args.bytes.now c.in-Full.len) c.in-Full.ensures (sym c.major_type.ensures ∙ same) c.in-Endless.is t)
+    c.put_long_bignum.ensures
