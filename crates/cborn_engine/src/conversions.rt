@@ -13,12 +13,10 @@ ghost use Rattle.cborn_engine.specs.Writing.{write_failures};
 use crate::encodings::read_encoded;
 use crate::faults::EngineFault;
 use crate::kinds::Kind;
-use crate::nodes::held_nodes;
 use crate::outputs::write_answer;
 use crate::showings::read_shown;
 use crate::sinks::Sink;
 use crate::sources::Source;
-use cborn_edn::{ShowFault, show};
 use cborn_model::{KeyOrder, Limit};
 use cborn_show::show_bytes;
 use std::alloc::{AllocError, Global};
@@ -96,30 +94,16 @@ fn written_as(
     }
 }
 
-/// Bytes that hold items, in notation: in one pass that keeps no tree, or else by trees.
+/// Bytes that hold items, in notation, in one pass that keeps no tree.
 ///
 /// # Errors
-/// Where memory was refused.
+/// Where memory was refused: such bytes are well-formed, and their text strings are UTF-8.
 pub fn fixed_text(alloc: Global, limit: Limit, bytes: &[u8]) -> Result<Vec<u8>, AllocError>
     requires { (items : List Value) × Holds kinds.Wire limit bytes.now items }
     ensures { IfOk result (λ text. IsFixedText bytes.now text.items) }
 {
     match show_bytes(alloc, limit, bytes) {
         Some(text) => Ok(text),
-        None => fixed_text_by_trees(alloc, limit, bytes),
-    }
-}
-
-/// What `fixed_text` answers, by trees. Bytes that hold items are well-formed, and their text
-/// strings are UTF-8.
-fn fixed_text_by_trees(alloc: Global, limit: Limit, bytes: &[u8]) -> Result<Vec<u8>, AllocError>
-    requires { (items : List Value) × Holds kinds.Wire limit bytes.now items }
-    ensures { IfOk result (λ text. IsFixedText bytes.now text.items) }
-{
-    let nodes = held_nodes(alloc, limit, bytes)?;
-    match show(alloc, &nodes) {
-        Ok(text) => Ok(text.into_bytes()),
-        Err(ShowFault::OutOfMemory) => Err(AllocError),
-        Err(ShowFault::NotUtf8 { .. }) => unreachable!(),
+        None => Err(AllocError),
     }
 }

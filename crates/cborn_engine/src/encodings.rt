@@ -1,9 +1,11 @@
-//! Reading a whole input, and encoding what it holds. A pass that keeps no tree is tried first.
-//! Where that answers nothing, what is wrong with bytes is looked for without a tree too, and only
-//! an input in which none is found becomes nodes, which are judged.
+//! Reading a whole input, and encoding what it holds. Bytes go by a pass that keeps no tree; where
+//! it answers nothing, what is wrong with them is looked for, without a tree too. A text becomes
+//! bytes first, by such a pass; where that or the next answers nothing, its nodes are made, which
+//! know their places in the text, and judged.
 ghost use Rattle.std.specs.Prelude.{◌≡◌, ◌≤◌, ◌+◌, ℕ, length, IfSome, IsTrue};
 ghost use Rattle.cborn_transcode.specs.Transcoding.{IsTranscoded};
-ghost use Rattle.cborn_engine.specs.devices.Encoding.{EncodeAnswers, IsEncoded};
+ghost use Rattle.cborn_engine.specs.declared.kinds.Kind.TheVariants as kinds;
+ghost use Rattle.cborn_engine.specs.devices.Encoding.{EncodeAnswers, IsEncoded, kind_of};
 ghost use Rattle.cborn_engine.specs.devices.Pieces.{Reads};
 ghost use Rattle.cborn_engine.specs.Reading.{most_bytes, read_failures};
 ghost use Rattle.cborn_engine.specs.Whole.{TellsFault};
@@ -11,13 +13,16 @@ ghost use Rattle.cborn_engine.specs.Whole.{TellsFault};
 use crate::faults::EngineFault;
 use crate::inputs::MOST;
 use crate::kinds::{Kind, profile_of};
-use crate::nodes::unjudged_nodes;
+use crate::nodes::notated_nodes;
 use crate::sources::Source;
 use crate::texts::{bytes_of_text, read_bytes};
 use cborn_det::encode_all;
-use cborn_judge::judge_all;
+use cborn_judge::{Invalid, judge_all};
+use cborn_lex::Profile;
 use cborn_model::{KeyOrder, Limit};
+use cborn_search::{Validity, first_flaw};
 use cborn_transcode::{is_deterministic, transcode};
+use cborn_wire::{WireFault, scan};
 use std::alloc::Global;
 
 /// The deterministic encodings of what the whole input holds, one after another. Bytes that are
@@ -64,29 +69,62 @@ pub fn encode_input<O: KeyOrder>(
     ensures malformed { length input.now ≤ most_bytes → TellsFault kind limit input.now result }
     ensures failures { (n : ℕ) → read_failures result n ≡ n }
 {
-    match encode_by_pass::<O>(alloc, limit, kind, input) {
-        Some(bytes) => Ok(bytes),
-        None => encode_by_trees::<O>(alloc, limit, kind, input),
+    match profile_of(kind) {
+        None => encode_bytes::<O>(alloc, limit, input),
+        Some(profile) => encode_text::<O>(alloc, limit, profile, input),
     }
 }
 
-/// What `encode_input` answers, by a pass over the bytes, or over those that a text spells. None
-/// promises nothing.
-fn encode_by_pass<O: KeyOrder>(
+/// What `encode_input` answers of bytes. Where the pass answers nothing, nothing is wrong with them,
+/// and no flaw is found, memory was refused.
+fn encode_bytes<O: KeyOrder>(
     alloc: Global,
     limit: Limit,
-    kind: Kind,
+    input: &[u8],
+) -> Result<Vec<u8>, EngineFault>
+    ensures answers { length input.now ≤ most_bytes → EncodeAnswers O.order kinds.Wire limit most_bytes input.now result }
+    ensures malformed { TellsFault kinds.Wire limit input.now result }
+    ensures failures { (n : ℕ) → read_failures result n ≡ n }
+{
+    if let Some(bytes) = transcode::<O>(alloc, limit, input) {
+        return Ok(bytes);
+    }
+    if let Some((place, reason)) = scan(limit, input) {
+        return Err(EngineFault::Wire(WireFault::Refused { place, reason }));
+    }
+    if let Validity::Flaw { place, reason } = first_flaw(alloc, limit, input) {
+        return Err(EngineFault::Invalid(Invalid::Refused { place, reason }));
+    }
+    Err(EngineFault::OutOfMemory)
+}
+
+/// What `encode_input` answers of a text.
+fn encode_text<O: KeyOrder>(
+    alloc: Global,
+    limit: Limit,
+    profile: Profile,
+    input: &[u8],
+) -> Result<Vec<u8>, EngineFault>
+    ensures answers { length input.now ≤ most_bytes → EncodeAnswers O.order (kind_of profile) limit most_bytes input.now result }
+    ensures failures { (n : ℕ) → read_failures result n ≡ n }
+{
+    match encode_text_by_pass::<O>(alloc, limit, profile, input) {
+        Some(bytes) => Ok(bytes),
+        None => encode_text_by_trees::<O>(alloc, limit, profile, input),
+    }
+}
+
+/// The same by passes over the text and the bytes that it spells. None promises nothing.
+fn encode_text_by_pass<O: KeyOrder>(
+    alloc: Global,
+    limit: Limit,
+    profile: Profile,
     input: &[u8],
 ) -> Option<Vec<u8>>
-    ensures { IfSome result (λ bytes. length input.now ≤ most_bytes → IsEncoded O.order kind limit input.now bytes.items) }
+    ensures { IfSome result (λ bytes. length input.now ≤ most_bytes → IsEncoded O.order (kind_of profile) limit input.now bytes.items) }
 {
-    match profile_of(kind) {
-        None => transcode::<O>(alloc, limit, input),
-        Some(profile) => {
-            let bytes = bytes_of_text(alloc, limit, profile, input)?;
-            encode_spelled::<O>(alloc, limit, bytes)
-        }
-    }
+    let bytes = bytes_of_text(alloc, limit, profile, input)?;
+    encode_spelled::<O>(alloc, limit, bytes)
 }
 
 /// The deterministic encodings of what the bytes hold, which are moved where they are these. None
@@ -100,18 +138,17 @@ fn encode_spelled<O: KeyOrder>(alloc: Global, limit: Limit, bytes: Vec<u8>) -> O
     transcode::<O>(alloc, limit, &bytes)
 }
 
-/// What `encode_input` answers, by trees.
-fn encode_by_trees<O: KeyOrder>(
+/// What `encode_text` answers, by trees.
+fn encode_text_by_trees<O: KeyOrder>(
     alloc: Global,
     limit: Limit,
-    kind: Kind,
+    profile: Profile,
     input: &[u8],
 ) -> Result<Vec<u8>, EngineFault>
-    ensures answers { length input.now ≤ most_bytes → EncodeAnswers O.order kind limit most_bytes input.now result }
-    ensures malformed { TellsFault kind limit input.now result }
+    ensures answers { length input.now ≤ most_bytes → EncodeAnswers O.order (kind_of profile) limit most_bytes input.now result }
     ensures failures { (n : ℕ) → read_failures result n ≡ n }
 {
-    let nodes = unjudged_nodes(alloc, limit, kind, input)?;
+    let nodes = notated_nodes(alloc, limit, profile, input)?;
     let items = judge_all(alloc, &nodes)?;
     Ok(encode_all::<O>(alloc, &items)?)
 }

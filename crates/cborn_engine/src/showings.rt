@@ -1,8 +1,8 @@
 //! Reading a whole input, and telling what it holds in another form. Bytes that are to stay bytes
-//! are what their nodes spell, once it is known that they are well-formed. Else a pass that keeps
-//! no tree is tried first: a text becomes bytes, and bytes become notation. Where it answers
-//! nothing, what is wrong with bytes is looked for without a tree too, and only an input in which
-//! nothing is found becomes nodes.
+//! are what their nodes spell, once it is known that they are well-formed. Else they become
+//! notation by a pass that keeps no tree; where it answers nothing, what is wrong with them is
+//! looked for, without a tree too. A text becomes bytes first, by such a pass; where that or the
+//! next answers nothing, its nodes are made, which know their places in the text.
 ghost use Rattle.std.specs.Prelude.{◌≡◌, ◌≤◌, ◌+◌, ℕ, List, length, IfOk, IfErr, IfSome, IsTrue, IsFalse};
 ghost use Rattle.cborn_model.specs.Placed.{PlacedAll};
 ghost use Rattle.cborn_model.specs.Spelled.{Wellformed};
@@ -20,7 +20,7 @@ ghost use Rattle.cborn_engine.specs.Whole.{TellsFault};
 use crate::faults::EngineFault;
 use crate::inputs::MOST;
 use crate::kinds::{Kind, profile_of};
-use crate::nodes::nodes_of;
+use crate::nodes::notated_nodes;
 use crate::sources::Source;
 use crate::texts::{bytes_of_text, read_bytes};
 use cborn_edn::{ShowFault, show};
@@ -77,40 +77,75 @@ pub fn show_input(
     ensures malformed { length input.now ≤ most_bytes → TellsFault in_kind limit input.now result }
     ensures failures { (n : ℕ) → read_failures result n ≡ n }
 {
-    match show_by_pass(alloc, limit, in_kind, out_kind, input) {
-        Some(answer) => Ok(answer),
-        None => show_by_trees(alloc, limit, in_kind, out_kind, input),
+    match profile_of(in_kind) {
+        None => tell_bytes(alloc, limit, out_kind, input),
+        Some(profile) => tell_text(alloc, limit, profile, out_kind, input),
     }
 }
 
-/// What `show_input` answers, by passes. None promises nothing.
-fn show_by_pass(
+/// What `show_input` answers of bytes. Where the pass answers nothing, and nothing is wrong with
+/// them, memory was refused.
+fn tell_bytes(
     alloc: Global,
     limit: Limit,
-    in_kind: Kind,
     out_kind: Kind,
     input: &[u8],
-) -> Option<Vec<u8>>
-    ensures { IfSome result (λ answer. length input.now ≤ most_bytes → IsShown in_kind out_kind limit input.now answer.items) }
+) -> Result<Vec<u8>, EngineFault>
+    ensures answers { length input.now ≤ most_bytes → TellAnswers kinds.Wire out_kind limit most_bytes input.now result }
+    ensures malformed { TellsFault kinds.Wire limit input.now result }
+    ensures failures { (n : ℕ) → read_failures result n ≡ n }
 {
-    match profile_of(in_kind) {
-        None => show_bytes_by_pass(alloc, limit, out_kind, input),
-        Some(profile) => show_text_by_pass(alloc, limit, profile, out_kind, input),
+    if let Some(answer) = tell_bytes_by_pass(alloc, limit, out_kind, input) {
+        return Ok(answer);
     }
+    if let Some((place, reason)) = scan(limit, input) {
+        return Err(EngineFault::Wire(WireFault::Refused { place, reason }));
+    }
+    if let Some(place) = bad_text(out_kind, input) {
+        return Err(EngineFault::Show(ShowFault::NotUtf8 { place }));
+    }
+    Err(EngineFault::OutOfMemory)
 }
 
-/// The same of bytes.
-fn show_bytes_by_pass(alloc: Global, limit: Limit, out_kind: Kind, input: &[u8]) -> Option<Vec<u8>>
+/// The same by a pass. None promises nothing.
+fn tell_bytes_by_pass(alloc: Global, limit: Limit, out_kind: Kind, input: &[u8]) -> Option<Vec<u8>>
     ensures { IfSome result (λ answer. IsShown kinds.Wire out_kind limit input.now answer.items) }
 {
     match out_kind {
-        Kind::Wire => None,
+        Kind::Wire => copy_of(alloc, limit, input),
         Kind::Notation | Kind::Notation2 => show_bytes(alloc, limit, input),
     }
 }
 
-/// The same of a text.
-fn show_text_by_pass(
+/// A copy of bytes that are well-formed.
+fn copy_of(alloc: Global, limit: Limit, input: &[u8]) -> Option<Vec<u8>>
+    ensures { IfSome result (λ answer. IsShown kinds.Wire kinds.Wire limit input.now answer.items) }
+{
+    if !is_own_spelling(limit, Kind::Wire, Kind::Wire, input) {
+        return None;
+    }
+    Vec::from_slice(alloc, input).ok()
+}
+
+/// What `show_input` answers of a text.
+fn tell_text(
+    alloc: Global,
+    limit: Limit,
+    profile: Profile,
+    out_kind: Kind,
+    input: &[u8],
+) -> Result<Vec<u8>, EngineFault>
+    ensures answers { length input.now ≤ most_bytes → TellAnswers (kind_of profile) out_kind limit most_bytes input.now result }
+    ensures failures { (n : ℕ) → read_failures result n ≡ n }
+{
+    match tell_text_by_pass(alloc, limit, profile, out_kind, input) {
+        Some(answer) => Ok(answer),
+        None => tell_text_by_trees(alloc, limit, profile, out_kind, input),
+    }
+}
+
+/// The same by passes. None promises nothing.
+fn tell_text_by_pass(
     alloc: Global,
     limit: Limit,
     profile: Profile,
@@ -126,27 +161,18 @@ fn show_text_by_pass(
     }
 }
 
-/// What `show_input` answers, by trees.
-fn show_by_trees(
+/// The same by trees.
+fn tell_text_by_trees(
     alloc: Global,
     limit: Limit,
-    in_kind: Kind,
+    profile: Profile,
     out_kind: Kind,
     input: &[u8],
 ) -> Result<Vec<u8>, EngineFault>
-    ensures answers { length input.now ≤ most_bytes → TellAnswers in_kind out_kind limit most_bytes input.now result }
-    ensures malformed { TellsFault in_kind limit input.now result }
+    ensures answers { length input.now ≤ most_bytes → TellAnswers (kind_of profile) out_kind limit most_bytes input.now result }
     ensures failures { (n : ℕ) → read_failures result n ≡ n }
 {
-    if in_kind == Kind::Wire {
-        if let Some((place, reason)) = scan(limit, input) {
-            return Err(EngineFault::Wire(WireFault::Refused { place, reason }));
-        }
-        if let Some(place) = bad_text(out_kind, input) {
-            return Err(EngineFault::Show(ShowFault::NotUtf8 { place }));
-        }
-    }
-    let nodes = nodes_of(alloc, limit, in_kind, input)?;
+    let nodes = notated_nodes(alloc, limit, profile, input)?;
     spelled(alloc, out_kind, &nodes)
 }
 

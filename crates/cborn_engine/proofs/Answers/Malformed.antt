@@ -1,5 +1,5 @@
 -- Bytes that aren't well-formed are refused for their one fault.
-use Rattle.std.proofs.Common.{◌≡◌, ℕ, List, ap, Result, Ok, Err}
+use Rattle.std.proofs.Common.{◌≡◌, ℕ, List, ap, sym, ◌∙◌, Result, Ok, Err}
 use Rattle.cborn_model.specs.Tree.{Tree, Trees, trees}
 use Rattle.cborn_model.specs.Spelled.{Wellformed}
 use Rattle.cborn_model.specs.Value.{Value}
@@ -7,10 +7,13 @@ use Rattle.cborn_wire.specs.declared.faults.WireFault.TheVariants as wire
 use Rattle.cborn_wire.specs.declared.faults.WireReason.{WireReason}
 use Rattle.cborn_wire.specs.Faults.{Fault}
 use Rattle.cborn_wire.proofs.Spelled.FaultLaws.{not_both, one_fault}
+use Rattle.cborn_lex.specs.declared.classes.Profile.{Profile}
+use Rattle.cborn_lex.specs.declared.classes.Profile.TheVariants as profile
 use Rattle.cborn_engine.specs.declared.faults.EngineFault.{EngineFault}
 use Rattle.cborn_engine.specs.declared.faults.EngineFault.TheVariants as fault
 use Rattle.cborn_engine.specs.declared.kinds.Kind.{Kind}
 use Rattle.cborn_engine.specs.declared.kinds.Kind.TheVariants as kind
+use Rattle.cborn_engine.specs.devices.Encoding.{kind_of}
 use Rattle.cborn_engine.specs.Holding.{Spells, Holds}
 use Rattle.cborn_engine.specs.Whole.{TellsFault}
 
@@ -28,6 +31,14 @@ spelled k limit input nodes result s = wellformed k limit input (trees nodes) re
 
 pub held : {A : Type 0} (k : Kind) (limit : ℕ) (input : List ℕ) (vs : List Value) (result : Result A EngineFault) → Holds k limit input vs → TellsFault k limit input result
 held k limit input vs result h = spelled k limit input h.nodes result h.spelled
+
+-- and of a text
+pub of_text : {A : Type 0} (k : Kind) (p : Profile) (limit : ℕ) (input : List ℕ) (result : Result A EngineFault) → k ≡ kind_of p → TellsFault k limit input result
+of_text k p limit input result e q r w f = absurd (never p (sym e ∙ w))
+  where
+    never : (p : Profile) → kind_of p ≡ kind.Wire → ⊥
+    never profile.One e = cc
+    never profile.Two e = cc
 
 -- what was found is told
 pub refused : {A : Type 0} (k : Kind) (limit : ℕ) (input : List ℕ) (q : ℕ) (s : WireReason) → Fault limit input q s → TellsFault {A = A} k limit input (Err (fault.Wire (wire.Refused q s)))

@@ -2,7 +2,7 @@ use Rattle.std.proofs.Common.{List, ℕ, subst}
 use Rattle.cborn_show.specs.Passed.{IsShownText}
 use Rattle.cborn_transcode.proofs.Iteming.{under}
 use Rattle.cborn_engine.proofs.Answers.Noted.{as_text, never_wire}
-use Rattle.cborn_engine.proofs.showings.show_text_by_pass.Goals as goal
+use Rattle.cborn_engine.proofs.showings.tell_text_by_pass.Goals as goal
 
 pub returns-in-Notation : goal.returns-in-Notation
 returns-in-Notation c =
