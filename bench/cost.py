@@ -44,6 +44,9 @@ def shapes(n):
         "map of integers": head(5, len(keys)) + pairs,
         "map, repeated key last": head(5, len(keys) + 1) + pairs + keys[0] + b"\x00",
         "nests": (b"\x81" * 100 + b"\x00") * (n // 101),
+        "chunked bignum last": head(4, n) + b"\x01" * (n - 1) + b"\xc2\x5f\x41\x01\xff",
+        "text in chunks, bad one last": b"\x7f" + b"\x61a" * (n // 2) + b"\x61\xff\xff",
+        "nest, repeated key last": (b"\x81" * 100 + b"\xa2\x00\x00\x01\x00") * (n // 105) + b"\x81" * 100 + b"\xa2\x00\x00\x00\x00",
     }
 
 

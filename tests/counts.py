@@ -8,7 +8,7 @@ for what is held at one time, as a multiple of input and output together, which 
 either. refuse.c, which is compiled by $CC or cc, counts.
 
 Shapes that are known to ask for more have bounds of their own, by name. Left out, since they cost far more: texts that
-are refused for what they mean, and bignums in chunks, both of which are read into trees.
+are refused for what they mean, which are read into trees.
 """
 import collections
 import os
@@ -59,6 +59,7 @@ def in_bytes(n):
         "one text": head(3, n) + b"a" * n,
         "text in chunks": b"\x7f" + b"\x61a" * (n // 2) + b"\xff",
         "tags": head(4, n // 2) + b"\xc1\x00" * (n // 2),
+        "bignums in chunks": head(4, n // 5) + b"\xc2\x5f\x41\x01\xff" * (n // 5),
         "bignums": head(4, n // 11) + b"\xc2\x49\x01\0\0\0\0\0\0\0\0" * (n // 11),
         "nests": (b"\x81" * 100 + b"\x00") * (n // 101),
         "map": head(5, len(keys)) + pairs,

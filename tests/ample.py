@@ -1,0 +1,210 @@
+#!/usr/bin/env python3
+"""Give the built program inputs for which there is memory enough, and fail where it says 'out of memory'.
+
+    ample.py PROGRAM [--inputs N] [--seed N]
+
+The program has no second way for bytes: where a pass answers nothing, and nothing is found wrong with the input, it
+says that memory was refused. A form that a pass forgets would be told so too, and the proof allows that. So here are
+all inputs of the tables and of the vectors, the shapes of bench/cost.py, and N (12,000) inputs that are made from a
+seed: valid ones in each form that bytes have (long heads, chunks, bignums in chunks, indefinite lengths, keys that
+fall), others that are changed in places or cut, nests about the limit, and bytes at random. What is made valid has to
+be read, too, and normalised to what reading.py computes.
+"""
+import argparse
+import itertools
+import pathlib
+import random
+import subprocess
+import sys
+import tempfile
+
+import reading
+import shared
+from run import given_bytes, paragraphs
+from vectors import vectors
+
+HERE = pathlib.Path(__file__).resolve().parent
+sys.path.append(str(HERE.parent / "bench"))
+from cost import shapes  # noqa: E402
+
+WANT = b"out of memory"
+COST = 100_000
+COMMANDS = (
+    ["normalise"],
+    ["normalise", "--order", "length-first", "--to", "notation"],
+    ["check"],
+    ["check", "--order", "length-first"],
+    ["show"],
+)
+FROM_TEXT = ("normalise", "show")
+NUMBERS = (0, 1, 23, 24, 255, 256, 65535, 65536, 2**32 - 1, 2**32, 2**64 - 1)
+LETTERS = 'az"\\é中😀\n'
+# behind a part of an input these are most often what it doesn't await
+INTERESTING = bytes([0x00, 0x5F, 0x61, 0x7F, 0x9F, 0xBF, 0xC2, 0xC3, 0xFF])
+NESTS = ((b"\x81", b""), (b"\x9f", b"\xff"), (b"\xc1", b""), (b"\xa1\x00", b""), (b"\xbf\x00", b"\xff"))
+
+
+class Maker:
+    """Makes inputs."""
+
+    def __init__(self, seed):
+        self.random = random.Random(seed)
+
+    def is_drawn(self, share):
+        return self.random.random() < share
+
+    def head(self, major, number):
+        """A head, now and then a longer one than it takes."""
+        wider = [width for width in (1, 2, 4, 8) if number < 1 << 8 * width]
+        return reading.head(major, number, self.random.choice(wider) if self.is_drawn(0.15) else None)
+
+    def string(self, major, parts):
+        """A string of these parts: whole, or each in a chunk of its own, and some of none between."""
+        if not self.is_drawn(0.3):
+            whole = b"".join(parts)
+            return self.head(major, len(whole)) + whole
+        chunks = itertools.chain.from_iterable([b"", part] if self.is_drawn(0.2) else [part] for part in parts)
+        return bytes([major << 5 | reading.INDEFINITE]) + b"".join(self.head(major, len(chunk)) + chunk for chunk in chunks) + b"\xff"
+
+    def bytes(self):
+        return [self.random.randbytes(self.random.choice((0, 1, 1, 2, 9))) for _ in range(self.random.choice((0, 1, 1, 2, 4)))]
+
+    def bignum(self):
+        zeros = [bytes(self.random.choice((0, 1, 3)))]
+        return self.head(reading.TAG, self.random.choice((2, 3))) + self.string(reading.BYTES, zeros + self.bytes())
+
+    def text(self):
+        return ["".join(self.random.choices(LETTERS, k=self.random.choice((0, 1, 2, 9)))).encode() for _ in range(self.random.choice((0, 1, 1, 3)))]
+
+    def leaf(self):
+        drawn = self.random.random()
+        if drawn < 0.35:
+            return self.head(self.random.choice((0, 0, 1)), self.random.choice((*NUMBERS, self.random.randrange(100))))
+        if drawn < 0.5:
+            return self.string(reading.BYTES, self.bytes())
+        if drawn < 0.7:
+            return self.string(reading.TEXT, self.text())
+        if drawn < 0.9:
+            return self.bignum()
+        return reading.head(reading.SIMPLE, self.random.choice((0, 19, 20, 21, 22, 23, 32, 255)))
+
+    def keys(self, levels):
+        """Keys that are different items, in some order."""
+        made = [self.item(levels) for _ in range(self.random.choice((0, 1, 2, 3, 8, 30)))]
+        different = {reading.canonical(key)[0]: key for key in made}
+        order = self.random.choice((sorted(different), sorted(different, reverse=True), list(different)))
+        return [different[key] for key in order]
+
+    def item(self, levels):
+        """A valid item."""
+        drawn = self.random.random()
+        if levels <= 0 or drawn < 0.5:
+            return self.leaf() if levels > 0 or drawn < 0.8 else self.head(reading.TEXT, 1) + b"a"
+        if drawn < 0.6:
+            return self.head(reading.TAG, self.random.choice((0, 1, 4, 24, 55799, 2**32))) + self.item(levels - 1)
+        if drawn < 0.8:
+            parts = [self.item(levels - 1) for _ in range(self.random.choice((0, 1, 2, 3, 25)))]
+            return self.container(reading.ARRAY, len(parts), parts)
+        keys = self.keys(levels - 1)
+        return self.container(reading.MAP, len(keys), [key + self.item(levels - 1) for key in keys])
+
+    def container(self, major, count, parts):
+        if self.is_drawn(0.3):
+            return bytes([major << 5 | reading.INDEFINITE]) + b"".join(parts) + b"\xff"
+        return self.head(major, count) + b"".join(parts)
+
+    def valid(self):
+        return b"".join(self.item(self.random.choice((0, 1, 2, 3))) for _ in range(self.random.choice((1, 1, 2, 4))))
+
+    def changed(self, content):
+        content = bytearray(content)
+        for _ in range(self.random.choice((1, 1, 2, 4))):
+            place = self.random.randrange(len(content) + 1)
+            change = self.random.choice(("put", "drop", "set", "cut", "repeat"))
+            if change == "put":
+                content.insert(place, self.random.choice(INTERESTING))
+            elif change == "drop":
+                del content[place : place + 1]
+            elif change == "set":
+                content[place : place + 1] = self.random.randbytes(1)
+            elif change == "cut":
+                del content[place:]
+            else:
+                content[place:place] = content[place : place + self.random.randrange(1, 9)]
+        return bytes(content)
+
+    def nest(self):
+        levels = self.random.choice((1, 127, 128, 129))
+        front, back = self.random.choice(NESTS)
+        return front * levels + self.leaf() + back * levels
+
+    def made(self):
+        """An input, and whether it is valid."""
+        drawn = self.random.random()
+        if drawn < 0.4:
+            return self.valid(), True
+        if drawn < 0.85:
+            return self.changed(self.valid()), False
+        if drawn < 0.9:
+            return self.nest(), False
+        return self.random.randbytes(self.random.randrange(1, 24)), False
+
+
+def of_tables():
+    """Each file and each standard input of the tables: any command may be given any of them."""
+    for path in sorted(HERE.glob("*.table")):
+        for lines in paragraphs(path):
+            for word, rest in lines:
+                what = rest.partition(" ")[2] if word == "file" else rest if word == "stdin" else ""
+                if what and what != "folder":
+                    yield given_bytes(what)
+
+
+def inputs(count, seed):
+    """Each input, and whether it is known to be valid."""
+    yield from ((content, False) for content in of_tables())
+    yield from ((content, False) for path in sorted(HERE.glob("*.vectors")) for _, content, _ in vectors(path))
+    yield from ((content, False) for content in shapes(COST).values())
+    maker = Maker(seed)
+    yield from (maker.made() for _ in range(count))
+
+
+def wrong_of(program, path, content, is_valid):
+    """What is wrong about each command on this input."""
+    path.write_bytes(content)
+    given = content if len(content) < 100 else content[:100] + b".."
+    kinds = [[], *(["--from", kind] for kind in ("notation", "notation-2"))]
+    for kind in kinds if content.isascii() and not is_valid else kinds[:1]:
+        for words in COMMANDS:
+            if kind and words[0] not in FROM_TEXT:
+                continue
+            done = subprocess.run([program, *words, *kind, path], capture_output=True, timeout=60, check=False)
+            if WANT in done.stderr or done.returncode not in (0, 1, 2):
+                yield f"{words} {kind} {given!r}: {done.stderr!r}, status {done.returncode}"
+            elif is_valid and done.returncode == 2:
+                yield f"{words} {given!r}: refused, {done.stderr!r}"
+            elif is_valid and words == COMMANDS[0] and done.stdout != b"".join(reading.canonical(content)):
+                yield f"{words} {given!r}: {done.stdout[:100]!r}"
+
+
+def tried(program, count, seed, first, shares):
+    """How many inputs were given, and what is wrong."""
+    number, wrong = 0, []
+    with tempfile.TemporaryDirectory() as folder:
+        for number, (content, is_valid) in enumerate(shared.share(inputs(count, seed), first, shares), 1):
+            wrong += wrong_of(program, pathlib.Path(folder, "input"), content, is_valid)
+    return number, wrong
+
+
+def main():
+    words = argparse.ArgumentParser(description=__doc__.split("\n", maxsplit=1)[0])
+    words.add_argument("program", type=lambda name: pathlib.Path(name).resolve())
+    words.add_argument("--inputs", type=int, default=12_000)
+    words.add_argument("--seed", type=int, default=29)
+    given = words.parse_args()
+    count, wrong = shared.over_processors(tried, given.program, given.inputs, given.seed)
+    return shared.status(count, wrong, f"{count} inputs")
+
+
+if __name__ == "__main__":
+    sys.exit(main())
