@@ -54,14 +54,15 @@ def clauses_of(files):
 
 def lacking_clauses(source, functions, where):
     """What a cell `Where` names and the source lacks. A clause has to be one of the function that the cell names in front of
-    it, or else of one of those of its row; behind a file, in brackets, of any in that file, as the clauses of a type are."""
+    it, or else of each of those of its row that are in that file; behind a file, in brackets, of any in that file, as the
+    clauses of a type are."""
     named = [source / name for name in re.findall(r"`(\w+\.rt)`", where)]
     yield from (str(file) for file in named if not file.exists())
     files = [file for file in named or sorted(source.glob("*.rt")) if file.exists()]
     all_of, text = clauses_of(files), "".join(file.read_text() for file in files)
     anywhere = set().union(*all_of.values())
     of_row = [name for name in functions if name in all_of]
-    allowed = set().union(*(all_of[name] for name in of_row)) if of_row else anywhere
+    allowed = set.intersection(*(all_of[name] for name in of_row)) if of_row else anywhere
     inner, is_inner, before = anywhere, False, []
     for name, mark in re.findall(r"`([\w.]+)`|([();])", where):
         if mark:
