@@ -1,9 +1,9 @@
 #!/usr/bin/env python3
 """Counts the lines of definitions that a reader has to believe: those that the clauses of normalise, check and compare reach, those that the law of the headline reaches, and those that the headline of bytes alone reaches.
 
-From the clauses of these calls and laws, of the traits that they name and from both orders of keys, it follows each name through the `use` lines to its declaration, and from there on. Comments, blank lines and `use` lines are not counted. A name counts wherever it stands, also where a variable only looks like it: the number is never too small. The enums and structs of the code that are reached, and the types of their fields, are counted by themselves, and so is what is reached in the kit: its std, and the few words of the logic that std passes on.
+From the clauses of these calls and laws, of the traits that they name and from both orders of keys, it follows each name through the `use` lines to its declaration, and from there on. Comments, blank lines and `use` lines are not counted. A name counts wherever it stands, also where a variable only looks like it: the number is never too small. The enums and structs of the code that are reached, and the types of their fields, are counted by themselves, and so is what is reached in the kit: its std, its ports, and the few words of the logic that std passes on. A name that is brought in and leads to no declaration fails the count, unless the logic has it built in.
 
-    python3 tests/believed.py           a table of files, and the sums; fails if README.md or docs/DEFINITIONS.md says others
+    python3 tests/believed.py           a table of files, and the sums; fails if README.md or docs/DEFINITIONS.md says others, or a name is lost
     python3 tests/believed.py -v        each declaration too
 """
 import re
@@ -27,14 +27,17 @@ HEADLINE = {"cborn_engine/src/laws.rt": ["fn headline"], "cborn_engine/src/slice
 BYTES = {"cborn_engine/src/laws.rt": ["fn headline_of_bytes"], "cborn_engine/src/slices.rt": ["fn normalise_slice: bytes"], **ORDERS}
 SAID_IN = ["README.md", "docs/DEFINITIONS.md"]
 CHAPTERS = {"First chapter: bytes": "bytes", "Second chapter: notation": "headline"}
-USE = re.compile(r"(?:pub )?use ([\w.-]+?)(?:\.\{([^}]*)\}| as ([\w-]+))?;?$")
+USE = re.compile(r"(?:unfoldable )?(?:pub )?use ([\w.-]+?)(?:\.\{([^}]*)\}| as ([\w-]+))?;?$")
 HEAD = re.compile(r"(?:(?:abbrev|pub|unfoldable|opaque) )*(?:(?:record|data) )?([^\s(){}]+)")
 ROW = re.compile(r"^\| `(\w+/specs/\w+\.antt)` \| (\d+) \|", re.M)
 NAME = re.compile(r"[^\s(){}\[\],;]+")
-TYPE = re.compile(r"pub(?:\(crate\))? (?:enum|struct) (\w+)")
+TYPE = re.compile(r"pub(?:\(crate\))? (?:enum|struct|const) (\w+)")
 RUST_USE = re.compile(r"(?:pub )?use (crate|cborn_\w+)::(?:\w+::)*(?:\{([^}]*)\}|(\w+));$")
 STD = ["std", "core", "std_alloc", "std_io", "std_collections"]
-LOGIC = {"lib": "logic/Lib", "mathlib": "antt/port/mathlib/src", "denote": "logic/Denote", "base": "logic/Base"}
+LOGIC = {"lib": "logic/Lib", "mathlib": "antt/port/mathlib/src", "denote": "logic/Denote", "base": "logic/Base", "mir": "logic/Mir"}
+# what the logic has built in, and has no definition of
+BUILT_IN = ("Prim.",)
+LOST = set()
 
 
 def first(files):
@@ -44,7 +47,7 @@ def first(files):
 def type_file(crate, name, within=()):
     """The file of the code that declares a type: in this module, if one of that name is, else in another."""
     found = []
-    for source in [CRATES / crate / "src", *(KIT / part / "src" for part in STD if crate in STD)]:
+    for source in [CRATES / crate / "src", KIT / crate / "src", *(KIT / part / "src" for part in STD if crate in STD)]:
         found += [file for file in sorted(source.rglob("*.rt")) if re.search(rf"^\s*pub(\(crate\))? (enum|struct) {name}\b", file.read_text(), re.M)]
     return next((file for file in found if set(within) <= {file.stem, *(part.name for part in file.parents)}), None) or (found[0] if found else None)
 
@@ -57,6 +60,8 @@ def file_of(path):
     crate, kind, rest = parts[1], parts[2] if len(parts) > 2 else "", parts[3:]
     if kind not in ("specs", "proofs") or not rest:
         return None, None
+    if rest[-1] == "TheConstants":
+        return first([top / crate / "src" / ("/".join(rest[1:-1]) + ".rt") for top in (CRATES, KIT)]), None
     if kind == "specs" and rest[0] == "declared":
         *within, name = [part for part in rest[1:] if part != "TheVariants"]
         return type_file(crate, name, within), name
@@ -78,8 +83,7 @@ def imports(lines):
             continue
         path, listed, alias = found.groups()
         file, of_type = file_of(path)
-        if not file:
-            continue
+        file = file or path
         if listed is None:
             modules[alias or path.split(".")[-1]] = (file, of_type)
         for entry in (listed or "").split(","):
@@ -95,7 +99,7 @@ class Declaration:
 
     def kind(self):
         if not self.file.is_relative_to(CRATES):
-            return "std"
+            return "kit"
         return "types" if self.file.suffix == ".rt" else "definitions"
 
     def path(self):
@@ -112,7 +116,7 @@ class Module:
         self.names, self.modules = imports([line.strip() for line in lines])
         self.declared, self.constructors = {}, {}
         self.contexts = []
-        self.read([line for line in lines if not re.match(r"(pub )?(use|mod) ", line.strip())])
+        self.read([line for line in lines if not re.match(r"(unfoldable )?(pub )?(use|mod) ", line.strip())])
 
     def read(self, lines):
         open_contexts, current = [], None
@@ -144,7 +148,7 @@ class Module:
 
     def constructor(self, current, text):
         if re.match(r"(pub )?data ", current.lines[0]) and " : " in text:
-            self.constructors[text.split(" : ")[0].strip()] = current
+            self.constructors.update(dict.fromkeys(text.split(" : ")[0].split(), current))
 
     def lookup(self, name):
         return self.declared.get(name) or self.constructors.get(name) or self.operators.get(name)
@@ -207,12 +211,19 @@ def resolve(names, modules, word):
 
 
 def declaration(file, name):
+    """The declaration of a name in a file, or in the one that passes it on from there. A name is lost where neither has one."""
+    if isinstance(file, str):
+        if not file.startswith(BUILT_IN):
+            LOST.add(f"{file}: {name}")
+        return None
     here = module(file)
     found = here.lookup(name) or next((d for d in (here.lookup(part) for part in parts_of(name)) if d), None)
     if found is None and isinstance(here, Module):
         for part in parts_of(name):
             if part in here.names and here.names[part] != (file, name):
                 return declaration(*here.names[part])
+    if found is None:
+        LOST.add(f"{file.name}: {name}")
     return found
 
 
@@ -284,25 +295,26 @@ def main():
     every = list({id(d): d for ds in found.values() for d in ds}.values())
     counts = {name: counted(ds, "definitions") for name, ds in found.items()}
     show(every, counted(every, "definitions"), CRATES)
-    for kind, base in (("types", CRATES), ("std", KIT)):
+    for kind, base in (("types", CRATES), ("kit", KIT)):
         print(f"\n{kind}:")
         show(every, counted(every, kind), base)
     print()
     sums = {name: sum(rows.values()) for name, rows in counts.items()}
     for name, ds in found.items():
-        types, std = (sum(counted(ds, kind).values()) for kind in ("types", "std"))
-        print(f"{name}: {sums[name]:,} lines in {len(counts[name])} files, {types} of declared types, {std} of std")
-    types, std = (sum(counted(every, kind).values()) for kind in ("types", "std"))
-    print(f"{sums['calls']:,} lines for normalise/check/compare, {sums['headline']:,} for the headline, {sums['bytes']:,} for the headline of bytes alone, {types:,} of declared types, {std:,} of std")
+        types, kit = (sum(counted(ds, kind).values()) for kind in ("types", "kit"))
+        print(f"{name}: {sums[name]:,} lines in {len(counts[name])} files, {types} of declared types, {kit} of the kit")
+    types, kit = (sum(counted(every, kind).values()) for kind in ("types", "kit"))
+    print(f"{sums['calls']:,} lines for normalise/check/compare, {sums['headline']:,} for the headline, {sums['bytes']:,} for the headline of bytes alone, {types:,} of declared types, {kit:,} of the kit")
     told = [
         f"{sums['calls']:,} lines of definitions in {len(counts['calls'])} files",
         f"{sums['headline']:,} lines in {len(counts['headline'])} files",
         f"{sums['bytes']:,} lines in {len(counts['bytes'])} files",
         f"{types:,} lines of types",
-        f"{std:,} lines of the kit's std",
+        f"{kit:,} lines of the kit's own",
     ]
     texts = {name: (ROOT / name).read_text() for name in SAID_IN}
     wrong = [f"{name} doesn't say: {words}" for name, text in texts.items() for words in told if words not in text]
+    wrong += [f"leads to no declaration: {name}" for name in sorted(LOST)]
     for chapter, name in CHAPTERS.items():
         wrong += misprinted(texts["docs/DEFINITIONS.md"], chapter, counts[name])
     if wrong:
