@@ -14,7 +14,7 @@ ghost use Rattle.cborn_engine.specs.Comparing.{AreCompared};
 ghost use Rattle.cborn_engine.specs.devices.Encoding.{IsEncoded, IsWrittenAs};
 ghost use Rattle.cborn_engine.specs.Holding.{Holds, HoldSameItems};
 ghost use Rattle.cborn_engine.specs.Showing.{IsShown};
-ghost use Rattle.cborn_engine.specs.Whole.{IsRefusedWhole, IsUnshownWhole, AreRefusedWhole, TellsFault};
+ghost use Rattle.cborn_engine.specs.Whole.{IsRefusedWhole, IsUnshownWhole, AreRefusedWhole, TellsFault, TellsFirstFault};
 ghost use Rattle.cborn_engine.specs.Reading.{most_bytes};
 
 use crate::checks::check_input;
@@ -120,6 +120,7 @@ pub fn compare_slices<O: KeyOrder>(
 ) -> Result<Option<u64>, CompareFault>
     ensures compared { IfOk result (λ answer. (length first.now ≤ most_bytes) × (length second.now ≤ most_bytes) × AreCompared kind_a kind_b limit first.now second.now answer) }
     ensures refused { IfErr result (AreRefusedWhole kind_a kind_b limit most_bytes first.now second.now) }
+    ensures malformed { length first.now ≤ most_bytes → TellsFirstFault kind_a limit first.now result }
 {
     let (ours, theirs) = encode_both::<O>(alloc, limit, kind_a, first, kind_b, second)?;
     Ok(difference::<O>(alloc, limit, &ours, &theirs)?)
@@ -145,6 +146,7 @@ pub fn same_items<O: KeyOrder>(
     ensures forms { IfOk result (λ same. (out : Kind) (v w : List ℕ) → IsCanonical O.order kind_a out limit first.now v → IsCanonical O.order kind_b out limit second.now w → IsTrue same ↔ (v ≡ w)) }
     ensures held { IfOk result (λ same. (length first.now ≤ most_bytes) × (length second.now ≤ most_bytes) × ((items : List Value) × Holds kind_a limit first.now items) × ((items : List Value) × Holds kind_b limit second.now items)) }
     ensures refused { IfErr result (AreRefusedWhole kind_a kind_b limit most_bytes first.now second.now) }
+    ensures malformed { length first.now ≤ most_bytes → TellsFirstFault kind_a limit first.now result }
 {
     let (ours, theirs) = encode_both::<O>(alloc, limit, kind_a, first, kind_b, second)?;
     Ok(*ours == *theirs)
@@ -189,6 +191,7 @@ fn encode_both<'a, 'b, O: KeyOrder>(
     ensures short { IfOk result (λ both. (length first.now ≤ most_bytes) × (length second.now ≤ most_bytes)) }
     ensures encoded { IfOk result (λ both. IsEncoded O.order kind_a limit first.now (cow_slice_items both.0) × IsEncoded O.order kind_b limit second.now (cow_slice_items both.1)) }
     ensures refused { IfErr result (AreRefusedWhole kind_a kind_b limit most_bytes first.now second.now) }
+    ensures malformed { length first.now ≤ most_bytes → TellsFirstFault kind_a limit first.now result }
 {
     let ours = match encode_slice::<O>(alloc, limit, kind_a, first) {
         Ok(bytes) => bytes,

@@ -9,13 +9,15 @@ use Rattle.cborn_wire.specs.Faults.{Fault}
 use Rattle.cborn_wire.proofs.Spelled.FaultLaws.{not_both, one_fault}
 use Rattle.cborn_lex.specs.declared.classes.Profile.{Profile}
 use Rattle.cborn_lex.specs.declared.classes.Profile.TheVariants as profile
+use Rattle.cborn_engine.specs.declared.faults.CompareFault.{CompareFault}
 use Rattle.cborn_engine.specs.declared.faults.EngineFault.{EngineFault}
 use Rattle.cborn_engine.specs.declared.faults.EngineFault.TheVariants as fault
 use Rattle.cborn_engine.specs.declared.kinds.Kind.{Kind}
 use Rattle.cborn_engine.specs.declared.kinds.Kind.TheVariants as kind
 use Rattle.cborn_engine.specs.devices.Encoding.{kind_of}
+use Rattle.cborn_engine.specs.Faults.{of_first}
 use Rattle.cborn_engine.specs.Holding.{Spells, Holds}
-use Rattle.cborn_engine.specs.Whole.{TellsFault}
+use Rattle.cborn_engine.specs.Whole.{TellsFault, TellsFirstFault}
 
 -- nothing is to be told of what spells nodes
 pub wellformed : {A : Type 0} (k : Kind) (limit : ℕ) (input : List ℕ) (ts : Trees) (result : Result A EngineFault) → (k ≡ kind.Wire → Wellformed limit ts input) → TellsFault k limit input result
@@ -46,13 +48,27 @@ refused k limit input q s g p r e f =
     let t = one_fault limit input q p s r g f in
     λ i. Err (fault.Wire (wire.Refused (t.0 i) (t.1 i)))
 
+-- the error of what is refused
+error_of : {A E : Type 0} {x y : E} → ◌≡◌ {A = Result A E} (Err x) (Err y) → x ≡ y
+error_of e = cc
+
 -- a fault is handed on
 pub handed : {A B : Type 0} (k : Kind) (limit : ℕ) (input : List ℕ) (why : EngineFault) → TellsFault {A = A} k limit input (Err why) → TellsFault {A = B} k limit input (Err why)
-handed k limit input why h p r e f = ap Err (fault_of (h p r e f))
-  where
-    fault_of : {A : Type 0} {x y : EngineFault} → ◌≡◌ {A = Result A EngineFault} (Err x) (Err y) → x ≡ y
-    fault_of e = cc
+handed k limit input why h p r e f = ap Err (error_of (h p r e f))
 
 -- what was answered was not malformed
 pub answered : {A B : Type 0} (k : Kind) (limit : ℕ) (input : List ℕ) (a : A) (result : Result B EngineFault) → TellsFault k limit input (Ok a) → TellsFault k limit input result
 answered k limit input a result h p r e f = absurd (let clash = h p r e f in cc)
+
+-- the same of the first of two inputs
+pub of_the_first : {A B : Type 0} (k : Kind) (limit : ℕ) (input : List ℕ) (why : EngineFault) → TellsFault {A = A} k limit input (Err why) → TellsFirstFault {A = B} k limit input (Err (of_first why))
+of_the_first k limit input why h p r e f = ap (λ w. Err (of_first w)) (error_of (h p r e f))
+
+pub first_answered : {A B : Type 0} (k : Kind) (limit : ℕ) (input : List ℕ) (a : A) (result : Result B CompareFault) → TellsFault k limit input (Ok a) → TellsFirstFault k limit input result
+first_answered k limit input a result h p r e f = absurd (let clash = h p r e f in cc)
+
+pub first_handed : {A B : Type 0} (k : Kind) (limit : ℕ) (input : List ℕ) (why : CompareFault) → TellsFirstFault {A = A} k limit input (Err why) → TellsFirstFault {A = B} k limit input (Err why)
+first_handed k limit input why h p r e f = ap Err (error_of (h p r e f))
+
+pub both_answered : {A B : Type 0} (k : Kind) (limit : ℕ) (input : List ℕ) (a : A) (result : Result B CompareFault) → TellsFirstFault k limit input (Ok a) → TellsFirstFault k limit input result
+both_answered k limit input a result h p r e f = absurd (let clash = h p r e f in cc)
