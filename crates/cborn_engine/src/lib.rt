@@ -10,8 +10,8 @@
 //! refused; `Loading`, `Showing`, `Comparing` and `Checking` say what the other calls answer.
 //! [`laws`] has the headline in one place. In the code `pieces` and `texts` read, `nodes` makes
 //! nodes of what was read and `inputs` hands them out. `encodings` encodes a whole input,
-//! `showings` tells it in another form and `checks` judges it: each tries a pass that keeps no tree
-//! first (`cborn_transcode`, `cborn_spell`, `cborn_show`), and where that answers nothing goes by
+//! `showings` tells it in another form and `checks` judges it, by passes that keep no tree
+//! (`cborn_transcode`, `cborn_spell`, `cborn_show`); a text for which these have no answer goes by
 //! `nodes`. `conversions` and `comparisons` are the calls over readers, `slices` those over inputs
 //! that are held whole. `outputs` writes.
 #![tactic(auto)]
