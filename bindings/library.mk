@@ -63,12 +63,14 @@ put-library:
 	install -D -m 644 include/cborn.h $(DESTDIR)$(PREFIX)/include/cborn.h
 	install -D -m 644 build/cborn.pc $(DESTDIR)$(PREFIX)/lib/pkgconfig/cborn.pc
 
-# Program, library, wheel and crate for whoever has no kit; the same bytes each time.
+# Program, completions, library, wheel and crate for whoever has no kit; the same bytes each time, wherever they are made.
+dist: export LC_ALL := C
+dist: export TZ := UTC
 dist: build library
 	rm -rf build/$(DIST)
 	install -D $(PROGRAM) build/$(DIST)/bin/cborn
 	install -D -m 644 man/cborn.1 build/$(DIST)/share/man/man1/cborn.1
-	$(MAKE) put-library DESTDIR=build/$(DIST) PREFIX=
+	$(MAKE) put-completions put-library DESTDIR=build/$(DIST) PREFIX=
 	mkdir -p build/$(DIST)/docs build/$(DIST)/examples build/$(DIST)/python build/$(DIST)/rust/lib
 	cp README.md CHANGELOG.md CONTRIBUTING.md build/$(DIST)
 	cp docs/*.md build/$(DIST)/docs
