@@ -149,6 +149,7 @@ def wrong(archive, program):
         yield f"its name isn't that of version {version()}"
     if (RELEASE / "SHA256SUMS").read_text() != f"{sum_of(archive)}  {archive.name}\n":
         yield "SHA256SUMS tells another checksum"
+        return
     if told["version"] != version():
         yield f"MADE-FROM tells version {told['version']}"
     if is_known(told["commit"]) is False:
