@@ -35,6 +35,7 @@ help:
 	@echo 'make bench      time the commands on a corpus of 130 MB, made under bench/corpus'
 	@echo 'make bench-peers    the program beside its peers, whose drivers it builds (Debian packages; it says which): some ten minutes'
 	@echo 'make bench-growth   time and memory from 1 MB to 1 GB, beside two peers: some 20 minutes, 5 GB of disk'
+	@echo 'make pictures   draw the tables of docs/PERFORMANCE.md under docs/pictures (python3-matplotlib of Debian)'
 	@echo 'make bench-cost     what hostile bytes cost: memory beside input and output, and time at two sizes'
 	@echo 'make install    prove and build program and library, and put them under PREFIX (PREFIX is $(PREFIX)): bin/cborn,'
 	@echo '                its man page, its completions for bash, zsh and fish, include/cborn.h, libcborn.a, libcborn.so and'
@@ -84,6 +85,7 @@ layout:
 tables: build
 	python3 tests/run.py $(PROGRAM)
 	python3 tests/documents.py $(PROGRAM)
+	python3 bench/pictures.py --check
 
 growths: build
 	python3 tests/growths.py $(PROGRAM)
@@ -133,9 +135,16 @@ bench: build $(CORPUS)
 # BENCH may hold options: BENCH=--cpu on a machine that is shared, BENCH='--into docs/PERFORMANCE.md' to put the tables there.
 bench-peers: build $(CORPUS)
 	python3 bench/tables.py $(PROGRAM) bench/corpus $(BENCH)
+	python3 bench/pictures.py
 
 bench-growth: build $(CORPUS)
 	python3 bench/tables.py $(PROGRAM) bench/corpus --only growth --best 1 $(BENCH)
+	python3 bench/pictures.py
+
+# the tables as docs/PERFORMANCE.md has them
+.PHONY: pictures
+pictures:
+	python3 bench/pictures.py
 
 bench-cost: build
 	python3 bench/cost.py $(PROGRAM) $(BENCH)
