@@ -1,7 +1,8 @@
 #!/usr/bin/env python3
 """Draw the tables of docs/PERFORMANCE.md as SVG, under docs/pictures.
 
-    pictures.py           draw all of them (matplotlib draws: Debian's package python3-matplotlib)
+    pictures.py           draw all of them (matplotlib draws: Debian's package python3-matplotlib), and docs/pictures/ways.dot
+                          (dot of Debian's package graphviz)
     pictures.py --check   whether each was drawn from the tables as they stand now; needs nothing but Python
 
 The figures are those of the document, so a picture follows what `--into` puts there. A picture keeps the checksum of its
@@ -10,6 +11,8 @@ tables and of this script.
 import hashlib
 import pathlib
 import re
+import shutil
+import subprocess
 import sys
 
 ROOT = pathlib.Path(__file__).resolve().parent.parent
@@ -156,7 +159,18 @@ DRAWN = {
 }
 
 
+def draw_ways():
+    """The way of an input, which is a graph."""
+    if shutil.which("dot") is None:
+        print("the way of an input isn't drawn anew: dot isn't there (Debian's package graphviz)")
+        return
+    made = PICTURES / "ways.svg"
+    subprocess.run(["dot", "-Tsvg", str(made.with_suffix(".dot")), "-o", str(made)], check=True)
+    print(made)
+
+
 def draw():
+    draw_ways()
     try:
         import matplotlib
     except ImportError:
