@@ -11,12 +11,13 @@ STACK ?= 256
 # The size in MB of the inputs whose cost in memory is tested.
 COST ?= 8
 
-.PHONY: help try try-tests build test check-quick layout tables vectors growths failures counts cost left-out believed stack big library-growths bench install clean
+.PHONY: help try build test check-quick layout tables vectors growths failures counts cost left-out believed stack big library-growths bench install clean
 
 help:
 	@echo 'make try        run the program from its source, before any proof: ARGS="check FILE", or seven bytes as an example'
 	@echo 'make build      prove every crate and build the program, $(PROGRAM)'
-	@echo 'make test       the merge gate from nothing, then make tables, believed, stack, vectors, growths, failures, counts, cost, completion-tests, library-tests, dist-tests, release-tests and try-tests, and which of it was left out'
+	@echo 'make test       the merge gate from nothing, then make tables, believed, stack, vectors, growths, failures, counts, cost, library-tests and dist-tests, and which of it was left out'
+	@echo '                (behind dist-tests also completion-tests, release-tests and try-tests)'
 	@echo 'make check-quick   while you change something: proves what changed, then make layout, tables and believed'
 	@echo 'make try-tests  make try on its seven bytes, on files and on standard input: three builds, of a minute each'
 	@echo 'make layout     whether each file of the crates is in the layout of rt fmt'
@@ -56,6 +57,7 @@ try:
 	@python3 tests/try.py $(ARGS)
 
 # three builds, of a minute each
+.PHONY: try-tests
 try-tests: kit
 	python3 tests/tried.py
 
@@ -71,7 +73,8 @@ build: kit
 test:
 	rt ci
 	python3 tests/built.py
-	$(MAKE) tables believed stack vectors growths failures counts cost completion-tests library-tests dist-tests release-tests try-tests
+	$(MAKE) tables believed stack vectors growths failures counts cost library-tests dist-tests
+	$(MAKE) completion-tests release-tests try-tests
 	$(MAKE) --no-print-directory left-out
 
 # over what out/ keeps; it tries no must-fail edit, and runs no tests

@@ -63,9 +63,7 @@ put-library:
 	install -D -m 644 include/cborn.h $(DESTDIR)$(PREFIX)/include/cborn.h
 	install -D -m 644 build/cborn.pc $(DESTDIR)$(PREFIX)/lib/pkgconfig/cborn.pc
 
-# Program, completions, library, wheel and crate for whoever has no kit; the same bytes each time, wherever they are made.
-dist: export LC_ALL := C
-dist: export TZ := UTC
+# Program, library, wheel and crate for whoever has no kit; the same bytes each time.
 dist: build library
 	rm -rf build/$(DIST)
 	install -D $(PROGRAM) build/$(DIST)/bin/cborn
