@@ -19,7 +19,7 @@ help:
 	@echo 'make test       the merge gate from nothing, then make tables, believed, stack, vectors, growths, failures, counts, cost, library-tests and dist-tests, and which of it was left out'
 	@echo '                (behind dist-tests also completion-tests, release-tests and try-tests)'
 	@echo 'make check-quick   while you change something: proves what changed, then make layout, tables and believed'
-	@echo 'make try-tests  make try on its seven bytes, on files and on standard input: three builds, of a minute each'
+	@echo 'make try-tests  make try on its seven bytes, on files, on standard input and on a wrong option: four builds, of a minute each'
 	@echo 'make layout     whether each file of the crates is in the layout of rt fmt'
 	@echo 'make tables     the built program on the tables of tests/, and the examples of the documents'
 	@echo 'make vectors    the built program on each front of each worked input'
@@ -56,7 +56,7 @@ help:
 try:
 	@python3 tests/try.py $(ARGS)
 
-# three builds, of a minute each
+# four builds, of a minute each
 .PHONY: try-tests
 try-tests: kit
 	python3 tests/tried.py

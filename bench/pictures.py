@@ -16,6 +16,7 @@ import subprocess
 import sys
 
 ROOT = pathlib.Path(__file__).resolve().parent.parent
+DEBIAN = "/usr/bin/python3"
 PICTURES = ROOT / "docs/pictures"
 LABELS = {
     "ciborium-ll, a loop": "a loop over ciborium-ll",
@@ -174,6 +175,9 @@ def draw():
     try:
         import matplotlib
     except ImportError:
+        # Debian's packages serve its own interpreter
+        if pathlib.Path(DEBIAN).exists() and pathlib.Path(sys.executable).resolve() != pathlib.Path(DEBIAN).resolve():
+            return subprocess.run([DEBIAN, __file__], check=False).returncode
         print(f"no picture is drawn: {sys.executable} has no matplotlib (Debian's package python3-matplotlib)")
         return 0
     matplotlib.use("svg")

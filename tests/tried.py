@@ -28,6 +28,7 @@ CASES = (
     ((), b"", DEFAULT, 0),
     (("compare", "--from-a", "notation", "notation", "./seven"), b"\x00", "different at item 1\n", 1),
     (("normalise", "--to", "notation"), SEVEN, "[1, h'61']\n", 0),
+    (("check", "--none"), b"", "", 3),
 )
 
 
