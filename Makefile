@@ -165,6 +165,7 @@ install: build
 
 # bash, zsh and fish find them where they are put
 completions:
+	@test -x $(PROGRAM) || { echo '$(PROGRAM) has to be there first: make build' >&2; exit 1; }
 	python3 completions/make.py $(PROGRAM) build/completions
 
 put-completions: completions
