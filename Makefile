@@ -16,8 +16,9 @@ COST ?= 8
 help:
 	@echo 'make try        run the program from its source, before any proof: ARGS="check FILE", or seven bytes as an example'
 	@echo 'make build      prove every crate and build the program, $(PROGRAM)'
-	@echo 'make test       the merge gate from nothing, then make tables, believed, stack, vectors, ample, growths, failures, counts, cost, library-tests and dist-tests, and which of it was left out'
+	@echo 'make test       the merge gate from nothing, then make tables, believed, stack, vectors, ample, growths, failures, counts, cost, library-tests, dist-tests, completion-tests and release-tests, and which of it was left out'
 	@echo 'make check-quick   while you change something: proves what changed, then make layout, tables and believed'
+	@echo 'make try-tests  make try on its seven bytes, on files, on standard input and on a wrong option: four builds, of a minute each'
 	@echo 'make layout     whether each file of the crates is in the layout of rt fmt'
 	@echo 'make tables     the built program on the tables of tests/, and the examples of the documents'
 	@echo 'make vectors    the built program on each front of each worked input'
@@ -35,18 +36,30 @@ help:
 	@echo 'make bench      time the commands on a corpus of 130 MB, made under bench/corpus'
 	@echo 'make bench-peers    the program beside its peers, whose drivers it builds (Debian packages; it says which): some ten minutes'
 	@echo 'make bench-growth   time and memory from 1 MB to 1 GB, beside two peers: some 20 minutes, 5 GB of disk'
+	@echo 'make pictures   draw the tables of docs/PERFORMANCE.md under docs/pictures (Debian: python3-matplotlib, graphviz)'
 	@echo 'make bench-cost     what hostile bytes cost: memory beside input and output, and time at two sizes'
 	@echo 'make install    prove and build program and library, and put them under PREFIX (PREFIX is $(PREFIX)): bin/cborn,'
-	@echo '                its man page, include/cborn.h, libcborn.a, libcborn.so and cborn.pc; make build proves no library'
+	@echo '                its man page, its completions for bash, zsh and fish, include/cborn.h, libcborn.a, libcborn.so and'
+	@echo '                cborn.pc; make build proves no library'
 	@echo 'make library    the library for C, build/libcborn.a and build/libcborn.so, and cborn.pc'
 	@echo 'make library-tests   the command lines of tests/ through the library, from C, Python and Rust'
 	@echo 'make dist       one archive of program, library, wheel and crate for whoever has no kit'
 	@echo 'make dist-tests the archive, unpacked and called with no kit on the path, from each language whose tools are there'
+	@echo 'make release    the archive of the version, made from a clean clone of HEAD and put into release/: once a version'
+	@echo 'make release-same    that archive made anew from its commit, and compared byte for byte'
+	@echo 'make release-tests   that archive: its checksum, its version and its first run; nothing where there is none'
+	@echo 'make completions     what completes commands and options in bash, zsh and fish, under build/completions'
+	@echo 'make completion-tests   whether each shell that is there offers what the help has'
 	@echo 'make clean      drop what was built'
 
 # ARGS are the words behind cborn: make try ARGS='check FILE'
 try:
 	@python3 tests/try.py $(ARGS)
+
+# four builds, of a minute each
+.PHONY: try-tests
+try-tests: kit
+	python3 tests/tried.py
 
 # what needs the kit says so where it lacks
 .PHONY: kit
@@ -61,6 +74,7 @@ test:
 	rt ci
 	python3 tests/built.py
 	$(MAKE) tables believed stack vectors ample growths failures counts cost library-tests dist-tests
+	$(MAKE) completion-tests release-tests
 	$(MAKE) --no-print-directory left-out
 
 # over what out/ keeps; it tries no must-fail edit, and runs no tests
@@ -74,6 +88,7 @@ layout:
 tables: build
 	python3 tests/run.py $(PROGRAM)
 	python3 tests/documents.py $(PROGRAM)
+	python3 bench/pictures.py --check
 
 growths: build
 	python3 tests/growths.py $(PROGRAM)
@@ -126,9 +141,16 @@ bench: build $(CORPUS)
 # BENCH may hold options: BENCH=--cpu on a machine that is shared, BENCH='--into docs/PERFORMANCE.md' to put the tables there.
 bench-peers: build $(CORPUS)
 	python3 bench/tables.py $(PROGRAM) bench/corpus $(BENCH)
+	python3 bench/pictures.py
 
 bench-growth: build $(CORPUS)
 	python3 bench/tables.py $(PROGRAM) bench/corpus --only growth --best 1 $(BENCH)
+	python3 bench/pictures.py
+
+# the tables as docs/PERFORMANCE.md has them
+.PHONY: pictures
+pictures:
+	python3 bench/pictures.py
 
 bench-cost: build
 	python3 bench/cost.py $(PROGRAM) $(BENCH)
@@ -137,11 +159,28 @@ gate-cost:
 	python3 bench/gate.py rt ci
 
 install: build
-	@echo 'Program, man page, and the library with its header and cborn.pc go below $(DESTDIR)$(PREFIX); the library is proved first.'
+	@echo 'Program, man page, completions, and the library with its header and cborn.pc go below $(DESTDIR)$(PREFIX); the library is proved first.'
 	install -D $(PROGRAM) $(DESTDIR)$(PREFIX)/bin/cborn
 	install -D -m 644 man/cborn.1 $(DESTDIR)$(PREFIX)/share/man/man1/cborn.1
+	$(MAKE) put-completions
+
+.PHONY: completions put-completions completion-tests
+
+# bash, zsh and fish find them where they are put
+completions:
+	@test -x $(PROGRAM) || { echo '$(PROGRAM) has to be there first: make build' >&2; exit 1; }
+	python3 completions/make.py $(PROGRAM) build/completions
+
+put-completions: completions
+	install -D -m 644 build/completions/cborn.bash $(DESTDIR)$(PREFIX)/share/bash-completion/completions/cborn
+	install -D -m 644 build/completions/_cborn $(DESTDIR)$(PREFIX)/share/zsh/site-functions/_cborn
+	install -D -m 644 build/completions/cborn.fish $(DESTDIR)$(PREFIX)/share/fish/vendor_completions.d/cborn.fish
+
+completion-tests: build completions
+	python3 tests/completions.py $(PROGRAM) build/completions
 
 clean:
 	rm -rf crates/*/out bench/corpus bench/build build
 
 include bindings/library.mk
+include bindings/release.mk

@@ -68,10 +68,11 @@ dist: build library
 	rm -rf build/$(DIST)
 	install -D $(PROGRAM) build/$(DIST)/bin/cborn
 	install -D -m 644 man/cborn.1 build/$(DIST)/share/man/man1/cborn.1
-	$(MAKE) put-library DESTDIR=build/$(DIST) PREFIX=
-	mkdir -p build/$(DIST)/docs build/$(DIST)/examples build/$(DIST)/python build/$(DIST)/rust/lib
+	$(MAKE) put-completions put-library DESTDIR=build/$(DIST) PREFIX=
+	mkdir -p build/$(DIST)/docs/pictures build/$(DIST)/examples build/$(DIST)/python build/$(DIST)/rust/lib
 	cp README.md CHANGELOG.md CONTRIBUTING.md build/$(DIST)
 	cp docs/*.md build/$(DIST)/docs
+	cp docs/pictures/*.svg build/$(DIST)/docs/pictures
 	cp examples/*.py build/$(DIST)/examples
 	cp -r $(addprefix bindings/rust/,Cargo.toml Cargo.lock build.rs src tests) build/$(DIST)/rust
 	cp build/libcborn.a build/$(DIST)/rust/lib

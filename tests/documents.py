@@ -6,16 +6,20 @@ words of each fault, and whether all that tells a version tells that of bindings
 
     documents.py PROGRAM
 
-The commands run in sh, those with <(..) in bash, with the program's folder in front of PATH; those of one document run in one folder.
+The commands run in dash (in sh where there is none) and once more in bash, with the program's folder in front of PATH; those
+of one document run in one folder.
 """
+import itertools
 import os
 import pathlib
 import re
 import shlex
+import shutil
 import subprocess
 import sys
 import tempfile
 
+SHELLS = ("dash" if shutil.which("dash") else "sh", "bash")
 DOCUMENTS = ("README.md", "docs/GUIDE.md", "man/cborn.1")
 
 
@@ -115,7 +119,7 @@ def dead_links(page):
 
 def lost(root):
     """The links of all documents that lead nowhere, and the targets for make that there are none of."""
-    rules = (root / "Makefile").read_text() + (root / "bindings/library.mk").read_text()
+    rules = (root / "Makefile").read_text() + (root / "bindings/library.mk").read_text() + (root / "bindings/release.mk").read_text()
     targets = set(re.findall(r"^([a-z-]+):", rules, re.MULTILINE))
     for page in (*root.glob("*.md"), *root.glob("docs/*.md")):
         yield from (f"{page.relative_to(root)}: {link} leads nowhere" for link in dead_links(page))
@@ -168,11 +172,11 @@ def main():
     root = pathlib.Path(__file__).resolve().parent.parent
     environment = {**os.environ, "PATH": f"{program.parent}:{os.environ['PATH']}"}
     passed = failed = 0
-    for name in DOCUMENTS:
+    for name, shell in itertools.product(DOCUMENTS, SHELLS):
         with tempfile.TemporaryDirectory() as folder:
             for command, printed in examples(root / name):
                 done = subprocess.run(
-                    ["bash" if "<(" in command else "sh", "-c", command],
+                    [shell, "-c", command],
                     cwd=folder,
                     env=environment,
                     stdout=subprocess.PIPE,
@@ -183,7 +187,7 @@ def main():
                 is_same = done.stdout == printed.encode()
                 passed, failed = passed + is_same, failed + (not is_same)
                 if not is_same:
-                    print(f"{name}: {command}: {done.stdout!r}, not {printed!r}")
+                    print(f"{name}, in {shell}: {command}: {done.stdout!r}, not {printed!r}")
     for name in lacking(root):
         failed += 1
         print(f"docs/PROMISES.md: there is no {name}")

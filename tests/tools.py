@@ -1,14 +1,16 @@
 #!/usr/bin/env python3
-"""Say what of `make test` was left out because its tools aren't there: one line, the last of the gate.
+"""Say what of `make test` was left out because its tools, or the archive of a version, aren't there: one line, the last of the gate.
 
     tools.py            the line, with the packages that would bring what is missing
     tools.py --needed   the Debian packages that bring what is missing and without which the gate can't run at all
 """
 import importlib.util
 import os
+import pathlib
 import shutil
 import sys
 
+ROOT = pathlib.Path(__file__).resolve().parent.parent
 JNA = "/usr/share/java/jna.jar"
 # what is tested, the commands and files that it takes, and their packages
 NEEDED = {
@@ -17,6 +19,8 @@ NEEDED = {
 }
 OPTIONAL = {
     "the cost of memory": (("time",), ("time",)),
+    "the completions of zsh": (("zsh",), ("zsh",)),
+    "the completions of fish": (("fish",), ("fish",)),
     "the Rust crate": (("cargo", "rustc"), ("cargo", "rustc")),
     "the archive from C by its name": (("pkg-config",), ("pkg-config",)),
     "the archive from Python": (("pip",), ("python3-pip",)),
@@ -44,6 +48,8 @@ def main():
         print(" ".join(package for _, _, packages in missing(NEEDED) for package in packages))
         return 0
     left_out = [f"{name} (no {', '.join(tools)}: {' '.join(packages)})" for name, tools, packages in missing({**NEEDED, **OPTIONAL})]
+    if not list(ROOT.glob("release/*.tar.gz")):
+        left_out.append("the archive under release/ (none there: make release)")
     print(f"LEFT OUT: {'; '.join(left_out)}" if left_out else "nothing was left out")
     return 0
 

@@ -4,6 +4,7 @@
 mod help;
 mod inputs;
 mod lines;
+mod misplaced;
 mod options;
 mod statuses;
 mod tasks;

@@ -1,6 +1,7 @@
 //! The command line.
 
 use crate::help;
+use crate::misplaced::{Advice, advice_on};
 use cborn_engine::Kind;
 use cborn_model::Limit;
 use clap::builder::ValueParser;
@@ -52,11 +53,41 @@ pub enum Purpose {
 /// What is wrong with the words, or a request for help or the version.
 pub fn read_task<'a>(alloc: Global, words: &'a [&'a str]) -> Result<Task<'a>, Error> {
     let mut program = program(alloc)?;
-    let matches = program.try_get_matches_from_mut(words)?;
+    let matches = match program.try_get_matches_from_mut(words) {
+        Ok(matches) => matches,
+        Err(why) => return Err(explained(alloc, words, why)),
+    };
     match task_of(&matches) {
         Some(task) => Ok(task),
         None => Err(program.error(ErrorKind::MissingSubcommand, "a command is required")?),
     }
+}
+
+/// What is told in the place of a mistake, where an option is given to a command that hasn't got it.
+fn explained(alloc: Global, words: &[&str], why: Error) -> Error {
+    if why.kind() != ErrorKind::UnknownArgument {
+        return why;
+    }
+    let told = match advice_on(words) {
+        Some(Advice::Compare(line)) => told_of(compare(alloc), "cborn compare", line),
+        Some(Advice::Check(line)) => told_of(check(alloc), "cborn check", line),
+        Some(Advice::Show(line)) => told_of(show(alloc), "cborn show", line),
+        None => return why,
+    };
+    match told {
+        Ok(error) => error,
+        Err(refused) => Error::from(refused),
+    }
+}
+
+/// A line with the usage of a command, whose name is given with the program's.
+fn told_of(
+    command: Result<Command<'_>, AllocError>,
+    name: &str,
+    line: &str,
+) -> Result<Error, AllocError> {
+    let mut command = command?.bin_name(name)?;
+    command.error(ErrorKind::UnknownArgument, line)
 }
 
 fn task_of<'a>(matches: &ArgMatches<'a>) -> Option<Task<'a>> {

@@ -245,6 +245,54 @@ fn wrong_command_lines(rt: HostRuntime) -> Result<(), Fail> {
     Ok(())
 }
 
+/// An option of another command is answered by what is meant; any other mistake, and a word behind `--`, as ever.
+#[test]
+fn misplaced_options(rt: HostRuntime) -> Result<(), Fail> {
+    let cases = [
+        (
+            ["cborn", "compare", "--from", "notation", "a", "b"].as_slice(),
+            "and '--from-b <KIND>' for FILE_B",
+        ),
+        (
+            ["cborn", "compare", "a", "b", "--to=wire"].as_slice(),
+            "compare writes no items",
+        ),
+        (
+            ["cborn", "check", "--depth", "3", "--from=notation"].as_slice(),
+            "check reads bytes alone",
+        ),
+        (
+            ["cborn", "check", "--to", "wire"].as_slice(),
+            "check writes no items",
+        ),
+        (
+            ["cborn", "show", "--order", "bytewise"].as_slice(),
+            "show sorts nothing",
+        ),
+        (
+            ["cborn", "compare", "--fromage", "a", "b"].as_slice(),
+            "unexpected argument '--fromage' found",
+        ),
+        (
+            ["cborn", "check", "a", "--", "--from"].as_slice(),
+            "unexpected argument '--from' found",
+        ),
+        (
+            ["cborn", "check", "--order", "up"].as_slice(),
+            "invalid value 'up'",
+        ),
+    ];
+    for (words, line) in cases {
+        let refused = ran(&rt, rt.alloc(), words, b"\x00");
+        assert_eq!(rt; refused.status, 3, "{words:?}");
+        let Ok(text) = str::from_utf8(&refused.err) else {
+            return Err(Fail::new("not a text"));
+        };
+        assert!(rt; text.contains(line) && refused.out.is_empty(), "{text}");
+    }
+    Ok(())
+}
+
 #[test]
 fn help_and_version(rt: HostRuntime) -> Result<(), Fail> {
     let cases = [

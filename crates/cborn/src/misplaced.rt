@@ -1,0 +1,65 @@
+//! Options that are given to a command which hasn't got them, while another command has.
+
+const COMPARE_FROM: &str =
+    "compare reads two files, and each has its own format: use '--from-a <KIND>' for FILE_A and '--from-b <KIND>' for FILE_B, in place of '--from'";
+
+const COMPARE_TO: &str =
+    "compare writes no items, and has no '--to': '--from-a <KIND>' and '--from-b <KIND>' are the formats of its files";
+
+const CHECK_FROM: &str =
+    "check reads bytes alone, and has no '--from': 'cborn show --from notation --to wire' writes the bytes of a text";
+
+const CHECK_TO: &str =
+    "check writes no items, and has no '--to': 'cborn normalise' writes the deterministic encoding";
+
+const SHOW_ORDER: &str =
+    "show sorts nothing, and has no '--order': 'cborn normalise --to notation' sorts the keys of maps";
+
+/// What to say of an option that a command hasn't got.
+#[derive(Clone, Copy, Debug)]
+pub enum Advice {
+    Compare(&'static str),
+    Check(&'static str),
+    Show(&'static str),
+}
+
+/// What is meant by an option of another command, if one is given. The first of `words` is the program's name, the second the
+/// command's.
+pub fn advice_on(words: &[&str]) -> Option<Advice> {
+    match *words.get(1)? {
+        "compare" => {
+            if has_option(words, "--from") {
+                return Some(Advice::Compare(COMPARE_FROM));
+            }
+            has_option(words, "--to").then_some(Advice::Compare(COMPARE_TO))
+        }
+        "check" => {
+            if has_option(words, "--from") {
+                return Some(Advice::Check(CHECK_FROM));
+            }
+            has_option(words, "--to").then_some(Advice::Check(CHECK_TO))
+        }
+        "show" => has_option(words, "--order").then_some(Advice::Show(SHOW_ORDER)),
+        _ => None,
+    }
+}
+
+/// Whether an option is among some words, alone or with `=` and its value. Behind `--` there are no options.
+fn has_option(words: &[&str], option: &str) -> bool {
+    for word in words {
+        if *word == "--" {
+            return false;
+        }
+        if is_option(word, option) {
+            return true;
+        }
+    }
+    false
+}
+
+fn is_option(word: &str, option: &str) -> bool {
+    match word.as_bytes().strip_prefix(option.as_bytes()) {
+        Some(rest) => matches!(rest.first(), None | Some(b'=')),
+        None => false,
+    }
+}
