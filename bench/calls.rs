@@ -2,9 +2,10 @@
 use std::{collections::BTreeMap, hint::black_box, time::Instant};
 
 fn timed(name: &str, length: usize, mut call: impl FnMut()) {
-    let rounds = 1 + 2_000_000 / (length + 100);
+    // short rounds, which a machine that is shared disturbs least
+    let rounds = 1 + 100_000 / (length + 100);
     let mut best = f64::MAX;
-    for _ in 0..7 {
+    for _ in 0..200 {
         let start = Instant::now();
         (0..rounds).for_each(|_| call());
         best = best.min(start.elapsed().as_secs_f64() * 1e9 / rounds as f64);
@@ -19,6 +20,10 @@ fn main() {
         let data = std::fs::read(name).unwrap();
         timed("normalise", data.len(), || {
             black_box(cborn::normalise(black_box(&data), cborn::Options::default()).unwrap());
+        });
+        timed("same", data.len(), || {
+            let kind = cborn::Kind::Wire;
+            black_box(cborn::same(black_box(&data), kind, &data, kind, cborn::Depth::default()).unwrap());
         });
         timed("serde_cbor: to_vec(from_slice::<Value>())", data.len(), || {
             let value: serde_cbor::Value = serde_cbor::from_slice(black_box(&data)).unwrap();
