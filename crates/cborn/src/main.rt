@@ -1,6 +1,7 @@
 //! Reads CBOR data items and writes them in one deterministic form.
 #![tactic(auto)]
 
+mod explanations;
 mod help;
 mod inputs;
 mod lines;
@@ -42,10 +43,15 @@ pub fn run<F: Files, I: Read + Drop, W: Write + Drop, E: Write + Drop>(
             };
         }
     };
-    match perform(rt, alloc, &task, input, out) {
+    let mut lines = String::new(alloc);
+    let status = match perform(rt, alloc, &task, input, out, &mut lines) {
         Ok(status) => status,
         Err(trouble) => tell_trouble(&mut err, trouble),
+    };
+    if !lines.is_empty() {
+        let _ = write!(err, "{lines}");
     }
+    status
 }
 
 /// Prints why there is no task: a text on the command line, or what the program says of itself.

@@ -1,0 +1,89 @@
+//! The key of a text that a later key repeats.
+
+use crate::notes::slice_of;
+use crate::quotes::valid_front;
+use crate::text_walks::{Before, TextWalk};
+use cborn_lex::Profile;
+use cborn_model::{Bytewise, Limit};
+use cborn_spell::spell_text;
+use cborn_transcode::transcode;
+use std::alloc::{AllocError, Global};
+
+/// Where the key stands that is the same as the one at `later`, in the map whose bracket stands at
+/// `map`. None promises nothing.
+///
+/// # Errors
+/// Where memory was refused.
+pub(crate) fn earlier_key(
+    alloc: Global,
+    limit: Limit,
+    profile: Profile,
+    text: &[u8],
+    map: usize,
+    later: usize,
+) -> Result<Option<usize>, AllocError> {
+    let Some(wanted) = encoding_of(alloc, limit, profile, key_at(alloc, profile, text, later)?)
+    else {
+        return Ok(None);
+    };
+    let inside = valid_front(text.get(map..later).unwrap_or(&[]));
+    let mut walk = TextWalk::new(alloc);
+    'tokens: for _ in 0..text.len() {
+        let keys = walk.keys_of_one();
+        if !walk.take_next(alloc, profile, inside, inside.len())? {
+            break;
+        }
+        if let (true, Some((from, to))) = (walk.keys_of_one() > keys, walk.last_key()) {
+            let key = slice_of(inside.as_bytes(), from, to);
+            if is_encoded_as(alloc, limit, profile, key, &wanted) {
+                return Ok(Some(map.saturating_add(from)));
+            }
+        }
+    }
+    Ok(None)
+}
+
+/// This slice of a text notates items whose deterministic encoding this is.
+fn is_encoded_as(
+    alloc: Global,
+    limit: Limit,
+    profile: Profile,
+    slice: &[u8],
+    encoding: &[u8],
+) -> bool {
+    match encoding_of(alloc, limit, profile, slice) {
+        Some(bytes) => bytes.as_slice() == encoding,
+        None => false,
+    }
+}
+
+/// The deterministic encoding of the items that this slice of a text notates. None promises nothing.
+fn encoding_of(alloc: Global, limit: Limit, profile: Profile, slice: &[u8]) -> Option<Vec<u8>> {
+    let bytes = spell_text(alloc, limit, profile, valid_front(slice))?;
+    transcode::<Bytewise>(alloc, limit, &bytes)
+}
+
+/// The key that begins at `place`, up to its colon.
+///
+/// # Errors
+/// Where memory was refused.
+pub(crate) fn key_at(
+    alloc: Global,
+    profile: Profile,
+    text: &[u8],
+    place: usize,
+) -> Result<&[u8], AllocError> {
+    let inside = text.get(place..).unwrap_or(&[]);
+    let front = valid_front(inside);
+    let mut walk = TextWalk::new(alloc);
+    let mut stop = 0;
+    'tokens: for _ in 0..front.len() {
+        stop = walk.stop;
+        if !walk.take_next(alloc, profile, front, front.len())?
+            || walk.before == Before::Separator && walk.open.is_empty()
+        {
+            break;
+        }
+    }
+    Ok(inside.get(..stop).unwrap_or(inside))
+}
