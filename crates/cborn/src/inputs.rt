@@ -1,7 +1,11 @@
 //! Files that the program reads.
-ghost use Rattle.std.specs.Prelude.{◌≡◌, None};
+ghost use Rattle.std.specs.Prelude.{◌≡◌, ◌≤◌, ◌+◌, None};
+ghost use Rattle.std.specs.Io.{ReadsAtMost};
+ghost use Rattle.std.specs.Io.KnownBytes.{ReadConsumes};
+ghost use Rattle.cborn_engine.specs.Failures.{failures_after};
 
 use cborn_engine::Source;
+use std::alloc::Global;
 use std::io::{ErrorKind, Read};
 use std::rt::Files;
 use std::{fs, io};
@@ -71,5 +75,60 @@ impl<F: Files> Source for LateFile<'_, F> {
 
     fn failures(&self) -> u64 {
         self.failed
+    }
+}
+
+/// A source that keeps what was read from it.
+#[derive(Drop)]
+pub struct Kept<S> {
+    pub inner: S,
+    bytes: Vec<u8>,
+    is_lost: bool,
+}
+
+impl<S> Kept<S> {
+    /// Keeps what is read from `inner`, from now on.
+    pub fn new(alloc: Global, inner: S) -> Self {
+        Kept {
+            inner,
+            bytes: Vec::new(alloc),
+            is_lost: false,
+        }
+    }
+
+    /// What was read. None: memory for it was refused.
+    pub fn bytes(&self) -> Option<&[u8]> {
+        if self.is_lost {
+            None
+        } else {
+            Some(self.bytes.as_slice())
+        }
+    }
+}
+
+impl<S: Source> Source for Kept<S> {
+    ghost remaining = { λ k. S.remaining k.inner };
+
+    ghost failed = { λ k. S.failed k.inner };
+
+    ghost asked = { λ k. S.asked k.inner };
+
+    fn read_some(&mut self, buf: &mut [u8]) -> io::Result<usize>
+        ensures bound { ReadsAtMost result buf.new }
+        ensures bytes { ReadConsumes (S.remaining self.old.inner) (S.remaining self.new.inner) result buf.new }
+        ensures failures { S.failed self.new.inner ≡ failures_after result (S.failed self.old.inner) }
+        ensures calls { S.asked self.new.inner ≤ S.asked self.old.inner + 1 }
+    {
+        let result = self.inner.read_some(buf);
+        if let Ok(count) = &result {
+            if self.bytes.extend_from_slice(&buf[..*count]).is_err() {
+                self.is_lost = true;
+            }
+        }
+        result
+    }
+
+    fn failures(&self) -> u64 {
+        self.inner.failures()
     }
 }

@@ -1,6 +1,7 @@
 //! Reads CBOR data items and writes them in one deterministic form.
 #![tactic(auto)]
 
+mod explanations;
 mod help;
 mod inputs;
 mod lines;
@@ -14,7 +15,7 @@ mod tests;
 use cborn_engine::EngineFault;
 use clap::Error;
 use clap::error::ErrorKind;
-use lines::{Trouble, print, tell_trouble};
+use lines::{Trouble, explain_trouble, print, print_lines, tell_trouble};
 use options::read_task;
 use statuses::{DONE, FAILED, USAGE};
 use std::alloc::Global;
@@ -43,9 +44,13 @@ pub fn run<F: Files, I: Read + Drop, W: Write + Drop, E: Write + Drop>(
             };
         }
     };
-    match perform(rt, alloc, &task, input, out) {
-        Ok(status) => status,
-        Err(trouble) => tell_trouble(&mut err, trouble),
+    let mut lines = String::new(alloc);
+    match perform(rt, alloc, &task, input, out, &mut lines) {
+        Ok(status) => {
+            print_lines(&mut err, lines.as_str());
+            status
+        }
+        Err(trouble) => explain_trouble(&mut err, trouble, lines.as_str()),
     }
 }
 

@@ -6,7 +6,7 @@ use cborn_engine::Kind;
 use cborn_model::Limit;
 use clap::builder::ValueParser;
 use clap::error::ErrorKind;
-use clap::{Arg, ArgMatches, Command, Error};
+use clap::{Arg, ArgAction, ArgMatches, Command, Error};
 use std::alloc::{AllocError, Global};
 
 /// The order of a map's keys.
@@ -22,6 +22,8 @@ pub struct Task<'a> {
     pub action: Action<'a>,
     pub order: Order,
     pub limit: Limit,
+    /// Lines that say where and why are wanted behind a refusal or a difference.
+    pub explain: bool,
 }
 
 /// The command of a task, with what it alone has.
@@ -45,6 +47,16 @@ pub enum Purpose {
     Show { from: Kind, to: Kind },
     Normalise { from: Kind, to: Kind },
     Check,
+}
+
+impl Purpose {
+    /// The format of the input.
+    pub fn from(self) -> Kind {
+        match self {
+            Purpose::Show { from, .. } | Purpose::Normalise { from, .. } => from,
+            Purpose::Check => Kind::Wire,
+        }
+    }
 }
 
 /// Reads the command line, of which the first word is the program's name.
@@ -96,6 +108,7 @@ fn task_of<'a>(matches: &ArgMatches<'a>) -> Option<Task<'a>> {
         action: action_of(name, found)?,
         order: order_of(found),
         limit: Limit::new(found.get_one::<u64>("depth")?)?,
+        explain: found.get_flag("explain"),
     })
 }
 
@@ -161,7 +174,8 @@ fn show<'a>(alloc: Global) -> Result<Command<'a>, AllocError> {
         .arg(file_argument(alloc))?
         .arg(from_option(alloc, "from", help::FROM))?
         .arg(to_option(alloc, "notation"))?
-        .arg(depth_option(alloc))
+        .arg(depth_option(alloc))?
+        .arg(explain_flag(alloc))
 }
 
 fn normalise<'a>(alloc: Global) -> Result<Command<'a>, AllocError> {
@@ -172,7 +186,8 @@ fn normalise<'a>(alloc: Global) -> Result<Command<'a>, AllocError> {
         .arg(from_option(alloc, "from", help::FROM))?
         .arg(to_option(alloc, "wire"))?
         .arg(order_option(alloc))?
-        .arg(depth_option(alloc))
+        .arg(depth_option(alloc))?
+        .arg(explain_flag(alloc))
 }
 
 fn compare<'a>(alloc: Global) -> Result<Command<'a>, AllocError> {
@@ -184,7 +199,8 @@ fn compare<'a>(alloc: Global) -> Result<Command<'a>, AllocError> {
         .arg(from_option(alloc, "from-a", help::FROM_A))?
         .arg(from_option(alloc, "from-b", help::FROM_B))?
         .arg(order_option(alloc))?
-        .arg(depth_option(alloc))
+        .arg(depth_option(alloc))?
+        .arg(explain_flag(alloc))
 }
 
 fn check<'a>(alloc: Global) -> Result<Command<'a>, AllocError> {
@@ -193,7 +209,8 @@ fn check<'a>(alloc: Global) -> Result<Command<'a>, AllocError> {
         .after_long_help(help::CHECK_NOTES)
         .arg(file_argument(alloc))?
         .arg(order_option(alloc))?
-        .arg(depth_option(alloc))
+        .arg(depth_option(alloc))?
+        .arg(explain_flag(alloc))
 }
 
 fn file_argument<'a>(alloc: Global) -> Arg<'a> {
@@ -237,4 +254,11 @@ fn depth_option<'a>(alloc: Global) -> Arg<'a> {
         .value_parser(ValueParser::Unsigned(1, 1024))
         .default_value("128")
         .help(help::DEPTH)
+}
+
+fn explain_flag<'a>(alloc: Global) -> Arg<'a> {
+    Arg::new(alloc, "explain")
+        .long("explain")
+        .action(ArgAction::SetTrue)
+        .help(help::EXPLAIN)
 }

@@ -1,17 +1,19 @@
 //! The program's commands.
 
-use crate::inputs::LateFile;
+use crate::explanations::{explain_defect, explain_fault, explain_index, explain_kind};
+use crate::inputs::{Kept, LateFile};
 use crate::lines::{Answer, Trouble, tell_answer};
 use crate::options::{Action, Order, Purpose, Task};
 use crate::statuses::DONE;
-use cborn_engine::{CompareFault, Counted, Kind, check, compare, normalise, show_all};
+use cborn_engine::{CompareFault, Counted, Kind, Source, check, compare, normalise, show_all};
 use cborn_model::{Bytewise, KeyOrder, LengthFirst, Limit};
 use std::alloc::Global;
 use std::fs;
 use std::io::{Read, Write};
 use std::rt::Files;
 
-/// Does a task, and gives its status.
+/// Does a task, and gives its status. Where the task wants explanations, puts into `lines` what is
+/// said behind the first line.
 ///
 /// # Errors
 /// What keeps the task from being done, in the words that are told of it.
@@ -21,15 +23,25 @@ pub fn perform<'a, F: Files, I: Read + Drop, W: Write + Drop>(
     task: &Task<'a>,
     input: I,
     out: W,
+    lines: &mut String,
 ) -> Result<u8, Trouble<'a>> {
     let Task {
         action,
         order,
         limit,
+        explain,
     } = *task;
-    match order {
-        Order::Bytewise => act::<Bytewise, F, I, W>(rt, alloc, limit, action, input, out),
-        Order::LengthFirst => act::<LengthFirst, F, I, W>(rt, alloc, limit, action, input, out),
+    match (explain, order) {
+        (false, Order::Bytewise) => act::<Bytewise, F, I, W>(rt, alloc, limit, action, input, out),
+        (false, Order::LengthFirst) => {
+            act::<LengthFirst, F, I, W>(rt, alloc, limit, action, input, out)
+        }
+        (true, Order::Bytewise) => {
+            act_explained::<Bytewise, F, I, W>(rt, alloc, limit, action, input, out, lines)
+        }
+        (true, Order::LengthFirst) => {
+            act_explained::<LengthFirst, F, I, W>(rt, alloc, limit, action, input, out, lines)
+        }
     }
 }
 
@@ -59,10 +71,18 @@ fn act<'a, O: KeyOrder, F: Files, I: Read + Drop, W: Write + Drop>(
             second,
             from_a,
             from_b,
-        } => match compare_files::<O, F>(rt, alloc, limit, from_a, first, from_b, second)? {
-            None => tell_answer(out, Answer::Same),
-            Some(index) => tell_answer(out, Answer::DifferentAt(index)),
-        },
+        } => {
+            let answer = compare_files::<O, F>(rt, alloc, limit, from_a, first, from_b, second)?;
+            tell_answer(out, difference(answer))
+        }
+    }
+}
+
+/// What is told of two inputs.
+fn difference(index: Option<u64>) -> Answer {
+    match index {
+        None => Answer::Same,
+        Some(index) => Answer::DifferentAt(index),
     }
 }
 
@@ -75,23 +95,38 @@ fn read_for<'a, O: KeyOrder, I: Read + Drop, W: Write + Drop>(
     out: W,
 ) -> Result<u8, Trouble<'a>> {
     let mut reader = Counted::new(input);
+    match answer_for::<O, _, W>(alloc, limit, purpose, &mut reader, out)? {
+        None => Ok(DONE),
+        Some((answer, out)) => tell_answer(out, answer),
+    }
+}
+
+/// Reads one input, and writes what is asked of it, or gives the answer to be told and where to.
+fn answer_for<'a, O: KeyOrder, R: Source, W: Write + Drop>(
+    alloc: Global,
+    limit: Limit,
+    purpose: Purpose,
+    reader: &mut R,
+    out: W,
+) -> Result<Option<(Answer, W)>, Trouble<'a>> {
     let mut writer = Counted::new(out);
     match purpose {
         Purpose::Show { from, to } => {
-            show_all(alloc, limit, from, to, &mut reader, &mut writer)?;
+            show_all(alloc, limit, from, to, reader, &mut writer)?;
+            Ok(None)
         }
         Purpose::Normalise { from, to } => {
-            normalise::<O, _, _>(alloc, limit, from, to, &mut reader, &mut writer)?;
+            normalise::<O, _, _>(alloc, limit, from, to, reader, &mut writer)?;
+            Ok(None)
         }
         Purpose::Check => {
-            let answer = match check::<O, _>(alloc, limit, &mut reader)? {
+            let answer = match check::<O, _>(alloc, limit, reader)? {
                 None => Answer::Deterministic,
                 Some(defect) => Answer::Defective(defect),
             };
-            return tell_answer(writer.inner, answer);
+            Ok(Some((answer, writer.inner)))
         }
     }
-    Ok(DONE)
 }
 
 /// Compares two files. The second is opened once the first was read and judged.
@@ -116,5 +151,118 @@ fn compare_files<'a, O: KeyOrder, F: Files>(
             Err(Trouble::CannotReadSecond(second))
         }
         Err(why) => Err(Trouble::Compare(why)),
+    }
+}
+
+/// The same as `act`, with what was read kept, and explained where it is refused or departs.
+fn act_explained<'a, O: KeyOrder, F: Files, I: Read + Drop, W: Write + Drop>(
+    rt: &F,
+    alloc: Global,
+    limit: Limit,
+    action: Action<'a>,
+    input: I,
+    out: W,
+    lines: &mut String,
+) -> Result<u8, Trouble<'a>> {
+    match action {
+        Action::Read {
+            file: None,
+            purpose,
+        } => read_explained::<O, I, W>(alloc, limit, purpose, input, out, lines),
+        Action::Read {
+            file: Some(name),
+            purpose,
+        } => match fs::open(rt, name) {
+            Ok(file) => read_explained::<O, F::File, W>(alloc, limit, purpose, file, out, lines),
+            Err(_) => Err(Trouble::CannotRead(name)),
+        },
+        Action::Compare {
+            first,
+            second,
+            from_a,
+            from_b,
+        } => {
+            let files = (first, second);
+            let kinds = (from_a, from_b);
+            compare_explained::<O, F, W>(rt, alloc, limit, files, kinds, out, lines)
+        }
+    }
+}
+
+/// The same as `read_for`, explained.
+fn read_explained<'a, O: KeyOrder, I: Read + Drop, W: Write + Drop>(
+    alloc: Global,
+    limit: Limit,
+    purpose: Purpose,
+    input: I,
+    out: W,
+    lines: &mut String,
+) -> Result<u8, Trouble<'a>> {
+    let mut reader = Kept::new(alloc, Counted::new(input));
+    match answer_for::<O, _, W>(alloc, limit, purpose, &mut reader, out) {
+        Ok(None) => {
+            explain_kind(alloc, purpose.from(), reader.bytes(), lines);
+            Ok(DONE)
+        }
+        Ok(Some((answer, out))) => {
+            let status = tell_answer(out, answer)?;
+            match answer {
+                Answer::Defective(defect) => {
+                    explain_defect(alloc, limit, reader.bytes(), defect, lines);
+                }
+                _ => explain_kind(alloc, purpose.from(), reader.bytes(), lines),
+            }
+            Ok(status)
+        }
+        Err(trouble) => {
+            if let Trouble::Engine(fault) = trouble {
+                explain_fault(alloc, limit, purpose.from(), reader.bytes(), fault, lines);
+            }
+            Err(trouble)
+        }
+    }
+}
+
+/// The same as `compare_files`, explained.
+fn compare_explained<'a, O: KeyOrder, F: Files, W: Write + Drop>(
+    rt: &F,
+    alloc: Global,
+    limit: Limit,
+    files: (&'a str, &'a str),
+    kinds: (Kind, Kind),
+    out: W,
+    lines: &mut String,
+) -> Result<u8, Trouble<'a>> {
+    let file = match fs::open(rt, files.0) {
+        Ok(file) => file,
+        Err(_) => return Err(Trouble::CannotReadFirst(files.0)),
+    };
+    let mut reader = Kept::new(alloc, Counted::new(file));
+    let mut late = Kept::new(alloc, LateFile::new(rt, files.1));
+    match compare::<O, _, _>(alloc, limit, kinds.0, &mut reader, kinds.1, &mut late) {
+        Ok(answer) => {
+            let status = tell_answer(out, difference(answer))?;
+            if answer.is_some() {
+                explain_index::<O>(alloc, limit, kinds, (reader.bytes(), late.bytes()), lines);
+            }
+            explain_kind(alloc, kinds.0, reader.bytes(), lines);
+            explain_kind(alloc, kinds.1, late.bytes(), lines);
+            Ok(status)
+        }
+        Err(CompareFault::Second(_)) if late.inner.is_missing() => {
+            Err(Trouble::CannotReadSecond(files.1))
+        }
+        Err(why) => {
+            match why {
+                CompareFault::First(fault) => {
+                    explain_fault(alloc, limit, kinds.0, reader.bytes(), fault, lines);
+                }
+                CompareFault::Second(fault) => {
+                    explain_fault(alloc, limit, kinds.1, late.bytes(), fault, lines);
+                }
+                CompareFault::OutOfMemory => {}
+            }
+            Err(Trouble::Compare(why))
+        }
     }
 }

@@ -1,0 +1,154 @@
+//! The lines behind a refusal, a defect or a difference, which `--explain` asks for.
+
+use cborn_edn::{EdnFault, ShowFault};
+use cborn_engine::{EngineFault, Kind, normalise_slice};
+use cborn_explain::{
+    BytesReason, TextReason, explain_bytes, explain_difference, explain_text, hint_of,
+};
+use cborn_judge::{Defect, Invalid, InvalidReason};
+use cborn_lex::{LexFault, Profile};
+use cborn_model::{KeyOrder, Limit};
+use cborn_wire::WireFault;
+use std::alloc::{AllocError, Global};
+
+/// Adds to `lines` why an input is refused, of which this was read. Nothing, where the fault isn't
+/// of its content.
+pub fn explain_fault(
+    alloc: Global,
+    limit: Limit,
+    kind: Kind,
+    input: Option<&[u8]>,
+    fault: EngineFault,
+    lines: &mut String,
+) {
+    if let Some(reason) = reason_of(kind, fault) {
+        put(explanation(alloc, limit, input, reason), lines);
+    }
+}
+
+/// Adds to `lines` why an input isn't deterministic.
+pub fn explain_defect(
+    alloc: Global,
+    limit: Limit,
+    input: Option<&[u8]>,
+    defect: Defect,
+    lines: &mut String,
+) {
+    let reason = Reason::Bytes(BytesReason::Defect(defect.reason), defect.place);
+    put(explanation(alloc, limit, input, reason), lines);
+}
+
+/// Adds to `lines` where two inputs differ.
+pub fn explain_index<O: KeyOrder>(
+    alloc: Global,
+    limit: Limit,
+    kinds: (Kind, Kind),
+    inputs: (Option<&[u8]>, Option<&[u8]>),
+    lines: &mut String,
+) {
+    put(difference::<O>(alloc, limit, kinds, inputs), lines);
+}
+
+/// Adds to `lines` what an input looks like that was read as bytes, where it looks like a text.
+pub fn explain_kind(alloc: Global, kind: Kind, input: Option<&[u8]>, lines: &mut String) {
+    if kind == Kind::Wire {
+        put(hint(alloc, input), lines);
+    }
+}
+
+fn hint(alloc: Global, input: Option<&[u8]>) -> Result<String, AllocError> {
+    let Some(input) = input else {
+        return Err(AllocError);
+    };
+    match hint_of(input) {
+        Some(hint) => format!(in alloc; "  hint  {hint}\n"),
+        None => Ok(String::new(alloc)),
+    }
+}
+
+/// What an input is refused for, and where.
+#[derive(Clone, Copy, Debug)]
+enum Reason {
+    Bytes(BytesReason, u64),
+    Text(Profile, TextReason, u64),
+}
+
+/// What a fault of the content of an input tells.
+fn reason_of(kind: Kind, fault: EngineFault) -> Option<Reason> {
+    match fault {
+        EngineFault::Wire(WireFault::Refused { place, reason }) => {
+            Some(Reason::Bytes(BytesReason::Malformed(reason), place))
+        }
+        EngineFault::Edn(EdnFault::Lex(LexFault::Refused { place, reason })) => {
+            Some(of_text(kind, TextReason::Token(reason), place))
+        }
+        EngineFault::Edn(EdnFault::Refused { place, reason }) => {
+            Some(of_text(kind, TextReason::Notation(reason), place))
+        }
+        EngineFault::Invalid(Invalid::Refused { place, reason }) => Some(match kind {
+            Kind::Wire => Reason::Bytes(BytesReason::Invalid(reason), place),
+            _ => of_text(kind, TextReason::Invalid(reason), place),
+        }),
+        EngineFault::Show(ShowFault::NotUtf8 { place }) => {
+            let reason = BytesReason::Invalid(InvalidReason::NotUtf8);
+            Some(Reason::Bytes(reason, place))
+        }
+        EngineFault::TextInput(place) => Some(of_text(kind, TextReason::NotUtf8, place)),
+        _ => None,
+    }
+}
+
+fn of_text(kind: Kind, reason: TextReason, place: u64) -> Reason {
+    let profile = match kind {
+        Kind::Notation2 => Profile::Two,
+        _ => Profile::One,
+    };
+    Reason::Text(profile, reason, place)
+}
+
+fn explanation(
+    alloc: Global,
+    limit: Limit,
+    input: Option<&[u8]>,
+    reason: Reason,
+) -> Result<String, AllocError> {
+    let Some(input) = input else {
+        return Err(AllocError);
+    };
+    match reason {
+        Reason::Bytes(reason, place) => explain_bytes(alloc, limit, input, place, reason),
+        Reason::Text(profile, reason, place) => {
+            explain_text(alloc, limit, profile, input, place, reason)
+        }
+    }
+}
+
+/// Where the items of two inputs differ. An input that is refused is refused by the call before.
+fn difference<O: KeyOrder>(
+    alloc: Global,
+    limit: Limit,
+    kinds: (Kind, Kind),
+    inputs: (Option<&[u8]>, Option<&[u8]>),
+) -> Result<String, AllocError> {
+    let (Some(first), Some(second)) = inputs else {
+        return Err(AllocError);
+    };
+    match (
+        normalise_slice::<O>(alloc, limit, kinds.0, Kind::Wire, first),
+        normalise_slice::<O>(alloc, limit, kinds.1, Kind::Wire, second),
+    ) {
+        (Ok(ours), Ok(theirs)) => explain_difference::<O>(alloc, limit, &ours, &theirs),
+        _ => Err(AllocError),
+    }
+}
+
+/// Adds an explanation to `lines`, or that there is no memory for it.
+fn put(explanation: Result<String, AllocError>, lines: &mut String) {
+    let is_put = match explanation {
+        Ok(text) => lines.push_str(text.as_str()).is_ok(),
+        Err(_) => false,
+    };
+    if !is_put {
+        let _ = lines.push_str("  out of memory\n");
+    }
+}

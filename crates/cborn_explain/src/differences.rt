@@ -1,0 +1,159 @@
+//! Where two sequences of items differ, and what stands there.
+
+ghost use Rattle.std.specs.Prelude.{◌≡◌, ◌≤◌, [], length, IfOk};
+ghost use Rattle.std.specs.String.{string_bytes};
+
+use crate::causes::behind;
+use crate::notes::{push_path, slice_of};
+use crate::quotes::push_item;
+use crate::walks::{Walk, whole_head};
+use cborn_model::{KeyOrder, Limit, Major};
+use cborn_wire::Argument;
+use std::alloc::{AllocError, Global};
+use std::cmp::Ordering;
+
+/// Lines that say where two deterministic encodings first differ, the keys of maps in the order
+/// `O`: the path to that place, which is the same in both, and what stands there in each, or that
+/// only one has it. Nothing where they are equal.
+///
+/// # Errors
+/// Where memory was refused.
+pub fn explain_difference<O: KeyOrder>(
+    alloc: Global,
+    limit: Limit,
+    first: &[u8],
+    second: &[u8],
+) -> Result<String, AllocError>
+    ensures same { IfOk result (λ text. first.now ≡ second.now → string_bytes text ≡ []) }
+{
+    let mut out = String::new(alloc);
+    let common = common_len(first, second);
+    if common == first.len() && common == second.len() {
+        return Ok(out);
+    }
+    let mut walk = Walk::new(alloc, 0);
+    walk.walk_to(first, common)?;
+    walk.leave_keys();
+    out.push_str("  path   ")?;
+    push_path(alloc, limit, &mut out, first, &walk)?;
+    let ours = part_at(alloc, first, walk.at)?;
+    let theirs = part_at(alloc, second, walk.at)?;
+    let order = if walk.is_at_key() {
+        Some(O::compare(ours, theirs))
+    } else {
+        None
+    };
+    out.push_str("\n  first  ")?;
+    push_side(alloc, limit, &mut out, ours, order)?;
+    out.push_str("\n  second ")?;
+    push_side(alloc, limit, &mut out, theirs, order.map(Ordering::reverse))?;
+    push_lone_key::<O>(alloc, limit, &mut out, ours, theirs)?;
+    out.push('\n')?;
+    Ok(out)
+}
+
+/// The item that begins at an offset; no bytes where there is none.
+fn part_at(alloc: Global, bytes: &[u8], at: usize) -> Result<&[u8], AllocError> {
+    let end = behind(alloc, bytes, at)?;
+    Ok(slice_of(bytes, at, end))
+}
+
+/// Writes what stands on one side. `order`: where it is a key, how it compares with the key on the
+/// other side; the lesser key is one that the other map lacks.
+fn push_side(
+    alloc: Global,
+    limit: Limit,
+    out: &mut String,
+    item: &[u8],
+    order: Option<Ordering>,
+) -> Result<(), AllocError> {
+    let Some((head, _)) = whole_head(item) else {
+        return out.push_str("nothing: the items end here");
+    };
+    if let Some(order) = order {
+        out.push_str("the key ")?;
+        push_item(alloc, limit, out, item)?;
+        return match order {
+            Ordering::Less => out.push_str(", which the other map lacks"),
+            _ => Ok(()),
+        };
+    }
+    match (head.major_type(), head.argument) {
+        (Major::Array, Argument::Given(_, count)) => {
+            write!(out, "an array of {count}: ")?;
+        }
+        (Major::Map, Argument::Given(_, count)) => {
+            write!(out, "a map of {count}: ")?;
+        }
+        _ => {}
+    }
+    push_item(alloc, limit, out, item)
+}
+
+/// Of two maps that differ in their number of pairs, writes the first key that one of them has
+/// alone.
+fn push_lone_key<O: KeyOrder>(
+    alloc: Global,
+    limit: Limit,
+    out: &mut String,
+    ours: &[u8],
+    theirs: &[u8],
+) -> Result<(), AllocError> {
+    let (Some(mut left), Some(mut right)) = (pairs_of(ours), pairs_of(theirs)) else {
+        return Ok(());
+    };
+    'pairs: for _ in 0..ours.len().saturating_add(theirs.len()) {
+        let our_key = part_at(alloc, left, 0)?;
+        let their_key = part_at(alloc, right, 0)?;
+        let (side, key) = match (our_key.is_empty(), their_key.is_empty()) {
+            (true, true) => return Ok(()),
+            (false, true) => ("first", our_key),
+            (true, false) => ("second", their_key),
+            (false, false) => match O::compare(our_key, their_key) {
+                Ordering::Less => ("first", our_key),
+                Ordering::Greater => ("second", their_key),
+                Ordering::Equal => {
+                    left = behind_pair(alloc, left, our_key.len())?;
+                    right = behind_pair(alloc, right, their_key.len())?;
+                    continue;
+                }
+            },
+        };
+        out.push_str("\n  key    ")?;
+        push_item(alloc, limit, out, key)?;
+        write!(out, ", which only the {side} has")?;
+        return Ok(());
+    }
+    Ok(())
+}
+
+/// The pairs of a map of definite length.
+fn pairs_of(item: &[u8]) -> Option<&[u8]> {
+    let (head, len) = whole_head(item)?;
+    if head.major_type() == Major::Map {
+        item.get(len..)
+    } else {
+        None
+    }
+}
+
+/// What follows a key of this length, and its value.
+fn behind_pair(alloc: Global, pairs: &[u8], key: usize) -> Result<&[u8], AllocError> {
+    let end = behind(alloc, pairs, key)?;
+    Ok(pairs.get(end..).unwrap_or(&[]))
+}
+
+/// How many bytes two lists have in common at their front.
+fn common_len(first: &[u8], second: &[u8]) -> usize
+    ensures ours { result ≤ length first.now }
+    ensures theirs { result ≤ length second.now }
+    ensures same { first.now ≡ second.now → result ≡ length first.now }
+{
+    let most = first.len().min(second.len());
+    for i in 0..most {
+        if first[i] != second[i] {
+            return i;
+        }
+    }
+    most
+}
