@@ -17,11 +17,10 @@ help:
 	@echo 'make try        run the program from its source, before any proof: ARGS="check FILE", or seven bytes as an example'
 	@echo 'make build      prove every crate and build the program, $(PROGRAM)'
 	@echo 'make test       the merge gate from nothing, then make tables, believed, stack, vectors, growths, failures, counts, cost, library-tests and dist-tests, and which of it was left out'
-	@echo '                (behind dist-tests also completion-tests, release-tests and try-tests)'
 	@echo 'make check-quick   while you change something: proves what changed, then make layout, tables and believed'
-	@echo 'make try-tests  make try on its seven bytes, on files, on standard input and on a wrong option: four builds, of a minute each'
+	@echo 'make try-tests  make try on its seven bytes, on files, on standard input and on a wrong option: four builds, of a minute each (make test begins with it)'
 	@echo 'make layout     whether each file of the crates is in the layout of rt fmt'
-	@echo 'make tables     the built program on the tables of tests/, and the examples of the documents'
+	@echo 'make tables     the built program on the tables of tests/, the examples of the documents, completion-tests and release-tests'
 	@echo 'make vectors    the built program on each front of each worked input'
 	@echo 'make growths    the built program on those tables, each growth refused in turn'
 	@echo 'make failures   the built program on those tables, with trouble at each opening, read and write in turn'
@@ -71,10 +70,10 @@ build: kit
 	cd crates/cborn && rt run -- --version
 
 test:
+	$(MAKE) try-tests
 	rt ci
 	python3 tests/built.py
 	$(MAKE) tables believed stack vectors growths failures counts cost library-tests dist-tests
-	$(MAKE) completion-tests release-tests try-tests
 	$(MAKE) --no-print-directory left-out
 
 # over what out/ keeps; it tries no must-fail edit, and runs no tests
@@ -89,6 +88,7 @@ tables: build
 	python3 tests/run.py $(PROGRAM)
 	python3 tests/documents.py $(PROGRAM)
 	python3 bench/pictures.py --check
+	$(MAKE) completion-tests release-tests
 
 growths: build
 	python3 tests/growths.py $(PROGRAM)
