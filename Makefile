@@ -16,11 +16,11 @@ COST ?= 8
 help:
 	@echo 'make try        run the program from its source, before any proof: ARGS="check FILE", or seven bytes as an example'
 	@echo 'make build      prove every crate and build the program, $(PROGRAM)'
-	@echo 'make test       the merge gate from nothing, then make tables, believed, stack, vectors, ample, explanations, growths, failures, counts, cost, library-tests, dist-tests, completion-tests and release-tests, and which of it was left out'
+	@echo 'make test       the merge gate from nothing, then make tables, believed, stack, vectors, ample, explanations, growths, failures, counts, cost, library-tests and dist-tests, the first of try-tests, and which of it was left out'
 	@echo 'make check-quick   while you change something: proves what changed, then make layout, tables and believed'
 	@echo 'make try-tests  make try on its seven bytes, on files, on standard input and on a wrong option: four builds, of a minute each'
 	@echo 'make layout     whether each file of the crates is in the layout of rt fmt'
-	@echo 'make tables     the built program on the tables of tests/, and the examples of the documents'
+	@echo 'make tables     the built program on the tables of tests/, the examples of the documents, completion-tests and release-tests'
 	@echo 'make vectors    the built program on each front of each worked input'
 	@echo 'make ample      the built program on some 13,000 inputs, made and given: it never says out of memory'
 	@echo 'make explanations   the built program on random and mutated inputs with --explain: the paths that it tells are followed'
@@ -76,7 +76,7 @@ test:
 	rt ci
 	python3 tests/built.py
 	$(MAKE) tables believed stack vectors ample explanations growths failures counts cost library-tests dist-tests
-	$(MAKE) completion-tests release-tests
+	python3 tests/tried.py --first
 	$(MAKE) --no-print-directory left-out
 
 # over what out/ keeps; it tries no must-fail edit, and runs no tests
@@ -91,6 +91,7 @@ tables: build
 	python3 tests/run.py $(PROGRAM)
 	python3 tests/documents.py $(PROGRAM)
 	python3 bench/pictures.py --check
+	$(MAKE) completion-tests release-tests
 
 growths: build
 	python3 tests/growths.py $(PROGRAM)

@@ -23,8 +23,8 @@ pub enum Advice {
     Show(&'static str),
 }
 
-/// What is meant by an option of another command, if one is given. The first of `words` is the program's name, the second the
-/// command's.
+/// What is meant by an option of another command, if one is given. The first of `words` is the
+/// program's name, the second the command's.
 pub fn advice_on(words: &[&str]) -> Option<Advice> {
     match *words.get(1)? {
         "compare" => {

@@ -75,7 +75,7 @@ pub fn read_task<'a>(alloc: Global, words: &'a [&'a str]) -> Result<Task<'a>, Er
     }
 }
 
-/// What is told in the place of a mistake, where an option is given to a command that hasn't got it.
+/// What is told of a mistake, where an option is given to a command that hasn't got it.
 fn explained(alloc: Global, words: &[&str], why: Error) -> Error {
     if why.kind() != ErrorKind::UnknownArgument {
         return why;

@@ -245,7 +245,8 @@ fn wrong_command_lines(rt: HostRuntime) -> Result<(), Fail> {
     Ok(())
 }
 
-/// An option of another command is answered by what is meant; any other mistake, and a word behind `--`, as ever.
+/// An option of another command is answered by what is meant; any other mistake, and a word
+/// behind `--`, as ever.
 #[test]
 fn misplaced_options(rt: HostRuntime) -> Result<(), Fail> {
     let cases = [
