@@ -4,11 +4,14 @@ SONAME := libcborn.so.0
 # the kit's folder, which has the three functions by which a library takes memory
 KIT = $(dir $(shell rt doc))
 DIST = cborn-$(VERSION)-linux-x86_64
-WHEEL = cborn-$(VERSION)-py3-none-manylinux_2_17_x86_64.whl
 ARCHIVE := crates/cborn_c/out/libcborn_c.a
 LIBRARY := build/libcborn.a build/libcborn.so build/cborn.pc
+# the package of Python, as it is in the wheel; PYTHON has to have its header Python.h, of any version from 3.8 on
+PYTHON ?= python3
+PYTHON_HEADERS = $(shell $(PYTHON) -c 'import sysconfig; print(sysconfig.get_path("include"))')
+PACKAGE := $(addprefix build/python/cborn/,__init__.py __main__.py _cborn.pyi py.typed _cborn.abi3.so)
 
-.PHONY: library library-tests library-bench install-library dist
+.PHONY: library python library-tests library-bench install-library dist
 
 library: prove-library
 	$(MAKE) $(LIBRARY)
@@ -38,15 +41,29 @@ build/cborn.pc: bindings/cborn.pc.in bindings/library.mk
 	mkdir -p build
 	sed 's|@VERSION@|$(VERSION)|' bindings/cborn.pc.in > $@
 
-library-tests: build library
+# The library stands in the extension, which is one for all versions of Python: it keeps to the stable ABI.
+python: library
+	$(MAKE) $(PACKAGE)
+
+build/python/cborn/%: bindings/python/cborn/%
+	install -D -m 644 $< $@
+
+build/python/cborn/_cborn.abi3.so: bindings/python/cborn/_cborn.c include/cborn.h build/libcborn.a
+	@test -e '$(PYTHON_HEADERS)/Python.h' || { echo "Python.h isn't in $(PYTHON_HEADERS), and the Python package is an extension in C: install python3-dev, or name another Python by make PYTHON=.." >&2; exit 1; }
+	mkdir -p $(@D)
+	$(CC) -std=c11 -O2 -Wall -Wextra -Werror -Wno-missing-field-initializers -fPIC -fvisibility=hidden -shared -Iinclude -I$(PYTHON_HEADERS) -Wl,-z,relro,-z,now -Wl,--exclude-libs,ALL -Wl,--build-id=none -s -o $@ $< build/libcborn.a
+
+library-tests: build library python
 	python3 tests/library.py $(PROGRAM) build
-	cd bindings/python && CBORN_LIBRARY=$(CURDIR)/build/$(SONAME) python3 -m unittest -q test_cborn
+	cp bindings/python/test_cborn.py build/python
+	cd build/python && $(PYTHON) -m unittest -q test_cborn
+	python3 tests/examples.py build
 	if command -v cargo > /dev/null; then cd bindings/rust && \
 		CBORN_LIBRARY_FOLDER=$(CURDIR)/build cargo test --offline --quiet --target-dir $(CURDIR)/build/rust; \
 	else echo 'cargo is not there: the Rust crate is not tested'; fi
 
 # what a call costs, from C, Rust and Python
-library-bench: library
+library-bench: library python
 	python3 bench/calls.py build
 
 install: install-library
@@ -64,7 +81,7 @@ put-library:
 	install -D -m 644 build/cborn.pc $(DESTDIR)$(PREFIX)/lib/pkgconfig/cborn.pc
 
 # Program, library, wheel and crate for whoever has no kit; the same bytes each time.
-dist: build library
+dist: build library python
 	rm -rf build/$(DIST)
 	install -D $(PROGRAM) build/$(DIST)/bin/cborn
 	install -D -m 644 man/cborn.1 build/$(DIST)/share/man/man1/cborn.1
@@ -75,7 +92,7 @@ dist: build library
 	cp examples/*.py build/$(DIST)/examples
 	cp -r $(addprefix bindings/rust/,Cargo.toml Cargo.lock build.rs src tests) build/$(DIST)/rust
 	cp build/libcborn.a build/$(DIST)/rust/lib
-	python3 bindings/python/make_wheel.py $(VERSION) build/$(SONAME) build/$(DIST)/python/$(WHEEL)
+	python3 bindings/python/make_wheel.py $(VERSION) build build/$(DIST)/python
 	rt version > build/$(DIST)/PROVED-WITH
 	cd build && tar --sort=name --format=ustar --owner=0 --group=0 --numeric-owner --mode=u=rwX,go=rX --mtime=@0 -cf - $(DIST) | gzip -9n > $(DIST).tar.gz
 	rm -rf build/$(DIST)

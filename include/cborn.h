@@ -59,7 +59,7 @@ enum {
     CBORN_BAD_ARGUMENT = 2,  /* an invalid format, order or depth; *told and *place are unchanged */
     CBORN_OUT_OF_MEMORY = 3, /* malloc or realloc refused */
     CBORN_TOO_LONG = 4,      /* an input has more than 2^30 bytes */
-    CBORN_DIFFERENT = 5      /* cborn_compare alone: *place is the index, from 0, of the first item that differs */
+    CBORN_DIFFERENT = 5      /* cborn_compare, cborn_same: the items differ; of cborn_compare, *place says where */
 };
 
 /* The faults of an input: the class in the high byte, the reason in the low one.
@@ -109,9 +109,12 @@ enum {
     CBORN_DEFECT_INDEFINITE_LENGTH = 0x602,        /* indefinite length */
     CBORN_DEFECT_LOOSE_BIGNUM = 0x603,             /* loose bignum */
     CBORN_DEFECT_KEY_ORDER = 0x604,                /* key order */
-    /* cborn_compare alone: added to a fault of the second input */
+    /* cborn_compare and cborn_same: added to a fault of the second input */
     CBORN_OF_SECOND = 0x10000
 };
+
+/* The bytes that are enough for the words of any fault or defect, with the zero at their end. */
+enum { CBORN_MOST_WORDS = 64 };
 
 /* The most bytes of stack that a call takes, as measured. */
 #define CBORN_STACK(depth) (32768 + 208 * (depth))
@@ -155,6 +158,23 @@ uint32_t cborn_check(uint32_t order, uint64_t depth,
 uint32_t cborn_compare(uint32_t from_a, uint32_t from_b, uint64_t depth,
                        const uint8_t *first, size_t first_len,
                        const uint8_t *second, size_t second_len, uint64_t *place);
+
+/* Returns CBORN_OK if both inputs hold the same items, so that their canonical forms
+ * are equal, and CBORN_DIFFERENT if they don't, in less time than cborn_compare: it
+ * doesn't look for where they differ, and sets *place to 0. Otherwise it returns what
+ * cborn_compare returns, and sets *place as that does. */
+uint32_t cborn_same(uint32_t from_a, uint32_t from_b, uint64_t depth,
+                    const uint8_t *first, size_t first_len,
+                    const uint8_t *second, size_t second_len, uint64_t *place);
+
+/* Writes the words of a fault or a defect, which are those that the program prints,
+ * to the start of out, with a zero at their end: "duplicate key". number is what
+ * another call returned; a fault of the second input has the same words, and
+ * CBORN_OUT_OF_MEMORY and CBORN_TOO_LONG have words too. They are ASCII. out_len
+ * counts the zero; CBORN_MOST_WORDS bytes are always enough.
+ * Returns CBORN_OK; CBORN_TOO_SMALL; or CBORN_BAD_ARGUMENT if no fault and no defect
+ * has this number. At the latter two, out is unchanged. */
+uint32_t cborn_words(uint32_t number, char *out, size_t out_len);
 
 #ifdef __cplusplus
 }

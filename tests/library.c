@@ -4,6 +4,8 @@
        show FROM TO DEPTH FILE
        check ORDER DEPTH FILE
        compare FROM_A FROM_B DEPTH FILE FILE
+       same FROM_A FROM_B DEPTH FILE FILE
+       words NUMBER
 
    Each gets a line 'CODE PLACE LENGTH', and then LENGTH bytes. What is tested: inputs and buffers end where memory
    ends, so that one byte too far ends the program; a buffer one byte too small, and NULL with length 0, are told the
@@ -130,8 +132,10 @@ static answer answered(const call *asked, uint8_t *out, size_t room)
         it.code = cborn_show(asked->from, asked->to, asked->depth, a.bytes, a.length, out, room, &it.told);
     else if (is_called(asked, "check"))
         it.code = cborn_check(asked->order, asked->depth, a.bytes, a.length, &it.told.place);
-    else
+    else if (is_called(asked, "compare"))
         it.code = cborn_compare(asked->from, asked->to, asked->depth, a.bytes, a.length, b.bytes, b.length, &it.told.place);
+    else
+        it.code = cborn_same(asked->from, asked->to, asked->depth, a.bytes, a.length, b.bytes, b.length, &it.told.place);
     if (it.code == CBORN_BAD_ARGUMENT && it.told.place != 99)
         fail("a bad argument is told a place", asked, (long)it.told.place);
     if (it.code == CBORN_BAD_ARGUMENT)
@@ -325,6 +329,33 @@ static void test_threads(void)
         pthread_join(threads[i], NULL);
 }
 
+/* The words of a number, into buffers of each size up to the one that is always enough. */
+static void tell_words(uint32_t number)
+{
+    char *out = NULL;
+    size_t length = 0;
+    uint32_t code = cborn_words(number, NULL, 0);
+    for (size_t room = 1; room <= CBORN_MOST_WORDS && code == CBORN_TOO_SMALL; room++) {
+        out = (char *)guarded(room);
+        memset(out, FILL, room);
+        code = cborn_words(number, out, room);
+        if (code != CBORN_OK && !is_filled((uint8_t *)out, room, FILL))
+            fail("words are written where they don't fit", NULL, (long)number);
+        length = room - 1;
+    }
+    if (code != CBORN_OK && code != CBORN_BAD_ARGUMENT)
+        fail("CBORN_MOST_WORDS bytes aren't enough", NULL, (long)number);
+    if (code == CBORN_OK && (length == 0 || strlen(out) != length))
+        fail("words don't end with their zero", NULL, (long)number);
+    char longer[CBORN_MOST_WORDS];
+    memset(longer, FILL, sizeof longer);
+    if (cborn_words(number, longer, sizeof longer) != code || (code == CBORN_OK && memcmp(longer, out, length + 1) != 0) ||
+        !is_filled((uint8_t *)longer + (code == CBORN_OK ? length + 1 : 0), sizeof longer - (code == CBORN_OK ? length + 1 : 0), FILL))
+        fail("a longer buffer isn't the words and what was there", NULL, (long)number);
+    printf("%u 0 %zu\n%s", code, code == CBORN_OK ? length : 0, code == CBORN_OK ? out : "");
+    fflush(stdout);
+}
+
 static bool parsed(const char *line, call *asked, char *first, char *second)
 {
     memset(asked, 0, sizeof *asked);
@@ -336,7 +367,7 @@ static bool parsed(const char *line, call *asked, char *first, char *second)
         return sscanf(line, "%*s %u %u %lu %4095s", &asked->from, &asked->to, &asked->depth, first) == 4;
     if (is_called(asked, "check"))
         return sscanf(line, "%*s %u %lu %4095s", &asked->order, &asked->depth, first) == 3;
-    return is_called(asked, "compare") &&
+    return (is_called(asked, "compare") || is_called(asked, "same")) &&
            sscanf(line, "%*s %u %u %lu %4095s %4095s", &asked->from, &asked->to, &asked->depth, first, second) == 5;
 }
 
@@ -349,6 +380,11 @@ int main(void)
     while (fgets(line, sizeof line, stdin)) {
         call asked;
         uint8_t *out;
+        unsigned number;
+        if (sscanf(line, "words %u", &number) == 1) {
+            tell_words(number);
+            continue;
+        }
         if (!parsed(line, &asked, first, second))
             fail(line, NULL, 0);
         asked.first = opened(first);

@@ -3,14 +3,13 @@
 
     library.py PROGRAM FOLDER
 
-FOLDER has libcborn.a and libcborn.so. What the library answers is written as the program would print it, and compared
+FOLDER has libcborn.a and python/cborn, the package. What the library answers is written as the program would print it, and compared
 with what the table says and with what the program prints. Which number a fault has is held against the program's
 words, through those of include/cborn.h, docs/LIBRARY.md and the bindings; each number has to occur. Nests of arrays,
-maps and tags under the least, the usual and the largest limit are put through besides. library.c, which is compiled
-by $CC or cc, says what else is tested. Command lines that are no call (of files that fail, or of help) are counted.
+maps and tags under the least, the usual and the largest limit are put through besides. `python -m cborn` does the
+command lines of the tables as the program does. library.c, which is compiled by $CC or cc, says what else is tested. Command lines that are no call (of files that fail, or of help) are counted.
 """
 import argparse
-import ast
 import collections
 import itertools
 import mmap
@@ -43,11 +42,6 @@ def words_of_page():
     """Those in the documents: | `0x101` | .. | words |."""
     text = (TOP / "docs/LIBRARY.md").read_text()
     return {int(n, 16): words for n, words in re.findall(r"^\| `(0x[0-9a-f]{3})` \|.*\| ([^|]*) \|$", text, re.MULTILINE)}
-
-
-def words_of_python():
-    text = (TOP / "bindings/python/cborn/__init__.py").read_text()
-    return ast.literal_eval(re.search(r"^REASONS.*?= (\{.*?^\})", text, re.MULTILINE | re.DOTALL)[1])
 
 
 def words_of_rust():
@@ -99,15 +93,15 @@ def parsed(case):
     return asked if is_call else None
 
 
-def line_of(asked):
-    """The call for library.c."""
+def line_of(asked, command=None):
+    """The call for library.c: the command that is asked for, or another one with the same options."""
     kinds = {
         "normalise": lambda: (KINDS[asked.source], KINDS[asked.to or "wire"], ORDERS[asked.order]),
         "show": lambda: (KINDS[asked.source], KINDS[asked.to or "notation"]),
         "check": lambda: (ORDERS[asked.order],),
         "compare": lambda: (KINDS[asked.from_a], KINDS[asked.from_b]),
     }
-    return " ".join(map(str, (asked.command, *kinds[asked.command](), asked.depth, *asked.files)))
+    return " ".join(map(str, (command or asked.command, *kinds[asked.command](), asked.depth, *asked.files)))
 
 
 def mapped(path):
@@ -127,17 +121,30 @@ class InC:
         subprocess.run([compiler, *flags, "-o", self.program, *sources], check=True)
         self.child = subprocess.Popen([self.program], stdin=subprocess.PIPE, stdout=subprocess.PIPE)
 
-    def answer(self, asked):
+    def line(self, line):
+        """What a line of standard input is answered."""
         try:
-            self.child.stdin.write(line_of(asked).encode() + b"\n")
+            self.child.stdin.write(line.encode() + b"\n")
             self.child.stdin.flush()
             told = self.child.stdout.readline().split()
         except BrokenPipeError:
             told = []
         if len(told) != 3:
-            sys.exit(f"library.c ended at this line, or at the one before: {line_of(asked)}")
+            sys.exit(f"library.c ended at this line, or at the one before: {line}")
         code, place, length = map(int, told)
         return code, place, self.child.stdout.read(length)
+
+    def answer(self, asked):
+        return self.line(line_of(asked))
+
+    def same(self, asked):
+        """What cborn_same answers where cborn_compare is asked for."""
+        return self.line(line_of(asked, "same"))
+
+    def words(self, numbers):
+        """The words of those of these numbers that have some."""
+        told = {number: self.line(f"words {number}") for number in numbers}
+        return {number: words.decode() for number, (code, _, words) in told.items() if code == 0}
 
     def end(self):
         self.child.stdin.close()
@@ -149,11 +156,14 @@ class InPython:
     """The library, called by the Python binding: the answer in the same form."""
 
     def __init__(self, build):
-        os.environ["CBORN_LIBRARY"] = f"{build}/libcborn.so"
-        sys.path.insert(0, str(TOP / "bindings/python"))
+        sys.path.insert(0, f"{build}/python")
         import cborn
 
         self.cborn = cborn
+
+    def words(self):
+        """The words of each number of a fault."""
+        return {reason.number: str(reason) for reason in self.cborn.Reason if reason.number > 0xFF}
 
     def called(self, asked, inputs):
         cborn, source, order = self.cborn, KINDS[asked.source], ORDERS[asked.order]
@@ -167,17 +177,31 @@ class InPython:
             return cborn.check(inputs[0], order, asked.depth)
         return cborn.compare(*inputs, KINDS[asked.from_a], KINDS[asked.from_b], asked.depth)
 
+    def shortly(self, asked, inputs):
+        """What is answered by the call that only says whether."""
+        cborn = self.cborn
+        if asked.command == "check":
+            return cborn.is_deterministic(inputs[0], ORDERS[asked.order], asked.depth)
+        return cborn.same(*inputs, KINDS[asked.from_a], KINDS[asked.from_b], asked.depth)
+
+    def refused(self, call, asked, inputs):
+        """What a call returns, and what it raises in the form of an answer, or None."""
+        try:
+            return call(asked, inputs), None
+        except self.cborn.CbornError as why:
+            return None, (why.number + OF_SECOND * why.input, why.place or 0, b"")
+        except ValueError:
+            return None, (BAD_ARGUMENT, 99, b"")
+
     def answer(self, asked):
         inputs = [mapped(path) for path in asked.files]
-        numbers = {words: number for number, words in self.cborn.REASONS.items() if number >> 8 == 6}
-        try:
-            told = self.called(asked, inputs)
-        except self.cborn.CbornError as why:
-            return why.number + OF_SECOND * why.input, why.place or 0, b""
-        except ValueError:
-            return BAD_ARGUMENT, 99, b""
+        told, refused = self.refused(self.called, asked, inputs)
+        if asked.command in ("check", "compare") and self.refused(self.shortly, asked, inputs) != (None if refused else told is None, refused):
+            raise AssertionError(f"the call that only says whether says otherwise: {asked}")
+        if refused:
+            return refused
         if asked.command == "check":
-            return (0, 0, b"") if told is None else (numbers[told.reason], told.place, b"")
+            return (0, 0, b"") if told is None else (told.reason.number, told.place, b"")
         if asked.command == "compare":
             return (0, 0, b"") if told is None else (DIFFERENT, told, b"")
         return 0, 0, told
@@ -278,9 +302,40 @@ def nests():
                 yield f"{nest.name} of {depth}", lines
 
 
-def tables_of_words(met):
+class AsProgram:
+    """`python -m cborn`, run as the program is."""
+
+    def __init__(self, folder, build):
+        self.path = pathlib.Path(folder, "cborn")
+        self.path.write_text(f'#!/bin/sh\nPYTHONPATH="{build}/python" exec "{sys.executable}" -m cborn "$@"\n')
+        self.path.chmod(0o755)
+
+    def differences(self, case):
+        """What is wrong with what it does. Its help, and what it says of a wrong command line, are its own."""
+        outcome = case.run(self.path)
+        is_own = case.status == 3 or any(it in case.words for it in ("--help", "-h"))
+        if not is_own:
+            yield from case.differences(outcome)
+        elif outcome.status != case.status or bool(outcome.stdout) == bool(outcome.stderr):
+            yield f"status is {outcome.status}, not {case.status}: {outcome.stdout!r} {outcome.stderr!r}"
+
+
+def of_same(answer):
+    """What cborn_same answers where cborn_compare answers so."""
+    code, place, out = answer
+    return code, 0 if code == DIFFERENT else place, out
+
+
+def tables_of_words(met, callers):
     """What is wrong with the tables of numbers."""
-    tables = {"header": words_of_header(), "page": words_of_page(), "python": words_of_python(), "rust": words_of_rust()}
+    in_c = callers["C"].words(range(0x800))
+    of_second = callers["C"].words(range(OF_SECOND, OF_SECOND + 0x800))
+    if of_second != {number + OF_SECOND: words for number, words in in_c.items() if number >> 8 != 6}:
+        yield f"cborn_words has other words for a second input: {of_second}"
+    beside = {number: in_c.pop(number, None) for number in range(0x100)}
+    if {n: words for n, words in beside.items() if words} != {OUT_OF_MEMORY: "out of memory", TOO_LONG: "input too long"}:
+        yield f"cborn_words has other words for what is no fault of the content: {beside}"
+    tables = {"header": words_of_header(), "page": words_of_page(), "python": callers["Python"].words(), "rust": words_of_rust(), "cborn_words": in_c}
     for name, words in tables.items():
         for number in sorted({*words, *tables["header"]}):
             if words.get(number) != tables["header"].get(number):
@@ -304,8 +359,11 @@ def main():
     words, met, wrong = words_of_header(), set(), []
     with tempfile.TemporaryDirectory() as folder:
         callers = {"C": InC(folder, build), "Python": InPython(build)}
+        as_program = AsProgram(folder, build)
         passed = others = 0
         for table, case in all_cases(folder):
+            if table.endswith(".table"):
+                wrong += [f"{table}: {case.name}: python -m cborn: {line}" for line in as_program.differences(case)]
             asked = parsed(case)
             if asked is None:
                 others += 1
@@ -314,11 +372,13 @@ def main():
             before = len(wrong)
             for name, caller in callers.items():
                 answer = caller.answer(asked)
+                if name == "C" and asked.command == "compare" and caller.same(asked) != of_same(answer):
+                    wrong.append(f"{table}: {case.name}: cborn_same answers {caller.same(asked)}, cborn_compare {answer}")
                 met.add(answer[0] % OF_SECOND)
                 wrong += [f"{table}: {case.name}: from {name}: {line}" for line in differences(case, asked, answer, words, done)]
             passed += len(wrong) == before
+        wrong += tables_of_words(met, callers)
         told = callers["C"].end()
-    wrong += tables_of_words(met)
     for line in wrong:
         print(line)
     print(f"{passed} command lines passed through the library, {others} are no call; {told}")

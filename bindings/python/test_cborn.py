@@ -1,13 +1,21 @@
 """What the tables of tests/ don't reach of the Python binding. Expected values come from RFC 8949 and docs/FORMATS.md.
 
-Run with CBORN_LIBRARY naming libcborn.so, as `make library-tests` does.
+`make library-tests` runs them in build/python, where the package is whole.
 """
 import array
 import concurrent.futures
+import copy
 import doctest
+import importlib.util
+import inspect
 import mmap
+import pathlib
 import pickle
+import subprocess
+import sys
 import tempfile
+import threading
+import time
 import unittest
 
 import cborn
@@ -44,8 +52,50 @@ class Calls(unittest.TestCase):
         self.assertIsNone(cborn.compare(LOOSE, TIGHT))
         self.assertEqual(cborn.compare(LOOSE + b"\x05", TIGHT + b"\x06"), 1)
 
+    def test_same_says_whether(self):
+        self.assertIs(cborn.same(LOOSE, TIGHT), True)
+        self.assertIs(cborn.same(LOOSE, TIGHT + b"\x06"), False)
+        # where they differ is the item 0, which is false
+        self.assertIs(cborn.same(b"\x05", b"\x06"), False)
+        self.assertIs(cborn.same(b"[1, 'a']", LOOSE, source_a=cborn.Kind.NOTATION), True)
+        self.assertRaises(cborn.CbornError, cborn.same, TWICE, TWICE)
+
+    def test_is_deterministic_says_whether(self):
+        self.assertIs(cborn.is_deterministic(TIGHT), True)
+        self.assertIs(cborn.is_deterministic(LOOSE), False)
+        # the keys -1 (20) and 100 (1864)
+        by_length = bytes.fromhex("a22000186400")
+        self.assertIs(cborn.is_deterministic(by_length), False)
+        self.assertIs(cborn.is_deterministic(by_length, order=cborn.Order.LENGTH_FIRST), True)
+        self.assertRaises(cborn.CbornError, cborn.is_deterministic, TWICE)
+
     def test_version(self):
         self.assertEqual(cborn.version(), "0.2.0")
+        self.assertEqual(cborn.__version__, "0.2.0")
+
+    def test_all_that_is_public_is_there_and_has_words(self):
+        for name in cborn.__all__:
+            self.assertTrue(getattr(cborn, name).__doc__, name)
+
+    def test_signatures(self):
+        self.assertEqual(
+            str(inspect.signature(cborn.normalise)).replace("<", "").replace(">", ""),
+            "(data, source=Kind.WIRE: 0, to=Kind.WIRE: 0, order=Order.BYTEWISE: 0, depth=128)",
+        )
+        self.assertEqual(inspect.signature(cborn.spell).parameters["source"].default, cborn.Kind.NOTATION)
+
+    def test_arguments_as_of_any_function(self):
+        self.assertEqual(cborn.normalise(data=LOOSE, depth=1), TIGHT)
+        for call in (
+            lambda: cborn.normalise(),
+            lambda: cborn.normalise(source=cborn.Kind.WIRE),
+            lambda: cborn.normalise(LOOSE, data=LOOSE),
+            lambda: cborn.normalise(LOOSE, form=1),
+            lambda: cborn.normalise(LOOSE, 0, 0, 0, 128, 0),
+            lambda: cborn.compare(LOOSE),
+            lambda: cborn.same(second=LOOSE),
+        ):
+            self.assertRaises(TypeError, call)
 
     def test_stack_rises_with_the_depth(self):
         self.assertLess(cborn.stack(1), cborn.stack(1024))
@@ -88,6 +138,40 @@ class Inputs(unittest.TestCase):
             self.assertRaises(TypeError, cborn.compare, b"", other)
         self.assertRaises(BufferError, cborn.normalise, memoryview(LOOSE)[::2])
 
+    def test_a_str_is_told_what_to_do(self):
+        for call in (cborn.normalise, cborn.show, cborn.spell, cborn.check, cborn.is_deterministic):
+            self.assertRaisesRegex(TypeError, r"text\.encode\(\).*bytes\.fromhex", call, "[1, 2]")
+        for call in (cborn.compare, cborn.same):
+            self.assertRaisesRegex(TypeError, "second must be bytes", call, TIGHT, "[1, 2]")
+
+    def test_inputs_at_the_length_from_which_the_lock_is_released(self):
+        for length in (4095, 4096, 4097):
+            zeros = bytes(length)
+            self.assertEqual(cborn.normalise(zeros), zeros)
+            self.assertEqual(cborn.spell(cborn.show(zeros).encode()), zeros)
+            self.assertTrue(cborn.is_deterministic(bytearray(zeros)))
+            self.assertTrue(cborn.same(zeros, memoryview(zeros)))
+            self.assertEqual(cborn.compare(zeros, zeros[1:]), length - 1)
+
+    def test_the_lock_is_released(self):
+        # a map of 300,000 keys that fall: sorting them takes some hundredths of a second at least
+        data = b"\xba" + (300000).to_bytes(4, "big") + b"".join(b"\x1a%c%c%c%c\x00" % (*n.to_bytes(4, "big"),) for n in range(2**20 + 300000, 2**20, -1))
+        times, is_done = [], threading.Event()
+
+        def beat():
+            while not is_done.is_set():
+                times.append(time.perf_counter())
+                time.sleep(0.001)
+
+        beating = threading.Thread(target=beat)
+        beating.start()
+        start = time.perf_counter()
+        cborn.normalise(data)
+        end = time.perf_counter()
+        is_done.set()
+        beating.join()
+        self.assertTrue(any(start < moment < end for moment in times))
+
 
 class Errors(unittest.TestCase):
     def test_a_fault_has_place_reason_and_number(self):
@@ -98,6 +182,21 @@ class Errors(unittest.TestCase):
         self.assertEqual(str(why), "offset 3: duplicate key")
         again = pickle.loads(pickle.dumps(why))
         self.assertEqual((str(again), again.place), (str(why), 3))
+
+    def test_reasons_have_names(self):
+        with self.assertRaises(cborn.CbornError) as caught:
+            cborn.normalise(TWICE)
+        self.assertIs(caught.exception.reason, cborn.Reason.INVALID_DUPLICATE_KEY)
+        self.assertIs(cborn.Reason(caught.exception.number), cborn.Reason.INVALID_DUPLICATE_KEY)
+        defect = cborn.check(b"\x18\x01")
+        self.assertIs(defect.reason, cborn.Reason.DEFECT_LONG_HEAD)
+        self.assertEqual(repr(defect), "Defect(place=0, reason=Reason.DEFECT_LONG_HEAD)")
+        self.assertEqual(f"{defect.reason}|{defect.reason:>10}", "long head| long head")
+        self.assertEqual({defect.reason: 1}["long head"], 1)
+        # two reasons with the same words
+        self.assertNotEqual(cborn.Reason.FLOAT_LEFT_OUT, cborn.Reason.TEXT_FLOAT_LEFT_OUT)
+        for again in (pickle.loads(pickle.dumps(defect.reason)), copy.deepcopy(defect.reason)):
+            self.assertIs(again, defect.reason)
 
     def test_compare_says_which_input_is_refused(self):
         with self.assertRaises(cborn.CbornError) as caught:
@@ -120,6 +219,16 @@ class Errors(unittest.TestCase):
             self.assertRaises(ValueError, cborn.check, TIGHT, order=number)
             self.assertRaises(ValueError, cborn.compare, TIGHT, TIGHT, source_b=number)
 
+    def test_a_wrong_value_is_told_which_there_are(self):
+        for wrong in ("notation", None, 1.0, cborn.Order.LENGTH_FIRST, True):
+            self.assertRaisesRegex(TypeError, "source must be one of Kind.WIRE, Kind.NOTATION and Kind.NOTATION_2", cborn.show, TIGHT, wrong)
+        self.assertRaisesRegex(TypeError, "source_b must be one of Kind.WIRE", cborn.same, TIGHT, TIGHT, source_b="wire")
+        self.assertRaisesRegex(ValueError, "to must be one of Kind.WIRE", cborn.normalise, TIGHT, to=3)
+        self.assertRaisesRegex(TypeError, "order must be one of Order.BYTEWISE and Order.LENGTH_FIRST", cborn.check, TIGHT, cborn.Kind.NOTATION)
+        self.assertRaisesRegex(ValueError, "depth must be from 1 to 1024", cborn.check, TIGHT, depth=0)
+        for wrong in ("128", 128.0, None, True):
+            self.assertRaisesRegex(TypeError, "depth must be an int", cborn.check, TIGHT, depth=wrong)
+
     def test_threads_have_rooms_of_their_own(self):
         def is_right(n):
             data = b"\x19" + n.to_bytes(2, "big")
@@ -127,6 +236,47 @@ class Errors(unittest.TestCase):
 
         with concurrent.futures.ThreadPoolExecutor(8) as pool:
             self.assertTrue(all(pool.map(is_right, range(20000))))
+
+
+class Program(unittest.TestCase):
+    """What the tables of tests/ say of the program holds of `python -m cborn` too; this is what they don't reach."""
+
+    def run_on(self, *words, data=b""):
+        done = subprocess.run([sys.executable, "-m", "cborn", *words], input=data, capture_output=True)
+        return done.stdout, done.stderr, done.returncode
+
+    def test_help_and_version(self):
+        self.assertEqual(self.run_on("--version"), (b"cborn 0.2.0\n", b"", 0))
+        for command in ("show", "normalise", "compare", "check"):
+            out, err, status = self.run_on(command, "--help")
+            self.assertEqual((err, status), (b"", 0))
+            self.assertIn(b"--depth", out)
+
+    def test_a_long_input(self):
+        zeros = bytes(3 << 20)
+        self.assertEqual(self.run_on("normalise", data=zeros), (zeros, b"", 0))
+
+
+@unittest.skipUnless(importlib.util.find_spec("mypy"), "mypy is not there")
+class Types(unittest.TestCase):
+    """That a wrong call is a type error, and that the package has none."""
+
+    def errors(self, *words):
+        done = subprocess.run([sys.executable, "-m", "mypy", "--strict", *words], capture_output=True, text=True)
+        return [line for line in done.stdout.splitlines() if "error:" in line]
+
+    def test_the_package(self):
+        self.assertEqual(self.errors(str(pathlib.Path(cborn.__file__).parent)), [])
+
+    def test_calls(self):
+        right = "a: bool = cborn.same(b'', bytearray(), source_b=cborn.Kind.NOTATION)\nb: bytes = cborn.normalise(memoryview(b''))\n"
+        wrong = "cborn.normalise('82')\ncborn.show(b'', 'notation')\ncborn.check(b'', cborn.Kind.WIRE)\nc: bool = cborn.compare(b'', b'')\n"
+        with tempfile.TemporaryDirectory() as folder:
+            path = pathlib.Path(folder, "calls.py")
+            path.write_text(f"import cborn\n{right}")
+            self.assertEqual(self.errors(str(path)), [])
+            path.write_text(f"import cborn\n{wrong}")
+            self.assertEqual(len(self.errors(str(path))), 4)
 
 
 if __name__ == "__main__":

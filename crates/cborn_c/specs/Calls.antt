@@ -1,7 +1,8 @@
 -- What a call from C answers.
-use Rattle.std.specs.Prelude.{◌≡◌, ℕ, ◌<◌, ◌≤◌, ◌⊎◌, ◌+◌, ◌++◌, List, length, drop, Option, None, Some, Result, Ok, Err}
+use Rattle.std.specs.Prelude.{◌≡◌, ℕ, ◌<◌, ◌≤◌, ◌⊎◌, ◌+◌, ◌∷◌, ◌++◌, [], Bool, true, false, List, length, drop, Option, None, Some, Result, Ok, Err}
 use Rattle.std.specs.declared.cmp.Ordering.{Ordering}
 use Rattle.cborn_judge.specs.declared.defects.Defect.{Defect}
+use Rattle.cborn_judge.specs.declared.defects.DefectReason.{DefectReason}
 use Rattle.cborn_engine.specs.declared.faults.CompareFault.{CompareFault}
 use Rattle.cborn_engine.specs.declared.faults.CompareFault.TheVariants as compared
 use Rattle.cborn_engine.specs.declared.faults.EngineFault.{EngineFault}
@@ -9,7 +10,7 @@ use Rattle.cborn_engine.specs.declared.kinds.Kind.{Kind}
 use Rattle.cborn_c.specs.declared.numbers.KeyOrdering.{KeyOrdering}
 use Rattle.cborn_c.specs.declared.answers.CbornTold.{CbornTold}
 use Rattle.cborn_c.specs.Numbers.{order_of, fault_number, fault_place, defect_number}
-use Rattle.cborn_c.specs.Answers.{Normalised, Shown, Checked, Compared}
+use Rattle.cborn_c.specs.Answers.{Normalised, Shown, Checked, Compared, Matched}
 
 -- the buffer begins with the answer, and is as it was behind that; or it is too small for the answer, and is as it was
 abbrev pub IsPut : List ℕ → List ℕ → List ℕ → ℕ → Type 0
@@ -72,16 +73,20 @@ abbrev pub CheckCall : Option KeyOrdering → ℕ → List ℕ → ℕ → ℕ �
 CheckCall (Some order) limit x unplaced place code = (IsDepth limit → ChecksInto (order_of order) limit x place code) × ((IsDepth limit → ⊥) → IsBadPlaced unplaced place code)
 CheckCall None limit x unplaced place code = IsBadPlaced unplaced place code
 
--- the same; different at this index, which is told as the place; or a fault of the first input, or of the second, which has 65,536 more
+-- a fault of the first input, or of the second, which has 65,536 more
+abbrev pub CompareFaultTold : CompareFault → ℕ → ℕ → Type 0
+CompareFaultTold (compared.First why) place code = (code ≡ fault_number why) × (place ≡ fault_place why)
+CompareFaultTold (compared.Second why) place code = (code ≡ fault_number why + 65536) × (place ≡ fault_place why)
+CompareFaultTold compared.OutOfMemory place code = (code ≡ 3) × (place ≡ 0)
+
+-- the same; or different at this index, which is told as the place
 abbrev pub DifferenceTold : Option ℕ → ℕ → ℕ → Type 0
 DifferenceTold None place code = (code ≡ 0) × (place ≡ 0)
 DifferenceTold (Some i) place code = (code ≡ 5) × (place ≡ i)
 
 abbrev pub CompareTold : Result (Option ℕ) CompareFault → ℕ → ℕ → Type 0
 CompareTold (Ok difference) place code = DifferenceTold difference place code
-CompareTold (Err (compared.First why)) place code = (code ≡ fault_number why) × (place ≡ fault_place why)
-CompareTold (Err (compared.Second why)) place code = (code ≡ fault_number why + 65536) × (place ≡ fault_place why)
-CompareTold (Err compared.OutOfMemory) place code = (code ≡ 3) × (place ≡ 0)
+CompareTold (Err why) place code = CompareFaultTold why place code
 
 pub record ComparesInto (k l : Kind) (limit : ℕ) (x y : List ℕ) (place code : ℕ) : Type 0 where
   pub answer : Result (Option ℕ) CompareFault
@@ -92,3 +97,32 @@ abbrev pub CompareCall : Option Kind → Option Kind → ℕ → List ℕ → Li
 CompareCall (Some k) (Some l) limit x y unplaced place code = (IsDepth limit → ComparesInto k l limit x y place code) × ((IsDepth limit → ⊥) → IsBadPlaced unplaced place code)
 CompareCall (Some k) None limit x y unplaced place code = IsBadPlaced unplaced place code
 CompareCall None l limit x y unplaced place code = IsBadPlaced unplaced place code
+
+-- the same, or different, with no place
+abbrev pub SameTold : Result Bool CompareFault → ℕ → ℕ → Type 0
+SameTold (Ok true) place code = (code ≡ 0) × (place ≡ 0)
+SameTold (Ok false) place code = (code ≡ 5) × (place ≡ 0)
+SameTold (Err why) place code = CompareFaultTold why place code
+
+pub record MatchesInto (k l : Kind) (limit : ℕ) (x y : List ℕ) (place code : ℕ) : Type 0 where
+  pub answer : Result Bool CompareFault
+  pub matched : Matched k l limit x y answer
+  pub told : SameTold answer place code
+
+abbrev pub SameCall : Option Kind → Option Kind → ℕ → List ℕ → List ℕ → ℕ → ℕ → ℕ → Type 0
+SameCall (Some k) (Some l) limit x y unplaced place code = (IsDepth limit → MatchesInto k l limit x y place code) × ((IsDepth limit → ⊥) → IsBadPlaced unplaced place code)
+SameCall (Some k) None limit x y unplaced place code = IsBadPlaced unplaced place code
+SameCall None l limit x y unplaced place code = IsBadPlaced unplaced place code
+
+-- the number of a fault, or of that of a second input, or of a defect
+abbrev pub HasWords : ℕ → Type 0
+HasWords number = ((why : EngineFault) × (fault_number why ≡ number)) ⊎ ((why : EngineFault) × (fault_number why + 65536 ≡ number)) ⊎ ((reason : DefectReason) × (defect_number reason ≡ number))
+
+-- some words and a zero behind them, put into the buffer. No clause says which words.
+pub record WordsPut (before after : List ℕ) (code : ℕ) : Type 0 where
+  pub words : List ℕ
+  pub short : length words < 64
+  pub put : IsPut (words ++ 0 ∷ []) before after code
+
+abbrev pub WordsCall : ℕ → List ℕ → List ℕ → ℕ → Type 0
+WordsCall number before after code = (HasWords number → WordsPut before after code) × ((HasWords number → ⊥) → (code ≡ 2) × (after ≡ before))

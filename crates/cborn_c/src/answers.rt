@@ -1,7 +1,7 @@
 //! How an answer is told to C.
 ghost use Rattle.std.specs.Prelude.{◌≡◌};
 ghost use Rattle.cborn_c.specs.Answers.{listed};
-ghost use Rattle.cborn_c.specs.Calls.{Told, CheckTold, CompareTold};
+ghost use Rattle.cborn_c.specs.Calls.{Told, CheckTold, CompareFaultTold, CompareTold, SameTold};
 
 use crate::numbers::{
     DIFFERENT, OF_SECOND, OK, OUT_OF_MEMORY, TOO_SMALL, number_defect, number_fault, place_of,
@@ -86,15 +86,37 @@ pub fn difference_told(answer: Result<Option<u64>, CompareFault>, place: &mut u6
             *place = index;
             DIFFERENT
         }
-        Err(CompareFault::First(why)) => {
+        Err(why) => compare_fault_told(why, place),
+    }
+}
+
+/// Tells whether the items are the same, or why they weren't compared.
+pub fn same_told(answer: Result<bool, CompareFault>, place: &mut u64) -> u32
+    ensures { SameTold answer place.new result }
+{
+    match answer {
+        Ok(same) => {
+            *place = 0;
+            if same { OK } else { DIFFERENT }
+        }
+        Err(why) => compare_fault_told(why, place),
+    }
+}
+
+/// Tells why two inputs weren't compared.
+fn compare_fault_told(why: CompareFault, place: &mut u64) -> u32
+    ensures { CompareFaultTold why place.new result }
+{
+    match why {
+        CompareFault::First(why) => {
             *place = place_of(why);
             number_fault(why)
         }
-        Err(CompareFault::Second(why)) => {
+        CompareFault::Second(why) => {
             *place = place_of(why);
             number_fault(why) + OF_SECOND
         }
-        Err(CompareFault::OutOfMemory) => {
+        CompareFault::OutOfMemory => {
             *place = 0;
             OUT_OF_MEMORY
         }

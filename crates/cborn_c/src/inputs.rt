@@ -2,10 +2,11 @@
 ghost use Rattle.std.specs.Prelude.{◌≡◌, ◌≤◌, ◌*◌, length, IfOk};
 ghost use Rattle.std.specs.Cow.{cow_slice_items};
 ghost use Rattle.cborn_engine.specs.declared.kinds.Kind.TheVariants as kinds;
-ghost use Rattle.cborn_c.specs.Answers.{Normalised, Shown, Checked, Compared, listed};
+ghost use Rattle.cborn_c.specs.Answers.{Normalised, Shown, Checked, Compared, Matched, listed};
 
 use cborn_engine::{
-    CompareFault, EngineFault, Kind, check_slice, compare_slices, normalise_slice, show_slice,
+    CompareFault, EngineFault, Kind, check_slice, compare_slices, normalise_slice, same_items,
+    show_slice,
 };
 use cborn_judge::Defect;
 use cborn_model::{Bytewise, KeyOrder, Limit};
@@ -75,4 +76,21 @@ pub fn compared(
     ensures { Compared kind_a kind_b limit first.now second.now result }
 {
     compare_slices::<Bytewise>(alloc, limit, kind_a, first, kind_b, second)
+}
+
+/// Whether two inputs hold the same items. The answer doesn't depend on the order of keys.
+///
+/// # Errors
+/// Those of the engine's call over slices.
+pub fn matched(
+    alloc: Global,
+    limit: Limit,
+    kind_a: Kind,
+    first: &[u8],
+    kind_b: Kind,
+    second: &[u8],
+) -> Result<bool, CompareFault>
+    ensures { Matched kind_a kind_b limit first.now second.now result }
+{
+    same_items::<Bytewise>(alloc, limit, kind_a, first, kind_b, second)
 }

@@ -10,16 +10,18 @@
 mod answers;
 mod inputs;
 mod numbers;
+mod words;
 
 ghost use Rattle.std.specs.Prelude.{◌≡◌, ◌≢◌, ◌≤◌, ◌+◌, ◌/◌, length};
 ghost use Rattle.cborn_c.specs.Numbers.{numbered_kind, numbered_order};
-ghost use Rattle.cborn_c.specs.Calls.{NormaliseCall, ShowCall, CheckCall, CompareCall};
+ghost use Rattle.cborn_c.specs.Calls.{NormaliseCall, ShowCall, CheckCall, CompareCall, SameCall, WordsCall};
 
-use answers::{CbornTold, defect_told, difference_told, put};
+use answers::{CbornTold, defect_told, difference_told, put, same_told};
 use cborn_model::{Bytewise, LengthFirst, Limit};
-use inputs::{checked, compared, normalised, shown};
-use numbers::{BAD_ARGUMENT, KeyOrdering, kind_at, order_at};
+use inputs::{checked, compared, matched, normalised, shown};
+use numbers::{BAD_ARGUMENT, KeyOrdering, OF_SECOND, kind_at, order_at};
 use std::alloc::Global;
+use words::{defect_at, fault_at, put_words};
 
 /// Writes the canonical form of the items that `input` holds to the front of `out`: their
 /// deterministic encodings (RFC 8949 section 4.2), or the fixed notation of these. `depth` is how
@@ -151,6 +153,61 @@ pub extern "C" fn cborn_compare(
         return BAD_ARGUMENT;
     };
     difference_told(compared(alloc, limit, from_a, first, from_b, second), place)
+}
+
+/// Tells whether two inputs hold the same items (RFC 8949 section 2), else `DIFFERENT`. They do
+/// exactly if their canonical forms are equal. `place` gets 0: where they differ is not looked for.
+///
+/// # Errors
+/// Those of `cborn_compare`, told in the same way.
+#[unsafe(no_mangle)]
+pub extern "C" fn cborn_same(
+    alloc: Global,
+    from_a: u32,
+    from_b: u32,
+    depth: u64,
+    first: &[u8],
+    second: &[u8],
+    place: &mut u64,
+) -> u32
+    ensures { SameCall (numbered_kind from_a) (numbered_kind from_b) depth first.now second.now place.old place.new result }
+{
+    let Some(from_a) = kind_at(from_a) else {
+        return BAD_ARGUMENT;
+    };
+    let Some(from_b) = kind_at(from_b) else {
+        return BAD_ARGUMENT;
+    };
+    let Some(limit) = Limit::new(depth) else {
+        return BAD_ARGUMENT;
+    };
+    same_told(matched(alloc, limit, from_a, first, from_b, second), place)
+}
+
+/// Writes the words of a fault or a defect to the front of `out`, as the program prints them, and a
+/// zero byte behind them. `number` is what another call answered: that of a fault, also of a second
+/// input's, which has the same words, or of a defect. 64 bytes are always enough.
+///
+/// # Errors
+/// `TOO_SMALL` where `out` is. `BAD_ARGUMENT` where no fault and no defect has this number. At both
+/// `out` is as it was.
+#[unsafe(no_mangle)]
+pub extern "C" fn cborn_words(number: u32, out: &mut [u8]) -> u32
+    ensures call { WordsCall number out.old out.new result }
+    ensures room { 64 ≤ length out.old → result ≢ 1 }
+{
+    if let Some(reason) = defect_at(number) {
+        return put_words(&reason, out);
+    }
+    let of_first = if number > OF_SECOND {
+        number - OF_SECOND
+    } else {
+        number
+    };
+    match fault_at(of_first) {
+        Some(why) => put_words(&why, out),
+        None => BAD_ARGUMENT,
+    }
 }
 
 /// The version of the library, 65,536 for each major one, 256 for each minor one, and the patch:

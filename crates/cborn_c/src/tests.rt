@@ -2,7 +2,9 @@
 //! Expected values come from RFC 8949 and docs/FORMATS.md.
 
 use crate::answers::CbornTold;
-use crate::{cborn_check, cborn_compare, cborn_normalise, cborn_show, cborn_version};
+use crate::{
+    cborn_check, cborn_compare, cborn_normalise, cborn_same, cborn_show, cborn_version, cborn_words,
+};
 
 /// An array of two whose heads, and those in it, are longer than needed.
 const LOOSE: [u8; 7] = [0x98, 2, 0x18, 1, 0x58, 1, 0x61];
@@ -136,6 +138,50 @@ fn compares(rt: HostRuntime) {
     let code = cborn_compare(rt.alloc(), 2, 0, 128, b"1 # one", &TWICE, &mut place);
     assert_eq!(rt; code, 0x10503);
     assert_eq!(rt; place, 3);
+}
+
+#[test]
+fn tells_the_same(rt: HostRuntime) {
+    let mut place = 99;
+    let code = cborn_same(rt.alloc(), 1, 0, 128, b"[1, 'a']", &LOOSE, &mut place);
+    assert_eq!(rt; code, 0);
+    assert_eq!(rt; place, 0);
+    let code = cborn_same(rt.alloc(), 1, 0, 128, b"[1, 'a'], 2", &LOOSE, &mut place);
+    assert_eq!(rt; code, 5);
+    assert_eq!(rt; place, 0);
+    let code = cborn_same(rt.alloc(), 0, 0, 128, &LOOSE, &TWICE, &mut place);
+    assert_eq!(rt; code, 0x10503);
+    assert_eq!(rt; place, 3);
+    let code = cborn_same(rt.alloc(), 3, 0, 128, &LOOSE, &LOOSE, &mut place);
+    assert_eq!(rt; code, 2);
+    assert_eq!(rt; place, 3);
+}
+
+#[test]
+fn tells_words(rt: HostRuntime) {
+    let cases: [(u32, &[u8]); 7] = [
+        (3, b"out of memory\0"),
+        (4, b"input too long\0"),
+        (0x108, b"truncated\0"),
+        (0x20b, b"float left out\0"),
+        (0x401, b"not UTF-8\0"),
+        (0x10503, b"duplicate key\0"),
+        (0x604, b"key order\0"),
+    ];
+    for (number, words) in cases {
+        let mut out = [0xee; 64];
+        assert_eq!(rt; cborn_words(number, &mut out), 0, "{number}");
+        assert!(rt; out.starts_with(words), "{number}");
+        assert_eq!(rt; out[words.len()], 0xee, "{number}");
+    }
+    for number in [0, 1, 2, 5, 0x100, 0x109, 0x605, 0x10604, 0x20503] {
+        let mut out = [0xee; 64];
+        assert_eq!(rt; cborn_words(number, &mut out), 2, "{number}");
+        assert!(rt; out == [0xee; 64], "{number}");
+    }
+    let mut out = [0xee; 9];
+    assert_eq!(rt; cborn_words(0x108, &mut out), 1);
+    assert!(rt; out == [0xee; 9]);
 }
 
 #[test]

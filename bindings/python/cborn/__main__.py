@@ -1,0 +1,211 @@
+"""The program cborn, for whoever has the wheel alone: its commands, options, lines and statuses, over this library.
+
+Unlike the program it needs the whole input and the whole output in memory.
+"""
+
+from __future__ import annotations
+
+import argparse
+import errno
+import os
+import re
+import signal
+import sys
+import typing
+
+import cborn
+
+DONE, DIFFERENT, REFUSED, USAGE, FAILED = range(5)
+MOST = 2**30
+PIECE = 2**20
+KINDS = {"wire": cborn.Kind.WIRE, "notation": cborn.Kind.NOTATION, "notation-2": cborn.Kind.NOTATION_2}
+ORDERS = {"bytewise": cborn.Order.BYTEWISE, "length-first": cborn.Order.LENGTH_FIRST}
+ABOUT = "Reads CBOR data items and writes their deterministic encoding"
+NOTES = """\
+An input is any number of items, one after another: at most 2^30 bytes. Floats
+are left out: an input with a float is refused. Input is read as CBOR bytes
+unless '--from notation' is given. Text, hexadecimal included, can happen to be
+valid CBOR.
+
+Exit status:
+  0  done; the inputs hold the same items; the input is deterministic
+  1  the inputs differ; the input isn't deterministic
+  2  an input is refused: a line on standard error says at which offset, in
+     bytes from the start, and why; nothing is written to standard output
+  3  the command line is wrong
+  4  a file can't be opened, a read or a write failed, or out of memory
+"""
+
+
+class Trouble(Exception):
+    """Why there is no answer: a line for standard error, and the status."""
+
+    def __init__(self, line: str, status: int) -> None:
+        super().__init__(line)
+        self.line = line
+        self.status = status
+
+
+class Parser(argparse.ArgumentParser):
+    def error(self, message: str) -> typing.NoReturn:
+        raise Trouble(f"error: {message}\n\n{self.format_usage()}", USAGE)
+
+
+class Once(argparse.Action):
+    """Stores a value, and refuses an option that is given twice."""
+
+    def __call__(
+        self,
+        parser: argparse.ArgumentParser,
+        namespace: argparse.Namespace,
+        values: object,
+        option_string: str | None = None,
+    ) -> None:
+        given = typing.cast("set[str]", namespace.given)
+        if self.dest in given:
+            parser.error(f"the argument '{option_string}' cannot be used multiple times")
+        given.add(self.dest)
+        setattr(namespace, self.dest, values)
+
+
+def depth_of(word: str) -> int:
+    depth = int(word) if re.fullmatch(r"\+?[0-9]{1,30}", word, re.ASCII) else 0
+    if not 1 <= depth <= 1024:
+        raise argparse.ArgumentTypeError(f"'{word}' is not in 1..=1024")
+    return depth
+
+
+def with_options(parser: argparse.ArgumentParser, kinds: typing.Sequence[str], to: str | None, has_order: bool) -> None:
+    """Adds the options of a command: those of its inputs' formats, and the others that it has."""
+    for name in kinds:
+        parser.add_argument(f"--{name}", metavar="KIND", choices=list(KINDS), default="wire", action=Once,
+                            help="an input's format: wire (bytes), notation or notation-2 [default: wire]")
+    if to is not None:
+        parser.add_argument("--to", metavar="KIND", choices=["wire", "notation"], default=to, action=Once,
+                            help=f"the format to write: wire (bytes) or notation [default: {to}]")
+    if has_order:
+        parser.add_argument("--order", metavar="ORDER", choices=list(ORDERS), default="bytewise", action=Once,
+                            help="sort map keys bytewise, by encoded bytes (RFC 8949 section 4.2.1), or length-first, "
+                            "shortest first (4.2.3) [default: bytewise]")
+    parser.add_argument("--depth", metavar="N", type=depth_of, default=128, action=Once,
+                        help="the maximum nesting depth of arrays, maps and tags, 1 to 1024 [default: 128]")
+
+
+def parser() -> Parser:
+    how: dict[str, typing.Any] = {"allow_abbrev": False, "formatter_class": argparse.RawDescriptionHelpFormatter}
+    program = Parser(prog="cborn", description=ABOUT, epilog=NOTES, **how)
+    program.add_argument("-V", "--version", action="version", version=f"cborn {cborn.__version__}")
+    program.set_defaults(given=set())
+    commands = program.add_subparsers(dest="command", required=True, metavar="COMMAND")
+    show = commands.add_parser("show", help="write the input's items as they are encoded, as notation or bytes", **how)
+    with_options(show, ["from"], "notation", has_order=False)
+    normalise = commands.add_parser("normalise", help="write the deterministic encoding of the input's items", **how)
+    with_options(normalise, ["from"], "wire", has_order=True)
+    compare = commands.add_parser("compare", help="tell whether two inputs hold the same items", **how)
+    with_options(compare, ["from-a", "from-b"], None, has_order=True)
+    check = commands.add_parser("check", help="tell whether the input is in the deterministic encoding", **how)
+    with_options(check, [], None, has_order=True)
+    for command in (show, normalise, check):
+        command.add_argument("FILE", nargs="?", help="the file to read, in place of standard input")
+    compare.add_argument("FILE_A")
+    compare.add_argument("FILE_B")
+    return program
+
+
+def read(name: str | None, side: str = "") -> bytearray:
+    """The bytes of a file or of standard input: one more than the most at most, so that too long an input is known."""
+    try:
+        file = 0 if name is None else os.open(name, os.O_RDONLY | os.O_CLOEXEC)
+    except OSError:
+        raise Trouble(f"cborn: {side}cannot read {name}\n", FAILED) from None
+    data = bytearray()
+    try:
+        while len(data) <= MOST:
+            piece = os.read(file, min(PIECE, MOST + 1 - len(data)))
+            if not piece:
+                break
+            data += piece
+    except OSError:
+        raise Trouble(f"cborn: {side}read failed\n", FAILED) from None
+    finally:
+        if name is not None:
+            os.close(file)
+    return data
+
+
+def write(data: bytes, file: int = 1) -> None:
+    rest = memoryview(data)
+    while rest:
+        rest = rest[os.write(file, rest):]
+
+
+def told(line: str, status: int) -> tuple[bytes, int]:
+    return f"{line}\n".encode(), status
+
+
+def compared(asked: argparse.Namespace) -> tuple[bytes, int]:
+    """Compares two files. A fault of the first comes before any trouble with the second."""
+    kinds = KINDS[getattr(asked, "from_a")], KINDS[getattr(asked, "from_b")]
+    first = read(asked.FILE_A, "first: ")
+    try:
+        second = read(asked.FILE_B, "second: ")
+    except Trouble:
+        cborn.same(first, b"", *kinds, asked.depth)
+        raise
+    index = cborn.compare(first, second, *kinds, asked.depth)
+    return told("same", DONE) if index is None else told(f"different at item {index}", DIFFERENT)
+
+
+def answered(asked: argparse.Namespace) -> tuple[bytes, int]:
+    """What goes to standard output, and the status."""
+    if asked.command == "compare":
+        return compared(asked)
+    data = read(asked.FILE)
+    if asked.command == "check":
+        defect = cborn.check(data, ORDERS[asked.order], asked.depth)
+        return told("deterministic", DONE) if defect is None else told(f"offset {defect.place}: {defect.reason}", DIFFERENT)
+    source = KINDS[getattr(asked, "from")]
+    if asked.command == "normalise":
+        return cborn.normalise(data, source, KINDS[asked.to], ORDERS[asked.order], asked.depth), DONE
+    if asked.to == "wire":
+        return cborn.spell(data, source, asked.depth), DONE
+    return cborn.show(data, source, asked.depth).encode(), DONE
+
+
+def done(words: typing.Sequence[str]) -> int:
+    """Does what the words ask for, and gives the status.
+
+    Raises Trouble, CbornError and MemoryError for what keeps it from being done.
+    """
+    if any("\udc80" <= c <= "\udcff" for word in words for c in word):
+        raise Trouble("error: an argument is not UTF-8\n", USAGE)
+    asked = parser().parse_args(words)
+    output, status = answered(asked)
+    try:
+        write(output)
+    except OSError:
+        raise Trouble("cborn: write failed\n", FAILED) from None
+    return status
+
+
+def main(words: typing.Sequence[str]) -> int:
+    try:
+        return done(words)
+    except Trouble as trouble:
+        line, status = trouble.line, trouble.status
+    except cborn.CbornError as why:
+        side = "first: " if words[:1] == ["compare"] and not why.input else ""
+        line, status = f"cborn: {side}{why}\n", REFUSED
+    except MemoryError:
+        line, status = "cborn: out of memory\n", FAILED
+    try:
+        write(line.encode("utf-8", "surrogateescape"), 2)
+    except OSError as why:
+        if why.errno == errno.EINTR:
+            raise
+    return status
+
+
+if __name__ == "__main__":
+    signal.signal(signal.SIGINT, signal.SIG_DFL)
+    sys.exit(main(sys.argv[1:]))

@@ -1,0 +1,549 @@
+/* The calls of cborn.h for CPython 3.8 and later, by its stable ABI.
+ *
+ * An input is read where it lies. Of an answer one copy is made at most. The interpreter's lock is released while an
+ * input of MUCH bytes or more is worked on. The classes stand in __init__.py, which hands them to begin().
+ */
+#define PY_SSIZE_T_CLEAN
+#define Py_LIMITED_API 0x03080000
+#include <Python.h>
+#include <string.h>
+#include "cborn.h"
+
+/* The stable ABI has buffers from 3.11 on, and METH_FASTCALL from 3.10 on. Both were the same before, back to 3.8, whose
+ * limited headers only leave them out. */
+typedef struct {
+    void *buf;
+    PyObject *obj;
+    Py_ssize_t len, itemsize;
+    int readonly, ndim;
+    char *format;
+    Py_ssize_t *shape, *strides, *suboffsets;
+    void *internal;
+} lent_buffer;
+
+#if Py_LIMITED_API >= 0x030b0000
+#error "Python.h declares buffers itself: use its Py_buffer"
+#endif
+extern int PyObject_GetBuffer(PyObject *lender, lent_buffer *lent, int flags);
+extern void PyBuffer_Release(lent_buffer *lent);
+
+#ifndef METH_FASTCALL
+#define METH_FASTCALL 0x0080
+#endif
+
+enum {
+    MUCH = 4096,  /* bytes of input from which on the lock is released */
+    SMALL = 1024, /* bytes of output that are kept on the stack */
+    MOST_ARGUMENTS = 5
+};
+
+/* What __init__.py handed in: two classes, and what makes an exception and a Defect of a number and a place. */
+typedef struct {
+    PyObject *kind, *order, *fault, *defect;
+} classes;
+
+/* The arguments of a function, of which the first ones have no default. */
+typedef struct {
+    const char *name;
+    int required, most;
+    const char *arguments[MOST_ARGUMENTS];
+} signature;
+
+/* An input, as it is lent. */
+typedef struct {
+    const uint8_t *bytes;
+    size_t length;
+    lent_buffer lent; /* obj is NULL where nothing has to be given back */
+} input;
+
+/* The numbers of a call, which begin as the defaults. */
+typedef struct {
+    uint32_t from, to, order;
+    uint64_t depth;
+} options;
+
+static const options usual = {CBORN_WIRE, CBORN_WIRE, CBORN_BYTEWISE, CBORN_USUAL_DEPTH};
+
+static int place_of_argument(const signature *of, PyObject *name)
+{
+    for (int i = 0; i < of->most; i++)
+        if (PyUnicode_CompareWithASCIIString(name, of->arguments[i]) == 0)
+            return i;
+    PyErr_Format(PyExc_TypeError, "%s() got an unexpected keyword argument %R", of->name, name);
+    return -1;
+}
+
+/* Puts each argument to its place; NULL stands for one that isn't given. */
+static int are_bound(const signature *of, PyObject *const *given, Py_ssize_t count, PyObject *keywords, PyObject **bound)
+{
+    Py_ssize_t named = keywords == NULL ? 0 : PyTuple_Size(keywords);
+    if (count > of->most) {
+        PyErr_Format(PyExc_TypeError, "%s() takes at most %d arguments (%zd given)", of->name, of->most, count + named);
+        return 0;
+    }
+    for (int i = 0; i < of->most; i++)
+        bound[i] = i < count ? given[i] : NULL;
+    for (Py_ssize_t n = 0; n < named; n++) {
+        int i = place_of_argument(of, PyTuple_GetItem(keywords, n));
+        if (i < 0)
+            return 0;
+        if (bound[i] != NULL) {
+            PyErr_Format(PyExc_TypeError, "%s() got multiple values for argument '%s'", of->name, of->arguments[i]);
+            return 0;
+        }
+        bound[i] = given[count + n];
+    }
+    for (int i = 0; i < of->required; i++)
+        if (bound[i] == NULL) {
+            PyErr_Format(PyExc_TypeError, "%s() missing required argument '%s'", of->name, of->arguments[i]);
+            return 0;
+        }
+    return 1;
+}
+
+static int is_lent(PyObject *data, const char *name, input *it)
+{
+    it->lent.obj = NULL;
+    if (PyBytes_CheckExact(data)) {
+        it->bytes = (const uint8_t *)PyBytes_AsString(data);
+        it->length = (size_t)PyBytes_Size(data);
+        return 1;
+    }
+    if (PyUnicode_Check(data)) {
+        PyErr_Format(PyExc_TypeError,
+                     "%s must be bytes or lend its bytes (the buffer protocol), not str: notation is given as "
+                     "text.encode(), and hexadecimal as bytes.fromhex(text)", name);
+        return 0;
+    }
+    if (PyObject_GetBuffer(data, &it->lent, 0) != 0) {
+        if (PyErr_ExceptionMatches(PyExc_TypeError)) {
+            PyErr_Clear();
+            PyErr_Format(PyExc_TypeError, "%s must be bytes or lend its bytes (the buffer protocol), not %R", name, (PyObject *)Py_TYPE(data));
+        }
+        return 0;
+    }
+    it->bytes = it->lent.buf;
+    it->length = (size_t)it->lent.len;
+    return 1;
+}
+
+static void give_back(input *it)
+{
+    if (it->lent.obj != NULL)
+        PyBuffer_Release(&it->lent);
+}
+
+/* The number of a member of an enum; a plain int serves too, and nothing else. An argument that isn't given is well. */
+static int is_member(PyObject *value, PyObject *of, const char *name, const char *members, long end, uint32_t *number)
+{
+    if (value == NULL)
+        return 1;
+    if ((PyObject *)Py_TYPE(value) != of && !PyLong_CheckExact(value)) {
+        PyErr_Format(PyExc_TypeError, "%s must be one of %s, not %R", name, members, value);
+        return 0;
+    }
+    int is_beyond;
+    long found = PyLong_AsLongAndOverflow(value, &is_beyond);
+    if (is_beyond || found < 0 || found >= end) {
+        PyErr_Format(PyExc_ValueError, "%s must be one of %s, not %R", name, members, value);
+        return 0;
+    }
+    *number = (uint32_t)found;
+    return 1;
+}
+
+static int is_kind(PyObject *module, PyObject *value, const char *name, uint32_t *number)
+{
+    classes *known = PyModule_GetState(module);
+    return is_member(value, known->kind, name, "Kind.WIRE, Kind.NOTATION and Kind.NOTATION_2", 3, number);
+}
+
+static int is_order(PyObject *module, PyObject *value, uint32_t *number)
+{
+    classes *known = PyModule_GetState(module);
+    return is_member(value, known->order, "order", "Order.BYTEWISE and Order.LENGTH_FIRST", 2, number);
+}
+
+static int is_depth(PyObject *value, uint64_t *depth)
+{
+    if (value == NULL)
+        return 1;
+    if (!PyLong_Check(value) || PyBool_Check(value)) {
+        PyErr_Format(PyExc_TypeError, "depth must be an int from 1 to %d, not %R", CBORN_MOST_DEPTH, value);
+        return 0;
+    }
+    int is_beyond;
+    long found = PyLong_AsLongAndOverflow(value, &is_beyond);
+    if (is_beyond || found < 1 || found > CBORN_MOST_DEPTH) {
+        PyErr_Format(PyExc_ValueError, "depth must be from 1 to %d, not %R", CBORN_MOST_DEPTH, value);
+        return 0;
+    }
+    *depth = (uint64_t)found;
+    return 1;
+}
+
+/* What __init__.py makes of a number and a place. */
+static PyObject *made_of(PyObject *maker, uint32_t code, uint64_t place)
+{
+    if (maker != NULL)
+        return PyObject_CallFunction(maker, "IK", code, (unsigned long long)place);
+    PyErr_SetString(PyExc_SystemError, "begin() was not called");
+    return NULL;
+}
+
+/* Raises what a number stands for that is no answer. */
+static PyObject *raised(PyObject *module, uint32_t code, uint64_t place)
+{
+    classes *known = PyModule_GetState(module);
+    if (code == CBORN_OUT_OF_MEMORY) {
+        PyErr_SetString(PyExc_MemoryError, "cborn: out of memory");
+        return NULL;
+    }
+    PyObject *why = made_of(known->fault, code, place);
+    if (why != NULL) {
+        PyErr_SetObject((PyObject *)Py_TYPE(why), why);
+        Py_DECREF(why);
+    }
+    return NULL;
+}
+
+/* A call that writes an answer. */
+typedef uint32_t writer(const options *how, const input *from, uint8_t *out, size_t room, cborn_told *told);
+
+static uint32_t normalise_into(const options *how, const input *from, uint8_t *out, size_t room, cborn_told *told)
+{
+    return cborn_normalise(how->from, how->to, how->order, how->depth, from->bytes, from->length, out, room, told);
+}
+
+static uint32_t show_into(const options *how, const input *from, uint8_t *out, size_t room, cborn_told *told)
+{
+    return cborn_show(how->from, how->to, how->depth, from->bytes, from->length, out, room, told);
+}
+
+static uint32_t written(writer *call, const options *how, const input *from, uint8_t *out, size_t room, cborn_told *told)
+{
+    if (from->length < MUCH)
+        return call(how, from, out, room, told);
+    uint32_t code;
+    Py_BEGIN_ALLOW_THREADS
+    code = call(how, from, out, room, told);
+    Py_END_ALLOW_THREADS
+    return code;
+}
+
+/* So much room that a second call is rare. Of bytes, most answers are no longer than the input, and one that is as long,
+ * as that of a deterministic input, needs no copy. */
+static size_t room_for(const options *how, const input *from)
+{
+    return how->to == CBORN_WIRE ? from->length : 3 * from->length + 64;
+}
+
+static PyObject *made(int is_text, const char *bytes, uint64_t length)
+{
+    if (is_text)
+        return PyUnicode_DecodeUTF8(bytes, (Py_ssize_t)length, NULL);
+    return PyBytes_FromStringAndSize(bytes, (Py_ssize_t)length);
+}
+
+/* The answer by way of a bytes object that the library writes to, and which is the answer where that fills it. */
+static PyObject *long_answer(PyObject *module, writer *call, const options *how, const input *from, int is_text, size_t room)
+{
+    cborn_told told = {0, 0};
+    uint32_t code = CBORN_TOO_SMALL;
+    PyObject *out = NULL;
+    while (code == CBORN_TOO_SMALL) {
+        Py_XDECREF(out);
+        out = room > (size_t)PY_SSIZE_T_MAX / 2 ? PyErr_NoMemory() : PyBytes_FromStringAndSize(NULL, (Py_ssize_t)room);
+        if (out == NULL)
+            return NULL;
+        code = written(call, how, from, (uint8_t *)PyBytes_AsString(out), room, &told);
+        if (code == CBORN_TOO_SMALL)
+            room = (size_t)told.length;
+    }
+    if (code == CBORN_OK && !is_text && told.length == room)
+        return out;
+    PyObject *answer = code == CBORN_OK ? made(is_text, PyBytes_AsString(out), told.length) : raised(module, code, told.place);
+    Py_DECREF(out);
+    return answer;
+}
+
+static PyObject *answered(PyObject *module, writer *call, const options *how, const input *from, int is_text)
+{
+    uint8_t out[SMALL];
+    size_t room = room_for(how, from);
+    if (room > sizeof out)
+        return long_answer(module, call, how, from, is_text, room);
+    cborn_told told = {0, 0};
+    uint32_t code = written(call, how, from, out, sizeof out, &told);
+    if (code == CBORN_TOO_SMALL)
+        return long_answer(module, call, how, from, is_text, (size_t)told.length);
+    return code == CBORN_OK ? made(is_text, (const char *)out, told.length) : raised(module, code, told.place);
+}
+
+#define DOCUMENTED(name, arguments, text) static const char name##_doc[] = #name arguments "\n--\n\n" text
+
+DOCUMENTED(normalise, "($module, data, source=Kind.WIRE, to=Kind.WIRE, order=Order.BYTEWISE, depth=128)",
+           "Return the canonical form of the items in `data`: their deterministic encodings, or these in notation (UTF-8).\n\n"
+           "Raises CbornError if `data` is refused, and MemoryError.");
+static const signature of_normalise = {"normalise", 1, 5, {"data", "source", "to", "order", "depth"}};
+
+static PyObject *normalise(PyObject *module, PyObject *const *given, Py_ssize_t count, PyObject *keywords)
+{
+    PyObject *of[MOST_ARGUMENTS];
+    options how = usual;
+    input from;
+    if (!are_bound(&of_normalise, given, count, keywords, of) || !is_kind(module, of[1], "source", &how.from) ||
+        !is_kind(module, of[2], "to", &how.to) || !is_order(module, of[3], &how.order) || !is_depth(of[4], &how.depth) ||
+        !is_lent(of[0], "data", &from))
+        return NULL;
+    PyObject *out = answered(module, normalise_into, &how, &from, 0);
+    give_back(&from);
+    return out;
+}
+
+static PyObject *shown(PyObject *module, const signature *called, options how, PyObject *const *given, Py_ssize_t count,
+                       PyObject *keywords)
+{
+    PyObject *of[MOST_ARGUMENTS];
+    input from;
+    if (!are_bound(called, given, count, keywords, of) || !is_kind(module, of[1], "source", &how.from) ||
+        !is_depth(of[2], &how.depth) || !is_lent(of[0], "data", &from))
+        return NULL;
+    PyObject *out = answered(module, show_into, &how, &from, how.to == CBORN_NOTATION);
+    give_back(&from);
+    return out;
+}
+
+DOCUMENTED(show, "($module, data, source=Kind.WIRE, depth=128)",
+           "Return the items in `data` as they are encoded, in diagnostic notation.\n\n"
+           "Raises what `normalise` raises, but accepts validity errors other than a text string that isn't UTF-8.");
+static const signature of_show = {"show", 1, 3, {"data", "source", "depth"}};
+
+static PyObject *show(PyObject *module, PyObject *const *given, Py_ssize_t count, PyObject *keywords)
+{
+    options how = usual;
+    how.to = CBORN_NOTATION;
+    return shown(module, &of_show, how, given, count, keywords);
+}
+
+DOCUMENTED(spell, "($module, data, source=Kind.NOTATION, depth=128)",
+           "Return the bytes that the notation in `data` stands for: the inverse of `show`.\n\n"
+           "Raises what `normalise` raises, but accepts validity errors.");
+static const signature of_spell = {"spell", 1, 3, {"data", "source", "depth"}};
+
+static PyObject *spell(PyObject *module, PyObject *const *given, Py_ssize_t count, PyObject *keywords)
+{
+    options how = usual;
+    how.from = CBORN_NOTATION;
+    return shown(module, &of_spell, how, given, count, keywords);
+}
+
+/* Whether a check was made: its number is CBORN_OK or that of a defect. */
+static int is_checked(PyObject *module, const signature *called, PyObject *const *given, Py_ssize_t count,
+                      PyObject *keywords, uint32_t *code, uint64_t *place)
+{
+    PyObject *of[MOST_ARGUMENTS];
+    options how = usual;
+    input from;
+    if (!are_bound(called, given, count, keywords, of) || !is_order(module, of[1], &how.order) ||
+        !is_depth(of[2], &how.depth) || !is_lent(of[0], "data", &from))
+        return 0;
+    if (from.length < MUCH) {
+        *code = cborn_check(how.order, how.depth, from.bytes, from.length, place);
+    } else {
+        Py_BEGIN_ALLOW_THREADS
+        *code = cborn_check(how.order, how.depth, from.bytes, from.length, place);
+        Py_END_ALLOW_THREADS
+    }
+    give_back(&from);
+    if (*code == CBORN_OK || *code >> 8 == CBORN_DEFECT_LONG_HEAD >> 8)
+        return 1;
+    raised(module, *code, *place);
+    return 0;
+}
+
+DOCUMENTED(check, "($module, data, order=Order.BYTEWISE, depth=128)",
+           "Return None if `data` is deterministic, else its first defect. Raises what `normalise` raises.\n\n"
+           "None means that `normalise` would return the same bytes. The contents of byte strings aren't checked.\n"
+           "`is_deterministic` says only whether.");
+static const signature of_check = {"check", 1, 3, {"data", "order", "depth"}};
+
+static PyObject *check(PyObject *module, PyObject *const *given, Py_ssize_t count, PyObject *keywords)
+{
+    classes *known = PyModule_GetState(module);
+    uint32_t code;
+    uint64_t place = 0;
+    if (!is_checked(module, &of_check, given, count, keywords, &code, &place))
+        return NULL;
+    if (code == CBORN_OK)
+        Py_RETURN_NONE;
+    return made_of(known->defect, code, place);
+}
+
+DOCUMENTED(is_deterministic, "($module, data, order=Order.BYTEWISE, depth=128)",
+           "Return whether `data` is deterministic: whether `normalise` would return the same bytes.\n\n"
+           "Raises what `normalise` raises: input that is refused is neither.");
+static const signature of_is_deterministic = {"is_deterministic", 1, 3, {"data", "order", "depth"}};
+
+static PyObject *is_deterministic(PyObject *module, PyObject *const *given, Py_ssize_t count, PyObject *keywords)
+{
+    uint32_t code;
+    uint64_t place = 0;
+    if (!is_checked(module, &of_is_deterministic, given, count, keywords, &code, &place))
+        return NULL;
+    return PyBool_FromLong(code == CBORN_OK);
+}
+
+/* A call over two inputs: cborn_compare or cborn_same. */
+typedef uint32_t comparer(uint32_t from_a, uint32_t from_b, uint64_t depth, const uint8_t *first, size_t first_len,
+                          const uint8_t *second, size_t second_len, uint64_t *place);
+
+/* The formats of the first and the second input are `from` and `to` of the options. */
+static uint32_t compared(comparer *call, const options *how, const input *a, const input *b, uint64_t *place)
+{
+    if (a->length < MUCH && b->length < MUCH)
+        return call(how->from, how->to, how->depth, a->bytes, a->length, b->bytes, b->length, place);
+    uint32_t code;
+    Py_BEGIN_ALLOW_THREADS
+    code = call(how->from, how->to, how->depth, a->bytes, a->length, b->bytes, b->length, place);
+    Py_END_ALLOW_THREADS
+    return code;
+}
+
+/* Whether two inputs were compared: the number is CBORN_OK or CBORN_DIFFERENT. */
+static int are_compared(PyObject *module, const signature *called, comparer *call, PyObject *const *given, Py_ssize_t count,
+                        PyObject *keywords, uint32_t *code, uint64_t *place)
+{
+    PyObject *of[MOST_ARGUMENTS];
+    options how = usual;
+    input a, b;
+    if (!are_bound(called, given, count, keywords, of) || !is_kind(module, of[2], "source_a", &how.from) ||
+        !is_kind(module, of[3], "source_b", &how.to) || !is_depth(of[4], &how.depth) || !is_lent(of[0], "first", &a))
+        return 0;
+    if (!is_lent(of[1], "second", &b)) {
+        give_back(&a);
+        return 0;
+    }
+    *code = compared(call, &how, &a, &b, place);
+    give_back(&b);
+    give_back(&a);
+    if (*code == CBORN_OK || *code == CBORN_DIFFERENT)
+        return 1;
+    raised(module, *code, *place);
+    return 0;
+}
+
+DOCUMENTED(compare, "($module, first, second, source_a=Kind.WIRE, source_b=Kind.WIRE, depth=128)",
+           "Return None if both hold the same items, else the index, from 0, of the first item that differs.\n\n"
+           "So an answer that is false doesn't mean that they differ: `same` says whether they do. Raises what `normalise`\n"
+           "raises; the `input` of a CbornError says which of them is refused.");
+static const signature of_compare = {"compare", 2, 5, {"first", "second", "source_a", "source_b", "depth"}};
+
+static PyObject *compare(PyObject *module, PyObject *const *given, Py_ssize_t count, PyObject *keywords)
+{
+    uint32_t code;
+    uint64_t place = 0;
+    if (!are_compared(module, &of_compare, cborn_compare, given, count, keywords, &code, &place))
+        return NULL;
+    if (code == CBORN_OK)
+        Py_RETURN_NONE;
+    return PyLong_FromUnsignedLongLong(place);
+}
+
+DOCUMENTED(same, "($module, first, second, source_a=Kind.WIRE, source_b=Kind.WIRE, depth=128)",
+           "Return whether both hold the same items: whether their canonical forms are equal.\n\n"
+           "Raises what `compare` raises.");
+static const signature of_same = {"same", 2, 5, {"first", "second", "source_a", "source_b", "depth"}};
+
+static PyObject *same(PyObject *module, PyObject *const *given, Py_ssize_t count, PyObject *keywords)
+{
+    uint32_t code;
+    uint64_t place = 0;
+    if (!are_compared(module, &of_same, cborn_same, given, count, keywords, &code, &place))
+        return NULL;
+    return PyBool_FromLong(code == CBORN_OK);
+}
+
+/* words(number) -> str */
+static PyObject *words(PyObject *module, PyObject *value)
+{
+    char out[CBORN_MOST_WORDS];
+    unsigned long number = PyLong_AsUnsignedLong(value);
+    (void)module;
+    if (PyErr_Occurred())
+        return NULL;
+    if (number > UINT32_MAX || cborn_words((uint32_t)number, out, sizeof out) != CBORN_OK)
+        return PyErr_Format(PyExc_ValueError, "no fault and no defect has the number %R", value);
+    return PyUnicode_FromString(out);
+}
+
+/* version() -> int */
+static PyObject *version(PyObject *module, PyObject *nothing)
+{
+    (void)module, (void)nothing;
+    return PyLong_FromUnsignedLong(cborn_version());
+}
+
+/* begin(Kind, Order, fault, defect): the classes, whose names the signatures cite, and what makes an exception and a Defect */
+static PyObject *begin(PyObject *module, PyObject *given)
+{
+    classes *known = PyModule_GetState(module);
+    PyObject *kind, *order, *fault, *defect;
+    if (!PyArg_ParseTuple(given, "OOOO", &kind, &order, &fault, &defect) ||
+        PyObject_SetAttrString(module, "Kind", kind) != 0 || PyObject_SetAttrString(module, "Order", order) != 0)
+        return NULL;
+    classes old = *known;
+    Py_INCREF(kind), Py_INCREF(order), Py_INCREF(fault), Py_INCREF(defect);
+    *known = (classes){kind, order, fault, defect};
+    Py_XDECREF(old.kind), Py_XDECREF(old.order), Py_XDECREF(old.fault), Py_XDECREF(old.defect);
+    Py_RETURN_NONE;
+}
+
+#define PUBLIC(name) {#name, (PyCFunction)(void (*)(void))name, METH_FASTCALL | METH_KEYWORDS, name##_doc}
+static PyMethodDef methods[] = {
+    PUBLIC(normalise), PUBLIC(show), PUBLIC(spell), PUBLIC(check), PUBLIC(is_deterministic), PUBLIC(compare), PUBLIC(same),
+    {"begin", begin, METH_VARARGS, NULL},
+    {"words", words, METH_O, NULL},
+    {"version", version, METH_NOARGS, NULL},
+    {NULL, NULL, 0, NULL},
+};
+
+static int visited(PyObject *module, visitproc visit, void *arg)
+{
+    classes *known = PyModule_GetState(module);
+    if (known == NULL)
+        return 0;
+    Py_VISIT(known->kind);
+    Py_VISIT(known->order);
+    Py_VISIT(known->fault);
+    Py_VISIT(known->defect);
+    return 0;
+}
+
+static int cleared(PyObject *module)
+{
+    classes *known = PyModule_GetState(module);
+    if (known == NULL)
+        return 0;
+    Py_CLEAR(known->kind);
+    Py_CLEAR(known->order);
+    Py_CLEAR(known->fault);
+    Py_CLEAR(known->defect);
+    return 0;
+}
+
+static void freed(void *module)
+{
+    cleared(module);
+}
+
+static PyModuleDef_Slot slots[] = {{0, NULL}};
+
+static struct PyModuleDef definition = {
+    PyModuleDef_HEAD_INIT, "cborn._cborn", NULL, sizeof(classes), methods, slots, visited, cleared, freed,
+};
+
+PyMODINIT_FUNC PyInit__cborn(void)
+{
+    return PyModuleDef_Init(&definition);
+}
