@@ -11,16 +11,17 @@ STACK ?= 256
 # The size in MB of the inputs whose cost in memory is tested.
 COST ?= 8
 
-.PHONY: help try build test check-quick layout tables vectors growths failures counts cost left-out believed stack big library-growths bench install clean
+.PHONY: help try build test check-quick layout tables vectors explanations growths failures counts cost left-out believed stack big library-growths bench install clean
 
 help:
 	@echo 'make try        run the program from its source, before any proof: ARGS="check FILE", or seven bytes as an example'
 	@echo 'make build      prove every crate and build the program, $(PROGRAM)'
-	@echo 'make test       the merge gate from nothing, then make tables, believed, stack, vectors, growths, failures, counts, cost, library-tests and dist-tests, and which of it was left out'
+	@echo 'make test       the merge gate from nothing, then make tables, believed, stack, vectors, explanations, growths, failures, counts, cost, library-tests and dist-tests, and which of it was left out'
 	@echo 'make check-quick   while you change something: proves what changed, then make layout, tables and believed'
 	@echo 'make layout     whether each file of the crates is in the layout of rt fmt'
 	@echo 'make tables     the built program on the tables of tests/, and the examples of the documents'
 	@echo 'make vectors    the built program on each front of each worked input'
+	@echo 'make explanations   the built program on random and mutated inputs with --explain: the paths that it tells are followed'
 	@echo 'make growths    the built program on those tables, each growth refused in turn'
 	@echo 'make failures   the built program on those tables, with trouble at each opening, read and write in turn'
 	@echo 'make counts     how often and for how much the built program asks for memory on inputs of 1 MB: no more than its bounds'
@@ -59,7 +60,7 @@ build: kit
 test:
 	rt ci
 	python3 tests/built.py
-	$(MAKE) tables believed stack vectors growths failures counts cost library-tests dist-tests
+	$(MAKE) tables believed stack vectors explanations growths failures counts cost library-tests dist-tests
 	$(MAKE) --no-print-directory left-out
 
 # over what out/ keeps; it tries no must-fail edit, and runs no tests
@@ -91,6 +92,9 @@ left-out:
 
 vectors: build
 	python3 tests/vectors.py $(PROGRAM)
+
+explanations: build
+	python3 tests/explain.py $(PROGRAM)
 
 believed:
 	python3 tests/believed.py

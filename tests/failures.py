@@ -56,13 +56,13 @@ def is_copied(words):
 
 
 def files_of(words):
-    """The files that a command line names, in their order: each option is one word with its value, or two."""
+    """The files that a command line names, in their order: each option but --explain is one word with its value, or two."""
     rest, names = iter(words[1:]), []
     for word in rest:
         if word == "--":
             return names + list(rest)
         if word.startswith("--"):
-            if "=" not in word:
+            if "=" not in word and word != "--explain":
                 next(rest, None)
         else:
             names.append(word)

@@ -9,7 +9,8 @@
                                     the same of a crate of passes
 
 A command line has to answer as it does with ample memory, or to answer want of memory: status 4, nothing on
-standard output, and one line on standard error. Where the growth was the path of a file that was to be opened, the line
+standard output, and one line on standard error. An explanation may end with a line that tells want of memory, behind
+the first line as ever. Where the growth was the path of a file that was to be opened, the line
 is that this file can't be read. A test has to pass with ample memory; with a growth refused it
 has to pass too, or to fail by want of memory: by the error that a call answered, and not by an answer that differs.
 A pass over bytes or a text answers nothing in place of that error, so a test of passes may also stop where an answer
@@ -61,6 +62,15 @@ def wants_of_memory(words, refused):
         yield Outcome(b"", os.fsencode(f"cborn: {which}cannot read {files[refused.opened]}\n"), 4)
 
 
+def shorter_explanations(words, ample):
+    """What a run answers that has no memory to explain its answer to the end."""
+    if "--explain" in words:
+        lines = ample.stderr.splitlines(keepends=True)
+        first = sum(not line.startswith(b"  ") for line in lines)
+        for kept in range(first, len(lines) + 1):
+            yield ample._replace(stderr=b"".join(lines[:kept]) + b"  out of memory\n")
+
+
 def command_lines(library, program, tables, *which):
     """Each command line of a share: its name, what came of its runs, and which outcomes it may have."""
     for table, case in shared.share(cases(tables), *which):
@@ -68,7 +78,8 @@ def command_lines(library, program, tables, *which):
         outcomes = refused_in_turn(library, lambda **how: case.run(program, **how))
 
         def is_allowed(refused, ample=ample, words=case.words):
-            return refused.outcome in (ample, *wants_of_memory(words, refused))
+            wants = (*wants_of_memory(words, refused), *shorter_explanations(words, ample))
+            return refused.outcome in (ample, *wants)
 
         yield f"{table}: {case.name}", list(outcomes), is_allowed
 

@@ -2,14 +2,16 @@
 
 use cborn_edn::{EdnFault, ShowFault};
 use cborn_engine::{EngineFault, Kind, normalise_slice};
-use cborn_explain::{BytesReason, TextReason, explain_bytes, explain_difference, explain_text};
+use cborn_explain::{
+    BytesReason, TextReason, explain_bytes, explain_difference, explain_text, hint_of,
+};
 use cborn_judge::{Defect, Invalid, InvalidReason};
 use cborn_lex::{LexFault, Profile};
 use cborn_model::{KeyOrder, Limit};
 use cborn_wire::WireFault;
 use std::alloc::{AllocError, Global};
 
-/// Puts into `lines` why an input is refused, of which this was read. Nothing, where the fault isn't
+/// Adds to `lines` why an input is refused, of which this was read. Nothing, where the fault isn't
 /// of its content.
 pub fn explain_fault(
     alloc: Global,
@@ -24,7 +26,7 @@ pub fn explain_fault(
     }
 }
 
-/// Puts into `lines` why an input isn't deterministic.
+/// Adds to `lines` why an input isn't deterministic.
 pub fn explain_defect(
     alloc: Global,
     limit: Limit,
@@ -36,7 +38,7 @@ pub fn explain_defect(
     put(explanation(alloc, limit, input, reason), lines);
 }
 
-/// Puts into `lines` where two inputs differ.
+/// Adds to `lines` where two inputs differ.
 pub fn explain_index<O: KeyOrder>(
     alloc: Global,
     limit: Limit,
@@ -45,6 +47,23 @@ pub fn explain_index<O: KeyOrder>(
     lines: &mut String,
 ) {
     put(difference::<O>(alloc, limit, kinds, inputs), lines);
+}
+
+/// Adds to `lines` what an input looks like that was read as bytes, where it looks like a text.
+pub fn explain_kind(alloc: Global, kind: Kind, input: Option<&[u8]>, lines: &mut String) {
+    if kind == Kind::Wire {
+        put(hint(alloc, input), lines);
+    }
+}
+
+fn hint(alloc: Global, input: Option<&[u8]>) -> Result<String, AllocError> {
+    let Some(input) = input else {
+        return Err(AllocError);
+    };
+    match hint_of(input) {
+        Some(hint) => format!(in alloc; "  hint  {hint}\n"),
+        None => Ok(String::new(alloc)),
+    }
 }
 
 /// What an input is refused for, and where.
@@ -123,12 +142,13 @@ fn difference<O: KeyOrder>(
     }
 }
 
-/// Puts an explanation into `lines`, or that there is no memory for one.
+/// Adds an explanation to `lines`, or that there is no memory for it.
 fn put(explanation: Result<String, AllocError>, lines: &mut String) {
-    match explanation {
-        Ok(text) => *lines = text,
-        Err(_) => {
-            let _ = lines.push_str("  out of memory\n");
-        }
+    let is_put = match explanation {
+        Ok(text) => lines.push_str(text.as_str()).is_ok(),
+        Err(_) => false,
+    };
+    if !is_put {
+        let _ = lines.push_str("  out of memory\n");
     }
 }

@@ -173,4 +173,5 @@ The maximum nesting depth of arrays, maps and tags, 1 to
 1024; in notation <<..>> and integers beyond 64 bits
 count too";
 
-pub const EXPLAIN: &str = "Say on standard error where in the input, and why,\nbehind a refusal, a defect or a difference";
+pub const EXPLAIN: &str =
+    "Say on standard error where in the input, and why,\nbehind a refusal, a defect or a difference";

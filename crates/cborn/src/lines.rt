@@ -82,14 +82,32 @@ pub fn print<W: Write + Drop, T: Display>(out: W, text: &T, end: &str) -> io::Re
 
 /// Prints a trouble on a line, and gives its status. That the line can't be printed is ignored.
 pub fn tell_trouble<E: Write>(err: &mut E, trouble: Trouble<'_>) -> u8 {
-    let _ = match trouble {
+    explain_trouble(err, trouble, "")
+}
+
+/// The same, with further lines behind that line.
+pub fn explain_trouble<E: Write>(err: &mut E, trouble: Trouble<'_>, lines: &str) -> u8 {
+    if print_trouble(err, trouble).is_ok() {
+        print_lines(err, lines);
+    }
+    status_of_trouble(trouble)
+}
+
+/// Prints lines, if there are any. That they can't be printed is ignored.
+pub fn print_lines<E: Write>(err: &mut E, lines: &str) {
+    if !lines.is_empty() {
+        let _ = write!(err, "{lines}");
+    }
+}
+
+fn print_trouble<E: Write>(err: &mut E, trouble: Trouble<'_>) -> io::Result<()> {
+    match trouble {
         Trouble::CannotRead(name) => writeln!(err, "cborn: cannot read {name}"),
         Trouble::CannotReadFirst(name) => writeln!(err, "cborn: first: cannot read {name}"),
         Trouble::CannotReadSecond(name) => writeln!(err, "cborn: second: cannot read {name}"),
         Trouble::Engine(fault) => writeln!(err, "cborn: {fault}"),
         Trouble::Compare(fault) => writeln!(err, "cborn: {fault}"),
-    };
-    status_of_trouble(trouble)
+    }
 }
 
 fn status_of_trouble(trouble: Trouble<'_>) -> u8 {

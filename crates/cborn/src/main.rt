@@ -14,7 +14,7 @@ mod tests;
 use cborn_engine::EngineFault;
 use clap::Error;
 use clap::error::ErrorKind;
-use lines::{Trouble, print, tell_trouble};
+use lines::{Trouble, explain_trouble, print, print_lines, tell_trouble};
 use options::read_task;
 use statuses::{DONE, FAILED, USAGE};
 use std::alloc::Global;
@@ -44,14 +44,13 @@ pub fn run<F: Files, I: Read + Drop, W: Write + Drop, E: Write + Drop>(
         }
     };
     let mut lines = String::new(alloc);
-    let status = match perform(rt, alloc, &task, input, out, &mut lines) {
-        Ok(status) => status,
-        Err(trouble) => tell_trouble(&mut err, trouble),
-    };
-    if !lines.is_empty() {
-        let _ = write!(err, "{lines}");
+    match perform(rt, alloc, &task, input, out, &mut lines) {
+        Ok(status) => {
+            print_lines(&mut err, lines.as_str());
+            status
+        }
+        Err(trouble) => explain_trouble(&mut err, trouble, lines.as_str()),
     }
-    status
 }
 
 /// Prints why there is no task: a text on the command line, or what the program says of itself.

@@ -1,6 +1,6 @@
 //! The program's commands.
 
-use crate::explanations::{explain_defect, explain_fault, explain_index};
+use crate::explanations::{explain_defect, explain_fault, explain_index, explain_kind};
 use crate::inputs::{Kept, LateFile};
 use crate::lines::{Answer, Trouble, tell_answer};
 use crate::options::{Action, Order, Purpose, Task};
@@ -71,10 +71,18 @@ fn act<'a, O: KeyOrder, F: Files, I: Read + Drop, W: Write + Drop>(
             second,
             from_a,
             from_b,
-        } => match compare_files::<O, F>(rt, alloc, limit, from_a, first, from_b, second)? {
-            None => tell_answer(out, Answer::Same),
-            Some(index) => tell_answer(out, Answer::DifferentAt(index)),
-        },
+        } => {
+            let answer = compare_files::<O, F>(rt, alloc, limit, from_a, first, from_b, second)?;
+            tell_answer(out, difference(answer))
+        }
+    }
+}
+
+/// What is told of two inputs.
+fn difference(index: Option<u64>) -> Answer {
+    match index {
+        None => Answer::Same,
+        Some(index) => Answer::DifferentAt(index),
     }
 }
 
@@ -176,10 +184,7 @@ fn act_explained<'a, O: KeyOrder, F: Files, I: Read + Drop, W: Write + Drop>(
         } => {
             let files = (first, second);
             let kinds = (from_a, from_b);
-            match compare_explained::<O, F>(rt, alloc, limit, files, kinds, lines)? {
-                None => tell_answer(out, Answer::Same),
-                Some(index) => tell_answer(out, Answer::DifferentAt(index)),
-            }
+            compare_explained::<O, F, W>(rt, alloc, limit, files, kinds, out, lines)
         }
     }
 }
@@ -195,12 +200,19 @@ fn read_explained<'a, O: KeyOrder, I: Read + Drop, W: Write + Drop>(
 ) -> Result<u8, Trouble<'a>> {
     let mut reader = Kept::new(alloc, Counted::new(input));
     match answer_for::<O, _, W>(alloc, limit, purpose, &mut reader, out) {
-        Ok(None) => Ok(DONE),
+        Ok(None) => {
+            explain_kind(alloc, purpose.from(), reader.bytes(), lines);
+            Ok(DONE)
+        }
         Ok(Some((answer, out))) => {
-            if let Answer::Defective(defect) = answer {
-                explain_defect(alloc, limit, reader.bytes(), defect, lines);
+            let status = tell_answer(out, answer)?;
+            match answer {
+                Answer::Defective(defect) => {
+                    explain_defect(alloc, limit, reader.bytes(), defect, lines);
+                }
+                _ => explain_kind(alloc, purpose.from(), reader.bytes(), lines),
             }
-            tell_answer(out, answer)
+            Ok(status)
         }
         Err(trouble) => {
             if let Trouble::Engine(fault) = trouble {
@@ -212,14 +224,15 @@ fn read_explained<'a, O: KeyOrder, I: Read + Drop, W: Write + Drop>(
 }
 
 /// The same as `compare_files`, explained.
-fn compare_explained<'a, O: KeyOrder, F: Files>(
+fn compare_explained<'a, O: KeyOrder, F: Files, W: Write + Drop>(
     rt: &F,
     alloc: Global,
     limit: Limit,
     files: (&'a str, &'a str),
     kinds: (Kind, Kind),
+    out: W,
     lines: &mut String,
-) -> Result<Option<u64>, Trouble<'a>> {
+) -> Result<u8, Trouble<'a>> {
     let file = match fs::open(rt, files.0) {
         Ok(file) => file,
         Err(_) => return Err(Trouble::CannotReadFirst(files.0)),
@@ -227,10 +240,14 @@ fn compare_explained<'a, O: KeyOrder, F: Files>(
     let mut reader = Kept::new(alloc, Counted::new(file));
     let mut late = Kept::new(alloc, LateFile::new(rt, files.1));
     match compare::<O, _, _>(alloc, limit, kinds.0, &mut reader, kinds.1, &mut late) {
-        Ok(None) => Ok(None),
-        Ok(Some(index)) => {
-            explain_index::<O>(alloc, limit, kinds, (reader.bytes(), late.bytes()), lines);
-            Ok(Some(index))
+        Ok(answer) => {
+            let status = tell_answer(out, difference(answer))?;
+            if answer.is_some() {
+                explain_index::<O>(alloc, limit, kinds, (reader.bytes(), late.bytes()), lines);
+            }
+            explain_kind(alloc, kinds.0, reader.bytes(), lines);
+            explain_kind(alloc, kinds.1, late.bytes(), lines);
+            Ok(status)
         }
         Err(CompareFault::Second(_)) if late.inner.is_missing() => {
             Err(Trouble::CannotReadSecond(files.1))

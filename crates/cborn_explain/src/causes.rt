@@ -2,15 +2,15 @@
 
 ghost use Rattle.std.specs.Prelude.{◌≤◌, length, IfOk};
 
+use crate::items::valid_at;
 use crate::notes::slice_of;
-use crate::quotes::{push_hex, push_item};
+use crate::quotes::{push_hex, push_item, valid_front};
 use crate::reasons::BytesReason;
 use crate::walks::{Nesting, Open, Walk, content_len, item_end, whole_head};
+use cborn_det::encode;
 use cborn_judge::{DefectReason, InvalidReason};
-use cborn_model::{Bytewise, Limit, Major, shortest};
-use cborn_transcode::transcode_item;
+use cborn_model::{Bytewise, Limit, Major, same, shortest};
 use cborn_wire::{Argument, Head, HeadRead, WireReason, head_bytes, read_head};
-use simdutf8::compat::from_utf8;
 use std::alloc::{AllocError, Global};
 
 /// How many bytes of an encoding are written.
@@ -48,11 +48,17 @@ fn push_malformed(
     let information = first % 32;
     match reason {
         WireReason::ReservedInfo => {
-            write!(out, "the low five bits of the initial byte {first:02x} are {information}, and no head has 28, 29 or 30 there")?;
+            write!(
+                out,
+                "the low five bits of the initial byte {first:02x} are {information}, and no head has 28, 29 or 30 there"
+            )?;
         }
         WireReason::EndlessNotAllowed => {
             let kind = kind_of(Major::of_initial_byte(first));
-            write!(out, "the initial byte {first:02x} gives {kind} an indefinite length, which only strings, arrays and maps have")?;
+            write!(
+                out,
+                "the initial byte {first:02x} gives {kind} an indefinite length, which only strings, arrays and maps have"
+            )?;
         }
         WireReason::BadChunk => return push_bad_chunk(out, walk),
         WireReason::UnexpectedBreak => return push_bad_break(out, walk),
@@ -62,11 +68,21 @@ fn push_malformed(
                 26 => "32",
                 _ => "64",
             };
-            write!(out, "a float of {bits} bits begins here, and floats are left out")?;
+            write!(
+                out,
+                "a float of {bits} bits begins here, and floats are left out"
+            )?;
         }
         WireReason::BadSimple => {
-            let second = bytes.get(walk.at..).and_then(|rest| rest.get(1)).copied().unwrap_or(0);
-            write!(out, "behind f8 stands {second:02x}, the simple value {second}: below 32 none has two bytes")?;
+            let second = bytes
+                .get(walk.at..)
+                .and_then(|rest| rest.get(1))
+                .copied()
+                .unwrap_or(0);
+            write!(
+                out,
+                "behind f8 stands {second:02x}, the simple value {second}: below 32 none has two bytes"
+            )?;
         }
         WireReason::TooDeep => return push_too_deep(limit, out),
         WireReason::Truncated => return push_truncated(out, bytes, walk),
@@ -77,11 +93,15 @@ fn push_malformed(
 /// Why a nesting is too deep.
 pub(crate) fn push_too_deep(limit: Limit, out: &mut String) -> Result<(), AllocError> {
     let most = limit.get();
-    if most < 1024 {
-        write!(out, "{most} arrays, maps and tags are open around this one, as many as the limit allows: --depth N lifts it, up to 1024")
+    write!(
+        out,
+        "the nesting limit is {most}, and this stands in as many arrays, maps and tags: "
+    )?;
+    out.push_str(if most < 1024 {
+        "--depth N lifts it, up to 1024"
     } else {
-        write!(out, "1024 arrays, maps and tags are open around this one, and the limit can't be lifted further")
-    }
+        "no limit is greater"
+    })
 }
 
 fn push_bad_chunk(out: &mut String, walk: &Walk) -> Result<(), AllocError> {
@@ -89,7 +109,10 @@ fn push_bad_chunk(out: &mut String, walk: &Walk) -> Result<(), AllocError> {
         Some(open) => open.place,
         None => 0,
     };
-    write!(out, "an indefinite-length string is open since offset {place}: only definite-length strings of its kind may stand here, or the break ff")
+    write!(
+        out,
+        "an indefinite-length string is open since offset {place}: only definite-length strings of its kind may stand here, or the break ff"
+    )
 }
 
 fn push_bad_break(out: &mut String, walk: &Walk) -> Result<(), AllocError> {
@@ -106,26 +129,46 @@ fn push_missing(out: &mut String, open: &Open) -> Result<(), AllocError> {
     let parts = open.parts;
     match (open.nesting, open.announced) {
         (Nesting::Array, Some(count)) => {
-            write!(out, "the array at offset {place} announces {count} elements and has {parts}")
+            let elements = counted(count, "element", "elements");
+            write!(
+                out,
+                "the array at offset {place} announces {count} {elements} and has {parts}"
+            )
         }
         (Nesting::Map, _) if parts % 2 == 1 => {
-            write!(out, "the map at offset {place} lacks the value of its last key")
+            write!(
+                out,
+                "the map at offset {place} lacks the value of its last key"
+            )
         }
         (Nesting::Map, Some(count)) => {
-            let pairs = parts / 2;
-            write!(out, "the map at offset {place} announces {count} pairs and has {pairs}")
+            let whole = parts / 2;
+            let pairs = counted(count, "pair", "pairs");
+            write!(
+                out,
+                "the map at offset {place} announces {count} {pairs} and has {whole}"
+            )
         }
         (Nesting::Tag(number), _) => {
             write!(out, "the tag {number} at offset {place} lacks its content")
         }
         (Nesting::Array, None) => {
-            write!(out, "the indefinite-length array at offset {place} isn't ended by a break")
+            write!(
+                out,
+                "the indefinite-length array at offset {place} isn't ended by a break"
+            )
         }
         (Nesting::Map, None) => {
-            write!(out, "the indefinite-length map at offset {place} isn't ended by a break")
+            write!(
+                out,
+                "the indefinite-length map at offset {place} isn't ended by a break"
+            )
         }
         (Nesting::Chunks, _) => {
-            write!(out, "the indefinite-length string at offset {place} isn't ended by a break")
+            write!(
+                out,
+                "the indefinite-length string at offset {place} isn't ended by a break"
+            )
         }
     }
 }
@@ -136,27 +179,44 @@ fn push_truncated(out: &mut String, bytes: &[u8], walk: &Walk) -> Result<(), All
 {
     let place = walk.at;
     let rest = &bytes[place..];
-    let left = rest.len();
-    if left > 0 {
-        if let HeadRead::Full(head, len) = read_head(rest) {
-            let content = content_len(head);
-            let kind = kind_of(head.major_type());
-            let there = left.saturating_sub(len);
-            return write!(out, "{kind} at offset {place} announces {content} bytes, and {there} are left");
-        }
-        return write!(out, "the head at offset {place} has {} bytes, and {left} are left", head_len(rest[0]));
-    }
-    match walk.open.last() {
-        Some(open) => {
-            out.push_str("the input ends, and ")?;
-            push_missing(out, open)
-        }
-        None => out.push_str("the input ends"),
-    }
+    let Some(first) = rest.first() else {
+        out.push_str("the input ends")?;
+        return match walk.open.last() {
+            Some(open) => {
+                out.push_str(", and ")?;
+                push_missing(out, open)
+            }
+            None => Ok(()),
+        };
+    };
+    let (what, announced, there) = match read_head(rest) {
+        HeadRead::Full(head, len) => (
+            kind_of(head.major_type()),
+            content_len(head),
+            rest.len().saturating_sub(len),
+        ),
+        _ => ("the head", head_len(*first), rest.len()),
+    };
+    let verb = if what == "the head" {
+        "has"
+    } else {
+        "announces"
+    };
+    let are = if there == 1 { "is" } else { "are" };
+    write!(
+        out,
+        "{what} at offset {place} {verb} {announced} {}, of which {there} {are} there",
+        counted(announced, "byte", "bytes")
+    )
+}
+
+/// The word for a number of things.
+fn counted<'a>(count: u64, one: &'a str, more: &'a str) -> &'a str {
+    if count == 1 { one } else { more }
 }
 
 /// How many bytes a head has by its initial byte.
-fn head_len(first: u8) -> u8 {
+fn head_len(first: u8) -> u64 {
     match first % 32 {
         24 => 2,
         25 => 3,
@@ -202,18 +262,18 @@ fn push_not_utf8(out: &mut String, bytes: &[u8], place: usize) -> Result<(), All
     requires { place ≤ length bytes.now }
 {
     let rest = &bytes[place..];
-    if let Some((head, len)) = whole_head(rest) {
-        let content = content_len(head) as usize;
-        let start = len.saturating_sub(content);
-        let string = slice_of(rest, start, len);
-        if let Err(why) = from_utf8(string) {
-            let at = why.valid_up_to();
-            let offset = place.saturating_add(start).saturating_add(at);
-            let byte = string.get(at).copied().unwrap_or(0);
-            return write!(out, "a text string is UTF-8, and the byte {byte:02x} at offset {offset}, {at} bytes into this one, begins no character or is cut off");
-        }
-    }
-    out.push_str("a text string is UTF-8, and this one isn't")
+    let (start, len) = match whole_head(rest) {
+        Some((head, len)) => (len.saturating_sub(content_len(head) as usize), len),
+        None => (0, 0),
+    };
+    let string = slice_of(rest, start, len);
+    let at = valid_front(string).len();
+    let offset = place.saturating_add(start).saturating_add(at);
+    let byte = string.get(at).copied().unwrap_or(0);
+    write!(
+        out,
+        "a text string is UTF-8, and the byte {byte:02x} at offset {offset} begins no character or is cut off"
+    )
 }
 
 fn push_bad_bignum(out: &mut String, bytes: &[u8], place: usize) -> Result<(), AllocError>
@@ -228,7 +288,10 @@ fn push_bad_bignum(out: &mut String, bytes: &[u8], place: usize) -> Result<(), A
         Some(first) => kind_of(Major::of_initial_byte(*first)),
         None => "nothing",
     };
-    write!(out, "tag {number} makes an integer of a byte string, and here it stands over {kind}")
+    write!(
+        out,
+        "tag {number} makes an integer of a byte string, and here it stands over {kind}"
+    )
 }
 
 fn argument_of(head: Head) -> u64 {
@@ -275,11 +338,9 @@ fn earlier_key(
 ) -> Result<Option<usize>, AllocError>
     requires { later ≤ length bytes.now }
 {
-    let mut wanted = Vec::new(alloc);
-    if transcode_item::<Bytewise>(alloc, limit, &bytes[later..], &mut wanted).is_none() {
+    let Some(wanted) = valid_at(alloc, limit, bytes, later)? else {
         return Ok(None);
-    }
-    let mut key = Vec::new(alloc);
+    };
     let mut at = match whole_head(bytes.get(place..).unwrap_or(&[])) {
         Some((_, len)) => place.saturating_add(len),
         None => return Ok(None),
@@ -288,12 +349,10 @@ fn earlier_key(
         if at >= later {
             break;
         }
-        key.clear();
-        let rest = bytes.get(at..).unwrap_or(&[]);
-        if transcode_item::<Bytewise>(alloc, limit, rest, &mut key).is_some()
-            && key.as_slice() == wanted.as_slice()
-        {
-            return Ok(Some(at));
+        if let Some(key) = valid_at(alloc, limit, bytes, at)? {
+            if same(&key, &wanted) {
+                return Ok(Some(at));
+            }
         }
         at = behind(alloc, bytes, at)?;
         at = behind(alloc, bytes, at)?;
@@ -326,7 +385,10 @@ fn push_defect(
         DefectReason::EndlessLength => {
             let first = rest.first().copied().unwrap_or(0);
             let kind = kind_of(Major::of_initial_byte(first));
-            write!(out, "{kind} has an indefinite length, and the deterministic encoding tells each length in the head")
+            write!(
+                out,
+                "{kind} has an indefinite length, and the deterministic encoding tells each length in the head"
+            )
         }
         DefectReason::LooseBignum => push_loose(alloc, limit, out, rest),
         DefectReason::KeyOrder => push_order(alloc, limit, out, bytes, walk),
@@ -366,11 +428,10 @@ fn push_loose(
     out: &mut String,
     rest: &[u8],
 ) -> Result<(), AllocError> {
-    let mut shortest = Vec::new(alloc);
     out.push_str("a bignum is for integers beyond 64 bits, and its bytes begin with no 00")?;
-    if transcode_item::<Bytewise>(alloc, limit, rest, &mut shortest).is_some() {
+    if let Some(valid) = valid_at(alloc, limit, rest, 0)? {
         out.push_str(": the shortest encoding is ")?;
-        push_hex(out, &shortest, ENCODING)?;
+        push_hex(out, &encode::<Bytewise>(alloc, &valid)?, ENCODING)?;
     }
     Ok(())
 }

@@ -1,6 +1,7 @@
 //! Where two sequences of items differ, and what stands there.
 
-ghost use Rattle.std.specs.Prelude.{◌≤◌, length};
+ghost use Rattle.std.specs.Prelude.{◌≡◌, ◌≤◌, [], length, IfOk};
+ghost use Rattle.std.specs.String.{string_bytes};
 
 use crate::causes::behind;
 use crate::notes::{push_path, slice_of};
@@ -22,7 +23,9 @@ pub fn explain_difference<O: KeyOrder>(
     limit: Limit,
     first: &[u8],
     second: &[u8],
-) -> Result<String, AllocError> {
+) -> Result<String, AllocError>
+    ensures same { IfOk result (λ text. first.now ≡ second.now → string_bytes text ≡ []) }
+{
     let mut out = String::new(alloc);
     let common = common_len(first, second);
     if common == first.len() && common == second.len() {
@@ -35,15 +38,15 @@ pub fn explain_difference<O: KeyOrder>(
     push_path(alloc, limit, &mut out, first, &walk)?;
     let ours = part_at(alloc, first, walk.at)?;
     let theirs = part_at(alloc, second, walk.at)?;
-    let missing = if walk.is_at_key() {
-        O::compare(ours, theirs)
+    let order = if walk.is_at_key() {
+        Some(O::compare(ours, theirs))
     } else {
-        Ordering::Equal
+        None
     };
     out.push_str("\n  first  ")?;
-    push_side(alloc, limit, &mut out, ours, missing == Ordering::Less)?;
+    push_side(alloc, limit, &mut out, ours, order)?;
     out.push_str("\n  second ")?;
-    push_side(alloc, limit, &mut out, theirs, missing == Ordering::Greater)?;
+    push_side(alloc, limit, &mut out, theirs, order.map(Ordering::reverse))?;
     push_lone_key::<O>(alloc, limit, &mut out, ours, theirs)?;
     out.push('\n')?;
     Ok(out)
@@ -55,21 +58,25 @@ fn part_at(alloc: Global, bytes: &[u8], at: usize) -> Result<&[u8], AllocError> 
     Ok(slice_of(bytes, at, end))
 }
 
-/// Writes what stands on one side. `is_alone`: it is a key that the other map lacks.
+/// Writes what stands on one side. `order`: where it is a key, how it compares with the key on the
+/// other side; the lesser key is one that the other map lacks.
 fn push_side(
     alloc: Global,
     limit: Limit,
     out: &mut String,
     item: &[u8],
-    is_alone: bool,
+    order: Option<Ordering>,
 ) -> Result<(), AllocError> {
     let Some((head, _)) = whole_head(item) else {
         return out.push_str("nothing: the items end here");
     };
-    if is_alone {
+    if let Some(order) = order {
         out.push_str("the key ")?;
         push_item(alloc, limit, out, item)?;
-        return out.push_str(", which the other map lacks");
+        return match order {
+            Ordering::Less => out.push_str(", which the other map lacks"),
+            _ => Ok(()),
+        };
     }
     match (head.major_type(), head.argument) {
         (Major::Array, Argument::Given(_, count)) => {
@@ -140,6 +147,7 @@ fn behind_pair(alloc: Global, pairs: &[u8], key: usize) -> Result<&[u8], AllocEr
 fn common_len(first: &[u8], second: &[u8]) -> usize
     ensures ours { result ≤ length first.now }
     ensures theirs { result ≤ length second.now }
+    ensures same { first.now ≡ second.now → result ≡ length first.now }
 {
     let most = first.len().min(second.len());
     for i in 0..most {

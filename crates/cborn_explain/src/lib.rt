@@ -20,6 +20,7 @@
 mod causes;
 mod differences;
 mod hints;
+mod items;
 mod notes;
 mod paths;
 mod quotes;

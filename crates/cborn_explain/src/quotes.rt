@@ -1,19 +1,24 @@
 //! Pieces of an input, written so that they change nothing but the line that they stand in: long
 //! ones are cut, and control characters and those that turn the direction of a line are escaped.
 
+ghost use Rattle.std.specs.Prelude.{◌≤◌, IfOk};
+
+use crate::items::notation_at;
 use crate::walks::{content_len, whole_head};
 use cborn_model::{Limit, Major};
-use cborn_show::show_bytes;
 use simdutf8::compat::from_utf8;
 use std::alloc::{AllocError, Global};
 
 /// How many bytes are written before and behind a place.
 const BYTES_BEFORE: usize = 8;
+
 const BYTES_BEHIND: usize = 12;
 
 /// How many characters of a piece are written, and of a line before and behind a place.
 const PIECE: usize = 40;
+
 const LINE_BEFORE: usize = 40;
+
 const LINE_BEHIND: usize = 30;
 
 /// An item that is longer is written only in part, and so that no more of it is looked at.
@@ -142,9 +147,8 @@ pub(crate) fn push_item(
     item: &[u8],
 ) -> Result<(), AllocError> {
     if item.len() <= LONG_ITEM {
-        if let Some(text) = show_bytes(alloc, limit, item) {
-            let line = text.strip_suffix(b"\n").unwrap_or(&text);
-            push_text(out, line, PIECE)?;
+        if let Some(text) = notation_at(alloc, limit, item, 0)? {
+            push_text(out, text.as_str().trim_end().as_bytes(), PIECE)?;
             return Ok(());
         }
         return push_hex(out, item, PIECE / 3);

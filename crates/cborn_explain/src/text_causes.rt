@@ -42,7 +42,9 @@ impl Refused<'_> {
                 self.push_duplicate(alloc, out, walk)
             }
             TextReason::Invalid(InvalidReason::BadBignum) => {
-                out.push_str("tag 2 or 3 makes an integer of a byte string, and here it stands over another item")
+                out.push_str(
+                    "tag 2 or 3 makes an integer of a byte string, and here it stands over another item",
+                )
             }
             TextReason::Invalid(InvalidReason::NotUtf8) => {
                 out.push_str("a text string is UTF-8, and this one isn't")
@@ -52,7 +54,10 @@ impl Refused<'_> {
 
     fn push_not_utf8(&self, out: &mut String) -> Result<(), AllocError> {
         let byte = self.text.get(self.place).copied().unwrap_or(0);
-        write!(out, "a text is UTF-8, and the byte {byte:02x} here begins no character or is cut off")
+        write!(
+            out,
+            "a text is UTF-8, and the byte {byte:02x} here begins no character or is cut off"
+        )
     }
 
     /// Writes line and column of an offset.
@@ -73,6 +78,23 @@ impl Refused<'_> {
             }
             None => out.push_str("the end"),
         }
+    }
+
+    /// A quote is at fault, and with it what stands before.
+    fn is_quote(&self) -> bool {
+        self.text.get(self.spot) == Some(&b'\'')
+    }
+
+    /// Writes where the character at fault stands, between these words; without first words the
+    /// character itself.
+    fn push_at_spot(&self, out: &mut String, before: &str, behind: &str) -> Result<(), AllocError> {
+        if before.is_empty() {
+            self.push_spot(out)?;
+            out.push_str(" at ")?;
+        }
+        out.push_str(before)?;
+        self.push_place(out, self.spot)?;
+        out.push_str(behind)
     }
 
     /// The run of letters, digits, points, underscores and a sign at an offset.
@@ -98,43 +120,44 @@ impl Refused<'_> {
             LexReason::UnclosedComment => {
                 out.push_str("the comment that begins here has no slash that ends it")
             }
-            LexReason::BadEscape => {
-                self.push_spot(out)?;
-                out.push_str(" at ")?;
-                self.push_place(out, self.spot)?;
-                out.push_str(" is no escape of JSON, is half a pair of surrogates, or is a control character, which has to be escaped")
-            }
-            LexReason::BadHex => {
-                self.push_spot(out)?;
-                out.push_str(" at ")?;
-                self.push_place(out, self.spot)?;
-                if self.text.get(self.spot) == Some(&b'\'') {
-                    out.push_str(" ends the bytes behind an odd number of digits")
-                } else {
-                    out.push_str(" is no hexadecimal digit, white space or whole comment")
-                }
-            }
-            LexReason::BadBase64 => {
-                self.push_spot(out)?;
-                out.push_str(" at ")?;
-                self.push_place(out, self.spot)?;
-                if self.text.get(self.spot) == Some(&b'\'') {
-                    out.push_str(" ends the bytes behind digits or padding that fit no bytes")
-                } else {
-                    out.push_str(" is no digit of base64")
-                }
-            }
+            LexReason::BadEscape => self.push_at_spot(
+                out,
+                "",
+                " begins no escape of JSON, or is a control character, which has to be escaped",
+            ),
+            LexReason::BadHex if self.is_quote() => self.push_at_spot(
+                out,
+                "the quote at ",
+                " ends the bytes behind an odd number of digits",
+            ),
+            LexReason::BadHex => self.push_at_spot(
+                out,
+                "",
+                " is no hexadecimal digit, white space or whole comment",
+            ),
+            LexReason::BadBase64 if self.is_quote() => self.push_at_spot(
+                out,
+                "the quote at ",
+                " ends the bytes behind digits or padding that fit no bytes",
+            ),
+            LexReason::BadBase64 => self.push_at_spot(out, "", " is no digit of base64"),
             LexReason::UnknownPrefix => {
                 self.push_word(out, self.place)?;
-                out.push_str(" is no prefix of a string: h is, for hexadecimal, and b64, for base64")
+                out.push_str(
+                    " is no prefix of a string: h is, for hexadecimal, and b64, for base64",
+                )
             }
             LexReason::BadNumber => self.push_bad_number(out),
             LexReason::NumberTooLarge => {
-                out.push_str("a number has at most 128 bits: 340282366920938463463374607431768211455 is the greatest")
+                out.push_str(
+                    "a number has at most 128 bits: 340282366920938463463374607431768211455 is the greatest",
+                )
             }
             LexReason::BadIndicator => {
                 self.push_word(out, self.spot)?;
-                out.push_str(" is no encoding indicator: _, _0, _1, _2 and _3 are, and behind ( stands _ alone")
+                out.push_str(
+                    " is no encoding indicator: _, _0, _1, _2 and _3 are, and behind ( stands _ alone",
+                )
             }
             LexReason::FloatLeftOut => {
                 self.push_word(out, self.place)?;
@@ -150,7 +173,9 @@ impl Refused<'_> {
             }
             Some(byte) if byte.is_ascii_alphabetic() => {
                 self.push_word(out, self.place)?;
-                out.push_str(" is no word of the notation: false, true, null and undefined are, and simple(")
+                out.push_str(
+                    " is no word of the notation: false, true, null and undefined are, and simple(",
+                )
             }
             _ => {
                 self.push_spot(out)?;
@@ -163,10 +188,7 @@ impl Refused<'_> {
         self.push_word(out, self.place)?;
         if self.spot > self.place {
             out.push_str(" is no number: ")?;
-            self.push_spot(out)?;
-            out.push_str(" at ")?;
-            self.push_place(out, self.spot)?;
-            return out.push_str(" is no digit of it");
+            return self.push_at_spot(out, "", " is no digit of it");
         }
         out.push_str(" is no number: it lacks digits, or begins with a 0 that it doesn't need")
     }
@@ -186,16 +208,24 @@ impl Refused<'_> {
             EdnReason::UnexpectedEnd => self.push_unexpected_end(out, walk),
             EdnReason::TooDeep => push_too_deep(self.limit, out),
             EdnReason::IndicatorTooNarrow => {
-                out.push_str("the number, the length or the count doesn't fit the width that the indicator asks for: _0 has 1 byte, _1 has 2, _2 has 4 and _3 has 8")
+                out.push_str(
+                    "the number, the length or the count doesn't fit the width that the indicator asks for: _0 has 1 byte, _1 has 2, _2 has 4 and _3 has 8",
+                )
             }
             EdnReason::IndicatorNotAllowed => {
-                out.push_str("no indicator may stand here: of a string its last piece alone has one, and only [, { and an empty string have _")
+                out.push_str(
+                    "no indicator may stand here: of a string its last piece alone has one, and only [, { and an empty string have _",
+                )
             }
             EdnReason::MixedString => {
-                out.push_str("pieces behind a byte string are bytes too, and this one is a text in double quotes")
+                out.push_str(
+                    "pieces behind a byte string are bytes too, and this one is a text in double quotes",
+                )
             }
             EdnReason::MixedChunks => {
-                out.push_str("the chunks of a string are all of one kind, bytes or text, as the first is")
+                out.push_str(
+                    "the chunks of a string are all of one kind, bytes or text, as the first is",
+                )
             }
             EdnReason::TextNotUtf8 => {
                 out.push_str("a text string is UTF-8, and the joined pieces of this one aren't")
@@ -269,7 +299,14 @@ impl Refused<'_> {
         push_text(out, key, WORD)?;
         let found = match walk.open.last() {
             Some(open) => {
-                earlier_key(alloc, self.limit, self.profile, text, open.place, self.place)?
+                earlier_key(
+                    alloc,
+                    self.limit,
+                    self.profile,
+                    text,
+                    open.place,
+                    self.place,
+                )?
             }
             None => None,
         };

@@ -1,12 +1,11 @@
 //! The key of a text that a later key repeats.
 
+use crate::items::valid_of_text;
 use crate::notes::slice_of;
 use crate::quotes::valid_front;
 use crate::text_walks::{Before, TextWalk};
 use cborn_lex::Profile;
-use cborn_model::{Bytewise, Limit};
-use cborn_spell::spell_text;
-use cborn_transcode::transcode;
+use cborn_model::{Limit, same};
 use std::alloc::{AllocError, Global};
 
 /// Where the key stands that is the same as the one at `later`, in the map whose bracket stands at
@@ -22,8 +21,8 @@ pub(crate) fn earlier_key(
     map: usize,
     later: usize,
 ) -> Result<Option<usize>, AllocError> {
-    let Some(wanted) = encoding_of(alloc, limit, profile, key_at(alloc, profile, text, later)?)
-    else {
+    let wanted = valid_front(key_at(alloc, profile, text, later)?);
+    let Some(wanted) = valid_of_text(alloc, limit, profile, wanted)? else {
         return Ok(None);
     };
     let inside = valid_front(text.get(map..later).unwrap_or(&[]));
@@ -34,33 +33,15 @@ pub(crate) fn earlier_key(
             break;
         }
         if let (true, Some((from, to))) = (walk.keys_of_one() > keys, walk.last_key()) {
-            let key = slice_of(inside.as_bytes(), from, to);
-            if is_encoded_as(alloc, limit, profile, key, &wanted) {
-                return Ok(Some(map.saturating_add(from)));
+            let key = valid_front(slice_of(inside.as_bytes(), from, to));
+            if let Some(key) = valid_of_text(alloc, limit, profile, key)? {
+                if same(&key, &wanted) {
+                    return Ok(Some(map.saturating_add(from)));
+                }
             }
         }
     }
     Ok(None)
-}
-
-/// This slice of a text notates items whose deterministic encoding this is.
-fn is_encoded_as(
-    alloc: Global,
-    limit: Limit,
-    profile: Profile,
-    slice: &[u8],
-    encoding: &[u8],
-) -> bool {
-    match encoding_of(alloc, limit, profile, slice) {
-        Some(bytes) => bytes.as_slice() == encoding,
-        None => false,
-    }
-}
-
-/// The deterministic encoding of the items that this slice of a text notates. None promises nothing.
-fn encoding_of(alloc: Global, limit: Limit, profile: Profile, slice: &[u8]) -> Option<Vec<u8>> {
-    let bytes = spell_text(alloc, limit, profile, valid_front(slice))?;
-    transcode::<Bytewise>(alloc, limit, &bytes)
 }
 
 /// The key that begins at `place`, up to its colon.

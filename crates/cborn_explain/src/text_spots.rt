@@ -43,9 +43,17 @@ fn unit_len(quote: u8, rest: &[u8]) -> Option<usize> {
             if is_low(code) {
                 return None;
             }
-            if is_high(code) { pair_len(behind) } else { Some(6) }
+            if is_high(code) {
+                pair_len(behind)
+            } else {
+                Some(6)
+            }
         }
-        [b'\\', b'"' | b'\\' | b'/' | b'b' | b'f' | b'n' | b'r' | b't', ..] => Some(2),
+        [
+            b'\\',
+            b'"' | b'\\' | b'/' | b'b' | b'f' | b'n' | b'r' | b't',
+            ..
+        ] => Some(2),
         [b'\\', b'\'', ..] if quote == b'\'' => Some(2),
         [b'\\', ..] => None,
         [byte, ..] if *byte >= 0x20 => Some(1),
@@ -57,7 +65,11 @@ fn unit_len(quote: u8, rest: &[u8]) -> Option<usize> {
 fn pair_len(behind: &[u8]) -> Option<usize> {
     match behind {
         [b'\\', b'u', a, b, c, d, ..] if are_hex(*a, *b, *c, *d) => {
-            if is_low(hex_code(*a, *b, *c, *d)) { Some(12) } else { None }
+            if is_low(hex_code(*a, *b, *c, *d)) {
+                Some(12)
+            } else {
+                None
+            }
         }
         _ => None,
     }
@@ -104,7 +116,11 @@ fn is_white(byte: u8) -> bool {
 /// The character of a number that is no digit of its base; its start where digits alone make none.
 fn bad_digit(token: &[u8]) -> usize {
     let signed = matches!(token.first(), Some(b'-'));
-    let body = if signed { token.get(1..).unwrap_or(&[]) } else { token };
+    let body = if signed {
+        token.get(1..).unwrap_or(&[])
+    } else {
+        token
+    };
     let start = if signed { 1 } else { 0 };
     let (base, skipped) = match body {
         [b'0', b'x' | b'X', ..] => (16, 2),
@@ -114,7 +130,11 @@ fn bad_digit(token: &[u8]) -> usize {
     };
     for (i, byte) in body.iter().enumerate() {
         if i >= skipped && !is_digit(base, *byte) {
-            return if is_body(*byte) { i.saturating_add(start) } else { 0 };
+            return if is_body(*byte) {
+                i.saturating_add(start)
+            } else {
+                0
+            };
         }
     }
     0

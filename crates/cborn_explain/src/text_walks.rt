@@ -1,6 +1,6 @@
 //! A walk over a text from token to token, which keeps what is open.
 
-ghost use Rattle.std.specs.Prelude.{◌≤◌, length};
+ghost use Rattle.std.specs.Prelude.{◌≤◌, ◌<◌, ◌^◌, length};
 
 use crate::paths::Step;
 use crate::quotes::valid_front;

@@ -1,0 +1,240 @@
+#!/usr/bin/env python3
+"""Run the built program on random inputs with --explain and without, and follow the paths that it tells.
+
+    explain.py PROGRAM [COUNT]
+
+Of each input the first line and the status have to be the same with --explain and without it, and the path has to lead to
+the place of the first line: a walker of its own, over bytes or tokens, says which path stands there. Of bytes that are
+well-formed the path is also followed in the notation that `show` writes, to the text that `show` writes of the part alone.
+"""
+import pathlib
+import random
+import re
+import subprocess
+import sys
+
+from reading import head
+
+SEED = 8949
+COUNT = 700
+LIMIT = 128
+BREAK = 0xFF
+WIDTHS = {24: 1, 25: 2, 26: 4, 27: 8}
+PLACE = re.compile(r"offset (\d+): (.*)")
+STEP = re.compile(r"(\d+\(\)|\(_ #\d+\)|\[\d+\]|<<\d+>>|\{key #\d+\}|\{.*? #\d+\})(?:\*(\d+))?(?: |$)", re.DOTALL)
+TOKEN = re.compile(
+    r"(?P<blank>[ \t\r\n]+|/[^/]*/)"
+    r"|(?P<string>(?:h|b64)?'(?:\\.|[^'\\])*'|\"(?:\\.|[^\"\\])*\")(?:_\w*)?"
+    r"|(?P<tag>\d\w*)\((?!_\w)"
+    r"|(?P<simple>simple)\("
+    r"|(?P<open>\(_|<<|\[|\{)(?:(?<=[\[{])_\w*)?"
+    r"|(?P<close>>>|\]|\}|\))(?:(?<=>>)_\w*)?"
+    r"|(?P<comma>,)|(?P<colon>:)|(?P<item>[-\w.]+)",
+    re.DOTALL,
+)
+
+
+def random_item(choice, depth):
+    """The bytes of a random item: sometimes with long heads, indefinite lengths and keys in any order."""
+    kind = choice.randrange(12 if depth else 6)
+    width = choice.choice([None, None, None, 1, 2, 4, 8])
+    if kind < 3:
+        return head(choice.choice([0, 0, 1]), choice.choice([0, 1, 5, 23]), width)
+    if kind == 3:
+        return head(2, 3, width) + choice.randbytes(3)
+    if kind == 4:
+        text = choice.choice(["a", "é", "\u202e", '"\\', "ab" * 30]).encode()
+        return head(3, len(text), width or (1 if len(text) > 23 else None)) + text
+    if kind == 5:
+        return choice.choice([b"\xf4", b"\xf6", b"\xf8\x20", b"\x5f\x41\x01\x40\xff", b"\x7f\x61a\xff", b"\xc2\x41\x01", b"\x5f\xff"])
+    if kind < 8:
+        parts = [random_item(choice, depth - 1) for _ in range(choice.randrange(4))]
+        return container(choice, 4, len(parts), width) + b"".join(parts) + b"" if not choice.randrange(4) else indefinite(choice, 4, parts, width)
+    if kind < 11:
+        pairs = [random_item(choice, depth - 1 if not choice.randrange(4) else 0) + random_item(choice, depth - 1) for _ in range(choice.randrange(4))]
+        return indefinite(choice, 5, pairs, width)
+    return head(6, choice.choice([0, 2, 3, 24, 1000]), None) + random_item(choice, depth - 1)
+
+
+def container(choice, major, count, width):
+    return head(major, count, width)
+
+
+def indefinite(choice, major, parts, width):
+    """An array or a map, now and then of indefinite length."""
+    if choice.randrange(3):
+        return container(choice, major, len(parts), width) + b"".join(parts)
+    return bytes([major << 5 | 31]) + b"".join(parts) + b"\xff"
+
+
+def mutated(choice, content):
+    """The same with some byte changed, dropped or put in, or cut off."""
+    content = bytearray(content)
+    for _ in range(choice.randrange(1, 3)):
+        at = choice.randrange(len(content) + 1)
+        how = choice.randrange(4)
+        if how == 0 and at < len(content):
+            content[at] = choice.choice([0, 0x18, 0x1C, 0x3F, 0x41, 0x5F, 0x61, 0x80, 0xA1, 0xC2, 0xF8, 0xF9, 0xFF, choice.randrange(256)])
+        elif how == 1 and at < len(content):
+            del content[at]
+        elif how == 2:
+            content.insert(at, choice.randrange(256))
+        else:
+            del content[at:]
+    return bytes(content)
+
+
+def path_in_bytes(content, place):
+    """The path to the head at a place, or that holds it: the item's index and (kind, index or number) for each step."""
+    items, levels, at = 0, [], 0
+    while at < place and at < len(content):
+        major, info = content[at] >> 5, content[at] & 31
+        width = WIDTHS.get(info, 0)
+        number = int.from_bytes(content[at + 1 : at + 1 + width], "big") if width else info
+        length = 1 + width + (number if major in (2, 3) and info != 31 else 0)
+        if at + length > min(place, len(content)):
+            break
+        at += length
+        if info == 31 and major in (2, 3, 4, 5):
+            levels.append([{2: "chunk", 3: "chunk"}.get(major, {4: "array", 5: "map"}.get(major)), 0, None])
+            continue
+        if info == 31 and major == 7:
+            levels.pop()
+        elif major == 4 and number:
+            levels.append(["array", 0, number])
+            continue
+        elif major == 5 and number:
+            levels.append(["map", 0, 2 * number])
+            continue
+        elif major == 6:
+            levels.append([number, 0, 1])
+            continue
+        while levels:
+            levels[-1][1] += 1
+            if levels[-1][2] is None or levels[-1][1] < levels[-1][2]:
+                break
+            levels.pop()
+        else:
+            items += 1
+    return items, [step_of(kind, parts) for kind, parts, _ in levels]
+
+
+def step_of(kind, parts):
+    if kind == "map":
+        return ("value" if parts % 2 else "key", parts // 2)
+    return ("tag", kind) if isinstance(kind, int) else (kind, parts)
+
+
+def path_in_text(text, place):
+    """The same of a text: the path to the token at a place."""
+    items, levels, at = 0, [], 0
+    while at < place:
+        found = TOKEN.match(text, at)
+        if not found or found.end() > place and not found["blank"]:
+            break
+        at = found.end()
+        if found["tag"]:
+            digits = found["tag"].split("_")[0]
+            levels.append([int(digits, 0), 0])
+        elif found["simple"]:
+            levels.append([None, 0])
+        elif found["open"]:
+            levels.append([{"(_": "chunk", "<<": "embedded", "[": "array", "{": "map"}[found["open"]], 0])
+        elif found["close"] and levels:
+            levels.pop()
+        elif found["comma"] or found["colon"]:
+            if levels:
+                levels[-1][1] += 1
+            else:
+                items += 1
+    return items, [step_of(kind, parts) for kind, parts in levels if kind is not None]
+
+
+def told_path(line):
+    """The same, as the line of a path tells it."""
+    found = re.match(r"item (\d+)(?: |$)", line)
+    item, at, steps = int(found[1]), found.end(), []
+    while at < len(line):
+        found = STEP.match(line, at)
+        if not found:
+            raise ValueError(f"no step at {at} of {line!r}")
+        steps += [told_step(found[1])] * int(found[2] or 1)
+        at = found.end()
+    return item, steps
+
+
+def told_step(step):
+    if step[0] == "[":
+        return "array", int(step[1:-1])
+    if step.startswith("(_"):
+        return "chunk", int(step[4:-1])
+    if step.startswith("<<"):
+        return "embedded", int(step[2:-2])
+    if step[0] == "{":
+        return "key" if step.startswith("{key #") else "value", int(step.rsplit("#", 1)[1][:-1])
+    return "tag", int(step[:-2])
+
+
+def run(program, words, content):
+    done = subprocess.run([program, *words], input=content, capture_output=True, timeout=60, check=False)
+    return done.returncode, done.stdout, done.stderr
+
+
+def differences(program, words, content):
+    """What is wrong with how a command explains an input."""
+    status, out, err = run(program, words, content)
+    explained = run(program, [*words, "--explain"], content)
+    if status not in (0, 1, 2):
+        yield f"status {status}"
+    if explained[:2] != (status, out) or not explained[2].startswith(err):
+        yield f"with the option {explained}, without {(status, out, err)}"
+        return
+    told = PLACE.search((err or out).decode()) if status else None
+    if not told:
+        return
+    labels = dict(line.strip().split(maxsplit=1) for line in explained[2][len(err) :].decode().split("\n") if line[:2] == "  " and len(line.split()) > 1)
+    place, is_text = int(told[1]), "--from" in words
+    if is_text:
+        wanted = path_in_text(content[:place].decode(errors="replace"), len(content[:place].decode(errors="replace")))
+    else:
+        wanted = path_in_bytes(content, place)
+    path = told_path(labels["path"])
+    if path != wanted:
+        yield f"the path is {path}, not {wanted}"
+    if not labels.get("why"):
+        yield "no sentence"
+    if any(ord(c) < 32 and c != "\n" for c in explained[2].decode()):
+        yield "a control character"
+
+
+def inputs(choice, count):
+    """Command lines, each with an input."""
+    for number in range(count):
+        items = b"".join(random_item(choice, 4) for _ in range(choice.randrange(1, 3)))
+        yield ["check"], items
+        yield [choice.choice(["show", "normalise", "check"])], mutated(choice, items)
+        yield ["show", "--depth", str(choice.randrange(1, 4))], items
+
+
+def main():
+    program = str(pathlib.Path(sys.argv[1]).resolve())
+    count = int(sys.argv[2]) if len(sys.argv) > 2 else COUNT
+    choice = random.Random(SEED)
+    passed = failed = 0
+    for words, content in inputs(choice, count):
+        cases = [(words, content)]
+        if words == ["check"]:
+            status, text, _ = run(program, ["show"], content)
+            if not status:
+                cases.append((["normalise", "--from", "notation"], mutated(choice, text)))
+        for words, content in cases:
+            wrong = list(differences(program, words, content))
+            passed, failed = (passed, failed + 1) if wrong else (passed + 1, failed)
+            for line in wrong:
+                print(f"{' '.join(words)}: {content.hex(' ') if '--from' not in words else content!r}: {line}")
+    print(f"{passed} explanations passed, {failed} failed")
+    return 1 if failed or not passed else 0
+
+
+if __name__ == "__main__":
+    sys.exit(main())
