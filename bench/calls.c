@@ -20,13 +20,14 @@ static uint32_t called(int which, const uint8_t *in, size_t length, uint8_t *out
     case 0: return cborn_normalise(CBORN_WIRE, CBORN_WIRE, CBORN_BYTEWISE, 128, in, length, out, room, &told);
     case 1: return cborn_check(CBORN_BYTEWISE, 128, in, length, &place) & 0xff; /* a defect of these is no failure */
     case 2: return cborn_show(CBORN_WIRE, CBORN_NOTATION, 128, in, length, out, room, &told);
-    default: return cborn_compare(CBORN_WIRE, CBORN_WIRE, 128, in, length, in, length, &place);
+    case 3: return cborn_compare(CBORN_WIRE, CBORN_WIRE, 128, in, length, in, length, &place);
+    default: return cborn_same(CBORN_WIRE, CBORN_WIRE, 128, in, length, in, length, &place);
     }
 }
 
 int main(int count, char **names)
 {
-    static const char *calls[] = {"normalise", "check", "show", "compare"};
+    static const char *calls[] = {"normalise", "check", "show", "compare", "same"};
     for (int i = 1; i < count; i++) {
         static uint8_t in[1 << 20], out[1 << 23];
         FILE *file = fopen(names[i], "rb");
@@ -34,7 +35,7 @@ int main(int count, char **names)
             return 1;
         size_t length = fread(in, 1, sizeof in, file);
         fclose(file);
-        for (int which = 0; which < 4; which++) {
+        for (int which = 0; which < 5; which++) {
             double best = 1e18;
             long rounds = 1 + 2000000 / (long)(length + 100);
             for (int again = 0; again < 7; again++) {

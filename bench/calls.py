@@ -1,19 +1,21 @@
 #!/usr/bin/env python3
 """Time calls of the library from C, Rust and Python, beside serde_cbor and cbor2: nanoseconds a call, best of some.
 
-    calls.py BUILD_FOLDER
+    calls.py BUILD_FOLDER [NAME=FOLDER..]
 
-BUILD_FOLDER has libcborn.a and libcborn.so (`make library`). The inputs are the array of 7 bytes of the README, a map
+BUILD_FOLDER has libcborn.a and python/cborn (`make python`). A further FOLDER has another package cborn, of an earlier
+version say, which is timed as NAME. The inputs are the array of 7 bytes of the README, a map
 of ten pairs whose keys fall, of 101 bytes, and an array of a hundred such maps. serde_cbor (from /usr/share/cargo/registry,
 where Debian's librust-serde-cbor-dev puts it) and cbor2 are left out where they aren't there. serde_cbor's Value drops
 duplicate keys and tags, and cbor2's canonical form orders keys by length first, so they do less, and other, work.
 """
+import importlib.util
 import os
 import pathlib
 import subprocess
 import sys
 import tempfile
-import time
+import timeit
 
 HERE = pathlib.Path(__file__).resolve().parent
 REGISTRY = pathlib.Path("/usr/share/cargo/registry")
@@ -43,27 +45,42 @@ def inputs():
     return bytes.fromhex("98021801580161"), nested, b"\x98\x64" + nested * 100
 
 
-def in_python(data):
-    """Lines of the Python binding, and of cbor2."""
+# the calls of Python, as texts, so that no function stands around them
+CALLS = {
+    "normalise": "normalise(data)",
+    "check": "check(data)",
+    "is_deterministic": "is_deterministic(data)",
+    "show": "show(data)",
+    "compare": "compare(data, data)",
+    "same": "same(data, data)",
+}
+
+
+def timed(call, names, size):
+    """Nanoseconds a call: the best of short rounds, which a machine that is shared disturbs least."""
+    rounds = 1 + 100000 // (size + 100)
+    return 1e9 * min(timeit.Timer(call, globals=names).repeat(200, rounds)) / rounds
+
+
+def in_python(name, data):
+    """Lines of the package cborn that is found first, and of cbor2."""
     import cborn
 
-    calls = {"normalise": lambda: cborn.normalise(data), "check": lambda: cborn.check(data),
-             "show": lambda: cborn.show(data), "compare": lambda: cborn.compare(data, data)}
-    try:
+    for call, text in CALLS.items():
+        if hasattr(cborn, call):
+            yield f"{name}|{call}|{len(data)}|{timed(text, {**vars(cborn), 'data': data}, len(data)):.0f}"
+    if importlib.util.find_spec("cbor2"):
         import cbor2
 
-        calls["cbor2: dumps(loads(), canonical=True)"] = lambda: cbor2.dumps(cbor2.loads(data), canonical=True)
-    except ImportError:
-        pass
-    for name, call in calls.items():
-        rounds = 1 + 200000 // (len(data) + 100)
-        best = float("inf")
-        for _ in range(7):
-            start = time.perf_counter_ns()
-            for _ in range(rounds):
-                call()
-            best = min(best, (time.perf_counter_ns() - start) / rounds)
-        yield f"Python|{name}|{len(data)}|{best:.0f}"
+        call = "dumps(loads(data), canonical=True)"
+        yield f"cbor2|{call}|{len(data)}|{timed(call, {**vars(cbor2), 'data': data}, len(data)):.0f}"
+
+
+def of_package(name, folder, inputs):
+    """The lines of a package, in a process of its own."""
+    settings = {**os.environ, "PYTHONPATH": os.pathsep.join([folder, *filter(None, [os.environ.get("PYTHONPATH")])])}
+    command = [sys.executable, __file__, "--package", name, *inputs]
+    return subprocess.run(command, env=settings, check=True, capture_output=True, text=True).stdout.splitlines()
 
 
 def in_c(build, folder, names):
@@ -86,16 +103,20 @@ def in_rust(build, folder, names):
 
 
 def main():
+    if sys.argv[1] == "--package":
+        for name in sys.argv[3:]:
+            print(*in_python(sys.argv[2], pathlib.Path(name).read_bytes()), sep="\n")
+        return
     build = str(pathlib.Path(sys.argv[1]).resolve())
-    os.environ["CBORN_LIBRARY"] = f"{build}/libcborn.so"
-    sys.path.insert(0, str(HERE.parent / "bindings/python"))
+    packages = {"Python": f"{build}/python", **dict(word.split("=", 1) for word in sys.argv[2:])}
     with tempfile.TemporaryDirectory() as folder:
         names = []
         for data in inputs():
             names.append(f"{folder}/{len(data)}")
             pathlib.Path(names[-1]).write_bytes(data)
         lines = in_c(build, folder, names) + in_rust(build, folder, names)
-        lines += [line for data in inputs() for line in in_python(data)]
+        for name, place in packages.items():
+            lines += of_package(name, os.path.abspath(place), names)
     table = {}
     for line in lines:
         language, call, size, cost = line.split("|")

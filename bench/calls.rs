@@ -20,6 +20,10 @@ fn main() {
         timed("normalise", data.len(), || {
             black_box(cborn::normalise(black_box(&data), cborn::Options::default()).unwrap());
         });
+        timed("same", data.len(), || {
+            let kind = cborn::Kind::Wire;
+            black_box(cborn::same(black_box(&data), kind, &data, kind, cborn::Depth::default()).unwrap());
+        });
         timed("serde_cbor: to_vec(from_slice::<Value>())", data.len(), || {
             let value: serde_cbor::Value = serde_cbor::from_slice(black_box(&data)).unwrap();
             black_box(serde_cbor::to_vec(&value).unwrap());

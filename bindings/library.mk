@@ -90,7 +90,7 @@ dist: build library python
 	cp README.md CHANGELOG.md CONTRIBUTING.md build/$(DIST)
 	cp docs/*.md build/$(DIST)/docs
 	cp examples/*.py build/$(DIST)/examples
-	cp -r $(addprefix bindings/rust/,Cargo.toml Cargo.lock build.rs src tests) build/$(DIST)/rust
+	cp -r $(addprefix bindings/rust/,Cargo.toml Cargo.lock README.md build.rs src tests) build/$(DIST)/rust
 	cp build/libcborn.a build/$(DIST)/rust/lib
 	python3 bindings/python/make_wheel.py $(VERSION) build build/$(DIST)/python
 	rt version > build/$(DIST)/PROVED-WITH

@@ -6,12 +6,14 @@
 The program reads its first input, and the examples of docs/LIBRARY.md in the archive are compiled and run, each in
 the languages whose tools are there; a line says which aren't. Each has to print what RFC 8949 makes of the input.
 """
+import importlib.util
 import itertools
 import os
 import pathlib
 import shutil
 import subprocess
 import sys
+import sysconfig
 import tempfile
 import textwrap
 
@@ -75,7 +77,13 @@ def in_python(archive):
     archive.run(f"python3 -m pip install --quiet --no-index --target modules {archive.top}/python/*.whl")
     (archive.work / "page.txt").write_text(archive.example("Python"))
     told = archive.run("PYTHONPATH=modules python3 -m doctest -v page.txt")
-    return b"Test passed." in told and b"3 passed" in told
+    program = archive.run("PYTHONPATH=modules python3 -m cborn normalise", input=LOOSE)
+    return b"Test passed." in told and b"5 passed" in told and program == TIGHT
+
+
+def in_python_from_sources(archive):
+    archive.run(f"python3 -m pip install --quiet --no-index --no-build-isolation --target built {archive.top}/python/*.tar.gz")
+    return archive.run("PYTHONPATH=built python3 -m cborn normalise", input=LOOSE) == TIGHT
 
 
 def in_rust(archive):
@@ -104,16 +112,25 @@ WAYS = {
     "the program": (in_program, ()),
     "C": (in_c, ("cc", "pkg-config")),
     "Python": (in_python, ("python3",)),
+    "Python, from the source archive": (in_python_from_sources, ("python3", "cc", "setuptools", "wheel", "Python.h")),
     "Rust": (in_rust, ("cargo", "rustc")),
     "Go": (in_go, ("go",)),
     "Java": (in_java, ("javac", "java", JNA)),
 }
 
 
+def is_there(tool):
+    """Whether a command, a file, a header of Python or a module of Python is there."""
+    if tool in ("setuptools", "wheel"):
+        return importlib.util.find_spec(tool) is not None
+    path = os.path.join(sysconfig.get_path("include"), tool) if tool == "Python.h" else tool
+    return shutil.which(tool) is not None or os.path.isfile(path)
+
+
 def main():
     failed = 0
     for name, (way, tools) in WAYS.items():
-        missing = [tool for tool in tools if not (shutil.which(tool) or os.path.isfile(tool))]
+        missing = [tool for tool in tools if not is_there(tool)]
         if missing:
             print(f"{name}: not tried, without {', '.join(missing)}")
             continue

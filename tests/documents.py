@@ -156,6 +156,7 @@ def other_versions(root):
         "crates/cborn_c/src/lib.rt": f"    {number}\n",
         "include/cborn.h": f"#define CBORN_VERSION {number}\n",
         "bindings/rust/Cargo.toml": f'version = "{version}"',
+        "bindings/python/pyproject.toml": f'version = "{version}"',
     }
     for name, text in told.items():
         if text not in (root / name).read_text():

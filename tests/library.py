@@ -45,8 +45,8 @@ def words_of_page():
 
 
 def words_of_rust():
-    text = (TOP / "bindings/rust/src/faults.rs").read_text()
-    return {int(n, 16): words for n, words in re.findall(r'\((0x[0-9a-f]{3}), "(.*?)"\)', text)}
+    text = (TOP / "bindings/rust/src/reasons.rs").read_text()
+    return {int(n, 16): words for n, words in re.findall(r' = (0x[0-9a-f]{3}), "(.*?)";', text)}
 
 
 def stack_of(path):

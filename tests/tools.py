@@ -8,16 +8,19 @@ import importlib.util
 import os
 import shutil
 import sys
+import sysconfig
 
 JNA = "/usr/share/java/jna.jar"
 # what is tested, the commands and files that it takes, and their packages
 NEEDED = {
     "the C compiler": (("cc", "ar", "ld", "objcopy"), ("gcc", "binutils")),
     "the tests in Python": (("python3",), ("python3",)),
+    "the Python package": (("Python.h",), ("python3-dev",)),
 }
 OPTIONAL = {
     "the cost of memory": (("time",), ("time",)),
     "the Rust crate": (("cargo", "rustc"), ("cargo", "rustc")),
+    "the types of the Python package": (("mypy",), ("mypy",)),
     "the archive from C by its name": (("pkg-config",), ("pkg-config",)),
     "the archive from Python": (("pip",), ("python3-pip",)),
     "the archive from Go": (("go",), ("golang-go",)),
@@ -26,8 +29,10 @@ OPTIONAL = {
 
 
 def is_there(tool):
-    if tool == "pip":
-        return importlib.util.find_spec("pip") is not None
+    if tool in ("pip", "mypy"):
+        return importlib.util.find_spec(tool) is not None
+    if tool == "Python.h":
+        return os.path.isfile(os.path.join(sysconfig.get_path("include"), tool))
     return shutil.which(tool) is not None or os.path.isfile(tool)
 
 

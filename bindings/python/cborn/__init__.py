@@ -83,6 +83,7 @@ class Reason(str, enum.Enum):
     `number` is that of cborn.h. No number ever changes its meaning; docs/FORMATS.md says when each applies. A reason
     equals its words, but no other reason, even one with the same words.
 
+        >>> import cborn
         >>> cborn.Reason.INVALID_DUPLICATE_KEY == "duplicate key"
         True
         >>> cborn.Reason(0x503)

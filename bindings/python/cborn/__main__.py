@@ -54,6 +54,8 @@ class Parser(argparse.ArgumentParser):
 class Once(argparse.Action):
     """Stores a value, and refuses an option that is given twice."""
 
+    is_given = False
+
     def __call__(
         self,
         parser: argparse.ArgumentParser,
@@ -61,17 +63,16 @@ class Once(argparse.Action):
         values: object,
         option_string: str | None = None,
     ) -> None:
-        given = typing.cast("set[str]", namespace.given)
-        if self.dest in given:
+        if self.is_given:
             parser.error(f"the argument '{option_string}' cannot be used multiple times")
-        given.add(self.dest)
+        self.is_given = True
         setattr(namespace, self.dest, values)
 
 
 def depth_of(word: str) -> int:
     depth = int(word) if re.fullmatch(r"\+?[0-9]{1,30}", word, re.ASCII) else 0
     if not 1 <= depth <= 1024:
-        raise argparse.ArgumentTypeError(f"'{word}' is not in 1..=1024")
+        raise argparse.ArgumentTypeError(f"'{word}' is not from 1 to 1024")
     return depth
 
 
@@ -95,7 +96,6 @@ def parser() -> Parser:
     how: dict[str, typing.Any] = {"allow_abbrev": False, "formatter_class": argparse.RawDescriptionHelpFormatter}
     program = Parser(prog="cborn", description=ABOUT, epilog=NOTES, **how)
     program.add_argument("-V", "--version", action="version", version=f"cborn {cborn.__version__}")
-    program.set_defaults(given=set())
     commands = program.add_subparsers(dest="command", required=True, metavar="COMMAND")
     show = commands.add_parser("show", help="write the input's items as they are encoded, as notation or bytes", **how)
     with_options(show, ["from"], "notation", has_order=False)

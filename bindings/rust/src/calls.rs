@@ -29,6 +29,10 @@ extern "C" {
         from_a: u32, from_b: u32, depth: u64, first: *const u8, first_len: usize,
         second: *const u8, second_len: usize, place: *mut u64,
     ) -> u32;
+    pub fn cborn_same(
+        from_a: u32, from_b: u32, depth: u64, first: *const u8, first_len: usize,
+        second: *const u8, second_len: usize, place: *mut u64,
+    ) -> u32;
 }
 
 /// `CBORN_STACK`.

@@ -19,13 +19,16 @@
 
 mod calls;
 mod faults;
+mod reasons;
 
 use calls::filled;
-pub use faults::{CompareFault, Defect, Fault, Reason};
+pub use faults::{CompareFault, Defect, Fault};
+pub use reasons::Reason;
 
 /// The format of an input or an output. As output both notations are the same.
 #[derive(Clone, Copy, Debug, Default, PartialEq, Eq, Hash)]
 #[repr(u32)]
+#[non_exhaustive]
 pub enum Kind {
     /// CBOR bytes: data items one after another (RFC 8742).
     #[default]
@@ -39,6 +42,7 @@ pub enum Kind {
 /// The sort order of map keys.
 #[derive(Clone, Copy, Debug, Default, PartialEq, Eq, Hash)]
 #[repr(u32)]
+#[non_exhaustive]
 pub enum Order {
     /// By encoded bytes (RFC 8949 section 4.2.1).
     #[default]
@@ -70,7 +74,14 @@ impl Default for Depth {
 }
 
 /// What [`normalise`] reads and writes; by default bytes, bytewise, at most 128 deep.
+///
+/// ```
+/// use cborn::{normalise, Kind, Options};
+/// let options = Options::default().with_from(Kind::Notation);
+/// assert_eq!(normalise(b"[1, 'a']", options).unwrap(), [0x82, 0x01, 0x41, 0x61]);
+/// ```
 #[derive(Clone, Copy, Debug, Default, PartialEq, Eq, Hash)]
+#[non_exhaustive]
 pub struct Options {
     /// The format of the input.
     pub from: Kind,
@@ -80,6 +91,32 @@ pub struct Options {
     pub order: Order,
     /// The maximum nesting depth of the input.
     pub depth: Depth,
+}
+
+impl Options {
+    /// The same with this format of the input.
+    #[must_use]
+    pub fn with_from(self, from: Kind) -> Options {
+        Options { from, ..self }
+    }
+
+    /// The same with this format of the output.
+    #[must_use]
+    pub fn with_to(self, to: Kind) -> Options {
+        Options { to, ..self }
+    }
+
+    /// The same with this sort order of map keys.
+    #[must_use]
+    pub fn with_order(self, order: Order) -> Options {
+        Options { order, ..self }
+    }
+
+    /// The same with this maximum nesting depth.
+    #[must_use]
+    pub fn with_depth(self, depth: Depth) -> Options {
+        Options { depth, ..self }
+    }
 }
 
 /// The canonical form of the items in the input: their deterministic encodings, or these in notation.
@@ -149,6 +186,33 @@ pub fn compare(
     match code {
         0 => Ok(None),
         5 => Ok(Some(place)),
+        code => Err(CompareFault::new(code, place)),
+    }
+}
+
+/// Whether both inputs hold the same items, so that their canonical forms are equal. This takes less time than
+/// [`compare`], which looks for where they differ.
+///
+/// # Errors
+/// Those of [`compare`].
+pub fn same(
+    first: &[u8],
+    from_first: Kind,
+    second: &[u8],
+    from_second: Kind,
+    depth: Depth,
+) -> Result<bool, CompareFault> {
+    let mut place = 0;
+    // SAFETY: as in `calls`
+    let code = unsafe {
+        calls::cborn_same(
+            from_first as u32, from_second as u32, depth.0,
+            first.as_ptr(), first.len(), second.as_ptr(), second.len(), &mut place,
+        )
+    };
+    match code {
+        0 => Ok(true),
+        5 => Ok(false),
         code => Err(CompareFault::new(code, place)),
     }
 }

@@ -1,6 +1,8 @@
 //! What the tables of cborn's tests don't reach of this crate. Expected values come from RFC 8949 and docs/FORMATS.md.
 
-use cborn::{check, compare, normalise, show, version, CompareFault, Depth, Fault, Kind, Options, Order};
+use cborn::{
+    check, compare, normalise, same, show, version, CompareFault, Depth, Fault, Kind, Options, Order, Reason,
+};
 
 const LOOSE: [u8; 7] = [0x98, 2, 0x18, 1, 0x58, 1, 0x61];
 const TIGHT: [u8; 4] = [0x82, 1, 0x41, 0x61];
@@ -10,12 +12,14 @@ const TWICE: [u8; 7] = [0xa2, 1, 0, 0xc2, 0x41, 1, 0];
 fn normalises_with_each_option() {
     assert_eq!(normalise(&LOOSE, Options::default()).unwrap(), TIGHT);
     let notation = b"{'b': 1, -1: 2, } # two";
-    let options = Options { from: Kind::Notation2, order: Order::LengthFirst, ..Options::default() };
+    let options = Options::default().with_from(Kind::Notation2).with_order(Order::LengthFirst);
     let wire = normalise(notation, options).unwrap();
     assert_eq!(wire, [0xa2, 0x20, 2, 0x41, 0x62, 1]);
-    let options = Options { to: Kind::Notation, ..Options::default() };
+    let options = Options::default().with_to(Kind::Notation);
     assert_eq!(normalise(&wire, options).unwrap(), b"{-1: 2, h'62': 1}\n");
-    let options = Options { depth: Depth::new(1).unwrap(), ..Options::default() };
+    let mut options = Options::default();
+    options.depth = Depth::new(1).unwrap();
+    assert_eq!(options, Options::default().with_depth(options.depth));
     assert!(normalise(&[0x81, 0x80], options).is_err());
     assert_eq!(normalise(&[], Options::default()).unwrap(), []);
 }
@@ -43,7 +47,7 @@ fn shows_there_and_back() {
 fn checks() {
     assert_eq!(check(&TIGHT, Order::Bytewise, Depth::default()), Ok(None));
     let defect = check(&[1, 0x18, 1], Order::Bytewise, Depth::default()).unwrap().unwrap();
-    assert_eq!((defect.place, defect.reason.words()), (1, "long head"));
+    assert_eq!((defect.place, defect.reason), (1, Reason::DefectLongHead));
     assert_eq!(defect.to_string(), "offset 1: long head");
 }
 
@@ -61,10 +65,21 @@ fn compares() {
 }
 
 #[test]
+fn tells_the_same() {
+    let depth = Depth::default();
+    assert_eq!(same(b"[1, 'a']", Kind::Notation, &LOOSE, Kind::Wire, depth), Ok(true));
+    assert_eq!(same(&[1, 2], Kind::Wire, &[1, 3], Kind::Wire, depth), Ok(false));
+    let why = same(&TIGHT, Kind::Wire, &TWICE, Kind::Wire, depth).unwrap_err();
+    assert_eq!(why.to_string(), "second: offset 3: duplicate key");
+}
+
+#[test]
 fn a_fault_has_a_reason_and_a_place() {
     match normalise(&TWICE, Options::default()) {
         Err(Fault::Refused { reason, place }) => {
-            assert_eq!((reason.number(), reason.words(), place), (0x503, "duplicate key", 3));
+            assert_eq!((reason, place), (Reason::InvalidDuplicateKey, 3));
+            assert_eq!((reason.number(), reason.words()), (0x503, "duplicate key"));
+            assert_eq!(reason.to_string(), "duplicate key");
         }
         other => panic!("{other:?}"),
     }

@@ -1,0 +1,78 @@
+#!/usr/bin/env python3
+"""Compile each example in C of docs/LIBRARY.md as it stands, with the sanitizers for addresses, leaks and undefined
+behaviour, and run it.
+
+    examples.py FOLDER
+
+FOLDER has libcborn.a. Each prints what the page says below it, and what RFC 8949 makes of the input. With another input
+in the place of its own, a map with a duplicate key, each says the fault, and ends with status 2. A way that leaves
+memory behind, or reads past an end, ends with another status. $CC or cc is gcc or clang.
+"""
+import itertools
+import os
+import pathlib
+import subprocess
+import sys
+import tempfile
+import textwrap
+
+TOP = pathlib.Path(__file__).resolve().parent.parent
+FLAGS = ["-std=c11", "-g", "-O1", "-Wall", "-Wextra", "-Werror", "-fsanitize=address,undefined", "-fno-sanitize-recover=all"]
+LOOSE, TWICE = "0x98, 0x02, 0x18, 0x01, 0x58, 0x01, 0x61", "0xa2, 0x01, 0x00, 0xc2, 0x41, 0x01, 0x00"
+FAULT = b"offset 3: duplicate key\n"
+WANTED = {
+    "A call": (bytes.fromhex("82014161"), FAULT),
+    "Notation": (b"[_0 1_0, h'61'_0]\n", None),
+    "The same items": (b"same\n", b"first: " + FAULT),
+}
+
+
+def examples():
+    """Each block of code in C, and the heading that it stands below."""
+    heading, lines = "", (TOP / "docs/LIBRARY.md").read_text().splitlines()
+    for is_code, group in itertools.groupby(lines, lambda line: not line or line.startswith("    ")):
+        block = list(group)
+        if is_code and textwrap.dedent("\n".join(block)).strip().startswith("#include"):
+            yield heading, textwrap.dedent("\n".join(block))
+        heading = next((line[3:] for line in reversed(block) if line.startswith("## ")), heading)
+
+
+def ran(text, build, folder):
+    """What an example writes, and its status."""
+    source, program = pathlib.Path(folder, "example.c"), f"{folder}/example"
+    source.write_text(text)
+    compiler = os.environ.get("CC", "cc")
+    subprocess.run([compiler, *FLAGS, f"-I{TOP}/include", "-o", program, str(source), f"{build}/libcborn.a"], check=True)
+    done = subprocess.run([program], capture_output=True, check=False)
+    return done.stdout, done.stderr, done.returncode
+
+
+def wrong_of(heading, text, build, folder):
+    output, fault = WANTED[heading]
+    outcome = ran(text, build, folder)
+    if outcome != (output, b"", 0):
+        yield f"{heading}: {outcome}"
+    if text.count(LOOSE) != 1:
+        yield f"{heading}: the input isn't there to be changed"
+    outcome = ran(text.replace(LOOSE, TWICE), build, folder)
+    # the duplicate key is a validity error, which notation shows
+    if outcome != ((b"", fault, 2) if fault else (b"{1: 0, 2(h'01'): 0}\n", b"", 0)):
+        yield f"{heading}, with a duplicate key: {outcome}"
+
+
+def main():
+    build = str(pathlib.Path(sys.argv[1]).resolve())
+    found, wrong = dict(examples()), []
+    if set(found) != set(WANTED):
+        wrong.append(f"the examples of the page stand below {sorted(found)}, and not below {sorted(WANTED)}")
+    with tempfile.TemporaryDirectory() as folder:
+        for heading in sorted(set(found) & set(WANTED)):
+            wrong += wrong_of(heading, found[heading], build, folder)
+    for line in wrong:
+        print(line)
+    print(f"{len(found)} examples in C ran under the sanitizers; {len(wrong)} failed")
+    return 1 if wrong or not found else 0
+
+
+if __name__ == "__main__":
+    sys.exit(main())
