@@ -24,6 +24,10 @@ extern "C" {
         from: u32, to: u32, depth: u64, input: *const u8, input_len: usize,
         out: *mut u8, out_len: usize, told: *mut Told,
     ) -> u32;
+    pub fn cborn_explain(
+        from: u32, depth: u64, input: *const u8, input_len: usize, number: u32, place: u64,
+        out: *mut u8, out_len: usize, told: *mut Told,
+    ) -> u32;
     pub fn cborn_check(order: u32, depth: u64, input: *const u8, input_len: usize, place: *mut u64) -> u32;
     pub fn cborn_compare(
         from_a: u32, from_b: u32, depth: u64, first: *const u8, first_len: usize,
