@@ -223,10 +223,10 @@ class Errors(unittest.TestCase):
 
     def test_an_error_keeps_format_and_depth_for_its_explanation(self):
         with self.assertRaises(cborn.CbornError) as caught:
-            cborn.show(b"1, # one\n007", source=cborn.Kind.NOTATION_2)
+            cborn.show(b"1, # one\nh'0g'", source=cborn.Kind.NOTATION_2)
         why = caught.exception
         self.assertIs(why.source, cborn.Kind.NOTATION_2)
-        self.assertEqual(why.explain(b"1, # one\n007").splitlines()[:2], ["  path  item 1", "  line  2:2"])
+        self.assertEqual(why.explain(b"1, # one\nh'0g'").splitlines()[:2], ["  path  item 1", "  line  2:4"])
         with self.assertRaises(cborn.CbornError) as caught:
             cborn.normalise(b"\x81\x81\x80", depth=2)
         self.assertEqual((caught.exception.depth, caught.exception.source), (2, cborn.Kind.WIRE))
