@@ -70,14 +70,16 @@ pub(crate) fn push_text(out: &mut String, bytes: &[u8], most: usize) -> Result<u
     let front = bytes.get(..most.saturating_mul(4)).unwrap_or(bytes);
     let mut width: usize = 0;
     let mut count: usize = 0;
+    let mut taken: usize = 0;
     for c in valid_front(front).chars() {
         if count >= most {
             break;
         }
         width = width.saturating_add(push_char(out, c)?);
-        count = count.saturating_add(c.len_utf8());
+        count = count.saturating_add(1);
+        taken = taken.saturating_add(c.len_utf8());
     }
-    if count < bytes.len() {
+    if taken < bytes.len() {
         out.push_str("..")?;
         width = width.saturating_add(2);
     }
