@@ -6,7 +6,7 @@ Unlike the program it needs the whole input and the whole output in memory.
 from __future__ import annotations
 
 import argparse
-import errno
+import contextlib
 import os
 import re
 import signal
@@ -49,6 +49,10 @@ class Trouble(Exception):
 class Parser(argparse.ArgumentParser):
     def error(self, message: str) -> typing.NoReturn:
         raise Trouble(f"error: {message}\n\n{self.format_usage()}", USAGE)
+
+    def _print_message(self, message: str, file: typing.Any = None) -> None:
+        """Writes the help or the version, as any other output."""
+        write(message.encode())
 
 
 class Once(argparse.Action):
@@ -133,10 +137,14 @@ def read(name: str | None, side: str = "") -> bytearray:
     return data
 
 
-def write(data: bytes, file: int = 1) -> None:
+def write(data: bytes) -> None:
+    """Writes to standard output."""
     rest = memoryview(data)
-    while rest:
-        rest = rest[os.write(file, rest):]
+    try:
+        while rest:
+            rest = rest[os.write(1, rest):]
+    except OSError:
+        raise Trouble("cborn: write failed\n", FAILED) from None
 
 
 def told(line: str, status: int) -> tuple[bytes, int]:
@@ -181,10 +189,7 @@ def done(words: typing.Sequence[str]) -> int:
         raise Trouble("error: an argument is not UTF-8\n", USAGE)
     asked = parser().parse_args(words)
     output, status = answered(asked)
-    try:
-        write(output)
-    except OSError:
-        raise Trouble("cborn: write failed\n", FAILED) from None
+    write(output)
     return status
 
 
@@ -198,11 +203,8 @@ def main(words: typing.Sequence[str]) -> int:
         line, status = f"cborn: {side}{why}\n", REFUSED
     except MemoryError:
         line, status = "cborn: out of memory\n", FAILED
-    try:
-        write(line.encode("utf-8", "surrogateescape"), 2)
-    except OSError as why:
-        if why.errno == errno.EINTR:
-            raise
+    with contextlib.suppress(OSError):
+        os.write(2, line.encode("utf-8", "surrogateescape"))
     return status
 
 
