@@ -337,6 +337,16 @@ def nests():
                 yield f"{nest.name} of {depth}", lines
 
 
+def twice(depth):
+    """Maps whose keys are one nest of arrays, twice: refused, and explained by way of that nest. In bytes, and in notation."""
+    key, text = b"\x81" * (depth - 2) + b"\x80", "[" * (depth - 1) + "]" * (depth - 1)
+    faults = {"wire": (b"\xa2" + key + b"\x00" + key + b"\x00", len(key) + 2), "notation": (f"{{{text}:0,{text}:0}}".encode(), len(text) + 4)}
+    for kind, (data, place) in faults.items():
+        run = ("run", f"normalise nest --from {kind} --depth {depth}")
+        stderr = ("stderr", f"cborn: offset {place}: duplicate key")
+        yield f"keys of {depth}", [("case", "keys"), ("file", f"nest hex {data.hex()}"), run, stderr, ("status", "2")]
+
+
 class AsProgram:
     """`python -m cborn`, run as the program is."""
 
@@ -386,7 +396,7 @@ def tables_of_words(met, callers):
 
 def all_cases(folder):
     yield from ((table, case) for table, case in cases([]))
-    for name, lines in nests():
+    for name, lines in itertools.chain(nests(), *map(twice, (2, 128, 1024))):
         with tempfile.TemporaryDirectory(dir=folder) as place:
             yield name, Case(lines, place)
 
