@@ -56,7 +56,7 @@ enum { CBORN_USUAL_DEPTH = 128, CBORN_MOST_DEPTH = 1024 };
 enum {
     CBORN_OK = 0,            /* done; the same; deterministic */
     CBORN_TOO_SMALL = 1,     /* out is too small, and unchanged; told->length is the length needed */
-    CBORN_BAD_ARGUMENT = 2,  /* an invalid format, order or depth; *told and *place are unchanged */
+    CBORN_BAD_ARGUMENT = 2,  /* an invalid format, order, depth or number; *told and *place are unchanged */
     CBORN_OUT_OF_MEMORY = 3, /* malloc or realloc refused */
     CBORN_TOO_LONG = 4,      /* an input has more than 2^30 bytes */
     CBORN_DIFFERENT = 5      /* cborn_compare, cborn_same: the items differ; of cborn_compare, *place says where */
@@ -175,6 +175,22 @@ uint32_t cborn_same(uint32_t from_a, uint32_t from_b, uint64_t depth,
  * Returns CBORN_OK; CBORN_TOO_SMALL; or CBORN_BAD_ARGUMENT if no fault and no defect
  * has this number. At the latter two, out is unchanged. */
 uint32_t cborn_words(uint32_t number, char *out, size_t out_len);
+
+/* Writes an explanation of a fault or a defect to the start of out: lines of UTF-8
+ * that say where in the input it is, what stands there, and why. They are the lines
+ * that the program writes with --explain behind its first one, and docs/FORMATS.md
+ * says what is in them; there is no zero at their end. from and depth are those of
+ * the call that refused the input, number is what it returned, and place is the
+ * offset that it told. Of a fault of a second input, hand in that input: the number
+ * may have CBORN_OF_SECOND in it or not. A place beyond the end counts as the end.
+ * Returns CBORN_OK; CBORN_TOO_SMALL; CBORN_OUT_OF_MEMORY; or CBORN_BAD_ARGUMENT if
+ * no input of that format has a fault or a defect of this number (CBORN_TOO_LONG has
+ * no place, and no explanation), or the format or the depth is invalid. told->place
+ * is 0. It walks once over the input, up to the place. */
+uint32_t cborn_explain(uint32_t from, uint64_t depth,
+                       const uint8_t *input, size_t input_len,
+                       uint32_t number, uint64_t place,
+                       char *out, size_t out_len, cborn_told *told);
 
 #ifdef __cplusplus
 }

@@ -5,7 +5,7 @@ behaviour, and run it.
     examples.py FOLDER
 
 FOLDER has libcborn.a. Each prints what the page says below it, and what RFC 8949 makes of the input. With another input
-in the place of its own, a map with a duplicate key, each says the fault, and ends with status 2. A way that leaves
+in the place of its own, a map with a duplicate key, each says the fault or shows the map. A way that leaves
 memory behind, or reads past an end, ends with another status. $CC or cc is gcc or clang.
 """
 import itertools
@@ -20,10 +20,24 @@ TOP = pathlib.Path(__file__).resolve().parent.parent
 FLAGS = ["-std=c11", "-g", "-O1", "-Wall", "-Wextra", "-Werror", "-fsanitize=address,undefined", "-fno-sanitize-recover=all"]
 LOOSE, TWICE = "0x98, 0x02, 0x18, 0x01, 0x58, 0x01, 0x61", "0xa2, 0x01, 0x00, 0xc2, 0x41, 0x01, 0x00"
 FAULT = b"offset 3: duplicate key\n"
+LONG_HEAD = b"""\
+offset 0: long head
+  path  item 0
+  bytes >98< 02 18 01 58 01 61
+  why   the head 98 02 holds 2, and the shortest that does is 82
+"""
+KEY_TWICE = b"""\
+offset 3: duplicate key
+  path  item 0 {key #1}
+  bytes a2 01 00 >c2< 41 01 00
+  why   the key 2(h'01') is the same as the key at offset 1 of this map
+"""
+# what each writes and its status, for its own input and for the map; the duplicate key is a validity error, which notation shows
 WANTED = {
-    "A call": (bytes.fromhex("82014161"), FAULT),
-    "Notation": (b"[_0 1_0, h'61'_0]\n", None),
-    "The same items": (b"same\n", b"first: " + FAULT),
+    "A call": ((bytes.fromhex("82014161"), b"", 0), (b"", FAULT, 2)),
+    "Notation": ((b"[_0 1_0, h'61'_0]\n", b"", 0), (b"{1: 0, 2(h'01'): 0}\n", b"", 0)),
+    "The same items": ((b"same\n", b"", 0), (b"", b"first: " + FAULT, 2)),
+    "Explanations": ((LONG_HEAD, b"", 1), (KEY_TWICE, b"", 1)),
 }
 
 
@@ -48,15 +62,14 @@ def ran(text, build, folder):
 
 
 def wrong_of(heading, text, build, folder):
-    output, fault = WANTED[heading]
+    own, of_twice = WANTED[heading]
     outcome = ran(text, build, folder)
-    if outcome != (output, b"", 0):
+    if outcome != own:
         yield f"{heading}: {outcome}"
     if text.count(LOOSE) != 1:
         yield f"{heading}: the input isn't there to be changed"
     outcome = ran(text.replace(LOOSE, TWICE), build, folder)
-    # the duplicate key is a validity error, which notation shows
-    if outcome != ((b"", fault, 2) if fault else (b"{1: 0, 2(h'01'): 0}\n", b"", 0)):
+    if outcome != of_twice:
         yield f"{heading}, with a duplicate key: {outcome}"
 
 

@@ -5,6 +5,7 @@
        check ORDER DEPTH FILE
        compare FROM_A FROM_B DEPTH FILE FILE
        same FROM_A FROM_B DEPTH FILE FILE
+       explain FROM DEPTH NUMBER PLACE FILE
        words NUMBER
 
    Each gets a line 'CODE PLACE LENGTH', and then LENGTH bytes. What is tested: inputs and buffers end where memory
@@ -34,8 +35,8 @@ typedef struct {
 
 typedef struct {
     char name[16];
-    unsigned from, to, order;
-    unsigned long depth;
+    unsigned from, to, order, number;
+    unsigned long depth, place;
     input first, second;
 } call;
 
@@ -120,7 +121,7 @@ static input opened(const char *name)
 }
 
 static bool is_called(const call *asked, const char *name) { return strcmp(asked->name, name) == 0; }
-static bool has_output(const call *asked) { return is_called(asked, "normalise") || is_called(asked, "show"); }
+static bool has_output(const call *asked) { return is_called(asked, "normalise") || is_called(asked, "show") || is_called(asked, "explain"); }
 
 static answer answered(const call *asked, uint8_t *out, size_t room)
 {
@@ -130,6 +131,8 @@ static answer answered(const call *asked, uint8_t *out, size_t room)
         it.code = cborn_normalise(asked->from, asked->to, asked->order, asked->depth, a.bytes, a.length, out, room, &it.told);
     else if (is_called(asked, "show"))
         it.code = cborn_show(asked->from, asked->to, asked->depth, a.bytes, a.length, out, room, &it.told);
+    else if (is_called(asked, "explain"))
+        it.code = cborn_explain(asked->from, asked->depth, a.bytes, a.length, asked->number, asked->place, (char *)out, room, &it.told);
     else if (is_called(asked, "check"))
         it.code = cborn_check(asked->order, asked->depth, a.bytes, a.length, &it.told.place);
     else if (is_called(asked, "compare"))
@@ -367,6 +370,8 @@ static bool parsed(const char *line, call *asked, char *first, char *second)
         return sscanf(line, "%*s %u %u %lu %4095s", &asked->from, &asked->to, &asked->depth, first) == 4;
     if (is_called(asked, "check"))
         return sscanf(line, "%*s %u %lu %4095s", &asked->order, &asked->depth, first) == 3;
+    if (is_called(asked, "explain"))
+        return sscanf(line, "%*s %u %lu %u %lu %4095s", &asked->from, &asked->depth, &asked->number, &asked->place, first) == 5;
     return (is_called(asked, "compare") || is_called(asked, "same")) &&
            sscanf(line, "%*s %u %u %lu %4095s %4095s", &asked->from, &asked->to, &asked->depth, first, second) == 5;
 }

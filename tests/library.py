@@ -7,10 +7,12 @@ FOLDER has libcborn.a and python/cborn, the package. What the library answers is
 with what the table says and with what the program prints. Which number a fault has is held against the program's
 words, through those of include/cborn.h, docs/LIBRARY.md and the bindings; each number has to occur. Nests of arrays,
 maps and tags under the least, the usual and the largest limit are put through besides. `python -m cborn` does the
-command lines of the tables as the program does. library.c, which is compiled by $CC or cc, says what else is tested. Command lines that are no call (of files that fail, or of help) are counted.
+command lines of the tables as the program does, but for those with --explain. Of each input that is refused or isn't
+deterministic the explanation is what the program writes with --explain behind its first line. library.c, which is compiled by $CC or cc, says what else is tested. Command lines that are no call (of files that fail, or of help) are counted.
 """
 import argparse
 import collections
+import copy
 import itertools
 import mmap
 import os
@@ -68,6 +70,7 @@ def parser():
     words.add_argument("--to", choices=("wire", "notation"))
     words.add_argument("--order", choices=ORDERS, default="bytewise")
     words.add_argument("--depth", type=int, default=128)
+    words.add_argument("--explain", action="store_true")
     words.add_argument("files", nargs="*")
     return words
 
@@ -141,6 +144,14 @@ class InC:
         """What cborn_same answers where cborn_compare is asked for."""
         return self.line(line_of(asked, "same"))
 
+    def explained(self, asked, answer):
+        """What cborn_explain writes of the fault or the defect that was told."""
+        code, place, _ = answer
+        which = code // OF_SECOND
+        kind = KINDS[(asked.from_a, asked.from_b)[which] if asked.command == "compare" else asked.source]
+        answer = self.line(f"explain {kind} {asked.depth} {code} {place} {asked.files[which]}")
+        return answer[2] if answer[:2] == (0, 0) else answer
+
     def words(self, numbers):
         """The words of those of these numbers that have some."""
         told = {number: self.line(f"words {number}") for number in numbers}
@@ -183,6 +194,14 @@ class InPython:
         if asked.command == "check":
             return cborn.is_deterministic(inputs[0], ORDERS[asked.order], asked.depth)
         return cborn.same(*inputs, KINDS[asked.from_a], KINDS[asked.from_b], asked.depth)
+
+    def explained(self, asked, _):
+        """What the error or the defect says of itself."""
+        inputs = [mapped(path) for path in asked.files]
+        try:
+            return self.called(asked, inputs).explain(inputs[0], asked.depth).encode()
+        except self.cborn.CbornError as why:
+            return why.explain(inputs[why.input]).encode()
 
     def refused(self, call, asked, inputs):
         """What a call returns, and what it raises in the form of an answer, or None."""
@@ -233,6 +252,22 @@ def differences(case, asked, answer, words, program):
     yield from case.differences(outcome)
     if outcome != program:
         yield f"the program does otherwise: {program}"
+
+
+def unexplained(case, asked, answer, callers, program):
+    """What is wrong with what is said of an input that is refused, or isn't deterministic."""
+    code = answer[0]
+    if code % OF_SECOND < 0x100:
+        return
+    told = copy.copy(case)
+    told.words = [*(word for word in case.words if word != "--explain"), "--explain"]
+    lines = told.run(program).stderr
+    if code >> 8 != 6:
+        lines = lines.partition(b"\n")[2]
+    for name, caller in callers.items():
+        explained = caller.explained(asked, answer)
+        if explained != lines or not lines:
+            yield f"from {name} it is explained by {explained!r}, by the program by {lines!r}"
 
 
 # An input of nested items, and what RFC 8949 and docs/FORMATS.md make of it: the bytes that it spells, their deterministic
@@ -302,6 +337,16 @@ def nests():
                 yield f"{nest.name} of {depth}", lines
 
 
+def twice(depth):
+    """Maps whose keys are one nest of arrays, twice: refused, and explained by way of that nest. In bytes, and in notation."""
+    key, text = b"\x81" * (depth - 2) + b"\x80", "[" * (depth - 1) + "]" * (depth - 1)
+    faults = {"wire": (b"\xa2" + key + b"\x00" + key + b"\x00", len(key) + 2), "notation": (f"{{{text}:0,{text}:0}}".encode(), len(text) + 4)}
+    for kind, (data, place) in faults.items():
+        run = ("run", f"normalise nest --from {kind} --depth {depth}")
+        stderr = ("stderr", f"cborn: offset {place}: duplicate key")
+        yield f"keys of {depth}", [("case", "keys"), ("file", f"nest hex {data.hex()}"), run, stderr, ("status", "2")]
+
+
 class AsProgram:
     """`python -m cborn`, run as the program is."""
 
@@ -313,6 +358,8 @@ class AsProgram:
     def differences(self, case):
         """What is wrong with what it does. Its help, and what it says of a wrong command line, are its own."""
         outcome = case.run(self.path)
+        if "--explain" in case.words:
+            return
         is_own = case.status == 3 or any(it in case.words for it in ("--help", "-h"))
         if not is_own:
             yield from case.differences(outcome)
@@ -349,7 +396,7 @@ def tables_of_words(met, callers):
 
 def all_cases(folder):
     yield from ((table, case) for table, case in cases([]))
-    for name, lines in nests():
+    for name, lines in itertools.chain(nests(), *map(twice, (2, 128, 1024))):
         with tempfile.TemporaryDirectory(dir=folder) as place:
             yield name, Case(lines, place)
 
@@ -360,7 +407,7 @@ def main():
     with tempfile.TemporaryDirectory() as folder:
         callers = {"C": InC(folder, build), "Python": InPython(build)}
         as_program = AsProgram(folder, build)
-        passed = others = 0
+        passed = others = explained = 0
         for table, case in all_cases(folder):
             if table.endswith(".table"):
                 wrong += [f"{table}: {case.name}: python -m cborn: {line}" for line in as_program.differences(case)]
@@ -375,15 +422,18 @@ def main():
                 if name == "C" and asked.command == "compare" and caller.same(asked) != of_same(answer):
                     wrong.append(f"{table}: {case.name}: cborn_same answers {caller.same(asked)}, cborn_compare {answer}")
                 met.add(answer[0] % OF_SECOND)
-                wrong += [f"{table}: {case.name}: from {name}: {line}" for line in differences(case, asked, answer, words, done)]
+                if not asked.explain:
+                    wrong += [f"{table}: {case.name}: from {name}: {line}" for line in differences(case, asked, answer, words, done)]
+            wrong += [f"{table}: {case.name}: {line}" for line in unexplained(case, asked, answer, callers, program)]
+            explained += answer[0] % OF_SECOND >= 0x100
             passed += len(wrong) == before
         wrong += tables_of_words(met, callers)
         told = callers["C"].end()
     for line in wrong:
         print(line)
-    print(f"{passed} command lines passed through the library, {others} are no call; {told}")
+    print(f"{passed} command lines passed through the library, {others} are no call, {explained} were explained; {told}")
     print(f"{len(wrong)} failed")
-    return 1 if wrong or not passed else 0
+    return 1 if wrong or not passed or not explained else 0
 
 
 if __name__ == "__main__":

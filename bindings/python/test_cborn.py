@@ -24,6 +24,13 @@ import cborn
 LOOSE = bytes.fromhex("98021801580161")
 TIGHT = bytes.fromhex("82014161")
 TWICE = bytes.fromhex("a20100c2410100")
+FLOAT = bytes.fromhex("8201f93c00")
+# of docs/FORMATS.md
+OF_FLOAT = """\
+  path  item 0 [1]
+  bytes 82 01 >f9< 3c 00
+  why   a float of 16 bits begins here, and floats are left out
+"""
 
 
 class Calls(unittest.TestCase):
@@ -207,6 +214,60 @@ class Errors(unittest.TestCase):
             cborn.compare(TWICE, b"\xff")
         self.assertEqual((caught.exception.input, caught.exception.number), (0, 0x503))
 
+    def test_an_error_explains_itself(self):
+        with self.assertRaises(cborn.CbornError) as caught:
+            cborn.normalise(FLOAT)
+        self.assertEqual(caught.exception.explain(FLOAT), OF_FLOAT)
+        # the input may be of any class that lends its bytes, and the exception may have come from elsewhere
+        again = pickle.loads(pickle.dumps(caught.exception))
+        self.assertEqual(again.explain(memoryview(bytearray(FLOAT))), OF_FLOAT)
+
+    def test_an_error_keeps_format_and_depth_for_its_explanation(self):
+        with self.assertRaises(cborn.CbornError) as caught:
+            cborn.show(b"1, # one\nh'0g'", source=cborn.Kind.NOTATION_2)
+        why = caught.exception
+        self.assertIs(why.source, cborn.Kind.NOTATION_2)
+        self.assertEqual(why.explain(b"1, # one\nh'0g'").splitlines()[:2], ["  path  item 1", "  line  2:4"])
+        with self.assertRaises(cborn.CbornError) as caught:
+            cborn.normalise(b"\x81\x81\x80", depth=2)
+        self.assertEqual((caught.exception.depth, caught.exception.source), (2, cborn.Kind.WIRE))
+        self.assertIn("2", caught.exception.explain(b"\x81\x81\x80").splitlines()[2])
+
+    def test_the_second_input_is_explained_in_its_own_format(self):
+        for call in (cborn.compare, cborn.same):
+            with self.assertRaises(cborn.CbornError) as caught:
+                call(b"1", TWICE, source_a=cborn.Kind.NOTATION)
+            why = caught.exception
+            self.assertEqual((why.input, why.source), (1, cborn.Kind.WIRE))
+            self.assertEqual(why.explain(TWICE).splitlines()[0], "  path  item 0 {key #1}")
+            with self.assertRaises(cborn.CbornError) as caught:
+                call(b"[1, 007]", TWICE, source_a=cborn.Kind.NOTATION)
+            self.assertEqual(caught.exception.explain(b"[1, 007]").splitlines()[0], "  path  item 0 [1]")
+
+    def test_a_defect_explains_itself(self):
+        data = b"\x81\x18\x01"
+        lines = cborn.check(data).explain(data).splitlines()
+        self.assertEqual(lines[:2], ["  path  item 0 [0]", "  bytes 81 >18< 01"])
+        self.assertRaises(ValueError, cborn.check(data).explain, data, depth=1025)
+
+    def test_an_explanation_that_is_long(self):
+        # longer than what is kept on the stack: a path of tags that all differ
+        data = b"".join(b"\xd9" + (256 + n).to_bytes(2, "big") for n in range(300)) + b"\xf9\x3c\x00"
+        with self.assertRaises(cborn.CbornError) as caught:
+            cborn.show(data, depth=400)
+        path = caught.exception.explain(data).splitlines()[0]
+        self.assertEqual(path, "  path  item 0 " + " ".join(f"{256 + n}()" for n in range(300)))
+
+    def test_what_has_no_explanation(self):
+        self.assertEqual(cborn.CbornError(cborn.Reason.INPUT_TOO_LONG.number, None).explain(b""), "")
+        of_text = cborn.CbornError(cborn.Reason.TEXT_BAD_HEX.number, 0)
+        self.assertRaisesRegex(ValueError, "no input of this format", of_text.explain, b"h'0'")
+        of_float = cborn.CbornError(cborn.Reason.FLOAT_LEFT_OUT.number, 2)
+        self.assertRaises(TypeError, of_float.explain, "8201f93c00")
+        # a place behind the end is the end
+        truncated = cborn.CbornError(cborn.Reason.TRUNCATED.number, 2**64 - 1)
+        self.assertEqual(truncated.explain(b"\x81").splitlines()[:2], ["  path  item 0 [0]", "  bytes 81 ><"])
+
     def test_numbers_that_stand_for_nothing(self):
         # 2**64 + 1 and 2**32 would be 1 and 0, if they were cut to what C takes
         for depth in (0, 1025, -1, 2**64 + 1):
@@ -270,7 +331,7 @@ class Types(unittest.TestCase):
         self.assertEqual(self.errors(str(pathlib.Path(cborn.__file__).parent)), [])
 
     def test_calls(self):
-        right = "a: bool = cborn.same(b'', bytearray(), source_b=cborn.Kind.NOTATION)\nb: bytes = cborn.normalise(memoryview(b''))\n"
+        right = "a: bool = cborn.same(b'', bytearray(), source_b=cborn.Kind.NOTATION)\nb: bytes = cborn.normalise(memoryview(b''))\nd: str = cborn.CbornError(1, 0).explain(b'')\n"
         wrong = "cborn.normalise('82')\ncborn.show(b'', 'notation')\ncborn.check(b'', cborn.Kind.WIRE)\nc: bool = cborn.compare(b'', b'')\n"
         with tempfile.TemporaryDirectory() as folder:
             path = pathlib.Path(folder, "calls.py")

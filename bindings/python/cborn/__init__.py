@@ -22,7 +22,7 @@ while they work on 4,096 bytes or more. Nothing may write to an input meanwhile.
 a thread needs for it. With less, deeply nested input can overflow the stack and crash the process.
 
 A fault is why an input is refused: it is malformed, or has a validity error. A defect is why a valid input isn't in the
-deterministic encoding. `Reason` names both.
+deterministic encoding. `Reason` names both, and the method `explain` of an error and of a defect says where and why.
 
 Each call raises TypeError for an input that is no buffer, and for a value that is no member of `Kind` or `Order`, and
 ValueError for a number that none of them has, and for a depth that is too small or too large.
@@ -37,6 +37,9 @@ import typing
 
 from . import _cborn
 from ._cborn import check, compare, is_deterministic, normalise, same, show, spell
+
+if typing.TYPE_CHECKING:
+    from _typeshed import ReadableBuffer
 
 __all__ = [
     "CbornError",
@@ -169,25 +172,56 @@ class CbornError(ValueError):
 
     `reason` says why. `place` is the offset of the fault, in bytes from the start of the input, and None if the input
     is too long. `number` is the number of the reason. `input` is 1 if `compare` or `same` means its second input,
-    else 0.
+    else 0. `source` and `depth` are the format of that input and the maximum nesting depth that it was read with.
+    `explain` says where and why in lines for people.
     """
 
     number: int
     place: int | None
     input: int
     reason: Reason
+    source: Kind
+    depth: int
 
-    def __init__(self, number: int, place: int | None, input: int = 0) -> None:
-        super().__init__(number, place, input)
+    def __init__(
+        self, number: int, place: int | None, input: int = 0, source: Kind = Kind.WIRE, depth: int = 128
+    ) -> None:
+        super().__init__(number, place, input, source, depth)
         self.number = number
         self.place = place
         self.input = input
         self.reason = Reason(number)
+        self.source = source
+        self.depth = depth
 
     def __str__(self) -> str:
         side = "second: " if self.input else ""
         where = "" if self.place is None else f"offset {self.place}: "
         return f"{side}{where}{self.reason}"
+
+    def explain(self, data: ReadableBuffer) -> str:
+        """Return lines that say where in `data` the fault is, what stands there, and why.
+
+        `data` is the input that was refused: of `compare` and `same` the one that `input` means. The lines are those
+        that the program writes with --explain behind its first one; docs/FORMATS.md says what is in them. There are
+        none where the input is too long.
+
+            >>> import cborn
+            >>> data = bytes.fromhex("8201f93c00")
+            >>> try:
+            ...     cborn.normalise(data)
+            ... except cborn.CbornError as why:
+            ...     print(why)
+            ...     print(why.explain(data), end="")
+            offset 2: float left out
+              path  item 0 [1]
+              bytes 82 01 >f9< 3c 00
+              why   a float of 16 bits begins here, and floats are left out
+
+        Raises TypeError where `data` is no buffer, ValueError where no input of the format `source` is refused for this
+        reason, and MemoryError.
+        """
+        return "" if self.place is None else _cborn.explain(data, self.number, self.place, self.source, self.depth)
 
 
 class Defect(typing.NamedTuple):
@@ -198,14 +232,26 @@ class Defect(typing.NamedTuple):
     reason: Reason
     """What it is."""
 
+    def explain(self, data: ReadableBuffer, depth: int = 128) -> str:
+        """Return lines that say where in `data`, the input that was checked, the defect is, and why it is one.
+
+        `depth` is that of the check. The rest is as for `CbornError.explain`.
+
+            >>> import cborn
+            >>> print(cborn.check(b"\\x18\\x01").explain(b"\\x18\\x01").splitlines()[1])
+              bytes >18< 01
+        """
+        return _cborn.explain(data, self.reason.number, self.place, Kind.WIRE, depth)
+
 
 _OF_SECOND = 0x10000
 
 
-def _fault(code: int, place: int) -> CbornError:
-    """What is raised for a number that a call answered."""
+def _fault(code: int, place: int, source: int, depth: int) -> CbornError:
+    """What is raised for a number that a call answered, of an input of this format, read with this maximum depth."""
     which, number = divmod(code, _OF_SECOND)
-    return CbornError(number, None if number == Reason.INPUT_TOO_LONG.number else place, which)
+    where = None if number == Reason.INPUT_TOO_LONG.number else place
+    return CbornError(number, where, which, Kind(source), depth)
 
 
 # by the number, which is quicker than Reason(number)

@@ -56,13 +56,15 @@ typedef struct {
     lent_buffer lent; /* obj is NULL where nothing has to be given back */
 } input;
 
-/* The numbers of a call, which begin as the defaults. */
+/* The numbers of a call, which begin as the defaults; number and place are those of what is to be explained. */
 typedef struct {
     uint32_t from, to, order;
     uint64_t depth;
+    uint32_t number;
+    uint64_t place;
 } options;
 
-static const options usual = {CBORN_WIRE, CBORN_WIRE, CBORN_BYTEWISE, CBORN_USUAL_DEPTH};
+static const options usual = {CBORN_WIRE, CBORN_WIRE, CBORN_BYTEWISE, CBORN_USUAL_DEPTH, 0, 0};
 
 static int place_of_argument(const signature *of, PyObject *name)
 {
@@ -182,24 +184,28 @@ static int is_depth(PyObject *value, uint64_t *depth)
     return 1;
 }
 
-/* What __init__.py makes of a number and a place. */
-static PyObject *made_of(PyObject *maker, uint32_t code, uint64_t place)
+static PyObject *not_begun(void)
 {
-    if (maker != NULL)
-        return PyObject_CallFunction(maker, "IK", code, (unsigned long long)place);
     PyErr_SetString(PyExc_SystemError, "begin() was not called");
     return NULL;
 }
 
-/* Raises what a number stands for that is no answer. */
-static PyObject *raised(PyObject *module, uint32_t code, uint64_t place)
+/* Raises what a number stands for that is no answer. The exception keeps the input's format and the depth. */
+static PyObject *raised(PyObject *module, uint32_t code, uint64_t place, uint32_t from, uint64_t depth)
 {
     classes *known = PyModule_GetState(module);
     if (code == CBORN_OUT_OF_MEMORY) {
         PyErr_SetString(PyExc_MemoryError, "cborn: out of memory");
         return NULL;
     }
-    PyObject *why = made_of(known->fault, code, place);
+    if (code == CBORN_BAD_ARGUMENT) {
+        /* of explain alone: the other calls are handed nothing that is invalid */
+        PyErr_SetString(PyExc_ValueError, "no input of this format is refused for this reason");
+        return NULL;
+    }
+    if (known->fault == NULL)
+        return not_begun();
+    PyObject *why = PyObject_CallFunction(known->fault, "IKIK", code, (unsigned long long)place, from, (unsigned long long)depth);
     if (why != NULL) {
         PyErr_SetObject((PyObject *)Py_TYPE(why), why);
         Py_DECREF(why);
@@ -262,22 +268,23 @@ static PyObject *long_answer(PyObject *module, writer *call, const options *how,
     }
     if (code == CBORN_OK && !is_text && told.length == room)
         return out;
-    PyObject *answer = code == CBORN_OK ? made(is_text, PyBytes_AsString(out), told.length) : raised(module, code, told.place);
+    PyObject *answer = code == CBORN_OK ? made(is_text, PyBytes_AsString(out), told.length)
+                                        : raised(module, code, told.place, how->from, how->depth);
     Py_DECREF(out);
     return answer;
 }
 
-static PyObject *answered(PyObject *module, writer *call, const options *how, const input *from, int is_text)
+/* `room` is a guess at the length of the answer. */
+static PyObject *answered(PyObject *module, writer *call, const options *how, const input *from, int is_text, size_t room)
 {
     uint8_t out[SMALL];
-    size_t room = room_for(how, from);
     if (room > sizeof out)
         return long_answer(module, call, how, from, is_text, room);
     cborn_told told = {0, 0};
     uint32_t code = written(call, how, from, out, sizeof out, &told);
     if (code == CBORN_TOO_SMALL)
         return long_answer(module, call, how, from, is_text, (size_t)told.length);
-    return code == CBORN_OK ? made(is_text, (const char *)out, told.length) : raised(module, code, told.place);
+    return code == CBORN_OK ? made(is_text, (const char *)out, told.length) : raised(module, code, told.place, how->from, how->depth);
 }
 
 #define DOCUMENTED(name, arguments, text) static const char name##_doc[] = #name arguments "\n--\n\n" text
@@ -296,7 +303,7 @@ static PyObject *normalise(PyObject *module, PyObject *const *given, Py_ssize_t 
         !is_kind(module, of[2], "to", &how.to) || !is_order(module, of[3], &how.order) || !is_depth(of[4], &how.depth) ||
         !is_lent(of[0], "data", &from))
         return NULL;
-    PyObject *out = answered(module, normalise_into, &how, &from, 0);
+    PyObject *out = answered(module, normalise_into, &how, &from, 0, room_for(&how, &from));
     give_back(&from);
     return out;
 }
@@ -309,7 +316,7 @@ static PyObject *shown(PyObject *module, const signature *called, options how, P
     if (!are_bound(called, given, count, keywords, of) || !is_kind(module, of[1], "source", &how.from) ||
         !is_depth(of[2], &how.depth) || !is_lent(of[0], "data", &from))
         return NULL;
-    PyObject *out = answered(module, show_into, &how, &from, how.to == CBORN_NOTATION);
+    PyObject *out = answered(module, show_into, &how, &from, how.to == CBORN_NOTATION, room_for(&how, &from));
     give_back(&from);
     return out;
 }
@@ -358,7 +365,7 @@ static int is_checked(PyObject *module, const signature *called, PyObject *const
     give_back(&from);
     if (*code == CBORN_OK || *code >> 8 == CBORN_DEFECT_LONG_HEAD >> 8)
         return 1;
-    raised(module, *code, *place);
+    raised(module, *code, *place, how.from, how.depth);
     return 0;
 }
 
@@ -377,7 +384,9 @@ static PyObject *check(PyObject *module, PyObject *const *given, Py_ssize_t coun
         return NULL;
     if (code == CBORN_OK)
         Py_RETURN_NONE;
-    return made_of(known->defect, code, place);
+    if (known->defect == NULL)
+        return not_begun();
+    return PyObject_CallFunction(known->defect, "IK", code, (unsigned long long)place);
 }
 
 DOCUMENTED(is_deterministic, "($module, data, order=Order.BYTEWISE, depth=128)",
@@ -429,7 +438,7 @@ static int are_compared(PyObject *module, const signature *called, comparer *cal
     give_back(&a);
     if (*code == CBORN_OK || *code == CBORN_DIFFERENT)
         return 1;
-    raised(module, *code, *place);
+    raised(module, *code, *place, *code < CBORN_OF_SECOND ? how.from : how.to, how.depth);
     return 0;
 }
 
@@ -462,6 +471,36 @@ static PyObject *same(PyObject *module, PyObject *const *given, Py_ssize_t count
     if (!are_compared(module, &of_same, cborn_same, given, count, keywords, &code, &place))
         return NULL;
     return PyBool_FromLong(code == CBORN_OK);
+}
+
+static uint32_t explain_into(const options *how, const input *from, uint8_t *out, size_t room, cborn_told *told)
+{
+    return cborn_explain(how->from, how->depth, from->bytes, from->length, how->number, how->place, (char *)out, room, told);
+}
+
+/* explain(data, number, place, source, depth) -> str */
+static const signature of_explain = {"explain", 5, 5, {"data", "number", "place", "source", "depth"}};
+
+static PyObject *explain(PyObject *module, PyObject *const *given, Py_ssize_t count, PyObject *keywords)
+{
+    PyObject *of[MOST_ARGUMENTS];
+    options how = usual;
+    input from;
+    if (!are_bound(&of_explain, given, count, keywords, of) || !is_kind(module, of[3], "source", &how.from) ||
+        !is_depth(of[4], &how.depth))
+        return NULL;
+    unsigned long number = PyLong_AsUnsignedLong(of[1]);
+    if (PyErr_Occurred())
+        return NULL;
+    how.place = PyLong_AsUnsignedLongLong(of[2]);
+    if (PyErr_Occurred())
+        return NULL;
+    how.number = number > UINT32_MAX ? 0 : (uint32_t)number;
+    if (!is_lent(of[0], "data", &from))
+        return NULL;
+    PyObject *out = answered(module, explain_into, &how, &from, 1, SMALL);
+    give_back(&from);
+    return out;
 }
 
 /* words(number) -> str */
@@ -503,6 +542,7 @@ static PyObject *begin(PyObject *module, PyObject *given)
 static PyMethodDef methods[] = {
     PUBLIC(normalise), PUBLIC(show), PUBLIC(spell), PUBLIC(check), PUBLIC(is_deterministic), PUBLIC(compare), PUBLIC(same),
     {"begin", begin, METH_VARARGS, NULL},
+    {"explain", (PyCFunction)(void (*)(void))explain, METH_FASTCALL | METH_KEYWORDS, NULL},
     {"words", words, METH_O, NULL},
     {"version", version, METH_NOARGS, NULL},
     {NULL, NULL, 0, NULL},

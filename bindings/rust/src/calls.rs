@@ -4,6 +4,8 @@
 //! `&` and `&mut` don't overlap, and nobody writes to what they lend; stack is what `Depth::stack` tells.
 
 use crate::faults::Fault;
+use crate::reasons::Reason;
+use crate::{Depth, Kind};
 
 /// What a call tells beside the number that it answers.
 #[repr(C)]
@@ -22,6 +24,10 @@ extern "C" {
     ) -> u32;
     pub fn cborn_show(
         from: u32, to: u32, depth: u64, input: *const u8, input_len: usize,
+        out: *mut u8, out_len: usize, told: *mut Told,
+    ) -> u32;
+    pub fn cborn_explain(
+        from: u32, depth: u64, input: *const u8, input_len: usize, number: u32, place: u64,
         out: *mut u8, out_len: usize, told: *mut Told,
     ) -> u32;
     pub fn cborn_check(order: u32, depth: u64, input: *const u8, input_len: usize, place: *mut u64) -> u32;
@@ -59,4 +65,13 @@ pub fn filled(room: usize, call: impl Fn(*mut u8, usize, &mut Told) -> u32) -> R
             code => return Err(Fault::new(code, told.place)),
         }
     }
+}
+
+/// The explanation of a fault or a defect, if an input of this format has such a one, and memory for it is there.
+pub fn explained(input: &[u8], from: Kind, depth: Depth, reason: Reason, place: u64) -> Option<String> {
+    let lines = filled(512, |out, room, told| unsafe {
+        // SAFETY: as above
+        cborn_explain(from as u32, depth.0, input.as_ptr(), input.len(), reason.number(), place, out, room, told)
+    });
+    String::from_utf8(lines.ok()?).ok()
 }

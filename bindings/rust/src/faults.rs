@@ -1,6 +1,8 @@
 //! Why a call gives no answer.
 
+use crate::calls::explained;
 use crate::reasons::Reason;
+use crate::{Depth, Kind};
 use std::fmt;
 
 /// Why a call gives no answer.
@@ -26,6 +28,27 @@ impl Fault {
             3 => Fault::OutOfMemory,
             4 => Fault::TooLong,
             number => Fault::Refused { reason: Reason::new(number), place },
+        }
+    }
+
+    /// Lines that say where in the input the fault is, what stands there, and why, as the program writes them with
+    /// `--explain`. `input` is the input that was refused, `from` its format and `depth` the limit that it was read with.
+    ///
+    /// None where the fault is none of the input's content, where no input of that format is refused so, and where memory
+    /// is refused.
+    ///
+    /// ```
+    /// use cborn::{normalise, Options};
+    /// let float = [0x82, 0x01, 0xf9, 0x3c, 0x00];
+    /// let options = Options::default();
+    /// let why = normalise(&float, options).unwrap_err();
+    /// let lines = why.explain(&float, options.from, options.depth).unwrap();
+    /// assert!(lines.starts_with("  path  item 0 [1]\n  bytes 82 01 >f9< 3c 00\n"));
+    /// ```
+    pub fn explain(self, input: &[u8], from: Kind, depth: Depth) -> Option<String> {
+        match self {
+            Fault::Refused { reason, place } => explained(input, from, depth, reason, place),
+            Fault::TooLong | Fault::OutOfMemory => None,
         }
     }
 }
@@ -83,6 +106,14 @@ pub struct Defect {
     pub place: u64,
     /// What it is.
     pub reason: Reason,
+}
+
+impl Defect {
+    /// Lines that say where in the input the defect is, what stands there, and why it is one. `input` is the input that was
+    /// checked, and `depth` the limit that it was read with. None where memory is refused.
+    pub fn explain(self, input: &[u8], depth: Depth) -> Option<String> {
+        explained(input, Kind::Wire, depth, self.reason, self.place)
+    }
 }
 
 impl fmt::Display for Defect {

@@ -86,6 +86,25 @@ fn a_fault_has_a_reason_and_a_place() {
 }
 
 #[test]
+fn a_fault_explains_itself() {
+    let depth = Depth::default();
+    let why = normalise(&TWICE, Options::default()).unwrap_err();
+    let lines = why.explain(&TWICE, Kind::Wire, depth).unwrap();
+    assert!(lines.starts_with("  path  item 0 {key #1}\n  bytes a2 01 00 >c2< 41 01 00\n  why   "), "{lines}");
+    let text = b"1, # one\nh'0g'";
+    let why = show(text, Kind::Notation2, Kind::Wire, depth).unwrap_err();
+    let lines = why.explain(text, Kind::Notation2, depth).unwrap();
+    assert!(lines.starts_with("  path  item 1\n  line  2:4\n"), "{lines}");
+    // no input of bytes has a bad digit, and a length is no place
+    assert_eq!(why.explain(text, Kind::Wire, depth), None);
+    assert_eq!(Fault::TooLong.explain(text, Kind::Wire, depth), None);
+    let loose = [0x81, 0x18, 1];
+    let defect = check(&loose, Order::Bytewise, depth).unwrap().unwrap();
+    let lines = defect.explain(&loose, depth).unwrap();
+    assert!(lines.starts_with("  path  item 0 [0]\n  bytes 81 >18< 01\n"), "{lines}");
+}
+
+#[test]
 fn limits_are_from_1_to_1024() {
     assert!(Depth::new(0).is_none() && Depth::new(1025).is_none());
     assert!(Depth::new(1).unwrap().stack() < Depth::new(1024).unwrap().stack());

@@ -1,15 +1,22 @@
 -- What a call from C answers.
 use Rattle.std.specs.Prelude.{◌≡◌, ℕ, ◌<◌, ◌≤◌, ◌⊎◌, ◌+◌, ◌∷◌, ◌++◌, [], Bool, true, false, List, length, drop, Option, None, Some, Result, Ok, Err}
 use Rattle.std.specs.declared.cmp.Ordering.{Ordering}
+use Rattle.std.specs.declared.alloc.AllocError.{AllocError}
+use Rattle.std.specs.declared.string.String.{String}
+use Rattle.std.specs.Global.{Global}
+use Rattle.std.specs.String.{string_bytes}
 use Rattle.cborn_judge.specs.declared.defects.Defect.{Defect}
 use Rattle.cborn_judge.specs.declared.defects.DefectReason.{DefectReason}
+use Rattle.cborn_explain.specs.declared.reasons.BytesReason.{BytesReason}
+use Rattle.cborn_explain.specs.declared.reasons.TextReason.{TextReason}
 use Rattle.cborn_engine.specs.declared.faults.CompareFault.{CompareFault}
 use Rattle.cborn_engine.specs.declared.faults.CompareFault.TheVariants as compared
 use Rattle.cborn_engine.specs.declared.faults.EngineFault.{EngineFault}
 use Rattle.cborn_engine.specs.declared.kinds.Kind.{Kind}
+use Rattle.cborn_engine.specs.declared.kinds.Kind.TheVariants as kind
 use Rattle.cborn_c.specs.declared.numbers.KeyOrdering.{KeyOrdering}
 use Rattle.cborn_c.specs.declared.answers.CbornTold.{CbornTold}
-use Rattle.cborn_c.specs.Numbers.{order_of, fault_number, fault_place, defect_number}
+use Rattle.cborn_c.specs.Numbers.{order_of, fault_number, fault_place, defect_number, TellsOfBytes, text_number}
 use Rattle.cborn_c.specs.Answers.{Normalised, Shown, Checked, Compared, Matched}
 
 -- the buffer begins with the answer, and is as it was behind that; or it is too small for the answer, and is as it was
@@ -126,3 +133,34 @@ pub record WordsPut (before after : List ℕ) (code : ℕ) : Type 0 where
 
 abbrev pub WordsCall : ℕ → List ℕ → List ℕ → ℕ → Type 0
 WordsCall number before after code = (HasWords number → WordsPut before after code) × ((HasWords number → ⊥) → (code ≡ 2) × (after ≡ before))
+
+-- the number of a fault of the content of an input of this kind
+abbrev pub IsFaultOf : Kind → ℕ → Type 0
+IsFaultOf kind.Wire number = (reason : BytesReason) × TellsOfBytes reason number
+IsFaultOf kind.Notation number = (reason : TextReason) × (text_number reason ≡ number)
+IsFaultOf kind.Notation2 number = (reason : TextReason) × (text_number reason ≡ number)
+
+-- the number of a defect, which bytes alone have
+abbrev pub IsDefectOf : Kind → ℕ → Type 0
+IsDefectOf kind.Wire number = (reason : DefectReason) × (defect_number reason ≡ number)
+IsDefectOf kind.Notation number = ⊥
+IsDefectOf kind.Notation2 number = ⊥
+
+-- also as the fault of a second input, which has 65,536 more
+abbrev pub IsExplained : Kind → ℕ → Type 0
+IsExplained k number = IsFaultOf k number ⊎ ((fault : ℕ) × (fault + 65536 ≡ number) × IsFaultOf k fault) ⊎ IsDefectOf k number
+
+-- a text was put into the buffer and its length told, or memory was refused and the buffer is as it was
+abbrev pub TextTold : Result (String Global) AllocError → List ℕ → List ℕ → CbornTold → ℕ → Type 0
+TextTold (Ok text) before after told code = IsPut (string_bytes text) before after code × (told.length ≡ length (string_bytes text)) × (told.place ≡ 0)
+TextTold (Err why) before after told code = (code ≡ 3) × (told.place ≡ 0) × (told.length ≡ 0) × (after ≡ before)
+
+-- No clause says which text.
+pub record ExplainsInto (before after : List ℕ) (told : CbornTold) (code : ℕ) : Type 0 where
+  pub answer : Result (String Global) AllocError
+  pub put : TextTold answer before after told code
+
+abbrev pub ExplainCall : Option Kind → ℕ → ℕ → List ℕ → List ℕ → CbornTold → CbornTold → ℕ → Type 0
+ExplainCall (Some k) limit number before after untold told code =
+    (IsDepth limit → IsExplained k number → ExplainsInto before after told code) × ((IsDepth limit × IsExplained k number → ⊥) → IsBad before after untold told code)
+ExplainCall None limit number before after untold told code = IsBad before after untold told code

@@ -1,5 +1,5 @@
 -- The numbers by which C names a kind, an order and a fault. That of a fault is 256 times its class, and its reason: classes are 1 bytes, 2 tokens, 3 notation, 4 texts that aren't UTF-8, 5 items that aren't valid, 6 defects.
-use Rattle.std.specs.Prelude.{ℕ, zero, suc, List, Option, None, Some}
+use Rattle.std.specs.Prelude.{◌≡◌, ◌⊎◌, ℕ, zero, suc, List, Option, None, Some}
 use Rattle.std.specs.declared.cmp.Ordering.{Ordering}
 use Rattle.cborn_model.specs.Orders.{bytewise, length_first}
 use Rattle.cborn_wire.specs.declared.faults.WireReason.{WireReason}
@@ -17,6 +17,10 @@ use Rattle.cborn_judge.specs.declared.faults.InvalidReason.TheVariants as invali
 use Rattle.cborn_judge.specs.declared.faults.Invalid.TheVariants as invalid_fault
 use Rattle.cborn_judge.specs.declared.defects.DefectReason.{DefectReason}
 use Rattle.cborn_judge.specs.declared.defects.DefectReason.TheVariants as defect
+use Rattle.cborn_explain.specs.declared.reasons.BytesReason.{BytesReason}
+use Rattle.cborn_explain.specs.declared.reasons.BytesReason.TheVariants as bytes
+use Rattle.cborn_explain.specs.declared.reasons.TextReason.{TextReason}
+use Rattle.cborn_explain.specs.declared.reasons.TextReason.TheVariants as text
 use Rattle.cborn_engine.specs.declared.faults.EngineFault.{EngineFault}
 use Rattle.cborn_engine.specs.declared.faults.EngineFault.TheVariants as fault
 use Rattle.cborn_engine.specs.declared.kinds.Kind.{Kind}
@@ -84,6 +88,21 @@ defect_number defect.LongHead = 1537
 defect_number defect.EndlessLength = 1538
 defect_number defect.LooseBignum = 1539
 defect_number defect.KeyOrder = 1540
+
+-- A fault of bytes, and its number; a text string that can't be shown has one of its own. A defect is no fault.
+abbrev pub TellsOfBytes : BytesReason → ℕ → Type 0
+TellsOfBytes (bytes.Malformed r) number = wire_number r ≡ number
+TellsOfBytes (bytes.Invalid invalid.NotUtf8) number = (number ≡ 1281) ⊎ (number ≡ 1026)
+TellsOfBytes (bytes.Invalid invalid.BadBignum) number = number ≡ 1282
+TellsOfBytes (bytes.Invalid invalid.DuplicateKey) number = number ≡ 1283
+TellsOfBytes (bytes.Defect r) number = ⊥
+
+-- of a text
+abbrev pub text_number : TextReason → ℕ
+text_number text.NotUtf8 = 1025
+text_number (text.Token r) = lex_number r
+text_number (text.Notation r) = edn_number r
+text_number (text.Invalid r) = invalid_number r
 
 -- 3: memory was refused. Of an input that is at hand no read fails, and nothing goes to a writer, so that 3 stands there too.
 abbrev pub fault_number : EngineFault → ℕ

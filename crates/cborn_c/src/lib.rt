@@ -8,20 +8,22 @@
 #![tactic(auto)]
 
 mod answers;
+mod explanations;
 mod inputs;
 mod numbers;
 mod words;
 
 ghost use Rattle.std.specs.Prelude.{◌≡◌, ◌≢◌, ◌≤◌, ◌+◌, ◌/◌, length};
 ghost use Rattle.cborn_c.specs.Numbers.{numbered_kind, numbered_order};
-ghost use Rattle.cborn_c.specs.Calls.{NormaliseCall, ShowCall, CheckCall, CompareCall, SameCall, WordsCall};
+ghost use Rattle.cborn_c.specs.Calls.{NormaliseCall, ShowCall, CheckCall, CompareCall, SameCall, WordsCall, ExplainCall};
 
 use answers::{CbornTold, defect_told, difference_told, put, same_told};
 use cborn_model::{Bytewise, LengthFirst, Limit};
+use explanations::{explained, put_text};
 use inputs::{checked, compared, matched, normalised, shown};
-use numbers::{BAD_ARGUMENT, KeyOrdering, OF_SECOND, kind_at, order_at};
+use numbers::{BAD_ARGUMENT, KeyOrdering, kind_at, order_at};
 use std::alloc::Global;
-use words::{defect_at, fault_at, put_words};
+use words::{defect_at, fault_at, of_first, put_words};
 
 /// Writes the canonical form of the items that `input` holds to the front of `out`: their
 /// deterministic encodings (RFC 8949 section 4.2), or the fixed notation of these. `depth` is how
@@ -199,15 +201,45 @@ pub extern "C" fn cborn_words(number: u32, out: &mut [u8]) -> u32
     if let Some(reason) = defect_at(number) {
         return put_words(&reason, out);
     }
-    let of_first = if number > OF_SECOND {
-        number - OF_SECOND
-    } else {
-        number
-    };
-    match fault_at(of_first) {
+    match fault_at(of_first(number)) {
         Some(why) => put_words(&why, out),
         None => BAD_ARGUMENT,
     }
+}
+
+/// Writes an explanation of a fault or a defect to the front of `out`, in UTF-8: the lines that the
+/// program writes behind its first one with `--explain`. They say where in `input`, what stands
+/// there, and why. `number` and `place` are what another call told of this input, under the same
+/// limit; the number may be that of a second input's fault. A place beyond the end counts as the
+/// end. `told` gets the length of the explanation in bytes, and the place 0.
+///
+/// # Errors
+/// `TOO_SMALL` where the explanation is longer than `out`, and its length is told. `BAD_ARGUMENT`
+/// where `from` or `depth` stands for nothing, or no input of that kind has a fault or a defect of
+/// this number; then `told` is as it was. `OUT_OF_MEMORY`. At each of these `out` is as it was.
+#[unsafe(no_mangle)]
+pub extern "C" fn cborn_explain(
+    alloc: Global,
+    from: u32,
+    depth: u64,
+    input: &[u8],
+    number: u32,
+    place: u64,
+    out: &mut [u8],
+    told: &mut CbornTold,
+) -> u32
+    ensures { ExplainCall (numbered_kind from) depth number out.old out.new told.old told.new result }
+{
+    let Some(from) = kind_at(from) else {
+        return BAD_ARGUMENT;
+    };
+    let Some(limit) = Limit::new(depth) else {
+        return BAD_ARGUMENT;
+    };
+    let Some(answer) = explained(alloc, limit, from, input, number, place) else {
+        return BAD_ARGUMENT;
+    };
+    put_text(answer, out, told)
 }
 
 /// The version of the library, 65,536 for each major one, 256 for each minor one, and the patch:

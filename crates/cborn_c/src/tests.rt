@@ -3,7 +3,8 @@
 
 use crate::answers::CbornTold;
 use crate::{
-    cborn_check, cborn_compare, cborn_normalise, cborn_same, cborn_show, cborn_version, cborn_words,
+    cborn_check, cborn_compare, cborn_explain, cborn_normalise, cborn_same, cborn_show,
+    cborn_version, cborn_words,
 };
 
 /// An array of two whose heads, and those in it, are longer than needed.
@@ -182,6 +183,137 @@ fn tells_words(rt: HostRuntime) {
     let mut out = [0xee; 9];
     assert_eq!(rt; cborn_words(0x108, &mut out), 1);
     assert!(rt; out == [0xee; 9]);
+}
+
+/// An array whose second element is the float 1.0, and what is said of that.
+const FLOAT: [u8; 5] = [0x82, 1, 0xf9, 0x3c, 0];
+
+const OF_FLOAT: &[u8] =
+    b"  path  item 0 [1]\n  bytes 82 01 >f9< 3c 00\n  why   a float of 16 bits begins here, and floats are left out\n";
+
+#[test]
+fn explains_bytes(rt: HostRuntime) {
+    let mut told = untold();
+    let mut out = [0xee; 256];
+    let code = cborn_explain(rt.alloc(), 0, 128, &FLOAT, 0x105, 2, &mut out, &mut told);
+    assert_eq!(rt; code, 0);
+    assert!(rt; out.starts_with(OF_FLOAT));
+    assert_eq!(rt; told.length, OF_FLOAT.len() as u64);
+    assert_eq!(rt; told.place, 0);
+    assert_eq!(rt; out[OF_FLOAT.len()], 0xee);
+    // the same fault, told of a second input
+    let mut again = [0xee; 256];
+    let code = cborn_explain(
+        rt.alloc(),
+        0,
+        128,
+        &FLOAT,
+        0x10105,
+        2,
+        &mut again,
+        &mut told,
+    );
+    assert_eq!(rt; code, 0);
+    assert!(rt; again == out);
+    let code = cborn_explain(
+        rt.alloc(),
+        0,
+        128,
+        &[0x81, 0x18, 1],
+        0x601,
+        1,
+        &mut out,
+        &mut told,
+    );
+    assert_eq!(rt; code, 0);
+    assert!(rt; out.starts_with(b"  path  item 0 [0]\n  bytes 81 >18< 01\n"));
+    // a text string of the byte ff, refused where it is shown
+    let code = cborn_explain(
+        rt.alloc(),
+        0,
+        128,
+        &[1, 0x61, 0xff],
+        0x402,
+        1,
+        &mut out,
+        &mut told,
+    );
+    assert_eq!(rt; code, 0);
+    assert!(rt; out.starts_with(b"  path  item 1\n  bytes 01 >61< ff\n"));
+}
+
+#[test]
+fn explains_texts(rt: HostRuntime) {
+    let mut told = untold();
+    let mut out = [0xee; 256];
+    let text = b"{\"a\": [1, 007]}";
+    let code = cborn_explain(rt.alloc(), 1, 128, text, 0x208, 10, &mut out, &mut told);
+    assert_eq!(rt; code, 0);
+    assert!(rt; out.starts_with(b"  path  item 0 {\"a\" #0} [1]\n  line  1:"));
+    // the second profile has comments from # on, and the path counts the items before
+    let text = b"1, # one\n007";
+    let code = cborn_explain(rt.alloc(), 2, 128, text, 0x208, 9, &mut out, &mut told);
+    assert_eq!(rt; code, 0);
+    assert!(rt; out.starts_with(b"  path  item 1\n  line  2:"));
+}
+
+#[test]
+fn tells_the_length_that_an_explanation_takes(rt: HostRuntime) {
+    let mut told = untold();
+    let mut out = [0xee; 40];
+    let code = cborn_explain(rt.alloc(), 0, 128, &FLOAT, 0x105, 2, &mut out, &mut told);
+    assert_eq!(rt; code, 1);
+    assert_eq!(rt; told.length, OF_FLOAT.len() as u64);
+    assert!(rt; out == [0xee; 40]);
+    let code = cborn_explain(rt.alloc(), 0, 128, &FLOAT, 0x105, 2, &mut [], &mut told);
+    assert_eq!(rt; code, 1);
+    assert_eq!(rt; told.length, OF_FLOAT.len() as u64);
+}
+
+#[test]
+fn explains_nothing_that_the_kind_has_not(rt: HostRuntime) {
+    let of_bytes = [
+        0x100, 0x109, 0x208, 0x301, 0x401, 0x605, 0x10601, 0x20105, 0, 2, 3, 4, 5,
+    ];
+    for number in of_bytes {
+        let mut told = untold();
+        let mut out = [0xee; 256];
+        let code = cborn_explain(rt.alloc(), 0, 128, &FLOAT, number, 2, &mut out, &mut told);
+        assert_eq!(rt; code, 2, "{number}");
+        assert_eq!(rt; told.length, 99, "{number}");
+        assert!(rt; out == [0xee; 256], "{number}");
+    }
+    for number in [0x105, 0x20c, 0x402, 0x601, 0x10105, 3, 4] {
+        let mut told = untold();
+        let mut out = [0xee; 256];
+        let code = cborn_explain(rt.alloc(), 1, 128, b"007", number, 0, &mut out, &mut told);
+        assert_eq!(rt; code, 2, "{number}");
+        assert_eq!(rt; told.length, 99, "{number}");
+    }
+    let mut told = untold();
+    let mut out = [0xee; 256];
+    let code = cborn_explain(rt.alloc(), 3, 128, &FLOAT, 0x105, 2, &mut out, &mut told);
+    assert_eq!(rt; code, 2);
+    let code = cborn_explain(rt.alloc(), 0, 1025, &FLOAT, 0x105, 2, &mut out, &mut told);
+    assert_eq!(rt; code, 2);
+}
+
+#[test]
+fn takes_a_place_beyond_the_end_as_the_end(rt: HostRuntime) {
+    let mut told = untold();
+    let mut out = [0xee; 256];
+    let code = cborn_explain(
+        rt.alloc(),
+        0,
+        128,
+        &[0x81],
+        0x108,
+        u64::MAX,
+        &mut out,
+        &mut told,
+    );
+    assert_eq!(rt; code, 0);
+    assert!(rt; out.starts_with(b"  path  item 0 [0]\n  bytes 81 ><\n"));
 }
 
 #[test]

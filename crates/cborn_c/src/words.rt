@@ -1,10 +1,10 @@
 //! The words of a number, which are those that the program prints.
-ghost use Rattle.std.specs.Prelude.{◌≡◌, ◌≢◌, ◌<◌, ◌⊎◌, ◌∷◌, ◌++◌, [], IfSome, IfNone};
+ghost use Rattle.std.specs.Prelude.{◌≡◌, ◌≢◌, ◌<◌, ◌≤◌, ◌+◌, ◌⊎◌, ◌∷◌, ◌++◌, [], IfSome, IfNone};
 ghost use Rattle.cborn_engine.specs.declared.faults.EngineFault.{EngineFault};
 ghost use Rattle.cborn_c.specs.Calls.{IsPut, WordsPut};
 ghost use Rattle.cborn_c.specs.Numbers.{wire_number, lex_number, edn_number, invalid_number, defect_number, fault_number};
 
-use crate::numbers::{OK, OUT_OF_MEMORY, TOO_LONG, TOO_SMALL};
+use crate::numbers::{OF_SECOND, OK, OUT_OF_MEMORY, TOO_LONG, TOO_SMALL};
 use arrayvec::ArrayString;
 use cborn_edn::{EdnFault, EdnReason, ShowFault};
 use cborn_engine::EngineFault;
@@ -16,7 +16,8 @@ use std::fmt::{Display, Write};
 /// What stands before the words of a fault at the start of an input.
 const AT_START: &[u8] = b"offset 0: ";
 
-fn wire_at(number: u32) -> Option<WireReason>
+/// Why bytes are not well-formed, where a number stands for that.
+pub fn wire_at(number: u32) -> Option<WireReason>
     ensures numbered { IfSome result (λ reason. wire_number reason ≡ number) }
     ensures every { IfNone result ((number < 257) ⊎ (264 < number)) }
 {
@@ -33,7 +34,8 @@ fn wire_at(number: u32) -> Option<WireReason>
     }
 }
 
-fn lex_at(number: u32) -> Option<LexReason>
+/// Why a text has no tokens.
+pub fn lex_at(number: u32) -> Option<LexReason>
     ensures numbered { IfSome result (λ reason. lex_number reason ≡ number) }
     ensures every { IfNone result ((number < 513) ⊎ (523 < number)) }
 {
@@ -53,7 +55,8 @@ fn lex_at(number: u32) -> Option<LexReason>
     }
 }
 
-fn edn_at(number: u32) -> Option<EdnReason>
+/// Why tokens notate no items.
+pub fn edn_at(number: u32) -> Option<EdnReason>
     ensures numbered { IfSome result (λ reason. edn_number reason ≡ number) }
     ensures every { IfNone result ((number < 769) ⊎ (778 < number)) }
 {
@@ -72,7 +75,8 @@ fn edn_at(number: u32) -> Option<EdnReason>
     }
 }
 
-fn invalid_at(number: u32) -> Option<InvalidReason>
+/// Why an item isn't valid.
+pub fn invalid_at(number: u32) -> Option<InvalidReason>
     ensures numbered { IfSome result (λ reason. invalid_number reason ≡ number) }
     ensures every { IfNone result ((number < 1281) ⊎ (1283 < number)) }
 {
@@ -81,6 +85,18 @@ fn invalid_at(number: u32) -> Option<InvalidReason>
         0x502 => Some(InvalidReason::BadBignum),
         0x503 => Some(InvalidReason::DuplicateKey),
         _ => None,
+    }
+}
+
+/// The number of a fault without what is added to one of a second input.
+pub fn of_first(number: u32) -> u32
+    ensures first { number ≤ 65536 → result ≡ number }
+    ensures second { 65536 < number → result + 65536 ≡ number }
+{
+    if number > OF_SECOND {
+        number - OF_SECOND
+    } else {
+        number
     }
 }
 
