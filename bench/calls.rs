@@ -3,9 +3,9 @@ use std::{collections::BTreeMap, hint::black_box, time::Instant};
 
 fn timed(name: &str, length: usize, mut call: impl FnMut()) {
     // short rounds, which a machine that is shared disturbs least
-    let rounds = 1 + 100_000 / (length + 100);
+    let rounds = 1 + 10_000 / (length + 100);
     let mut best = f64::MAX;
-    for _ in 0..200 {
+    for _ in 0..2000 {
         let start = Instant::now();
         (0..rounds).for_each(|_| call());
         best = best.min(start.elapsed().as_secs_f64() * 1e9 / rounds as f64);
