@@ -156,7 +156,7 @@ fn kind_of(found: &ArgMatches<'_>, name: &str) -> Kind {
 
 fn program<'a>(alloc: Global) -> Result<Command<'a>, AllocError> {
     Command::new(alloc, "cborn")
-        .version("0.2.0")
+        .version("0.3.0")
         .about(help::PROGRAM)
         .after_long_help(help::PROGRAM_NOTES)
         .subcommand_required(true)

@@ -243,12 +243,12 @@ pub extern "C" fn cborn_explain(
 }
 
 /// The version of the library, 65,536 for each major one, 256 for each minor one, and the patch:
-/// 0.2.0.
+/// 0.3.0.
 #[unsafe(no_mangle)]
 pub extern "C" fn cborn_version() -> u32
     ensures { result ≡ 512 }
 {
-    0x000200
+    0x000300
 }
 
 #[cfg(test)]

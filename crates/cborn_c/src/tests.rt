@@ -318,5 +318,5 @@ fn takes_a_place_beyond_the_end_as_the_end(rt: HostRuntime) {
 
 #[test]
 fn tells_its_version(rt: HostRuntime) {
-    assert_eq!(rt; cborn_version(), 0x000200);
+    assert_eq!(rt; cborn_version(), 0x000300);
 }
