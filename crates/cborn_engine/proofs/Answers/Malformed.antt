@@ -61,8 +61,8 @@ pub answered : {A B : Type 0} (k : Kind) (limit : ℕ) (input : List ℕ) (a : A
 answered k limit input a result h p r e f = absurd (let clash = h p r e f in cc)
 
 -- the same of the first of two inputs
-pub of_the_first : {A B : Type 0} (k : Kind) (limit : ℕ) (input : List ℕ) (why : EngineFault) → TellsFault {A = A} k limit input (Err why) → TellsFirstFault {A = B} k limit input (Err (of_first why))
-of_the_first k limit input why h p r e f = ap (λ w. Err (of_first w)) (error_of (h p r e f))
+pub of_the_first : {A B : Type 0} (k : Kind) (limit : ℕ) (input : List ℕ) (why : EngineFault) (told : CompareFault) → told ≡ of_first why → TellsFault {A = A} k limit input (Err why) → TellsFirstFault {A = B} k limit input (Err told)
+of_the_first k limit input why told s h p r e f = ap Err (s ∙ ap of_first (error_of (h p r e f)))
 
 pub first_answered : {A B : Type 0} (k : Kind) (limit : ℕ) (input : List ℕ) (a : A) (result : Result B CompareFault) → TellsFault k limit input (Ok a) → TellsFirstFault k limit input result
 first_answered k limit input a result h p r e f = absurd (let clash = h p r e f in cc)

@@ -13,8 +13,8 @@ returns-in-Some-clause-malformed g c = wellformed kind.Wire c.args.limit c.args.
 pub returns-in-Some-scan-clause-malformed : goal.returns-in-Some-scan-clause-malformed
 returns-in-Some-scan-clause-malformed g c = refused kind.Wire c.args.limit c.args.input.now c.in-Some-scan.place c.in-Some-scan.reason c.in-Some-scan.ensures
 
-pub returns-in-Some-Some-clause-malformed : goal.returns-in-Some-Some-clause-malformed
-returns-in-Some-Some-clause-malformed g c = wellformed kind.Wire c.args.limit c.args.input.now c.in_default-scan.ensures.0 _ (λ e. c.in_default-scan.ensures.1)
+pub returns-in-Flaw-clause-malformed : goal.returns-in-Flaw-clause-malformed
+returns-in-Flaw-clause-malformed g c = wellformed kind.Wire c.args.limit c.args.input.now c.in_default-scan.ensures.0 _ (λ e. c.in_default-scan.ensures.1)
 
 pub returns-clause-malformed : goal.returns-clause-malformed
 returns-clause-malformed g c = wellformed kind.Wire c.args.limit c.args.input.now c.in_default-scan.ensures.0 _ (λ e. c.in_default-scan.ensures.1)
