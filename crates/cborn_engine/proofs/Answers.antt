@@ -2,7 +2,6 @@
 pub mod Told
 pub mod Unanswered
 pub mod Untold
-pub mod Unfailing
 pub mod Checked
 pub mod Whole
 pub mod Noted
