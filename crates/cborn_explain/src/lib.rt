@@ -35,6 +35,3 @@ pub use differences::explain_difference;
 pub use hints::{Hint, hint_of};
 pub use notes::{explain_bytes, explain_text};
 pub use reasons::{BytesReason, TextReason};
-
-#[cfg(test)]
-mod tests;

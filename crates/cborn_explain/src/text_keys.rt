@@ -28,11 +28,10 @@ pub(crate) fn earlier_key(
     let inside = valid_front(text.get(map..later).unwrap_or(&[]));
     let mut walk = TextWalk::new(alloc);
     'tokens: for _ in 0..text.len() {
-        let keys = walk.keys_of_one();
         if !walk.take_next(alloc, profile, inside, inside.len())? {
             break;
         }
-        if let (true, Some((from, to))) = (walk.keys_of_one() > keys, walk.last_key()) {
+        if let Some((from, to)) = walk.key_before_colon() {
             let key = valid_front(slice_of(inside.as_bytes(), from, to));
             if let Some(key) = valid_of_text(alloc, limit, profile, key)? {
                 if same(&key, &wanted) {

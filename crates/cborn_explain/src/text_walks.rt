@@ -221,17 +221,15 @@ impl TextWalk {
         self.before = Before::Separator;
     }
 
-    /// How many keys of the outermost bracket are read, where it is a map and no other is open.
-    pub(crate) fn keys_of_one(&self) -> u64 {
+    /// Where the key begins and ends whose colon was the last token, where no bracket is open but
+    /// that of its map.
+    pub(crate) fn key_before_colon(&self) -> Option<(usize, usize)> {
         match self.open.as_slice() {
-            [open] if open.bracket == Bracket::Map => open.parts / 2 + open.parts % 2,
-            _ => 0,
+            [open]
+                if open.bracket == Bracket::Map
+                    && open.parts % 2 == 1
+                    && self.before == Before::Separator => { Some(open.key) }
+            _ => None,
         }
-    }
-
-    /// Where the last key of the innermost bracket begins and ends.
-    pub(crate) fn last_key(&self) -> Option<(usize, usize)> {
-        let open = self.open.last()?;
-        Some(open.key)
     }
 }
