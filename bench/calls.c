@@ -37,8 +37,8 @@ int main(int count, char **names)
         fclose(file);
         for (int which = 0; which < 5; which++) {
             double best = 1e18;
-            long rounds = 1 + 2000000 / (long)(length + 100);
-            for (int again = 0; again < 7; again++) {
+            long rounds = 1 + 10000 / (long)(length + 100); /* short ones, which a machine that is shared disturbs least */
+            for (int again = 0; again < 2000; again++) {
                 double start = now();
                 for (long n = 0; n < rounds; n++)
                     if (called(which, in, length, out, sizeof out) > 0xff)

@@ -58,8 +58,8 @@ CALLS = {
 
 def timed(call, names, size):
     """Nanoseconds a call: the best of short rounds, which a machine that is shared disturbs least."""
-    rounds = 1 + 100000 // (size + 100)
-    return 1e9 * min(timeit.Timer(call, globals=names).repeat(200, rounds)) / rounds
+    rounds = 1 + 10000 // (size + 100)
+    return 1e9 * min(timeit.Timer(call, globals=names).repeat(2000, rounds)) / rounds
 
 
 def in_python(name, data):

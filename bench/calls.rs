@@ -2,9 +2,10 @@
 use std::{collections::BTreeMap, hint::black_box, time::Instant};
 
 fn timed(name: &str, length: usize, mut call: impl FnMut()) {
-    let rounds = 1 + 2_000_000 / (length + 100);
+    // short rounds, which a machine that is shared disturbs least
+    let rounds = 1 + 10_000 / (length + 100);
     let mut best = f64::MAX;
-    for _ in 0..7 {
+    for _ in 0..2000 {
         let start = Instant::now();
         (0..rounds).for_each(|_| call());
         best = best.min(start.elapsed().as_secs_f64() * 1e9 / rounds as f64);

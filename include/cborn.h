@@ -160,9 +160,9 @@ uint32_t cborn_compare(uint32_t from_a, uint32_t from_b, uint64_t depth,
                        const uint8_t *second, size_t second_len, uint64_t *place);
 
 /* Returns CBORN_OK if both inputs hold the same items, so that their canonical forms
- * are equal, and CBORN_DIFFERENT if they don't, in less time than cborn_compare: it
- * doesn't look for where they differ, and sets *place to 0. Otherwise it returns what
- * cborn_compare returns, and sets *place as that does. */
+ * are equal, and CBORN_DIFFERENT if they don't. It doesn't look for where they differ,
+ * as cborn_compare does, and sets *place to 0. Otherwise it returns what cborn_compare
+ * returns, and sets *place as that does. */
 uint32_t cborn_same(uint32_t from_a, uint32_t from_b, uint64_t depth,
                     const uint8_t *first, size_t first_len,
                     const uint8_t *second, size_t second_len, uint64_t *place);

@@ -9,6 +9,7 @@ import doctest
 import importlib.util
 import inspect
 import mmap
+import os
 import pathlib
 import pickle
 import subprocess
@@ -323,7 +324,7 @@ class Types(unittest.TestCase):
     """That a wrong call is a type error, and that the package has none."""
 
     def errors(self, *words):
-        done = subprocess.run([sys.executable, "-m", "mypy", "--strict", *words], capture_output=True, text=True)
+        done = subprocess.run([sys.executable, "-m", "mypy", "--strict", "--cache-dir", os.devnull, *words], capture_output=True, text=True)
         return [line for line in done.stdout.splitlines() if "error:" in line]
 
     def test_the_package(self):

@@ -254,8 +254,12 @@ def _fault(code: int, place: int, source: int, depth: int) -> CbornError:
     return CbornError(number, where, which, Kind(source), depth)
 
 
+# by the number, which is quicker than Reason(number)
+_REASONS = {reason.number: reason for reason in Reason}
+
+
 def _defect(code: int, place: int) -> Defect:
-    return Defect(place, Reason(code))
+    return Defect._make((place, _REASONS[code]))
 
 
 _cborn.begin(Kind, Order, _fault, _defect)

@@ -190,8 +190,8 @@ pub fn compare(
     }
 }
 
-/// Whether both inputs hold the same items, so that their canonical forms are equal. This takes less time than
-/// [`compare`], which looks for where they differ.
+/// Whether both inputs hold the same items, so that their canonical forms are equal. [`compare`] says besides where they
+/// differ.
 ///
 /// # Errors
 /// Those of [`compare`].
