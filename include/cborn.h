@@ -183,10 +183,11 @@ uint32_t cborn_words(uint32_t number, char *out, size_t out_len);
  * the call that refused the input, number is what it returned, and place is the
  * offset that it told. Of a fault of a second input, hand in that input: the number
  * may have CBORN_OF_SECOND in it or not. A place beyond the end counts as the end.
- * Returns CBORN_OK; CBORN_TOO_SMALL; CBORN_OUT_OF_MEMORY; or CBORN_BAD_ARGUMENT if
- * no input of that format has a fault or a defect of this number (CBORN_TOO_LONG has
- * no place, and no explanation), or the format or the depth is invalid. told->place
- * is 0. It walks once over the input, up to the place. */
+ * Returns CBORN_OK; CBORN_TOO_SMALL, with told->length the length that is needed;
+ * CBORN_OUT_OF_MEMORY; or CBORN_BAD_ARGUMENT if no input of that format has a fault
+ * or a defect of this number (CBORN_TOO_LONG has no place, and no explanation), or
+ * the format or the depth is invalid. At all but CBORN_OK, out is unchanged.
+ * told->place is 0. The call walks over the input up to the place. */
 uint32_t cborn_explain(uint32_t from, uint64_t depth,
                        const uint8_t *input, size_t input_len,
                        uint32_t number, uint64_t place,

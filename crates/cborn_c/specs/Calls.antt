@@ -162,5 +162,5 @@ pub record ExplainsInto (before after : List ℕ) (told : CbornTold) (code : ℕ
 
 abbrev pub ExplainCall : Option Kind → ℕ → ℕ → List ℕ → List ℕ → CbornTold → CbornTold → ℕ → Type 0
 ExplainCall (Some k) limit number before after untold told code =
-    (IsDepth limit → IsExplained k number → ExplainsInto before after told code) × ((IsDepth limit × IsExplained k number → ⊥) → IsBad before after untold told code)
+    (IsDepth limit → IsExplained k number → ExplainsInto before after told code) × ((IsDepth limit → ⊥) → IsBad before after untold told code) × ((IsExplained k number → ⊥) → IsBad before after untold told code)
 ExplainCall None limit number before after untold told code = IsBad before after untold told code

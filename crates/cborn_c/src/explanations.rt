@@ -83,7 +83,7 @@ pub fn explained(
 /// Puts an explanation to the front of `out`, or tells want of memory. Where `out` is too small, it
 /// is as it was.
 pub fn put_text(answer: Result<String, AllocError>, out: &mut [u8], told: &mut CbornTold) -> u32
-    ensures { TextTold answer.entry out.old out.new told.new result }
+    ensures { TextTold answer out.old out.new told.new result }
 {
     let bytes = match answer {
         Ok(text) => Ok(CowSlice::Owned(text.into_bytes())),
