@@ -83,7 +83,9 @@ fn arranges_great_maps(rt: HostRuntime) -> Result<(), Fail> {
         }
     }
     let mut twice = thousands(alloc, true, b"\x00")?;
-    twice[4] = 4;
+    if let Some(high) = twice.get_mut(4) {
+        *high = 4;
+    }
     let answer = transcode::<Backwards>(alloc, Limit::USUAL, &twice);
     assert!(rt; answer.is_none());
     Ok(())
