@@ -246,7 +246,7 @@ pub extern "C" fn cborn_explain(
 /// 0.3.0.
 #[unsafe(no_mangle)]
 pub extern "C" fn cborn_version() -> u32
-    ensures { result ≡ 512 }
+    ensures { result ≡ 768 }
 {
     0x000300
 }
