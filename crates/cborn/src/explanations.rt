@@ -142,13 +142,17 @@ fn difference<O: KeyOrder>(
     }
 }
 
-/// Adds an explanation to `lines`, or that there is no memory for it.
+/// The line of an explanation for which memory was refused.
+const OUT_OF_MEMORY: &str = "  out of memory\n";
+
+/// Adds an explanation to `lines`, or that there is no memory for it, which is said once: an input
+/// that wasn't kept has neither an explanation nor a hint.
 fn put(explanation: Result<String, AllocError>, lines: &mut String) {
     let is_put = match explanation {
         Ok(text) => lines.push_str(text.as_str()).is_ok(),
         Err(_) => false,
     };
-    if !is_put {
-        let _ = lines.push_str("  out of memory\n");
+    if !is_put && !lines.as_str().ends_with(OUT_OF_MEMORY) {
+        let _ = lines.push_str(OUT_OF_MEMORY);
     }
 }
