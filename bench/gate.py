@@ -1,7 +1,7 @@
 #!/usr/bin/env python3
 """gate.py: which steps of a run of the gate take how much processor time.
 
-  python3 bench/gate.py [COMMAND ..]
+  python3 bench/gate.py [--edits] [COMMAND ..]
 
 runs the command in the folder that it is called in (without one: rt ci), and prints what it prints. While it
 runs, the processes below it are looked at every half second in /proc (Linux). Each run of the prover is put
@@ -9,13 +9,15 @@ down to a crate, and to one of four steps: the proof of its functions, the proof
 edit, or the rest (what is built and linked). All other processes below the command are put down to the
 program that they run. The table at the end is written to standard error. It gives minutes of processor time,
 user and system, and how many must-fail edits there were; a crate with more than one has a run more, that of the
-crate as it is behind them. What took less than three seconds has no line.
+crate as it is behind them. What took less than three seconds has no line. With --edits there is a line for each
+must-fail edit, in seconds; "as it is" is the crate without an edit, before them and behind them.
 
 A process counts with the time that it had used when it was last seen: of each up to half a second is missed,
 and one that lives shorter may be missed whole. The last line compares the sum with what the system counted for
 all of the command, which misses nothing. The status is the command's.
 """
 import os
+import pathlib
 import resource
 import subprocess
 import sys
@@ -73,6 +75,26 @@ def step_of(words, folder):
     return crate, "tests" if "--test" in words else "proof", None
 
 
+def edit_in(folder, crate):
+    """Returns the name of the must-fail edit that a copy of the crate was given, or that there is none."""
+    own = pathlib.Path("crates", crate)
+    for edit in sorted(own.glob("must-fail/*.edit")):
+        words = [line.partition(": ")[::2] for line in edit.read_text().splitlines()]
+        file = next((rest for word, rest in words if word == "file"), "")
+        new = [rest for word, rest in words if word == "new"]
+        if any(has(pathlib.Path(folder, file), text) and not has(own / file, text) for text in new):
+            return edit.stem
+    return "as it is"
+
+
+def has(file, text):
+    """Returns whether the text stands in the file."""
+    try:
+        return text in file.read_text()
+    except OSError:
+        return False
+
+
 class Run:
     """What was seen of the processes below a command."""
 
@@ -81,6 +103,7 @@ class Run:
         self.first = first
         self.used = {}
         self.steps = {}
+        self.edits = {}
 
     def look(self):
         """Notes what each process below the first has used by now."""
@@ -100,7 +123,10 @@ class Run:
             # a process may become another program after its start: what it is last counts
             words = words_of(process)
             if words:
-                self.steps[key] = step_of(words, folder_of(process))
+                folder = folder_of(process)
+                self.steps[key] = step = step_of(words, folder)
+                if step[2] and step[2] not in self.edits:
+                    self.edits[step[2]] = edit_in(folder, step[0])
 
     def table(self):
         """Returns the seconds of each crate by step, and the number of each crate's edits."""
@@ -112,6 +138,17 @@ class Run:
             if edit:
                 edits.setdefault(crate, set()).add(edit)
         return seconds, {crate: len(names) for crate, names in edits.items()}
+
+
+    def of_edits(self):
+        """Returns the seconds of each crate's edits, by their names."""
+        seconds = {}
+        for key, used in self.used.items():
+            crate, _, edit = self.steps.get(key, ("?", "rest", None))
+            if edit:
+                row = crate, self.edits.get(edit, "?")
+                seconds[row] = seconds.get(row, 0.0) + used
+        return seconds
 
 
 def report(seconds, edits, wall, counted):
@@ -136,6 +173,7 @@ def line(name, row, edits):
 def main(command):
     """Runs the command and prints the table. Returns the command's status."""
     begin = time.monotonic()
+    tells_edits, command = command[:1] == ["--edits"], command[1:] if command[:1] == ["--edits"] else command
     child = subprocess.Popen(command or ["rt", "ci"])
     run = Run(child.pid)
     while child.poll() is None:
@@ -145,6 +183,8 @@ def main(command):
     seconds, edits = run.table()
     for text in report(seconds, edits, time.monotonic() - begin, ended.ru_utime + ended.ru_stime):
         print(text, file=sys.stderr)
+    for (crate, edit), used in sorted(run.of_edits().items()) if tells_edits else ():
+        print(f"{crate:20} {edit:52} {used:6.1f}", file=sys.stderr)
     return child.returncode if child.returncode >= 0 else 128 - child.returncode
 
 
