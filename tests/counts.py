@@ -34,9 +34,16 @@ HELD = {
     "last byte is a break": 7.5,
     "last item is too deep": 4.5,
     "last text isn't UTF-8": 4.5,
+    "last chunk isn't UTF-8": 4.5,
+    "last head is cut": 4.5,
+    "last item is a nest": 4.5,
+    "last break is missing": 4.5,
+    "last chunk is missing": 4.5,
     "array of integers, indefinite": 4,
     "one string": 3.5,
 }
+# of a map whose pairs all stand as they are written nothing is copied: with an array as one of the values it is 1.7
+IN_PLACE = {("map of strings, keys that fall", "normalise"): 1.4}
 # two lists for each map whose keys fall, and of both inputs where they are compared
 REQUESTS = {"maps of two pairs": 810_000}
 
@@ -50,6 +57,7 @@ def in_bytes(n):
     """Inputs of about n bytes, each by its name."""
     keys = [head(0, 65536 + i) for i in range(n // 6)]
     pairs, turned = (b"".join(key + b"\x00" for key in order) for order in (keys, keys[::-1]))
+    string = head(2, 100) + b"v" * 100
     return {
         "sequence of integers": b"\x01" * n,
         "array of integers": head(4, n) + b"\x01" * n,
@@ -64,9 +72,15 @@ def in_bytes(n):
         "nests": (b"\x81" * 100 + b"\x00") * (n // 101),
         "map": head(5, len(keys)) + pairs,
         "map, keys that fall": head(5, len(keys)) + turned,
+        "map of strings, keys that fall": head(5, n // 107) + b"".join(head(0, 65535 + i) + string for i in range(n // 107, 0, -1)),
         "map, first key again": head(5, len(keys) + 1) + pairs + keys[0] + b"\x00",
         "maps of two pairs": head(4, n // 5) + b"\xa2\x02\x00\x01\x00" * (n // 5),
         "last text isn't UTF-8": head(4, n) + b"\x01" * (n - 1) + b"\x61\xff",
+        "last chunk isn't UTF-8": b"\x01" * (n - 4) + b"\x7f\x61\xff\xff",
+        "last head is cut": head(4, n) + b"\x01" * (n - 1) + b"\x19",
+        "last item is a nest": b"\x01" * n + b"\xa1" * 129,
+        "last break is missing": b"\x9f" + b"\x01" * n,
+        "last chunk is missing": b"\x01" * (n - 1) + b"\x5f",
         "last bignum is none": head(4, n) + b"\x01" * (n - 1) + b"\xc2\x01",
         "last head is too wide": head(4, n) + b"\x01" * (n - 1) + b"\x18\x01",
         "last item is too deep": head(4, n) + b"\x01" * (n - 1) + b"\x81" * 129 + b"\x00",
@@ -112,7 +126,7 @@ def excess(name, words, counts, size, status):
     if counts is None or status not in (0, 1, 2):
         yield f"{name}: {words}: status {status}, {counts}"
         return
-    most = HELD.get(name, MOST_OF_MAPS if name.startswith("map") else MOST)
+    most = IN_PLACE.get((name, words)) or HELD.get(name, MOST_OF_MAPS if name.startswith("map") else MOST)
     if counts.requests > REQUESTS.get(name, OWN_REQUESTS):
         yield f"{name}: {words}: {counts.requests} requests"
     for number, what in ((counts.held, "held at one time"), (counts.greatest, "asked for at once")):

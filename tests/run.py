@@ -23,9 +23,9 @@ A table is a list of cases, each a paragraph of lines 'WORD REST':
     status N             the exit status, which is else 0
 
 In BYTES 'X * N' repeats X, 'X * A..B' puts each number from A to B (up or down) in place of its {..}, formatted
-as Python does, and '+' stands between parts. 'texts PARTS' is the same of texts, each in double quotes, with their
-escapes. The last five words tell of a run: several runs may stand
-in one case, on the same files and input, and where one stands right behind another they must do the same.
+as Python does, 'X * A..B by S' each S-th of them, and '+' stands between parts. 'texts PARTS' is the same of texts,
+each in double quotes, with their escapes. The last five words tell of a run: several runs may stand in one case, on
+the same files and input, and where one stands right behind another they must do the same.
 'stdout holds' and 'stderr holds' may stand more than once. A line that begins with '#' is a comment.
 """
 import collections
@@ -176,12 +176,13 @@ READ = {"hex": bytes.fromhex, "texts": quoted_bytes}
 
 
 def repeated(read, piece, times):
-    """The bytes of a part, N times, or once for each number of A..B."""
+    """The bytes of a part, N times, or once for each number of A..B, or for each S-th of them."""
     first, is_range, last = times.partition("..")
     if not is_range:
         return read(piece) * int(times)
-    step = 1 if int(first) <= int(last) else -1
-    return b"".join(read(piece.format(n)) for n in range(int(first), int(last) + step, step))
+    last, _, every = last.partition(" by ")
+    step = int(every or "1") * (1 if int(first) <= int(last) else -1)
+    return b"".join(read(piece.format(n)) for n in range(int(first), int(last) + (1 if step > 0 else -1), step))
 
 
 def told(content):

@@ -1,8 +1,9 @@
-//! Tests of passes over bytes and texts, in a module for each library. A pass may answer nothing,
-//! and its contract is met: that it does answer is what these tests hold.
+//! Tests of passes over bytes and texts that no run of the program shows: an order of keys of a
+//! caller's own, and that a text is read by the pass. A pass may answer nothing, and its contract is
+//! met: that it does answer is what the tests of texts hold.
 #![tactic(auto)]
 
 #[cfg(test)]
-mod search;
+mod orders;
 #[cfg(test)]
 mod spell;

@@ -35,6 +35,3 @@ mod runs;
 
 pub use bad_texts::first_bad_text;
 pub use passes::show_bytes;
-
-#[cfg(test)]
-mod tests;

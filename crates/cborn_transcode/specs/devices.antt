@@ -1,4 +1,3 @@
-pub mod Backwards
 pub mod Departing
 pub mod Placing
 pub mod Walking

@@ -29,21 +29,13 @@
 //! `departures` what is told where it stops.
 #![tactic(auto)]
 
-#[cfg(test)]
-mod departure_tests;
 mod departures;
 mod entries;
-#[cfg(test)]
-mod item_tests;
 mod items;
 mod leaves;
 mod passes;
 mod places;
 mod runs;
-#[cfg(test)]
-mod tests;
-#[cfg(test)]
-mod walk_tests;
 mod walked_integers;
 mod walked_leaves;
 mod walks;

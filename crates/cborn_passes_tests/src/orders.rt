@@ -1,0 +1,76 @@
+//! An order of a caller's own: the keys that stand last bytewise come first. No hint suits it, and
+//! no command line of the program names it.
+ghost use Rattle.std.specs.Prelude.{◌≡◌};
+ghost use Rattle.cborn_passes_tests.specs.devices.Backwards.{backwards, backwards_order};
+
+use cborn_model::{KeyOrder, Limit};
+use cborn_transcode::transcode;
+use std::alloc::{AllocError, Global};
+use std::cmp::Ordering;
+use std::test::Fail;
+
+struct Backwards;
+
+impl KeyOrder for Backwards {
+    ghost order = { backwards };
+
+    fn compare(a: &[u8], b: &[u8]) -> Ordering {
+        b.cmp(a)
+    }
+
+    ghost laws = { backwards_order };
+}
+
+/// Maps, and what they are in this order: of indefinite length, in keys and values, of keys that
+/// begin alike, and with a key that stands twice.
+const MAPS: [(&[u8], Option<&[u8]>); 5] = [
+    (b"\xa2\x03\x04\x01\x02", Some(b"\xa2\x03\x04\x01\x02")),
+    (
+        b"\xbf\x02\x00\x61a\x01\x20\x02\xff",
+        Some(b"\xa3\x61a\x01\x20\x02\x02\x00"),
+    ),
+    (
+        b"\xa1\xa2\x01\x00\x02\x00\xa2\x05\x00\x06\x00",
+        Some(b"\xa1\xa2\x02\x00\x01\x00\xa2\x06\x00\x05\x00"),
+    ),
+    (
+        b"\xa3\x6atwo frontA\x00\x6atwo frontC\x02\x6atwo frontB\x01",
+        Some(b"\xa3\x6atwo frontC\x02\x6atwo frontB\x01\x6atwo frontA\x00"),
+    ),
+    (b"\xa3\x01\x00\x02\x00\x01\x00", None),
+];
+
+/// Catches pairs that are left as the hints put them.
+#[test]
+fn arranges_small_maps(rt: HostRuntime) {
+    for (bytes, want) in MAPS {
+        let answer = transcode::<Backwards>(rt.alloc(), Limit::USUAL, bytes);
+        assert_eq!(rt; answer.as_deref(), want, "{bytes:?}");
+    }
+}
+
+/// A map of the keys 1000 to 2999, from either end, and of 0, whose value is `last`.
+fn thousands(alloc: Global, rising: bool, last: &[u8]) -> Result<Vec<u8>, AllocError> {
+    let mut out = Vec::from_slice(alloc, b"\xb9\x07\xd1")?;
+    for n in 0..2000u16 {
+        let key = if rising { 1000 + n } else { 2999 - n };
+        let [high, low] = key.to_be_bytes();
+        out.extend_from_slice(&[0x19, high, low, 0x42, high, low])?;
+    }
+    out.push(0)?;
+    out.extend_from_slice(last)?;
+    Ok(out)
+}
+
+/// The same of many pairs: written from where they stand, where the last value is an integer, and
+/// not, where it is an array.
+#[test]
+fn arranges_great_maps(rt: HostRuntime) -> Result<(), Fail> {
+    for last in [b"\x00".as_slice(), b"\x81\x00".as_slice()] {
+        let bytes = thousands(rt.alloc(), true, last)?;
+        let want = thousands(rt.alloc(), false, last)?;
+        let answer = transcode::<Backwards>(rt.alloc(), Limit::USUAL, &bytes);
+        assert!(rt; answer.as_deref() == Some(want.as_slice()), "{last:?}");
+    }
+    Ok(())
+}
