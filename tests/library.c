@@ -376,12 +376,36 @@ static bool parsed(const char *line, call *asked, char *first, char *second)
            sscanf(line, "%*s %u %u %lu %4095s %4095s", &asked->from, &asked->to, &asked->depth, first, second) == 5;
 }
 
+/* A place beyond the end counts as the end, and what is no argument leaves all as it was. */
+static void test_arguments(void)
+{
+    static const uint8_t array[] = {0x81};
+    static const char *end = "  path  item 0 [0]\n  bytes 81 ><\n";
+    char out[SHORT];
+    cborn_told told = {99, 99};
+    uint32_t wrong[] = {
+        cborn_normalise(3, CBORN_WIRE, CBORN_BYTEWISE, 128, array, 1, (uint8_t *)out, SHORT, &told),
+        cborn_normalise(CBORN_WIRE, 3, CBORN_BYTEWISE, 128, array, 1, (uint8_t *)out, SHORT, &told),
+        cborn_normalise(CBORN_WIRE, CBORN_WIRE, 2, 128, array, 1, (uint8_t *)out, SHORT, &told),
+        cborn_explain(3, 128, array, 1, 0x108, 1, out, SHORT, &told),
+        cborn_explain(CBORN_WIRE, 1025, array, 1, 0x108, 1, out, SHORT, &told),
+        cborn_explain(CBORN_WIRE, 128, array, 1, 0x208, 1, out, SHORT, &told),
+    };
+    for (size_t i = 0; i < sizeof wrong / sizeof *wrong; i++)
+        if (wrong[i] != CBORN_BAD_ARGUMENT || told.place != 99 || told.length != 99)
+            fail("a number that stands for nothing is taken", NULL, (long)i);
+    uint32_t code = cborn_explain(CBORN_WIRE, 128, array, 1, 0x108, UINT64_MAX, out, SHORT, &told);
+    if (code != CBORN_OK || memcmp(out, end, strlen(end)) != 0)
+        fail("a place beyond the end isn't explained as the end", NULL, (long)code);
+}
+
 int main(void)
 {
     char line[3 * NAME_SIZE], first[NAME_SIZE], second[NAME_SIZE];
     long growths = 0;
     if (cborn_version() != CBORN_VERSION)
         fail("library and header have different versions", NULL, (long)cborn_version());
+    test_arguments();
     while (fgets(line, sizeof line, stdin)) {
         call asked;
         uint8_t *out;

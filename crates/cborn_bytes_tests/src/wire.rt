@@ -1,12 +1,8 @@
-//! What no clause says: worked examples of the standard, and that each call can succeed.
+//! That bytes are read, whole and in pieces: each call could answer want of memory by its contract.
 
 mod checks;
 mod cuts;
-mod fronts;
-mod heads;
 mod limits;
-mod messages;
 mod readers;
-mod scans;
 mod taking;
 mod vectors;

@@ -250,6 +250,3 @@ pub extern "C" fn cborn_version() -> u32
 {
     0x000300
 }
-
-#[cfg(test)]
-mod tests;

@@ -1,8 +1,8 @@
-//! Texts that have a tree, and texts that are refused before a node is made. The first are examples
-//! of RFC 8949 Appendix A and what differs from them in one token.
+//! That texts which have a tree are recognised, where by its contract the call could answer want of
+//! memory each time. Which texts have none, and why, is a clause.
 
-use cborn_edn::{EdnFault, EdnReason, recognise};
-use cborn_lex::{LexFault, LexReason, Profile};
+use cborn_edn::recognise;
+use cborn_lex::Profile;
 use cborn_model::Limit;
 use std::test::Fail;
 
@@ -41,36 +41,5 @@ fn a_tree_that_means_nothing_is_one(rt: HostRuntime) -> Result<(), Fail> {
             Ok(())
         );
     }
-    Ok(())
-}
-
-#[test]
-fn texts_without_a_tree_are_refused(rt: HostRuntime) -> Result<(), Fail> {
-    for (text, place, reason) in [
-        ("[1, [2, 3], [4, 5]", 18, EdnReason::UnexpectedEnd),
-        ("[1, [2, 3], [4, 5}]", 17, EdnReason::UnexpectedToken),
-        ("{\"a\": 1, \"b\"}", 12, EdnReason::UnexpectedToken),
-        ("(_ h'0102', 3)", 12, EdnReason::UnexpectedToken),
-        ("[1, ]", 4, EdnReason::UnexpectedToken),
-        ("<<[1>>", 4, EdnReason::UnexpectedToken),
-    ] {
-        let wanted = Err(EdnFault::Refused { place, reason });
-        assert_eq!(rt;
-            recognise(rt.alloc(), Limit::USUAL, Profile::One, text),
-            wanted
-        );
-    }
-    Ok(())
-}
-
-#[test]
-fn faults_of_tokens_come_first(rt: HostRuntime) -> Result<(), Fail> {
-    let place = 6;
-    let reason = LexReason::FloatLeftOut;
-    let wanted = Err(EdnFault::Lex(LexFault::Refused { place, reason }));
-    assert_eq!(rt;
-        recognise(rt.alloc(), Limit::USUAL, Profile::One, "[1}], 1.5"),
-        wanted
-    );
     Ok(())
 }

@@ -1,6 +1,6 @@
 //! Input in pieces: what is read doesn't depend on where it is cut.
 use super::checks::spells;
-use super::vectors::{refused, wellformed};
+use super::vectors::{REFUSED, wellformed};
 use cborn_model::{Limit, Spelled};
 use cborn_wire::{Feeder, WireFault};
 use std::alloc::Global;
@@ -60,25 +60,6 @@ fn reads_at_each_cut(rt: HostRuntime) -> Result<(), Fail> {
     Ok(())
 }
 
-/// The input has this fault, wherever it is cut.
-pub fn refuses_cut(rt: &impl Abort, alloc: Global, limit: Limit, input: &[u8], fault: WireFault) {
-    for cut in 0..input.len() {
-        let (front, rest) = input.split_at(cut);
-        let read = in_two(rt, alloc, limit, front, rest);
-        assert_eq!(rt; read.err(), Some(fault), "{cut} of {input:?}");
-    }
-}
-
-/// Catches a place that counts from the piece in place of the input.
-#[test]
-fn refuses_at_each_cut(rt: HostRuntime) -> Result<(), Fail> {
-    for (input, place, reason) in refused(rt.alloc())? {
-        let fault = WireFault::Refused { place, reason };
-        refuses_cut(&rt, rt.alloc(), Limit::USUAL, input, fault);
-    }
-    Ok(())
-}
-
 /// Catches what is kept of a head for one more piece alone.
 #[test]
 fn reads_by_bytes(rt: HostRuntime) -> Result<(), Fail> {
@@ -91,11 +72,10 @@ fn reads_by_bytes(rt: HostRuntime) -> Result<(), Fail> {
 
 /// Catches a fault that is told later than at its head, or at another place.
 #[test]
-fn refuses_by_bytes(rt: HostRuntime) -> Result<(), Fail> {
-    for (input, place, reason) in refused(rt.alloc())? {
+fn refuses_by_bytes(rt: HostRuntime) {
+    for (input, place, reason) in REFUSED {
         let fault = WireFault::Refused { place, reason };
         let read = by_bytes(&rt, rt.alloc(), Limit::USUAL, input);
         assert_eq!(rt; read.err(), Some(fault), "{input:?}");
     }
-    Ok(())
 }
