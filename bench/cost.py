@@ -5,9 +5,8 @@
 
 Each shape is made at a quarter and at the whole of N MB (16). For each command: the peak memory, less 3 MB that the
 process itself has, as a multiple of input and output together; MB of input a second; and the status. Ends with status 1
-where a multiple is above RATIO (2.5; 6 for one great map of tiny pairs, whose keys have to be sorted; 3.5 where `show` meets
-a bad text behind millions of chunks, whose notation it has written by then), where time grows by more than 1.6 times as
-much as the input, or where a run was ended. With --memory no time is judged.
+where a multiple is above RATIO (2.5; 6 for one great map of tiny pairs, whose keys have to be sorted), where time grows by
+more than 1.6 times as much as the input, or where a run was ended. With --memory no time is judged.
 """
 import argparse
 import pathlib
@@ -22,7 +21,6 @@ OWN = 3_000_000
 GREAT_MAPS = ("map of integers", "map, repeated key last")
 # what is known to take more than RATIO
 MORE = {(name, command): 6 for name in GREAT_MAPS for command in ("normalise", "check", "show", "to notation")}
-MORE["text in chunks, bad one last", "show"] = 3.5
 COMMANDS = {
     "normalise": ["normalise"],
     "check": ["check"],

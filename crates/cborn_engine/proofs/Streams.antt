@@ -1,3 +1,4 @@
 -- What loops know that read an input by pieces, or write an answer.
 pub mod Collecting
+pub mod Feeding
 pub mod Written

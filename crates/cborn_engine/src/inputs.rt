@@ -1,14 +1,19 @@
-//! Reading a whole input as nodes.
+//! Reading a whole input as nodes: bytes by pieces that aren't kept, a text whole.
 ghost use Rattle.std.specs.Prelude.{◌≡◌, ◌≤◌, ◌+◌};
+ghost use Rattle.cborn_engine.specs.declared.kinds.Kind.TheVariants as kinds;
+ghost use Rattle.cborn_engine.specs.devices.Encoding.{kind_of};
 ghost use Rattle.cborn_engine.specs.Loading.{Loads};
 ghost use Rattle.cborn_engine.specs.Reading.{most_bytes, read_failures};
 
 use crate::faults::EngineFault;
-use crate::kinds::Kind;
-use crate::nodes::nodes_of;
+use crate::kinds::{Kind, profile_of};
+use crate::nodes::notated_nodes;
+use crate::pieces::read_piece;
 use crate::sources::Source;
 use crate::texts::read_bytes;
+use cborn_lex::Profile;
 use cborn_model::{Limit, Spelled};
+use cborn_wire::Feeder;
 use std::alloc::Global;
 
 /// The most bytes of an input.
@@ -54,6 +59,64 @@ pub fn load_within<R: Source>(
     ensures failures { R.failed reader.new ≡ read_failures result (R.failed reader.old) }
     ensures calls { R.asked reader.new ≤ R.asked reader.old + most + 1 }
 {
+    match profile_of(kind) {
+        None => load_bytes(alloc, limit, most, reader),
+        Some(profile) => load_text(alloc, limit, most, profile, reader),
+    }
+}
+
+/// The bytes that are read at a time. They lie on the stack.
+const PIECE: usize = 4096;
+
+/// The items of bytes, of which none is kept once it was fed. After a fault the bytes are read on
+/// to their end and not fed, so that a failed read and a byte too many are told in its place.
+///
+/// # Errors
+/// Those of `load_within`.
+fn load_bytes<R: Source>(
+    alloc: Global,
+    limit: Limit,
+    most: u64,
+    reader: &mut R,
+) -> Result<Vec<Spelled>, EngineFault>
+    requires { most ≤ most_bytes }
+    ensures loads { Loads kinds.Wire limit most (R.remaining reader.old) (R.remaining reader.new) result }
+    ensures failures { R.failed reader.new ≡ read_failures result (R.failed reader.old) }
+    ensures calls { R.asked reader.new ≤ R.asked reader.old + most + 1 }
+{
+    let mut feeder = Feeder::new(alloc, limit);
+    let mut piece = [0; PIECE];
+    let mut left = most;
+    let mut is_refused = false;
+    'pieces: loop {
+        let count = read_piece(reader, &mut piece, left)?;
+        if count == 0 {
+            break;
+        }
+        left -= count as u64;
+        if !is_refused {
+            is_refused = feeder.feed(&piece[..count]).is_err();
+        }
+    }
+    Ok(feeder.finish()?)
+}
+
+/// The items of a text, which is kept until they are made.
+///
+/// # Errors
+/// Those of `load_within`.
+fn load_text<R: Source>(
+    alloc: Global,
+    limit: Limit,
+    most: u64,
+    profile: Profile,
+    reader: &mut R,
+) -> Result<Vec<Spelled>, EngineFault>
+    requires { most ≤ most_bytes }
+    ensures loads { Loads (kind_of profile) limit most (R.remaining reader.old) (R.remaining reader.new) result }
+    ensures failures { R.failed reader.new ≡ read_failures result (R.failed reader.old) }
+    ensures calls { R.asked reader.new ≤ R.asked reader.old + most + 1 }
+{
     let input = read_bytes(alloc, most, reader)?;
-    nodes_of(alloc, limit, kind, &input)
+    notated_nodes(alloc, limit, profile, &input)
 }

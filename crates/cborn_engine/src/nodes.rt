@@ -1,5 +1,5 @@
-//! Inputs that are held whole, read as nodes: where a caller asks for nodes, and texts for which no
-//! pass had an answer.
+//! Texts that are held whole, read as nodes: where a caller asks for nodes, and where no pass had an
+//! answer.
 ghost use Rattle.std.specs.Prelude.{◌≡◌, ◌≤◌, ℕ, length, IfOk, IfErr};
 ghost use Rattle.cborn_engine.specs.devices.Encoding.{kind_of};
 ghost use Rattle.cborn_engine.specs.Holding.{SpellsInPlace};
@@ -8,33 +8,11 @@ ghost use Rattle.cborn_engine.specs.Reading.{read_failures};
 ghost use Rattle.cborn_engine.specs.Refusing.{IsRefused};
 
 use crate::faults::EngineFault;
-use crate::kinds::{Kind, profile_of};
 use crate::texts::text_of;
 use cborn_edn::read_notation;
 use cborn_lex::Profile;
 use cborn_model::{Limit, Spelled};
-use cborn_wire::read_all;
 use std::alloc::Global;
-
-/// The nodes that an input spells, valid or not.
-///
-/// # Errors
-/// The fault of its content, or `OutOfMemory`.
-pub fn nodes_of(
-    alloc: Global,
-    limit: Limit,
-    kind: Kind,
-    input: &[u8],
-) -> Result<Vec<Spelled>, EngineFault>
-    ensures spelled { IfOk result (λ nodes. SpellsInPlace kind limit input.now nodes.items) }
-    ensures refused { IfErr result (λ why. (most : ℕ) → length input.now ≤ most → IsRefused kind limit most input.now why × IsNoFlaw why) }
-    ensures failures { (n : ℕ) → read_failures result n ≡ n }
-{
-    match profile_of(kind) {
-        None => Ok(read_all(alloc, limit, input)?),
-        Some(profile) => notated_nodes(alloc, limit, profile, input),
-    }
-}
 
 /// The nodes that a text notates.
 ///

@@ -13,7 +13,11 @@ use std::alloc::AllocError;
 ///
 /// # Errors
 /// `ReadFault` where the reader failed, `TooLong` where it gave more than is allowed.
-fn read_piece<R: Source>(reader: &mut R, buf: &mut [u8], left: u64) -> Result<usize, EngineFault>
+pub fn read_piece<R: Source>(
+    reader: &mut R,
+    buf: &mut [u8],
+    left: u64,
+) -> Result<usize, EngineFault>
     requires room { 0 < length buf.old }
     requires bounded { left ≤ most_bytes }
     ensures piece { PieceAnswers (R.remaining reader.old) (R.remaining reader.new) left buf.new result }

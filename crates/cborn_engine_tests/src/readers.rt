@@ -4,8 +4,8 @@ use cborn_engine::{
     CompareFault, Counted, EngineFault, Kind, Sink, Source, compare, load, load_within, normalise,
 };
 use cborn_model::{Bytewise, Limit};
-use cborn_wire::{WireFault, WireReason};
-use std::alloc::Global;
+use cborn_wire::{WireFault, WireReason, spell_all};
+use std::alloc::{AllocError, Global};
 use std::test::Fail;
 
 /// It normalises to 82014161.
@@ -90,6 +90,83 @@ fn inputs_within_a_bound(rt: HostRuntime) -> Result<(), Fail> {
         &mut Bytes::new(INPUT, 1),
     )?;
     assert_eq!(rt; nodes.len(), 1);
+    Ok(())
+}
+
+/// What is left of the input of `input_of_pieces` behind its 9,096 integers in 9,098 bytes, and the
+/// fault of it.
+const LAST: [(&[u8], Option<(u64, WireReason)>); 4] = [
+    (b"", None),
+    (b"\x1c", Some((9098, WireReason::ReservedInfo))),
+    (b"\x1c\x00\x18", Some((9098, WireReason::ReservedInfo))),
+    (b"\x42\x00", Some((9100, WireReason::Truncated))),
+];
+
+/// Integers, of which one lies across the end of the first 4,096 bytes, and then `last`.
+fn input_of_pieces(alloc: Global, last: &[u8]) -> Result<Vec<u8>, AllocError> {
+    let mut bytes = Vec::new(alloc);
+    bytes.extend_from_slice(&[0; 4095])?;
+    bytes.extend_from_slice(b"\x19\x01\x00")?;
+    bytes.extend_from_slice(&[1; 5000])?;
+    bytes.extend_from_slice(last)?;
+    Ok(bytes)
+}
+
+/// Catches a piece that is taken twice or not at all, and a place that is counted from the start of
+/// a piece.
+#[test]
+fn inputs_by_pieces(rt: HostRuntime) -> Result<(), Fail> {
+    for (last, fault) in LAST {
+        let input = input_of_pieces(rt.alloc(), last)?;
+        for step in [1, 5, 4096, 9999] {
+            let mut bytes = Bytes::new(&input, step);
+            match load(rt.alloc(), Limit::USUAL, Kind::Wire, &mut bytes) {
+                Ok(nodes) => {
+                    assert_eq!(rt; fault, None, "{step}");
+                    assert_eq!(rt; nodes.len(), 9096, "{step}");
+                    let spelled = spell_all(rt.alloc(), &nodes)?;
+                    assert_eq!(rt; spelled.as_slice(), input.as_slice(), "{step}");
+                }
+                Err(why) => {
+                    let refused = fault.map(|(place, reason)| {
+                        EngineFault::Wire(WireFault::Refused { place, reason })
+                    });
+                    assert_eq!(rt; Some(why), refused, "{step}");
+                }
+            }
+        }
+    }
+    Ok(())
+}
+
+/// Catches a fault that is told before a failed read or a byte too many that come behind it, and
+/// one that is told in their place.
+#[test]
+fn troubles_behind_faults(rt: HostRuntime) -> Result<(), Fail> {
+    let reason = WireReason::ReservedInfo;
+    let fault = EngineFault::Wire(WireFault::Refused { place: 1, reason });
+    for length in [2, 6, 5000] {
+        let mut input = Vec::new(rt.alloc());
+        input.resize(length, 0)?;
+        input[1] = 0x1c;
+        for step in [1, 3, 4096] {
+            let calls = (length as u64).div_ceil(step as u64);
+            let mut failing = Bytes::failing(&input, step, calls);
+            let most = length as u64;
+            for (most, bytes, want) in [
+                (most, &mut failing, EngineFault::ReadFault),
+                (
+                    most - 1,
+                    &mut Bytes::new(&input, step),
+                    EngineFault::TooLong,
+                ),
+                (most, &mut Bytes::new(&input, step), fault),
+            ] {
+                let result = load_within(rt.alloc(), Limit::USUAL, most, Kind::Wire, bytes);
+                assert_eq!(rt; result.err(), Some(want), "{length} by {step}");
+            }
+        }
+    }
     Ok(())
 }
 

@@ -84,8 +84,8 @@ fn put_node(
             }
         },
         Argument::Endless => match major {
-            Major::ByteString => put_long_string_leaving(alloc, false, rest, out),
-            Major::TextString => put_long_string_leaving(alloc, true, rest, out),
+            Major::ByteString => put_long_string_leaving(alloc, false, outlook, rest, out),
+            Major::TextString => put_long_string_leaving(alloc, true, outlook, rest, out),
             Major::Array => put_endless_array(alloc, room, outlook, rest, out),
             Major::Map => put_endless_map(alloc, room, outlook, rest, out),
             _ => None,

@@ -8,6 +8,7 @@ ghost use Rattle.cborn_wire.specs.HeadReading.{ArgumentFits, seen_argument};
 ghost use Rattle.cborn_show.specs.Passed.{StringShown, ChunkShown, ChunksShown, LongStringShown, SimpleShown, kind_of, major_of, shown_content};
 
 use crate::numbers::put_indicator;
+use crate::prospects::Outlook;
 use cborn_edn::{push_escaped, push_simple};
 use cborn_model::{Major, Width, is_simple_value, shortest};
 use cborn_wire::{Argument, HeadRead, read_head};
@@ -167,12 +168,13 @@ pub(crate) fn is_text(bytes: &[u8]) -> bool
 pub(crate) fn put_long_string_leaving(
     alloc: Global,
     text: bool,
+    outlook: &mut Outlook,
     bytes: &[u8],
     out: &mut Vec<u8>,
 ) -> Option<usize>
     ensures { IfSome result (λ left. (rest : List ℕ) × (length rest ≡ left) × LongStringShown text bytes.now rest out.old.items out.new.items) }
 {
-    let rest = put_long_string(alloc, text, bytes, out)?;
+    let rest = put_long_string(alloc, text, outlook, bytes, out)?;
     Some(rest.len())
 }
 
@@ -181,6 +183,7 @@ pub(crate) fn put_long_string_leaving(
 fn put_long_string<'a>(
     alloc: Global,
     text: bool,
+    outlook: &mut Outlook,
     bytes: &'a [u8],
     out: &mut Vec<u8>,
 ) -> Option<&'a [u8]>
@@ -192,7 +195,7 @@ fn put_long_string<'a>(
     }
     out.extend_from_slice(b"(_ ").ok()?;
     let first = put_chunk(alloc, text, bytes, out)?;
-    let rest = put_more_chunks(alloc, text, first, out)?;
+    let rest = put_more_chunks(alloc, text, outlook, first, out)?;
     let after = behind_break(rest)?;
     out.push(b')').ok()?;
     Some(after)
@@ -225,6 +228,7 @@ fn put_empty(text: bool, out: &mut Vec<u8>) -> Option<()>
 fn put_more_chunks<'a>(
     alloc: Global,
     text: bool,
+    outlook: &mut Outlook,
     bytes: &'a [u8],
     out: &mut Vec<u8>,
 ) -> Option<&'a [u8]>
@@ -234,6 +238,9 @@ fn put_more_chunks<'a>(
     'chunks: for _ in 0..bytes.len() {
         if let [255, ..] = rest {
             break;
+        }
+        if !outlook.is_good(true, rest, out.len()) {
+            return None;
         }
         out.extend_from_slice(b", ").ok()?;
         rest = put_chunk(alloc, text, rest, out)?;
