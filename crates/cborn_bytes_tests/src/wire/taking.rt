@@ -5,6 +5,7 @@ use cborn_wire::WireReason::{BadSimple, ReservedInfo, Truncated};
 use cborn_wire::{Feeder, WireFault, WireReason, read_all};
 use std::alloc::Global;
 use std::process::Abort;
+use std::test::Fail;
 
 /// The answer of a call that refuses a head.
 fn refusal(place: u64, reason: WireReason) -> Result<(), WireFault> {
@@ -102,6 +103,18 @@ fn ends_at_the_end(rt: HostRuntime) {
     feeds(&rt, &mut feeder, b"", Ok(()), 1);
     feeds(&rt, &mut feeder, b"\x18", Ok(()), 2);
     assert_eq!(rt; feeder.finish().err(), refusal(2, Truncated).err());
+}
+
+/// One that gives up where many items wait would be proved.
+#[test]
+fn keeps_many_items(rt: HostRuntime) -> Result<(), Fail> {
+    let bytes = [7; 100_000];
+    let mut feeder = Feeder::new(rt.alloc(), Limit::USUAL);
+    feeder.feed(&bytes)?;
+    takes(&rt, rt.alloc(), &mut feeder, 0, b"\x07");
+    assert_eq!(rt; feeder.finish()?.len(), 99_999);
+    assert_eq!(rt; read_all(rt.alloc(), Limit::USUAL, &bytes)?.len(), 100_000);
+    Ok(())
 }
 
 /// Catches an empty input that is truncated.
