@@ -93,7 +93,10 @@ fn long_inputs_loaded(rt: HostRuntime) -> Result<(), Fail> {
     for kind in [Kind::Notation, Kind::Notation2] {
         let mut bytes = Bytes::new(&text, 1 << 16);
         let nodes = load(rt.alloc(), Limit::USUAL, kind, &mut bytes)?;
-        assert_eq!(rt; spell_all(rt.alloc(), &nodes)?.as_slice(), b"\x07".as_slice());
+        assert_eq!(rt;
+            spell_all(rt.alloc(), &nodes)?.as_slice(),
+            b"\x07".as_slice()
+        );
     }
     let (_, end) = read_one(rt.alloc(), Limit::USUAL, &text, 0)?;
     assert_eq!(rt; end, 1);
