@@ -44,6 +44,9 @@ HELD = {
 }
 # of a map whose pairs all stand as they are written nothing is copied: with an array as one of the values it is 1.7
 IN_PLACE = {("map of strings, keys that fall", "normalise"): 1.4}
+# what is its own answer is moved and not copied: so much is asked for in all, as a multiple of the input, to read it
+MOST_TO_READ = 2.5
+DETERMINISTIC = ("sequence of integers", "array of integers", "texts", "one text", "tags", "nests", "bignums", "map")
 # two lists for each map whose keys fall, and of both inputs where they are compared
 REQUESTS = {"maps of two pairs": 810_000}
 
@@ -121,14 +124,21 @@ def counted(library, program, words, data):
     return Counts(*map(int, told)) if told else None, len(done.stdout), done.returncode
 
 
-def excess(name, words, counts, size, status):
-    """What a run asked for too much, where input and output together have `size` bytes."""
+def is_moved(name, words):
+    """Whether a run answers with its input as it stands, or by a line."""
+    return words == "show --to wire" or (name in DETERMINISTIC and words in ("normalise", "check", "compare"))
+
+
+def excess(name, words, counts, given, size, status):
+    """What a run asked for too much, of whose input and output the first has `given` bytes, and both together `size`."""
     if counts is None or status not in (0, 1, 2):
         yield f"{name}: {words}: status {status}, {counts}"
         return
     most = IN_PLACE.get((name, words)) or HELD.get(name, MOST_OF_MAPS if name.startswith("map") else MOST)
     if counts.requests > REQUESTS.get(name, OWN_REQUESTS):
         yield f"{name}: {words}: {counts.requests} requests"
+    if is_moved(name, words) and counts.asked > MOST_TO_READ * given + OWN:
+        yield f"{name}: {words}: {counts.asked} bytes asked for in all, {counts.asked / given:.1f} times the input"
     for number, what in ((counts.held, "held at one time"), (counts.greatest, "asked for at once")):
         if number > most * size + OWN:
             yield f"{name}: {words}: {number} bytes {what}, {number / size:.1f} times input and output"
@@ -147,11 +157,12 @@ def tried(library, program, is_told, *which):
     for name, command, data in shared.share(runs(), *which):
         words = command.split()
         counts, printed, status = counted(library, program, words, data)
-        size = len(data) * (2 if words[0] == "compare" else 1) + printed
+        given = len(data) * (2 if words[0] == "compare" else 1)
+        size = given + printed
         if is_told:
             print(f"{name:36}| {command:48}| s{status} {size:9} {counts} {counts.held / size:.2f}x")
         count += 1
-        wrong += excess(name, command, counts, size, status)
+        wrong += excess(name, command, counts, given, size, status)
     return count, wrong
 
 

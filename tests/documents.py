@@ -9,6 +9,7 @@ words of each fault, and whether all that tells a version tells that of bindings
 The commands run in dash (in sh where there is none) and once more in bash, with the program's folder in front of PATH; those
 of one document run in one folder.
 """
+import collections
 import itertools
 import os
 import pathlib
@@ -127,25 +128,34 @@ def lost(root):
         yield from (f"{page.relative_to(root)}: no target {name}" for name in {"".join(it) for it in named} - targets)
 
 
-def words_of_faults(name, text):
-    """The words that a page tells of faults: in a table's row behind its number, or in its first cell, up to what explains them; in
-    a man page in italics in the chapters of faults and defects."""
-    if name.endswith(".1"):
-        chapters = re.findall(r"^\.SH (?:FAULTS|DEFECTS)\n(.*?)^(?=\.SH )", text.replace("\\-", "-"), re.MULTILINE | re.DOTALL)
-        lines = re.findall(r"^\.(I|IR) (.*)", "".join(chapters), re.MULTILINE)
-        return {it for kind, line in lines for it in ([line] if kind == "I" else shlex.split(line)[::2])}
-    return set(re.findall(r"^\| (?:\d+ \| )?([^|:,]+?)(?:[:,][^|]*)? \|", text, re.MULTILINE))
+def words_of_rows(text):
+    """The words of faults in the tables of the formats: in a row behind its number, or in its first cell, up to what explains
+    them. The chapter of explanations has them once more, and doesn't count."""
+    tables = text.partition("\n## Explanations\n")[0]
+    return re.findall(r"^\| (?:\d+ \| )?([^|:,]+?)(?:[:,][^|]*)? \|", tables, re.MULTILINE)
+
+
+def words_of_page(text):
+    """Those in a man page, which are in italics in the chapters of faults and defects."""
+    chapters = re.findall(r"^\.SH (?:FAULTS|DEFECTS)\n(.*?)^(?=\.SH )", text.replace("\\-", "-"), re.MULTILINE | re.DOTALL)
+    lines = re.findall(r"^\.(I|IR) (.*)", "".join(chapters), re.MULTILINE)
+    return [it for kind, line in lines for it in ([line] if kind == "I" else shlex.split(line)[::2])]
 
 
 def untold(root):
-    """The words of faults, as docs/LIBRARY.md numbers them, that the formats or the man page lack."""
+    """The words of faults, as docs/LIBRARY.md numbers them, that the formats or the man page lack. The formats have a row for
+    each number, but one for all numbers of what isn't UTF-8."""
     page = (root / "docs/LIBRARY.md").read_text()
-    words = set(re.findall(r"^\| `0x[0-9a-f]{3}` \|.*\| ([^|]*) \|$", page, re.MULTILINE))
+    words = re.findall(r"^\| `0x[0-9a-f]{3}` \|.*\| ([^|]*) \|$", page, re.MULTILINE)
     if not words:
         yield "docs/LIBRARY.md numbers no fault"
-    for name in ("docs/FORMATS.md", "man/cborn.1"):
-        missing = words - words_of_faults(name, (root / name).read_text())
-        yield from (f"{name}: there is no {it}" for it in sorted(missing))
+    rows = collections.Counter({it: 1 if it == "not UTF-8" else words.count(it) for it in words})
+    missing = {
+        "docs/FORMATS.md": rows - collections.Counter(words_of_rows((root / "docs/FORMATS.md").read_text())),
+        "man/cborn.1": {*words}.difference(words_of_page((root / "man/cborn.1").read_text())),
+    }
+    for name, lacking_words in missing.items():
+        yield from (f"{name}: there is no {it}" for it in sorted(lacking_words))
 
 
 def other_versions(root):

@@ -144,6 +144,12 @@ class InC:
         """What cborn_same answers where cborn_compare is asked for."""
         return self.line(line_of(asked, "same"))
 
+    def in_second_notation(self, asked):
+        """The answer where a command line that asks for notation asks for the second kind of it, which is written as the first is."""
+        second = copy.copy(asked)
+        second.to = "notation-2"
+        return self.answer(second)
+
     def explained(self, asked, answer):
         """What cborn_explain writes of the fault or the defect that was told."""
         code, place, _ = answer
@@ -421,6 +427,8 @@ def main():
                 answer = caller.answer(asked)
                 if name == "C" and asked.command == "compare" and caller.same(asked) != of_same(answer):
                     wrong.append(f"{table}: {case.name}: cborn_same answers {caller.same(asked)}, cborn_compare {answer}")
+                if name == "C" and asked.to == "notation" and caller.in_second_notation(asked) != answer:
+                    wrong.append(f"{table}: {case.name}: to the second notation another answer comes: {caller.in_second_notation(asked)}")
                 met.add(answer[0] % OF_SECOND)
                 if not asked.explain:
                     wrong += [f"{table}: {case.name}: from {name}: {line}" for line in differences(case, asked, answer, words, done)]

@@ -7,6 +7,7 @@ use cborn_engine::{
 use cborn_judge::{Defect, DefectReason, Invalid, InvalidReason};
 use cborn_model::{Bytewise, LengthFirst, Limit};
 use cborn_wire::{WireFault, WireReason};
+use std::borrow::CowSlice;
 use std::test::Fail;
 
 /// A map that has the key 1 twice, once as a bignum at offset 3.
@@ -67,6 +68,19 @@ fn normalised_in_the_other_order(rt: HostRuntime) -> Result<(), Fail> {
     let map = b"\xa2\x18\x64\x00\x20\x00".as_slice();
     let answer = normalise_slice::<LengthFirst>(rt.alloc(), Limit::USUAL, kind, kind, map)?;
     assert_eq!(rt; answer.as_slice(), b"\xa2\x20\x00\x18\x64\x00".as_slice());
+    Ok(())
+}
+
+/// A copy would be as right, and takes memory.
+#[test]
+fn lent(rt: HostRuntime) -> Result<(), Fail> {
+    let kind = Kind::Wire;
+    let bytes = b"\x82\x01\x41\x61".as_slice();
+    let answer = normalise_slice::<Bytewise>(rt.alloc(), Limit::USUAL, kind, kind, bytes)?;
+    assert!(rt; matches!(answer, CowSlice::Borrowed(it) if it == bytes));
+    let bytes = b"\x98\x01\x18\x01".as_slice();
+    let answer = show_slice(rt.alloc(), Limit::USUAL, kind, kind, bytes)?;
+    assert!(rt; matches!(answer, CowSlice::Borrowed(it) if it == bytes));
     Ok(())
 }
 

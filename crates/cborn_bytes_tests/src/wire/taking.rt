@@ -1,9 +1,10 @@
 //! A feeder's answers, piece by piece.
 use super::checks::is_item;
 use cborn_model::Limit;
-use cborn_wire::{Feeder, WireFault};
+use cborn_wire::{Feeder, WireFault, read_all};
 use std::alloc::Global;
 use std::process::Abort;
+use std::test::Fail;
 
 /// Feeds a piece, and compares the answer and the count of bytes behind it.
 fn feeds(
@@ -41,4 +42,16 @@ fn takes_one_by_one(rt: HostRuntime) {
     feeds(&rt, &mut feeder, b"\x7a", Ok(()), 5);
     takes(&rt, rt.alloc(), &mut feeder, 3, b"\x61\x7a");
     ends(&rt, feeder);
+}
+
+/// One that gives up where many items wait would be proved.
+#[test]
+fn keeps_many_items(rt: HostRuntime) -> Result<(), Fail> {
+    let bytes = [7; 100_000];
+    let mut feeder = Feeder::new(rt.alloc(), Limit::USUAL);
+    feeder.feed(&bytes)?;
+    takes(&rt, rt.alloc(), &mut feeder, 0, b"\x07");
+    assert_eq!(rt; feeder.finish()?.len(), 99_999);
+    assert_eq!(rt; read_all(rt.alloc(), Limit::USUAL, &bytes)?.len(), 100_000);
+    Ok(())
 }

@@ -1,8 +1,12 @@
 //! Inputs that take many growths, and limits other than the usual one.
+use super::super::memory::Bytes;
 use super::{normalised, shown};
-use cborn_engine::Kind;
-use cborn_model::Limit;
-use cborn_wire::{Feeder, spell_all};
+use cborn_det::encode_all;
+use cborn_edn::show;
+use cborn_engine::{Kind, load};
+use cborn_judge::judge_all;
+use cborn_model::{Bytewise, Limit};
+use cborn_wire::{Feeder, read_one, spell_all};
 use std::alloc::{AllocError, Global};
 use std::test::Fail;
 
@@ -63,6 +67,39 @@ fn long_piece_fed(rt: HostRuntime) -> Result<(), Fail> {
     feeder.feed(&input)?;
     let nodes = feeder.finish()?;
     assert!(rt; spell_all(rt.alloc(), &nodes)?.as_slice() == input.as_slice());
+    Ok(())
+}
+
+/// One that gives up where a sequence has many items would be proved.
+#[test]
+fn many_items_loaded(rt: HostRuntime) -> Result<(), Fail> {
+    let input = [7; 100_000];
+    let mut bytes = Bytes::new(&input, 1 << 16);
+    let nodes = load(rt.alloc(), Limit::USUAL, Kind::Wire, &mut bytes)?;
+    assert_eq!(rt; nodes.len(), 100_000);
+    assert!(rt; spell_all(rt.alloc(), &nodes)?.as_slice() == input.as_slice());
+    assert_eq!(rt; show(rt.alloc(), &nodes)?.as_str().len(), 299_999);
+    let items = judge_all(rt.alloc(), &nodes)?;
+    let encoded = encode_all::<Bytewise>(rt.alloc(), &items)?;
+    assert!(rt; encoded.as_slice() == input.as_slice());
+    Ok(())
+}
+
+/// One that gives up where a text is long, or an item stands far behind its start.
+#[test]
+fn long_inputs_loaded(rt: HostRuntime) -> Result<(), Fail> {
+    let mut text = [b' '; 150_000];
+    text[149_999] = b'7';
+    for kind in [Kind::Notation, Kind::Notation2] {
+        let mut bytes = Bytes::new(&text, 1 << 16);
+        let nodes = load(rt.alloc(), Limit::USUAL, kind, &mut bytes)?;
+        assert_eq!(rt;
+            spell_all(rt.alloc(), &nodes)?.as_slice(),
+            b"\x07".as_slice()
+        );
+    }
+    let (_, end) = read_one(rt.alloc(), Limit::USUAL, &text, 0)?;
+    assert_eq!(rt; end, 1);
     Ok(())
 }
 
