@@ -204,7 +204,7 @@ class CbornError(ValueError):
         """Return lines that say where in `data` the fault is, what stands there, and why.
 
         `data` is the input that was refused: of `compare` and `same` the one that `input` means. The lines are those
-        that the program writes with --explain behind its first one; docs/FORMATS.md says what is in them. There are
+        that the program writes with --explain after its first line; docs/FORMATS.md says what is in them. There are
         none where the input is too long.
 
             >>> import cborn

@@ -96,7 +96,7 @@ def with_options(parser: argparse.ArgumentParser, kinds: typing.Sequence[str], t
     parser.add_argument("--depth", metavar="N", type=depth_of, default=128, action=Once,
                         help="the maximum nesting depth of arrays, maps and tags, 1 to 1024 [default: 128]")
     parser.add_argument("--explain", nargs=0, default=False, action=Once,
-                        help="say on standard error where in the input, and why, behind a refusal or a defect")
+                        help="say on standard error where in the input, and why, after a refusal or a defect")
 
 
 def parser() -> Parser:
@@ -237,12 +237,12 @@ def done(words: typing.Sequence[str]) -> int:
         raise Trouble(f"cborn: {side}{fault}\n{lines}", REFUSED) from None
     write(output)
     if asked.explain:
-        tell(behind(asked, inputs, defect))
+        tell(said_after(asked, inputs, defect))
     return status
 
 
-def behind(asked: argparse.Namespace, inputs: list[bytearray], defect: cborn.Defect | None) -> str:
-    """What is said behind an answer."""
+def said_after(asked: argparse.Namespace, inputs: list[bytearray], defect: cborn.Defect | None) -> str:
+    """What is said after an answer."""
     if defect is not None:
         return explained(lambda: defect.explain(inputs[0], asked.depth))
     return explained(lambda: "".join(map(hint, inputs, kinds_of(asked))))
