@@ -45,6 +45,7 @@ help:
 	@echo 'make library    the library for C, build/libcborn.a and build/libcborn.so, and cborn.pc'
 	@echo 'make python     the Python package, an extension in C over that library, in build/python (wants Python.h)'
 	@echo 'make library-tests   the command lines of tests/ through the library, from C, Python and Rust, and the examples of docs/LIBRARY.md'
+	@echo 'make library-bench   what a call costs, from C, Rust, Go and Python, beside serde_cbor and cbor2'
 	@echo 'make dist       one archive of program, library, wheel and crate for whoever has no kit'
 	@echo 'make dist-tests the archive, unpacked and called with no kit on the path, from each language whose tools are there'
 	@echo 'make release    the archive of the version, made from a clean clone of HEAD and put into release/: once a version'
