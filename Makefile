@@ -14,11 +14,11 @@ COST ?= 8
 .PHONY: help try build test check-quick layout tables vectors ample explanations growths failures counts cost left-out believed stack big library-growths bench install clean
 
 help:
-	@echo 'make try        run the program from its source, before any proof: ARGS="check FILE", or seven bytes as an example'
+	@echo 'make try        build the program from its source, before any proof, and run it: ARGS="check FILE", or seven bytes as an example'
 	@echo 'make build      prove every crate and build the program, $(PROGRAM)'
-	@echo 'make test       the merge gate from nothing, then make tables, believed, stack, vectors, ample, explanations, growths, failures, counts, cost, library-tests and dist-tests, the first of try-tests, and which of it was left out'
+	@echo 'make test       the merge gate from nothing, then make tables, believed, stack, vectors, ample, explanations, growths, failures, counts, cost, library-tests, dist-tests and try-tests, and which of it was left out'
 	@echo 'make check-quick   while you change something: proves what changed, then make layout, tables and believed'
-	@echo 'make try-tests  make try on its seven bytes, on files, on standard input and on a wrong option: four builds, of a minute each'
+	@echo 'make try-tests  make try on its seven bytes, on files, on standard input and on a wrong option: one build, of a minute'
 	@echo 'make layout     whether each file of the crates is in the layout of rt fmt'
 	@echo 'make tables     the built program on the tables of tests/, the examples of the documents, completion-tests and release-tests'
 	@echo 'make vectors    the built program on each front of each worked input'
@@ -45,6 +45,7 @@ help:
 	@echo 'make library    the library for C, build/libcborn.a and build/libcborn.so, and cborn.pc'
 	@echo 'make python     the Python package, an extension in C over that library, in build/python (wants Python.h)'
 	@echo 'make library-tests   the command lines of tests/ through the library, from C, Python and Rust, and the examples of docs/LIBRARY.md'
+	@echo 'make library-bench   what a call costs, from C, Rust, Go and Python, beside serde_cbor and cbor2'
 	@echo 'make dist       one archive of program, library, wheel and crate for whoever has no kit'
 	@echo 'make dist-tests the archive, unpacked and called with no kit on the path, from each language whose tools are there'
 	@echo 'make release    the archive of the version, made from a clean clone of HEAD and put into release/: once a version'
@@ -58,7 +59,6 @@ help:
 try:
 	@python3 tests/try.py $(ARGS)
 
-# four builds, of a minute each
 .PHONY: try-tests
 try-tests: kit
 	python3 tests/tried.py
@@ -76,7 +76,7 @@ test:
 	rt ci
 	python3 tests/built.py
 	$(MAKE) tables believed stack vectors ample explanations growths failures counts cost library-tests dist-tests
-	python3 tests/tried.py --first
+	python3 tests/tried.py
 	$(MAKE) --no-print-directory left-out
 
 # over what out/ keeps; it tries no must-fail edit, and runs no tests

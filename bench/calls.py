@@ -1,17 +1,19 @@
 #!/usr/bin/env python3
-"""Time calls of the library from C, Rust and Python, beside serde_cbor and cbor2: nanoseconds a call, best of some.
+"""Time calls of the library from C, Rust, Go and Python, beside serde_cbor and cbor2: nanoseconds a call, best of some.
 
     calls.py BUILD_FOLDER [NAME=FOLDER..]
 
 BUILD_FOLDER has libcborn.a and python/cborn (`make python`). A further FOLDER has another package cborn, of an earlier
 version say, which is timed as NAME. The inputs are the array of 7 bytes of the README, a map
-of ten pairs whose keys fall, of 101 bytes, and an array of a hundred such maps. serde_cbor (from /usr/share/cargo/registry,
-where Debian's librust-serde-cbor-dev puts it) and cbor2 are left out where they aren't there. serde_cbor's Value drops
-duplicate keys and tags, and cbor2's canonical form orders keys by length first, so they do less, and other, work.
+of ten pairs whose keys fall, of 101 bytes, and arrays of ten and of a hundred such maps. Go, serde_cbor (from
+/usr/share/cargo/registry, where Debian's librust-serde-cbor-dev puts it) and cbor2 are left out where they aren't there.
+serde_cbor's Value drops duplicate keys and tags, and cbor2's canonical form orders keys by length first, so they do less, and
+other, work.
 """
 import importlib.util
 import os
 import pathlib
+import shutil
 import subprocess
 import sys
 import tempfile
@@ -42,7 +44,7 @@ directory = "{registry}"
 def inputs():
     pair = lambda k: b"\x65key-%d\x83\x01\x02%c" % (k, k)
     nested = b"\xaa" + b"".join(pair(k) for k in range(9, -1, -1))
-    return bytes.fromhex("98021801580161"), nested, b"\x98\x64" + nested * 100
+    return bytes.fromhex("98021801580161"), nested, b"\x8a" + nested * 10, b"\x98\x64" + nested * 100
 
 
 # the calls of Python, as texts, so that no function stands around them
@@ -102,6 +104,15 @@ def in_rust(build, folder, names):
     return subprocess.run(command, cwd=place, env=settings, check=True, capture_output=True, text=True).stdout.splitlines()
 
 
+def in_go(build, folder, names):
+    if shutil.which("go") is None:
+        return ["Go|left out: no go|0|0"]
+    flags = {"CGO_CFLAGS": f"-O2 -I{HERE.parent}/include", "CGO_LDFLAGS": f"{build}/libcborn.a"}
+    settings = {**os.environ, **flags, "GO111MODULE": "off", "GOCACHE": f"{folder}/go"}
+    command = ["go", "run", str(HERE / "calls.go"), *names]
+    return subprocess.run(command, env=settings, check=True, capture_output=True, text=True).stdout.splitlines()
+
+
 def main():
     if sys.argv[1] == "--package":
         for name in sys.argv[3:]:
@@ -114,7 +125,7 @@ def main():
         for data in inputs():
             names.append(f"{folder}/{len(data)}")
             pathlib.Path(names[-1]).write_bytes(data)
-        lines = in_c(build, folder, names) + in_rust(build, folder, names)
+        lines = in_c(build, folder, names) + in_rust(build, folder, names) + in_go(build, folder, names)
         for name, place in packages.items():
             lines += of_package(name, os.path.abspath(place), names)
     table = {}

@@ -21,6 +21,9 @@ fn main() {
         timed("normalise", data.len(), || {
             black_box(cborn::normalise(black_box(&data), cborn::Options::default()).unwrap());
         });
+        timed("check", data.len(), || {
+            black_box(cborn::check(black_box(&data), cborn::Order::Bytewise, cborn::Depth::default()).unwrap());
+        });
         timed("same", data.len(), || {
             let kind = cborn::Kind::Wire;
             black_box(cborn::same(black_box(&data), kind, &data, kind, cborn::Depth::default()).unwrap());

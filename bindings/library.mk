@@ -62,7 +62,7 @@ library-tests: build library python
 		CBORN_LIBRARY_FOLDER=$(CURDIR)/build cargo test --offline --quiet --target-dir $(CURDIR)/build/rust; \
 	else echo 'cargo is not there: the Rust crate is not tested'; fi
 
-# what a call costs, from C, Rust and Python
+# what a call costs, from C, Rust, Go and Python
 library-bench: library python
 	python3 bench/calls.py build
 

@@ -79,7 +79,10 @@ def in_python(archive):
     (archive.work / "page.txt").write_text(page)
     told = archive.run("PYTHONPATH=modules python3 -m doctest -v page.txt")
     program = archive.run("PYTHONPATH=modules python3 -m cborn normalise", input=LOOSE)
-    return b"Test passed." in told and f"\n{page.count('>>> ')} passed".encode() in told and program == TIGHT
+    # it ends with the status 1: not deterministic
+    explained = archive.run("PYTHONPATH=modules python3 -m cborn check --explain 2>&1 || test $? = 1", input=LOOSE)
+    is_explained = explained.startswith(b"offset 0: long head\n  path  item 0\n  bytes >98< 02 18 01 58 01 61\n  why   ")
+    return b"Test passed." in told and f"\n{page.count('>>> ')} passed".encode() in told and program == TIGHT and is_explained
 
 
 def in_python_from_sources(archive):

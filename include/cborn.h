@@ -178,7 +178,7 @@ uint32_t cborn_words(uint32_t number, char *out, size_t out_len);
 
 /* Writes an explanation of a fault or a defect to the start of out: lines of UTF-8
  * that say where in the input it is, what stands there, and why. They are the lines
- * that the program writes with --explain behind its first one, and docs/FORMATS.md
+ * that the program writes with --explain after its first line, and docs/FORMATS.md
  * says what is in them; there is no zero at their end. from and depth are those of
  * the call that refused the input, number is what it returned, and place is the
  * offset that it told. Of a fault of a second input, hand in that input: the number

@@ -27,13 +27,14 @@ OPTIONAL = {
     "the types of the Python package": (("mypy",), ("mypy",)),
     "the archive from C by its name": (("pkg-config",), ("pkg-config",)),
     "the archive from Python": (("pip",), ("python3-pip",)),
+    "the source archive from Python": (("setuptools", "wheel"), ("python3-setuptools", "python3-wheel")),
     "the archive from Go": (("go",), ("golang-go",)),
     "the archive from Java": (("javac", "java", JNA), ("default-jdk-headless", "libjna-java")),
 }
 
 
 def is_there(tool):
-    if tool in ("pip", "mypy"):
+    if tool in ("pip", "mypy", "setuptools", "wheel"):
         return importlib.util.find_spec(tool) is not None
     if tool == "Python.h":
         return os.path.isfile(os.path.join(sysconfig.get_path("include"), tool))

@@ -1,18 +1,18 @@
 #!/usr/bin/env python3
-"""Run `make try` as a user would: each run builds the program from its source, in a minute or so of processor time.
+"""Run `make try` as a user would: the first run builds the program from its source, in a minute or so, and the others don't.
 
-    tried.py            each of the runs
-    tried.py --first    the first of them
-
-It would see a run that hands on the wrong file, or takes an option's value for one, that loses standard input or the
-program's status, or that doesn't say that what ran isn't proved.
+It would see a run that hands on the wrong file, loses standard input or the program's status, or doesn't say that what ran
+isn't proved; and a program that is built anew where nothing changed, or isn't where a source did.
 """
+import importlib.util
 import pathlib
+import shutil
 import subprocess
 import sys
 import tempfile
 
-TRY = pathlib.Path(__file__).resolve().parent / "try.py"
+ROOT = pathlib.Path(__file__).resolve().parent.parent
+TRY = ROOT / "tests/try.py"
 SEVEN = bytes.fromhex("98021801580161")
 # RFC 8949 sections 3 and 8: an array, an integer and a byte string whose heads have one byte more than they need
 DEFAULT = """$ echo 98 02 18 01 58 01 61 | xxd -r -p | cborn show
@@ -31,21 +31,45 @@ CASES = (
     (("normalise", "--to", "notation"), SEVEN, "[1, h'61']\n", 0),
     (("check", "--none"), b"", "", 3),
 )
+BUILDING, BUILT = b"not proved: this is being built", b"not proved: this was built"
+
+
+def is_right(place, arguments, given, printed, status):
+    """Whether a run does what it should, and builds nothing unless it is the first one."""
+    is_built = (ROOT / "build/try/made-from").exists()
+    done = subprocess.run([sys.executable, str(TRY), *arguments], input=given, cwd=place, capture_output=True, check=False)
+    if done.stdout == printed.encode() and done.returncode == status and (BUILT if is_built else BUILDING) in done.stderr:
+        return True
+    print(f"try.py {' '.join(arguments)}: status {done.returncode}, {done.stdout!r}, {done.stderr!r}")
+    return False
+
+
+def tells_sources_apart(place):
+    """Whether a program is another where a line of a crate below it, or the list of crates, is another."""
+    spec = importlib.util.spec_from_file_location("try", TRY)
+    runner = importlib.util.module_from_spec(spec)
+    spec.loader.exec_module(runner)
+    page = subprocess.run(["rt", "doc"], stdout=subprocess.PIPE, text=True, check=True).stdout
+    kit, root = pathlib.Path(page.strip()).parent, pathlib.Path(place, "copy")
+    shutil.copytree(ROOT / "crates", root / "crates", ignore=lambda folder, names: {"out"} & set(names))
+    shutil.copy(ROOT / "crates.txt", root)
+    told = [runner.made_from(root, kit, "cborn")]
+    for name in ("crates/cborn/src/main.rt", "crates/cborn_model/src/lib.rt", "crates.txt"):
+        with (root / name).open("a") as file:
+            file.write("# \n" if name == "crates.txt" else "// \n")
+        told.append(runner.made_from(root, kit, "cborn"))
+    is_told = told[0] == runner.made_from(ROOT, kit, "cborn") and len(set(told)) == len(told)
+    if not is_told:
+        print(f"try.py doesn't tell sources apart: {told}")
+    return is_told
 
 
 def main():
-    cases = CASES[:1] if "--first" in sys.argv[1:] else CASES
-    failed = 0
-    with tempfile.TemporaryDirectory() as folder:
+    with tempfile.TemporaryDirectory() as place:
         for name, data in FILES.items():
-            pathlib.Path(folder, name).write_bytes(data)
-        for arguments, given, printed, status in cases:
-            done = subprocess.run([sys.executable, str(TRY), *arguments], input=given, cwd=folder, capture_output=True, check=False)
-            is_right = done.stdout == printed.encode() and done.returncode == status and b"not proved" in done.stderr
-            failed += not is_right
-            if not is_right:
-                print(f"try.py {' '.join(arguments)}: status {done.returncode}, {done.stdout!r}, {done.stderr!r}")
-    print(f"{len(cases) - failed} runs before any proof passed, {failed} failed")
+            pathlib.Path(place, name).write_bytes(data)
+        failed = sum(not is_right(place, *case) for case in CASES) + (not tells_sources_apart(place))
+    print(f"{len(CASES) + 1 - failed} tests of make try passed, {failed} failed")
     return 1 if failed else 0
 
 

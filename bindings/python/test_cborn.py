@@ -314,6 +314,37 @@ class Program(unittest.TestCase):
             self.assertEqual((err, status), (b"", 0))
             self.assertIn(b"--depth", out)
 
+    def test_explanations(self):
+        told = b"cborn: offset 2: float left out\n" + OF_FLOAT.encode()
+        for command in ("show", "normalise", "check"):
+            self.assertEqual(self.run_on(command, "--explain", data=FLOAT), (b"", told, 2))
+            self.assertEqual(self.run_on(command, data=FLOAT), (b"", told.splitlines(keepends=True)[0], 2))
+        out, err, status = self.run_on("check", "--explain", data=b"\x81\x18\x01")
+        self.assertEqual((out, err.splitlines()[:2], status), (b"offset 1: long head\n", [b"  path  item 0 [0]", b"  bytes 81 >18< 01"], 1))
+        self.assertEqual(self.run_on("check", "--explain", data=TIGHT), (b"deterministic\n", b"", 0))
+
+    def test_hints_with_an_explanation_alone(self):
+        self.assertEqual(self.run_on("check", data=b"8301\n"), (b"deterministic\n", b"", 0))
+        out, err, status = self.run_on("check", "--explain", data=b"8301\n")
+        self.assertEqual((out, err[:37], err.count(b"\n"), status), (b"deterministic\n", b"  hint  the input looks like hexadeci", 1, 0))
+        # what is read as notation is a text, as it should be
+        self.assertEqual(self.run_on("normalise", "--explain", "--from", "notation", data=b"1\n"), (b"\x01", b"", 0))
+        self.assertEqual(self.run_on("show", "--explain"), (b"", b"", 0))
+
+    def test_explanations_of_compare(self):
+        with tempfile.TemporaryDirectory() as folder:
+            names = [os.path.join(folder, name) for name in ("loose", "float", "text")]
+            for name, data in zip(names, (LOOSE, FLOAT, b"1\n")):
+                pathlib.Path(name).write_bytes(data)
+            loose, refused, text = names
+            told = b"cborn: second: offset 2: float left out\n" + OF_FLOAT.encode()
+            self.assertEqual(self.run_on("compare", "--explain", loose, refused), (b"", told, 2))
+            # where two inputs differ the library doesn't tell; the second looks like a text
+            out, err, status = self.run_on("compare", "--explain", loose, text)
+            self.assertEqual((out, err[:26], err.count(b"\n"), status), (b"different at item 0\n", b"  hint  the input is a tex", 1, 1))
+            as_notation = self.run_on("compare", "--explain", "--from-b", "notation", loose, text)
+            self.assertEqual(as_notation, (b"different at item 0\n", b"", 1))
+
     def test_a_long_input(self):
         zeros = bytes(3 << 20)
         self.assertEqual(self.run_on("normalise", data=zeros), (zeros, b"", 0))

@@ -27,7 +27,8 @@ deterministic encoding. `Reason` names both, and the method `explain` of an erro
 Each call raises TypeError for an input that is no buffer, and for a value that is no member of `Kind` or `Order`, and
 ValueError for a number that none of them has, and for a depth that is too small or too large.
 
-`python -m cborn` is the program, with its commands `normalise`, `show`, `check` and `compare`.
+`python -m cborn` is the program, with its commands `normalise`, `show`, `check` and `compare`. With --explain it says where
+and why an input is refused or isn't deterministic, but not where two inputs of `compare` differ.
 """
 
 from __future__ import annotations
@@ -203,7 +204,7 @@ class CbornError(ValueError):
         """Return lines that say where in `data` the fault is, what stands there, and why.
 
         `data` is the input that was refused: of `compare` and `same` the one that `input` means. The lines are those
-        that the program writes with --explain behind its first one; docs/FORMATS.md says what is in them. There are
+        that the program writes with --explain after its first line; docs/FORMATS.md says what is in them. There are
         none where the input is too long.
 
             >>> import cborn

@@ -1,6 +1,7 @@
 """The program cborn, for whoever has the wheel alone: its commands, options, lines and statuses, over this library.
 
-Unlike the program it needs the whole input and the whole output in memory.
+Unlike the program it needs the whole input and the whole output in memory. With --explain it says what the program says,
+but not where two inputs of `compare` differ, which the library doesn't tell.
 """
 
 from __future__ import annotations
@@ -38,11 +39,11 @@ Exit status:
 
 
 class Trouble(Exception):
-    """Why there is no answer: a line for standard error, and the status."""
+    """Why there is no answer: the lines for standard error, and the status."""
 
-    def __init__(self, line: str, status: int) -> None:
-        super().__init__(line)
-        self.line = line
+    def __init__(self, lines: str, status: int) -> None:
+        super().__init__(lines)
+        self.lines = lines
         self.status = status
 
 
@@ -56,7 +57,7 @@ class Parser(argparse.ArgumentParser):
 
 
 class Once(argparse.Action):
-    """Stores a value, and refuses an option that is given twice."""
+    """Stores a value, or that an option without one is there, and refuses an option that is given twice."""
 
     is_given = False
 
@@ -70,7 +71,7 @@ class Once(argparse.Action):
         if self.is_given:
             parser.error(f"the argument '{option_string}' cannot be used multiple times")
         self.is_given = True
-        setattr(namespace, self.dest, values)
+        setattr(namespace, self.dest, True if self.nargs == 0 else values)
 
 
 def depth_of(word: str) -> int:
@@ -94,6 +95,8 @@ def with_options(parser: argparse.ArgumentParser, kinds: typing.Sequence[str], t
                             "shortest first (4.2.3) [default: bytewise]")
     parser.add_argument("--depth", metavar="N", type=depth_of, default=128, action=Once,
                         help="the maximum nesting depth of arrays, maps and tags, 1 to 1024 [default: 128]")
+    parser.add_argument("--explain", nargs=0, default=False, action=Once,
+                        help="say on standard error where in the input, and why, after a refusal or a defect")
 
 
 def parser() -> Parser:
@@ -137,75 +140,123 @@ def read(name: str | None, side: str = "") -> bytearray:
     return data
 
 
+def write_all(file: int, data: bytes) -> None:
+    rest = memoryview(data)
+    while rest:
+        rest = rest[os.write(file, rest):]
+
+
 def write(data: bytes) -> None:
     """Writes to standard output."""
-    rest = memoryview(data)
     try:
-        while rest:
-            rest = rest[os.write(1, rest):]
+        write_all(1, data)
     except OSError:
         raise Trouble("cborn: write failed\n", FAILED) from None
+
+
+def tell(lines: str) -> None:
+    """Writes to standard error."""
+    with contextlib.suppress(OSError):
+        write_all(2, lines.encode("utf-8", "surrogateescape"))
 
 
 def told(line: str, status: int) -> tuple[bytes, int]:
     return f"{line}\n".encode(), status
 
 
-def compared(asked: argparse.Namespace) -> tuple[bytes, int]:
+def compared(asked: argparse.Namespace, inputs: list[bytearray]) -> tuple[bytes, int]:
     """Compares two files. A fault of the first comes before any trouble with the second."""
-    kinds = KINDS[getattr(asked, "from_a")], KINDS[getattr(asked, "from_b")]
-    first = read(asked.FILE_A, "first: ")
+    kinds = kinds_of(asked)
+    inputs.append(read(asked.FILE_A, "first: "))
     try:
-        second = read(asked.FILE_B, "second: ")
+        inputs.append(read(asked.FILE_B, "second: "))
     except Trouble:
-        cborn.same(first, b"", *kinds, asked.depth)
+        cborn.same(inputs[0], b"", *kinds, asked.depth)
         raise
-    index = cborn.compare(first, second, *kinds, asked.depth)
+    index = cborn.compare(inputs[0], inputs[1], *kinds, asked.depth)
     return told("same", DONE) if index is None else told(f"different at item {index}", DIFFERENT)
 
 
-def answered(asked: argparse.Namespace) -> tuple[bytes, int]:
-    """What goes to standard output, and the status."""
+def kinds_of(asked: argparse.Namespace) -> tuple[cborn.Kind, cborn.Kind]:
+    """The formats of the inputs. The second is of use for `compare` alone."""
+    first, second = ("from_a", "from_b") if asked.command == "compare" else ("from", "from")
+    return KINDS[getattr(asked, first, "wire")], KINDS[getattr(asked, second, "wire")]
+
+
+def answered(asked: argparse.Namespace, inputs: list[bytearray]) -> tuple[bytes, int, cborn.Defect | None]:
+    """What goes to standard output, the status, and the defect that `check` tells. Each input is added to `inputs`."""
     if asked.command == "compare":
-        return compared(asked)
-    data = read(asked.FILE)
+        return *compared(asked, inputs), None
+    inputs.append(data := read(asked.FILE))
+    source, _ = kinds_of(asked)
     if asked.command == "check":
         defect = cborn.check(data, ORDERS[asked.order], asked.depth)
-        return told("deterministic", DONE) if defect is None else told(f"offset {defect.place}: {defect.reason}", DIFFERENT)
-    source = KINDS[getattr(asked, "from")]
+        line, status = ("deterministic", DONE) if defect is None else (f"offset {defect.place}: {defect.reason}", DIFFERENT)
+        return *told(line, status), defect
     if asked.command == "normalise":
-        return cborn.normalise(data, source, KINDS[asked.to], ORDERS[asked.order], asked.depth), DONE
+        return cborn.normalise(data, source, KINDS[asked.to], ORDERS[asked.order], asked.depth), DONE, None
     if asked.to == "wire":
-        return cborn.spell(data, source, asked.depth), DONE
-    return cborn.show(data, source, asked.depth).encode(), DONE
+        return cborn.spell(data, source, asked.depth), DONE, None
+    return cborn.show(data, source, asked.depth).encode(), DONE, None
+
+
+def hint(data: bytearray, source: cborn.Kind) -> str:
+    """The line that says what bytes look like, where they look like a text.
+
+    It is the last line of an explanation, whatever that explains: here an input that ends too early, at its start.
+    """
+    if source is not cborn.Kind.WIRE:
+        return ""
+    lines = cborn.CbornError(cborn.Reason.TRUNCATED.number, 0).explain(data).splitlines(keepends=True)
+    return lines[-1] if lines[-1].startswith("  hint ") else ""
+
+
+def explained(explain: typing.Callable[[], str]) -> str:
+    """What `explain` returns, or that there is no memory for it."""
+    try:
+        return explain()
+    except MemoryError:
+        return "  out of memory\n"
 
 
 def done(words: typing.Sequence[str]) -> int:
     """Does what the words ask for, and gives the status.
 
-    Raises Trouble, CbornError and MemoryError for what keeps it from being done.
+    Raises Trouble and MemoryError for what keeps it from being done.
     """
     if any("\udc80" <= c <= "\udcff" for word in words for c in word):
         raise Trouble("error: an argument is not UTF-8\n", USAGE)
     asked = parser().parse_args(words)
-    output, status = answered(asked)
+    inputs: list[bytearray] = []
+    try:
+        output, status, defect = answered(asked, inputs)
+    except cborn.CbornError as why:
+        fault = why
+        side = "first: " if asked.command == "compare" and not fault.input else ""
+        lines = explained(lambda: fault.explain(inputs[fault.input])) if asked.explain else ""
+        raise Trouble(f"cborn: {side}{fault}\n{lines}", REFUSED) from None
     write(output)
+    if asked.explain:
+        tell(said_after(asked, inputs, defect))
     return status
+
+
+def said_after(asked: argparse.Namespace, inputs: list[bytearray], defect: cborn.Defect | None) -> str:
+    """What is said after an answer."""
+    if defect is not None:
+        return explained(lambda: defect.explain(inputs[0], asked.depth))
+    return explained(lambda: "".join(map(hint, inputs, kinds_of(asked))))
 
 
 def main(words: typing.Sequence[str]) -> int:
     try:
         return done(words)
     except Trouble as trouble:
-        line, status = trouble.line, trouble.status
-    except cborn.CbornError as why:
-        side = "first: " if words[:1] == ["compare"] and not why.input else ""
-        line, status = f"cborn: {side}{why}\n", REFUSED
+        tell(trouble.lines)
+        return trouble.status
     except MemoryError:
-        line, status = "cborn: out of memory\n", FAILED
-    with contextlib.suppress(OSError):
-        os.write(2, line.encode("utf-8", "surrogateescape"))
-    return status
+        tell("cborn: out of memory\n")
+        return FAILED
 
 
 if __name__ == "__main__":

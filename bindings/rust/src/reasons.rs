@@ -101,7 +101,7 @@ reasons! {
     TextIndicatorTooNarrow = 0x304, "indicator too narrow";
     /// An encoding indicator where none is allowed.
     TextIndicatorNotAllowed = 0x305, "indicator not allowed";
-    /// A text string behind the first piece of a byte string.
+    /// A text string after the first piece of a byte string.
     TextMixedString = 0x306, "mixed string";
     /// A chunk of another type than the first one.
     TextMixedChunks = 0x307, "mixed chunks";
