@@ -20,7 +20,7 @@ import tempfile
 
 import reading
 import shared
-from run import given_bytes, paragraphs
+from run import FORMS, given_bytes, paragraphs, tables_in
 from vectors import vectors
 
 HERE = pathlib.Path(__file__).resolve().parent
@@ -152,7 +152,7 @@ class Maker:
 
 def of_tables():
     """Each file and each standard input of the tables: any command may be given any of them."""
-    for path in sorted(HERE.glob("*.table")):
+    for path in tables_in(HERE, FORMS):
         for lines in paragraphs(path):
             for word, rest in lines:
                 what = rest.partition(" ")[2] if word == "file" else rest if word == "stdin" else ""

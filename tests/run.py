@@ -1,5 +1,5 @@
 #!/usr/bin/env python3
-"""Run the built program on the tables of this folder, and compare what it writes.
+"""Run the built program on the tables of this folder and of forms/, and compare what it writes.
 
     run.py PROGRAM [TABLE..]
 
@@ -42,6 +42,9 @@ import sys
 import tempfile
 
 Outcome = collections.namedtuple("Outcome", "stdout stderr status")
+HERE = pathlib.Path(__file__).resolve().parent
+# the forms that one of the ways through the program might forget; each growth and each read of the other tables is troubled, too
+FORMS = HERE / "forms"
 LONG = 4096
 OF_A_RUN = ("run", "argument", "stdout", "stderr", "status")
 
@@ -219,17 +222,21 @@ def single_runs(lines):
 
 def cases(names):
     """Each run of each case of the tables of these names, or of all tables beside this script."""
-    here = pathlib.Path(__file__).resolve().parent
-    for table in [pathlib.Path(name) for name in names] or sorted(here.glob("*.table")):
+    for table in [pathlib.Path(name) for name in names] or tables_in(HERE):
         for lines in itertools.chain.from_iterable(map(single_runs, paragraphs(table))):
             with tempfile.TemporaryDirectory() as folder:
                 yield table.name, Case(lines, folder)
 
 
+def tables_in(*folders):
+    """The tables of these folders."""
+    return [table for folder in folders for table in sorted(folder.glob("*.table"))]
+
+
 def main():
     program = str(pathlib.Path(sys.argv[1]).resolve())
     passed = failed = 0
-    for table, case in cases(sys.argv[2:]):
+    for table, case in cases(sys.argv[2:] or tables_in(HERE, FORMS)):
         wrong = list(case.differences(case.run(program)))
         passed, failed = (passed, failed + 1) if wrong else (passed + 1, failed)
         for line in wrong:
