@@ -34,9 +34,17 @@ CASES = (
 BUILDING, BUILT = b"not proved: this is being built", b"not proved: this was built"
 
 
-def is_right(place, arguments, given, printed, status):
-    """Whether a run does what it should, and builds nothing unless it is the first one."""
-    is_built = (ROOT / "build/try/made-from").exists()
+def loaded():
+    """try.py as a module, and the kit's folder."""
+    spec = importlib.util.spec_from_file_location("runner", TRY)
+    runner = importlib.util.module_from_spec(spec)
+    spec.loader.exec_module(runner)
+    page = subprocess.run(["rt", "doc"], stdout=subprocess.PIPE, text=True, check=True).stdout
+    return runner, pathlib.Path(page.strip()).parent
+
+
+def is_right(is_built, place, arguments, given, printed, status):
+    """Whether a run does what it should, and builds nothing where the program is built."""
     done = subprocess.run([sys.executable, str(TRY), *arguments], input=given, cwd=place, capture_output=True, check=False)
     if done.stdout == printed.encode() and done.returncode == status and (BUILT if is_built else BUILDING) in done.stderr:
         return True
@@ -44,13 +52,9 @@ def is_right(place, arguments, given, printed, status):
     return False
 
 
-def tells_sources_apart(place):
+def tells_sources_apart(runner, kit, place):
     """Whether a program is another where a line of a crate below it, or the list of crates, is another."""
-    spec = importlib.util.spec_from_file_location("try", TRY)
-    runner = importlib.util.module_from_spec(spec)
-    spec.loader.exec_module(runner)
-    page = subprocess.run(["rt", "doc"], stdout=subprocess.PIPE, text=True, check=True).stdout
-    kit, root = pathlib.Path(page.strip()).parent, pathlib.Path(place, "copy")
+    root = pathlib.Path(place, "copy")
     shutil.copytree(ROOT / "crates", root / "crates", ignore=lambda folder, names: {"out"} & set(names))
     shutil.copy(ROOT / "crates.txt", root)
     told = [runner.made_from(root, kit, "cborn")]
@@ -65,10 +69,14 @@ def tells_sources_apart(place):
 
 
 def main():
+    runner, kit = loaded()
+    label = ROOT / "build/try/made-from"
+    is_built = label.exists() and label.read_text() == runner.made_from(ROOT, kit, "cborn")
     with tempfile.TemporaryDirectory() as place:
         for name, data in FILES.items():
             pathlib.Path(place, name).write_bytes(data)
-        failed = sum(not is_right(place, *case) for case in CASES) + (not tells_sources_apart(place))
+        right = [is_right(is_built or at > 0, place, *case) for at, case in enumerate(CASES)]
+        failed = right.count(False) + (not tells_sources_apart(runner, kit, place))
     print(f"{len(CASES) + 1 - failed} tests of make try passed, {failed} failed")
     return 1 if failed else 0
 

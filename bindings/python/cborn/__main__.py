@@ -8,6 +8,7 @@ from __future__ import annotations
 
 import argparse
 import contextlib
+import functools
 import os
 import re
 import signal
@@ -231,10 +232,9 @@ def done(words: typing.Sequence[str]) -> int:
     try:
         output, status, defect = answered(asked, inputs)
     except cborn.CbornError as why:
-        fault = why
-        side = "first: " if asked.command == "compare" and not fault.input else ""
-        lines = explained(lambda: fault.explain(inputs[fault.input])) if asked.explain else ""
-        raise Trouble(f"cborn: {side}{fault}\n{lines}", REFUSED) from None
+        side = "first: " if asked.command == "compare" and not why.input else ""
+        lines = explained(functools.partial(why.explain, inputs[why.input])) if asked.explain else ""
+        raise Trouble(f"cborn: {side}{why}\n{lines}", REFUSED) from None
     write(output)
     if asked.explain:
         tell(said_after(asked, inputs, defect))
@@ -244,7 +244,7 @@ def done(words: typing.Sequence[str]) -> int:
 def said_after(asked: argparse.Namespace, inputs: list[bytearray], defect: cborn.Defect | None) -> str:
     """What is said after an answer."""
     if defect is not None:
-        return explained(lambda: defect.explain(inputs[0], asked.depth))
+        return explained(functools.partial(defect.explain, inputs[0], asked.depth))
     return explained(lambda: "".join(map(hint, inputs, kinds_of(asked))))
 
 
