@@ -339,3 +339,18 @@ fn shows_what_is_looked_over(rt: HostRuntime) -> Result<(), Fail> {
     }
     Ok(())
 }
+
+/// Catches a long string in chunks that gets no text because what follows them is looked over, and
+/// one that is shown although that isn't good.
+#[test]
+fn shows_chunks_that_are_looked_over(rt: HostRuntime) -> Result<(), Fail> {
+    for (rest, is_shown) in [("ff00ff", true), ("ff61ffff", false), ("61ffff00ff", false)] {
+        let mut bytes = Vec::new(rt.alloc());
+        bytes.extend_from_slice(&[0x9f, 0x7f])?;
+        let chunks = nested(rt.alloc(), "6161", 1 << 16, rest)?;
+        bytes.extend_from_slice(&chunks)?;
+        let text = show_bytes(rt.alloc(), Limit::USUAL, &bytes);
+        assert_eq!(rt; text.is_some(), is_shown, "{rest}");
+    }
+    Ok(())
+}
