@@ -20,7 +20,7 @@ help:
 	@echo 'make check-quick   while you change something: proves what changed, then make layout, tables and believed'
 	@echo 'make try-tests  make try on its seven bytes, on files, on standard input and on a wrong option: one build, of a minute'
 	@echo 'make layout     whether each file of the crates is in the layout of rt fmt'
-	@echo 'make tables     the built program on the tables of tests/, the examples of the documents, completion-tests and release-tests'
+	@echo 'make tables     the built program on the tables of tests/ and at a terminal, the examples of the documents, completion-tests and release-tests'
 	@echo 'make vectors    the built program on each front of each worked input'
 	@echo 'make ample      the built program on some 13,000 inputs, made and given: it never says out of memory'
 	@echo 'make explanations   the built program on random and mutated inputs with --explain: the paths that it tells are followed'
@@ -89,6 +89,7 @@ layout:
 
 tables: build
 	python3 tests/run.py $(PROGRAM)
+	python3 tests/terminals.py $(PROGRAM)
 	python3 tests/documents.py $(PROGRAM)
 	python3 bench/pictures.py --check
 	$(MAKE) completion-tests release-tests

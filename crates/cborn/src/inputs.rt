@@ -4,6 +4,7 @@ ghost use Rattle.std.specs.Io.{ReadsAtMost};
 ghost use Rattle.std.specs.Io.KnownBytes.{ReadConsumes};
 ghost use Rattle.cborn_engine.specs.Failures.{failures_after};
 
+use crate::hints::Look;
 use cborn_engine::Source;
 use std::alloc::Global;
 use std::io::{ErrorKind, Read};
@@ -124,6 +125,38 @@ impl<S: Source> Source for Kept<S> {
             if self.bytes.extend_from_slice(&buf[..*count]).is_err() {
                 self.is_lost = true;
             }
+        }
+        result
+    }
+
+    fn failures(&self) -> u64 {
+        self.inner.failures()
+    }
+}
+
+/// A source of which is noted what it looks like.
+#[derive(Drop)]
+pub struct Looked<S> {
+    pub inner: S,
+    pub look: Look,
+}
+
+impl<S: Source> Source for Looked<S> {
+    ghost remaining = { λ l. S.remaining l.inner };
+
+    ghost failed = { λ l. S.failed l.inner };
+
+    ghost asked = { λ l. S.asked l.inner };
+
+    fn read_some(&mut self, buf: &mut [u8]) -> io::Result<usize>
+        ensures bound { ReadsAtMost result buf.new }
+        ensures bytes { ReadConsumes (S.remaining self.old.inner) (S.remaining self.new.inner) result buf.new }
+        ensures failures { S.failed self.new.inner ≡ failures_after result (S.failed self.old.inner) }
+        ensures calls { S.asked self.new.inner ≤ S.asked self.old.inner + 1 }
+    {
+        let result = self.inner.read_some(buf);
+        if let Ok(count) = &result {
+            self.look.see(&buf[..*count]);
         }
         result
     }

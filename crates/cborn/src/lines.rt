@@ -1,4 +1,8 @@
 //! The lines that the program prints.
+ghost use Rattle.std.specs.Prelude.{◌≡◌, ◌≢◌, ◌↔◌, ◌≤◌, IfOk, IfErr};
+ghost use Rattle.cborn.specs.Statuses.{IsRefusal, status_of_answer, status_of_trouble};
+ghost use Rattle.cborn_engine.specs.declared.EngineFault.TheVariants as fault;
+ghost use Rattle.cborn.specs.declared.lines.Trouble.TheVariants as trouble;
 
 use crate::statuses::{DIFFERENT, DONE, FAILED, REFUSED};
 use cborn_engine::{CompareFault, EngineFault};
@@ -23,6 +27,8 @@ pub enum Trouble<'a> {
 }
 
 impl From<EngineFault> for Trouble<'_> {
+    ghost from_gives = { λ why gave. gave ≡ trouble.Engine why };
+
     fn from(fault: EngineFault) -> Self {
         Trouble::Engine(fault)
     }
@@ -56,14 +62,19 @@ impl Display for Answer {
 ///
 /// # Errors
 /// Where the line can't be written.
-pub fn tell_answer<'a, W: Write + Drop>(out: W, answer: Answer) -> Result<u8, Trouble<'a>> {
+pub fn tell_answer<'a, W: Write>(out: &mut W, answer: Answer) -> Result<u8, Trouble<'a>>
+    ensures status { IfOk result (λ status. status ≡ status_of_answer answer) }
+    ensures trouble { IfErr result (λ why. why ≡ trouble.Engine fault.WriteFault) }
+{
     match print(out, &answer, "\n") {
         Ok(()) => Ok(status_of_answer(answer)),
         Err(_) => Err(Trouble::Engine(EngineFault::WriteFault)),
     }
 }
 
-fn status_of_answer(answer: Answer) -> u8 {
+fn status_of_answer(answer: Answer) -> u8
+    ensures { result ≡ status_of_answer answer }
+{
     match answer {
         Answer::Same | Answer::Deterministic => DONE,
         Answer::DifferentAt(_) | Answer::Defective(_) => DIFFERENT,
@@ -74,19 +85,22 @@ fn status_of_answer(answer: Answer) -> u8 {
 ///
 /// # Errors
 /// Where it can't be written.
-pub fn print<W: Write + Drop, T: Display>(out: W, text: &T, end: &str) -> io::Result<()> {
-    let mut out = out;
+pub fn print<W: Write, T: Display>(out: &mut W, text: &T, end: &str) -> io::Result<()> {
     write!(out, "{text}{end}")?;
     out.flush()
 }
 
 /// Prints a trouble on a line, and gives its status. That the line can't be printed is ignored.
-pub fn tell_trouble<E: Write>(err: &mut E, trouble: Trouble<'_>) -> u8 {
+pub fn tell_trouble<E: Write>(err: &mut E, trouble: Trouble<'_>) -> u8
+    ensures { result ≡ status_of_trouble trouble.entry }
+{
     explain_trouble(err, trouble, "")
 }
 
 /// The same, with further lines behind that line.
-pub fn explain_trouble<E: Write>(err: &mut E, trouble: Trouble<'_>, lines: &str) -> u8 {
+pub fn explain_trouble<E: Write>(err: &mut E, trouble: Trouble<'_>, lines: &str) -> u8
+    ensures { result ≡ status_of_trouble trouble.entry }
+{
     if print_trouble(err, trouble).is_ok() {
         print_lines(err, lines);
     }
@@ -110,7 +124,9 @@ fn print_trouble<E: Write>(err: &mut E, trouble: Trouble<'_>) -> io::Result<()> 
     }
 }
 
-fn status_of_trouble(trouble: Trouble<'_>) -> u8 {
+fn status_of_trouble(trouble: Trouble<'_>) -> u8
+    ensures { result ≡ status_of_trouble trouble.entry }
+{
     match trouble {
         Trouble::Engine(fault)
         | Trouble::Compare(CompareFault::First(fault))

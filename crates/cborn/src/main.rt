@@ -1,8 +1,12 @@
 //! Reads CBOR data items and writes them in one deterministic form.
 #![tactic(auto)]
 
+ghost use Rattle.std.specs.Prelude.{◌≡◌, ◌≤◌, ◌⊎◌, IfOk, IfErr};
+ghost use Rattle.cborn.specs.Statuses.{status_of_trouble};
+
 mod explanations;
 mod help;
+mod hints;
 mod inputs;
 mod lines;
 mod misplaced;
@@ -12,55 +16,67 @@ mod tasks;
 #[cfg(test)]
 mod tests;
 
-use cborn_engine::EngineFault;
+use cborn_engine::{Counted, EngineFault};
 use clap::Error;
 use clap::error::ErrorKind;
+use hints::{Audience, Remarks};
 use lines::{Trouble, explain_trouble, print, print_lines, tell_trouble};
 use options::read_task;
-use statuses::{DONE, FAILED, USAGE};
+use statuses::{DONE, FAILED, REFUSED, USAGE};
 use std::alloc::Global;
-use std::io::{Read, Write};
+use std::io::{IsTerminal, Read, Write};
 use std::process::ExitCode;
 use std::rt::Files;
 use std::{env, io};
 use tasks::perform;
 
-/// Runs the program, and gives its status. The first of `words` is the program's name.
-pub fn run<F: Files, I: Read + Drop, W: Write + Drop, E: Write + Drop>(
+/// Runs the program, and gives its status, which is one of five. The first of `words` is the
+/// program's name; `audience` reads what is written to `err`. Where an input is refused, or the
+/// command line is wrong, the writer `out` is as it was.
+pub fn run<F: Files, I: Read + Drop, W: Write, E: Write + Drop>(
     rt: &F,
     alloc: Global,
     words: &[&str],
     input: I,
-    out: W,
+    out: &mut Counted<W>,
     err: E,
-) -> u8 {
+    audience: Audience,
+) -> u8
+    ensures status { result ≤ 4 }
+    ensures refused { result ≡ REFUSED → out.new ≡ out.old }
+    ensures usage { result ≡ USAGE → out.new ≡ out.old }
+{
     let mut err = err;
     let task = match read_task(alloc, words) {
         Ok(task) => task,
         Err(why) => {
-            return match answer_usage(alloc, &why, out, &mut err) {
+            return match answer_usage(alloc, &why, &mut out.inner, &mut err) {
                 Ok(status) => status,
                 Err(trouble) => tell_trouble(&mut err, trouble),
             };
         }
     };
-    let mut lines = String::new(alloc);
-    match perform(rt, alloc, &task, input, out, &mut lines) {
+    let mut remarks = Remarks::new(alloc, audience);
+    match perform(rt, alloc, &task, input, out, &mut remarks) {
         Ok(status) => {
-            print_lines(&mut err, lines.as_str());
+            print_lines(&mut err, remarks.lines.as_str());
             status
         }
-        Err(trouble) => explain_trouble(&mut err, trouble, lines.as_str()),
+        Err(trouble) => explain_trouble(&mut err, trouble, remarks.lines.as_str()),
     }
 }
 
 /// Prints why there is no task: a text on the command line, or what the program says of itself.
-fn answer_usage<'a, W: Write + Drop, E: Write>(
+fn answer_usage<'a, W: Write, E: Write>(
     alloc: Global,
     why: &Error,
-    out: W,
+    out: &mut W,
     err: &mut E,
-) -> Result<u8, Trouble<'a>> {
+) -> Result<u8, Trouble<'a>>
+    ensures status { IfOk result (λ status. (status ≡ DONE) ⊎ (status ≡ USAGE)) }
+    ensures untouched { IfOk result (λ status. status ≡ USAGE → out.new ≡ out.old) }
+    ensures trouble { IfErr result (λ why. status_of_trouble why ≡ FAILED) }
+{
     if why.kind() == ErrorKind::OutOfMemory {
         return Err(Trouble::Engine(EngineFault::OutOfMemory));
     }
@@ -87,11 +103,27 @@ fn run_host(rt: &HostRuntime, alloc: Global) -> io::Result<u8> {
     for word in &owned {
         words.push(word.as_str())?;
     }
-    Ok(run(rt, alloc, &words, rt.stdin(), rt.stdout(), rt.stderr()))
+    let audience = if rt.stderr().is_terminal() {
+        Audience::Person
+    } else {
+        Audience::Program
+    };
+    let mut out = Counted::new(rt.stdout());
+    Ok(run(
+        rt,
+        alloc,
+        &words,
+        rt.stdin(),
+        &mut out,
+        rt.stderr(),
+        audience,
+    ))
 }
 
 /// Prints why the command line can't be taken: a word of it isn't UTF-8, or memory was refused.
-fn tell_words<E: Write>(err: &mut E, why: io::Error) -> u8 {
+fn tell_words<E: Write>(err: &mut E, why: io::Error) -> u8
+    ensures { (result ≡ USAGE) ⊎ (result ≡ FAILED) }
+{
     if why.kind() == io::ErrorKind::InvalidData {
         let _ = writeln!(err, "error: an argument is not UTF-8");
         return USAGE;

@@ -1,7 +1,10 @@
 //! The program's commands.
+ghost use Rattle.std.specs.Prelude.{◌≡◌, ◌≤◌, IfOk, IfErr};
+ghost use Rattle.cborn.specs.Statuses.{IsRefusal};
 
 use crate::explanations::{explain_defect, explain_fault, explain_index, explain_kind};
-use crate::inputs::{Kept, LateFile};
+use crate::hints::Remarks;
+use crate::inputs::{Kept, LateFile, Looked};
 use crate::lines::{Answer, Trouble, tell_answer};
 use crate::options::{Action, Order, Purpose, Task};
 use crate::statuses::DONE;
@@ -12,19 +15,24 @@ use std::fs;
 use std::io::{Read, Write};
 use std::rt::Files;
 
-/// Does a task, and gives its status. Where the task wants explanations, puts into `lines` what is
-/// said behind the first line.
+/// Does a task, and gives its status: `DONE` or `DIFFERENT`. Puts into `remarks` what is said on
+/// standard error then, or behind the line of a trouble: explanations, where the task wants them,
+/// and hints, where a person reads it.
 ///
 /// # Errors
-/// What keeps the task from being done, in the words that are told of it.
-pub fn perform<'a, F: Files, I: Read + Drop, W: Write + Drop>(
+/// What keeps the task from being done, in the words that are told of it. Where that is a refusal,
+/// the writer is as it was.
+pub fn perform<'a, F: Files, I: Read + Drop, W: Write>(
     rt: &F,
     alloc: Global,
     task: &Task<'a>,
     input: I,
-    out: W,
-    lines: &mut String,
-) -> Result<u8, Trouble<'a>> {
+    out: &mut Counted<W>,
+    remarks: &mut Remarks,
+) -> Result<u8, Trouble<'a>>
+    ensures status { IfOk result (λ status. status ≤ 1) }
+    ensures untouched { IfErr result (λ why. IsRefusal why → out.new ≡ out.old) }
+{
     let Task {
         action,
         order,
@@ -32,38 +40,46 @@ pub fn perform<'a, F: Files, I: Read + Drop, W: Write + Drop>(
         explain,
     } = *task;
     match (explain, order) {
-        (false, Order::Bytewise) => act::<Bytewise, F, I, W>(rt, alloc, limit, action, input, out),
+        (false, Order::Bytewise) => {
+            act::<Bytewise, F, I, W>(rt, alloc, limit, action, input, out, remarks)
+        }
         (false, Order::LengthFirst) => {
-            act::<LengthFirst, F, I, W>(rt, alloc, limit, action, input, out)
+            act::<LengthFirst, F, I, W>(rt, alloc, limit, action, input, out, remarks)
         }
         (true, Order::Bytewise) => {
+            let lines = &mut remarks.lines;
             act_explained::<Bytewise, F, I, W>(rt, alloc, limit, action, input, out, lines)
         }
         (true, Order::LengthFirst) => {
+            let lines = &mut remarks.lines;
             act_explained::<LengthFirst, F, I, W>(rt, alloc, limit, action, input, out, lines)
         }
     }
 }
 
 /// The same, the keys of maps in the order `O`.
-fn act<'a, O: KeyOrder, F: Files, I: Read + Drop, W: Write + Drop>(
+fn act<'a, O: KeyOrder, F: Files, I: Read + Drop, W: Write>(
     rt: &F,
     alloc: Global,
     limit: Limit,
     action: Action<'a>,
     input: I,
-    out: W,
-) -> Result<u8, Trouble<'a>> {
+    out: &mut Counted<W>,
+    remarks: &mut Remarks,
+) -> Result<u8, Trouble<'a>>
+    ensures status { IfOk result (λ status. status ≤ 1) }
+    ensures untouched { IfErr result (λ why. IsRefusal why → out.new ≡ out.old) }
+{
     match action {
         Action::Read {
             file: None,
             purpose,
-        } => read_for::<O, I, W>(alloc, limit, purpose, input, out),
+        } => read_for::<O, I, W>(alloc, limit, purpose, input, out, remarks),
         Action::Read {
             file: Some(name),
             purpose,
         } => match fs::open(rt, name) {
-            Ok(file) => read_for::<O, F::File, W>(alloc, limit, purpose, file, out),
+            Ok(file) => read_for::<O, F::File, W>(alloc, limit, purpose, file, out, remarks),
             Err(_) => Err(Trouble::CannotRead(name)),
         },
         Action::Compare {
@@ -72,8 +88,9 @@ fn act<'a, O: KeyOrder, F: Files, I: Read + Drop, W: Write + Drop>(
             from_a,
             from_b,
         } => {
-            let answer = compare_files::<O, F>(rt, alloc, limit, from_a, first, from_b, second)?;
-            tell_answer(out, difference(answer))
+            let files = (first, second);
+            let kinds = (from_a, from_b);
+            compare_files::<O, F, W>(rt, alloc, limit, files, kinds, out, remarks)
         }
     }
 }
@@ -87,83 +104,108 @@ fn difference(index: Option<u64>) -> Answer {
 }
 
 /// Reads one input, and writes what is asked of it.
-fn read_for<'a, O: KeyOrder, I: Read + Drop, W: Write + Drop>(
+fn read_for<'a, O: KeyOrder, I: Read + Drop, W: Write>(
     alloc: Global,
     limit: Limit,
     purpose: Purpose,
     input: I,
-    out: W,
-) -> Result<u8, Trouble<'a>> {
-    let mut reader = Counted::new(input);
-    match answer_for::<O, _, W>(alloc, limit, purpose, &mut reader, out)? {
-        None => Ok(DONE),
-        Some((answer, out)) => tell_answer(out, answer),
-    }
+    out: &mut Counted<W>,
+    remarks: &mut Remarks,
+) -> Result<u8, Trouble<'a>>
+    ensures status { IfOk result (λ status. status ≤ 1) }
+    ensures untouched { IfErr result (λ why. IsRefusal why → out.new ≡ out.old) }
+{
+    let mut reader = Looked {
+        inner: Counted::new(input),
+        look: remarks.look(purpose.from()),
+    };
+    let status = match answer_for::<O, _, W>(alloc, limit, purpose, &mut reader, out)? {
+        None => DONE,
+        Some(answer) => tell_answer(&mut out.inner, answer)?,
+    };
+    remarks.hint(alloc, "", reader.look);
+    Ok(status)
 }
 
-/// Reads one input, and writes what is asked of it, or gives the answer to be told and where to.
-fn answer_for<'a, O: KeyOrder, R: Source, W: Write + Drop>(
+/// Reads one input, and writes what is asked of it, or gives the answer to be told.
+#[tactic(auto, using(crate::proofs::Refusals::refused_is_unwritten))]
+fn answer_for<'a, O: KeyOrder, R: Source, W: Write>(
     alloc: Global,
     limit: Limit,
     purpose: Purpose,
     reader: &mut R,
-    out: W,
-) -> Result<Option<(Answer, W)>, Trouble<'a>> {
-    let mut writer = Counted::new(out);
+    out: &mut Counted<W>,
+) -> Result<Option<Answer>, Trouble<'a>>
+    ensures untouched { IfErr result (λ why. IsRefusal why → out.new ≡ out.old) }
+{
     match purpose {
         Purpose::Show { from, to } => {
-            show_all(alloc, limit, from, to, reader, &mut writer)?;
+            show_all(alloc, limit, from, to, reader, out)?;
             Ok(None)
         }
         Purpose::Normalise { from, to } => {
-            normalise::<O, _, _>(alloc, limit, from, to, reader, &mut writer)?;
+            normalise::<O, _, _>(alloc, limit, from, to, reader, out)?;
             Ok(None)
         }
-        Purpose::Check => {
-            let answer = match check::<O, _>(alloc, limit, reader)? {
-                None => Answer::Deterministic,
-                Some(defect) => Answer::Defective(defect),
-            };
-            Ok(Some((answer, writer.inner)))
-        }
+        Purpose::Check => match check::<O, _>(alloc, limit, reader)? {
+            None => Ok(Some(Answer::Deterministic)),
+            Some(defect) => Ok(Some(Answer::Defective(defect))),
+        },
     }
 }
 
 /// Compares two files. The second is opened once the first was read and judged.
-fn compare_files<'a, O: KeyOrder, F: Files>(
+fn compare_files<'a, O: KeyOrder, F: Files, W: Write>(
     rt: &F,
     alloc: Global,
     limit: Limit,
-    from_a: Kind,
-    first: &'a str,
-    from_b: Kind,
-    second: &'a str,
-) -> Result<Option<u64>, Trouble<'a>> {
-    let file = match fs::open(rt, first) {
+    files: (&'a str, &'a str),
+    kinds: (Kind, Kind),
+    out: &mut Counted<W>,
+    remarks: &mut Remarks,
+) -> Result<u8, Trouble<'a>>
+    ensures status { IfOk result (λ status. status ≤ 1) }
+    ensures untouched { IfErr result (λ why. IsRefusal why → out.new ≡ out.old) }
+{
+    let file = match fs::open(rt, files.0) {
         Ok(file) => file,
-        Err(_) => return Err(Trouble::CannotReadFirst(first)),
+        Err(_) => return Err(Trouble::CannotReadFirst(files.0)),
     };
-    let mut reader = Counted::new(file);
-    let mut late = LateFile::new(rt, second);
-    match compare::<O, _, _>(alloc, limit, from_a, &mut reader, from_b, &mut late) {
-        Ok(index) => Ok(index),
-        Err(CompareFault::Second(_)) if late.is_missing() => {
-            Err(Trouble::CannotReadSecond(second))
+    let mut reader = Looked {
+        inner: Counted::new(file),
+        look: remarks.look(kinds.0),
+    };
+    let mut late = Looked {
+        inner: LateFile::new(rt, files.1),
+        look: remarks.look(kinds.1),
+    };
+    match compare::<O, _, _>(alloc, limit, kinds.0, &mut reader, kinds.1, &mut late) {
+        Ok(index) => {
+            let status = tell_answer(&mut out.inner, difference(index))?;
+            remarks.hint(alloc, "first: ", reader.look);
+            remarks.hint(alloc, "second: ", late.look);
+            Ok(status)
+        }
+        Err(CompareFault::Second(_)) if late.inner.is_missing() => {
+            Err(Trouble::CannotReadSecond(files.1))
         }
         Err(why) => Err(Trouble::Compare(why)),
     }
 }
 
 /// The same as `act`, with what was read kept, and explained where it is refused or departs.
-fn act_explained<'a, O: KeyOrder, F: Files, I: Read + Drop, W: Write + Drop>(
+fn act_explained<'a, O: KeyOrder, F: Files, I: Read + Drop, W: Write>(
     rt: &F,
     alloc: Global,
     limit: Limit,
     action: Action<'a>,
     input: I,
-    out: W,
+    out: &mut Counted<W>,
     lines: &mut String,
-) -> Result<u8, Trouble<'a>> {
+) -> Result<u8, Trouble<'a>>
+    ensures status { IfOk result (λ status. status ≤ 1) }
+    ensures untouched { IfErr result (λ why. IsRefusal why → out.new ≡ out.old) }
+{
     match action {
         Action::Read {
             file: None,
@@ -190,22 +232,25 @@ fn act_explained<'a, O: KeyOrder, F: Files, I: Read + Drop, W: Write + Drop>(
 }
 
 /// The same as `read_for`, explained.
-fn read_explained<'a, O: KeyOrder, I: Read + Drop, W: Write + Drop>(
+fn read_explained<'a, O: KeyOrder, I: Read + Drop, W: Write>(
     alloc: Global,
     limit: Limit,
     purpose: Purpose,
     input: I,
-    out: W,
+    out: &mut Counted<W>,
     lines: &mut String,
-) -> Result<u8, Trouble<'a>> {
+) -> Result<u8, Trouble<'a>>
+    ensures status { IfOk result (λ status. status ≤ 1) }
+    ensures untouched { IfErr result (λ why. IsRefusal why → out.new ≡ out.old) }
+{
     let mut reader = Kept::new(alloc, Counted::new(input));
     match answer_for::<O, _, W>(alloc, limit, purpose, &mut reader, out) {
         Ok(None) => {
             explain_kind(alloc, purpose.from(), reader.bytes(), lines);
             Ok(DONE)
         }
-        Ok(Some((answer, out))) => {
-            let status = tell_answer(out, answer)?;
+        Ok(Some(answer)) => {
+            let status = tell_answer(&mut out.inner, answer)?;
             match answer {
                 Answer::Defective(defect) => {
                     explain_defect(alloc, limit, reader.bytes(), defect, lines);
@@ -224,15 +269,18 @@ fn read_explained<'a, O: KeyOrder, I: Read + Drop, W: Write + Drop>(
 }
 
 /// The same as `compare_files`, explained.
-fn compare_explained<'a, O: KeyOrder, F: Files, W: Write + Drop>(
+fn compare_explained<'a, O: KeyOrder, F: Files, W: Write>(
     rt: &F,
     alloc: Global,
     limit: Limit,
     files: (&'a str, &'a str),
     kinds: (Kind, Kind),
-    out: W,
+    out: &mut Counted<W>,
     lines: &mut String,
-) -> Result<u8, Trouble<'a>> {
+) -> Result<u8, Trouble<'a>>
+    ensures status { IfOk result (λ status. status ≤ 1) }
+    ensures untouched { IfErr result (λ why. IsRefusal why → out.new ≡ out.old) }
+{
     let file = match fs::open(rt, files.0) {
         Ok(file) => file,
         Err(_) => return Err(Trouble::CannotReadFirst(files.0)),
@@ -241,7 +289,7 @@ fn compare_explained<'a, O: KeyOrder, F: Files, W: Write + Drop>(
     let mut late = Kept::new(alloc, LateFile::new(rt, files.1));
     match compare::<O, _, _>(alloc, limit, kinds.0, &mut reader, kinds.1, &mut late) {
         Ok(answer) => {
-            let status = tell_answer(out, difference(answer))?;
+            let status = tell_answer(&mut out.inner, difference(answer))?;
             if answer.is_some() {
                 explain_index::<O>(alloc, limit, kinds, (reader.bytes(), late.bytes()), lines);
             }

@@ -1,10 +1,12 @@
 //! What the program prints, and its statuses.
 
 mod flushes;
+mod looks;
 
+use crate::hints::Audience;
 use crate::lines::{Trouble, tell_trouble};
 use crate::run;
-use cborn_engine::{CompareFault, EngineFault};
+use cborn_engine::{CompareFault, Counted, EngineFault};
 use std::alloc::Global;
 use std::io;
 use std::io::{ErrorKind, Read, Write};
@@ -19,11 +21,23 @@ struct Outcome {
     err: Vec<u8>,
 }
 
-/// Runs the program over an input.
+/// Runs the program over an input, with nobody at a terminal.
 fn ran<F: Files>(rt: &F, alloc: Global, words: &[&str], input: &[u8]) -> Outcome {
-    let mut out = Vec::new(alloc);
+    ran_for(rt, alloc, words, input, Audience::Program)
+}
+
+/// Runs the program over an input, whoever reads standard error.
+fn ran_for<F: Files>(
+    rt: &F,
+    alloc: Global,
+    words: &[&str],
+    input: &[u8],
+    audience: Audience,
+) -> Outcome {
+    let mut out = Counted::new(Vec::new(alloc));
     let mut err = Vec::new(alloc);
-    let status = run(rt, alloc, words, input, &mut out, &mut err);
+    let status = run(rt, alloc, words, input, &mut out, &mut err, audience);
+    let out = out.inner;
     Outcome { status, out, err }
 }
 
@@ -96,6 +110,8 @@ impl Write for Broken {
 
 #[test]
 fn broken_streams(rt: HostRuntime) -> Result<(), Fail> {
+    let mut out = Counted::new(Broken);
+    let to = Audience::Program;
     let cases = [
         ["cborn", "normalise"].as_slice(),
         ["cborn", "check"].as_slice(),
@@ -103,7 +119,15 @@ fn broken_streams(rt: HostRuntime) -> Result<(), Fail> {
     ];
     for words in cases {
         let mut err = Vec::new(rt.alloc());
-        let status = run(&rt, rt.alloc(), words, b"\x00".as_slice(), Broken, &mut err);
+        let status = run(
+            &rt,
+            rt.alloc(),
+            words,
+            b"\x00".as_slice(),
+            &mut out,
+            &mut err,
+            to,
+        );
         assert_eq!(rt; status, 4, "{words:?}");
         assert_eq!(rt;
             err.as_slice(),
@@ -113,15 +137,23 @@ fn broken_streams(rt: HostRuntime) -> Result<(), Fail> {
     }
     let mut err = Vec::new(rt.alloc());
     let words = ["cborn", "normalise"];
-    let status = run(&rt, rt.alloc(), &words, Broken, Broken, &mut err);
+    let status = run(&rt, rt.alloc(), &words, Broken, &mut out, &mut err, to);
     assert_eq!(rt; status, 4);
     assert_eq!(rt; err.as_slice(), b"cborn: read failed\n".as_slice());
     // Nothing is written here, so the flush alone fails.
     err.clear();
-    let status = run(&rt, rt.alloc(), &words, b"".as_slice(), Broken, &mut err);
+    let status = run(
+        &rt,
+        rt.alloc(),
+        &words,
+        b"".as_slice(),
+        &mut out,
+        &mut err,
+        to,
+    );
     assert_eq!(rt; status, 4);
     assert_eq!(rt; err.as_slice(), b"cborn: write failed\n".as_slice());
-    let status = run(&rt, rt.alloc(), &["cborn"], Broken, Broken, Broken);
+    let status = run(&rt, rt.alloc(), &["cborn"], Broken, &mut out, Broken, to);
     assert_eq!(rt; status, 3);
     Ok(())
 }

@@ -2,7 +2,9 @@
 //! Standard output itself has nothing to flush, so nothing but these tests tells a flush that is
 //! left out.
 use super::ran;
+use crate::hints::Audience;
 use crate::run;
+use cborn_engine::Counted;
 use std::alloc::Global;
 use std::io::{ErrorKind, Write};
 use std::rt::Files;
@@ -36,13 +38,14 @@ fn is_unflushed<F: Files>(
     input: &[u8],
     output: &[u8],
 ) -> bool {
-    let mut out = Unflushed {
+    let mut out = Counted::new(Unflushed {
         taken: Vec::new(alloc),
-    };
+    });
     let mut err = Vec::new(alloc);
-    let status = run(rt, alloc, words, input, &mut out, &mut err);
+    let program = Audience::Program;
+    let status = run(rt, alloc, words, input, &mut out, &mut err, program);
     status == 4
-        && out.taken.as_slice() == output
+        && out.inner.taken.as_slice() == output
         && err.as_slice() == b"cborn: write failed\n".as_slice()
 }
 

@@ -1,0 +1,34 @@
+-- What the program exits with.
+use Rattle.std.specs.Prelude.{ℕ, ◌≡◌}
+use Rattle.cborn_engine.specs.declared.EngineFault.{EngineFault}
+use Rattle.cborn_engine.specs.declared.EngineFault.TheVariants as fault
+use Rattle.cborn_engine.specs.declared.CompareFault.TheVariants as compared
+use Rattle.cborn.specs.declared.lines.Answer.{Answer}
+use Rattle.cborn.specs.declared.lines.Answer.TheVariants as answer
+use Rattle.cborn.specs.declared.lines.Trouble.{Trouble}
+use Rattle.cborn.specs.declared.lines.Trouble.TheVariants as trouble
+
+-- 0: the inputs are the same, or the input is deterministic; 1: they aren't
+abbrev pub status_of_answer : Answer → ℕ
+status_of_answer answer.Same = 0
+status_of_answer answer.Deterministic = 0
+status_of_answer (answer.DifferentAt i) = 1
+status_of_answer (answer.Defective d) = 1
+
+-- 4: a read, a write or memory failed; 2: the input is refused
+abbrev pub status_of_fault : EngineFault → ℕ
+status_of_fault fault.ReadFault = 4
+status_of_fault fault.WriteFault = 4
+status_of_fault fault.OutOfMemory = 4
+status_of_fault _ = 2
+
+-- the same of what keeps a task from being done; 4 too: a file can't be opened
+abbrev pub status_of_trouble : Trouble → ℕ
+status_of_trouble (trouble.Engine why) = status_of_fault why
+status_of_trouble (trouble.Compare (compared.First why)) = status_of_fault why
+status_of_trouble (trouble.Compare (compared.Second why)) = status_of_fault why
+status_of_trouble _ = 4
+
+-- an input is refused
+abbrev pub IsRefusal : Trouble → Type 0
+IsRefusal why = status_of_trouble why ≡ 2

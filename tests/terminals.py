@@ -1,0 +1,137 @@
+#!/usr/bin/env python3
+"""Run the built program with standard error on a terminal, and compare what a person is told there.
+
+    terminals.py PROGRAM
+
+Where nothing is refused, and bytes were read that are all printable ASCII and white space with a line end last, the terminal
+gets a hint. Each run is made a second time with a pipe in the place of the terminal, which must get none of it, and all else
+must be the same. So this would see a hint that a script gets, or that a person doesn't.
+"""
+import os
+import pathlib
+import pty
+import subprocess
+import sys
+import tempfile
+
+HEXADECIMAL = "hint: the input looks like hexadecimal, and was read as CBOR bytes: xxd -r -p makes bytes of it"
+NOTATION = "hint: the input is a text, and was read as CBOR bytes: --from notation reads diagnostic notation"
+FILES = {
+    "digits": b"8301\n",
+    "text": b"1\n",
+    "item": bytes.fromhex("8201"),
+    "items": bytes.fromhex("820102"),
+    # 'a' times 38 behind the head 78 26, which is 'x&': a text string, and all of it printable
+    "string": b"x&" + b"a" * 38 + b"\n",
+}
+# more than the program reads at once
+LONG = b"1 2\n" * 50_000
+
+# arguments, standard input, the lines for any reader, those for a person alone, the status
+CASES = (
+    # RFC 8949 section 3: each of these bytes is an integer
+    ("show", b"8301\n", [], [HEXADECIMAL], 0),
+    ("check", b"8301\n", [], [HEXADECIMAL], 0),
+    ("normalise", b"8301\n", [], [HEXADECIMAL], 0),
+    ("show digits", b"", [], [HEXADECIMAL], 0),
+    ("check digits", b"", [], [HEXADECIMAL], 0),
+    ("normalise digits", b"", [], [HEXADECIMAL], 0),
+    ("compare digits digits", b"", [], ["first: " + HEXADECIMAL, "second: " + HEXADECIMAL], 0),
+    ("compare digits text", b"", [], ["first: " + HEXADECIMAL, "second: " + NOTATION], 1),
+    ("compare items text", b"", [], ["second: " + NOTATION], 1),
+    ("compare --from-b notation text text", b"", [], ["first: " + NOTATION], 1),
+    # white space between digits, a line end of two characters, and upper case, which is a byte string's head
+    ("check", b"83 01\r\n", [], [HEXADECIMAL], 0),
+    ("check", b"A1\n", [], [HEXADECIMAL], 0),
+    ("check", b"\n", [], [NOTATION], 0),
+    ("show", b"1\n", [], [NOTATION], 0),
+    # an odd number of digits
+    ("show", b"831\n", [], [NOTATION], 0),
+    ("show string", b"", [], [NOTATION], 0),
+    # 38 31 is an integer in as few bytes as it can be; 38 0a is one in two bytes that needs one, and that is no refusal
+    ("check", b"81\n", [], [HEXADECIMAL], 0),
+    ("check", b"18\n", [], [HEXADECIMAL], 1),
+    ("check", b"8\n", [], [NOTATION], 1),
+    ("check --order length-first", b"1\n", [], [NOTATION], 0),
+    ("show", LONG, [], [HEXADECIMAL], 0),
+    ("show", LONG + b"1\n", [], [NOTATION], 0),
+    ("show", LONG + b",\n", [], [NOTATION], 0),
+    ("show", b",\n" + LONG, [], [NOTATION], 0),
+    # the last line isn't ended; a byte that no text has, first, last and far in
+    ("show", b"8301", [], [], 0),
+    ("show", b"\x01\n", [], [], 0),
+    ("show", b"1\x01", [], [], 0),
+    ("show", LONG + b"\x00\n", [], [], 0),
+    ("show", b"\x00" + LONG, [], [], 0),
+    ("show", b"", [], [], 0),
+    ("check items", b"", [], [], 0),
+    ("compare items items", b"", [], [], 0),
+    # what is read as notation is no text by mistake
+    ("show --from notation", b"8301\n", [], [], 0),
+    ("normalise --from notation-2 text", b"", [], [], 0),
+    ("compare --from-a notation --from-b notation text text", b"", [], [], 0),
+    # a refusal is told by itself
+    ("show", b"[\n", ["cborn: offset 2: truncated"], [], 2),
+    ("compare text item", b"", ["cborn: second: offset 2: truncated"], [], 2),
+    ("compare text none", b"", ["cborn: second: cannot read none"], [], 4),
+    # the explanation has the hint whoever reads it
+    ("check --explain", b"8301\n", ["  hint  " + HEXADECIMAL.removeprefix("hint: ")], [], 0),
+)
+
+
+def piped(command, given, folder):
+    """What a run writes, and its status."""
+    done = subprocess.run(command, input=given, cwd=folder, capture_output=True, check=False)
+    return done.stdout, done.stderr, done.returncode
+
+
+def on_terminal(command, given, folder):
+    """The same, with standard error on a terminal, which puts CR before each LF."""
+    ours, theirs = pty.openpty()
+    with subprocess.Popen(command, stdin=subprocess.PIPE, stdout=subprocess.PIPE, stderr=theirs, cwd=folder) as run:
+        os.close(theirs)
+        out, _ = run.communicate(given)
+    told = b""
+    while piece := read_piece(ours):
+        told += piece
+    os.close(ours)
+    return out, told.replace(b"\r\n", b"\n"), run.returncode
+
+
+def read_piece(terminal):
+    """The next bytes, or none where the other side of the terminal is closed."""
+    try:
+        return os.read(terminal, 4096)
+    except OSError:
+        return b""
+
+
+def said(lines):
+    return "".join(f"{line}\n" for line in lines).encode()
+
+
+def wrong_runs(program, folder):
+    """A line for each run that isn't as it should be."""
+    for words, given, lines, hints, status in CASES:
+        command = [program, *words.split()]
+        script, person = piped(command, given, folder), on_terminal(command, given, folder)
+        hints = [f"cborn: {hint}" for hint in hints]
+        if script[1:] != (said(lines), status):
+            yield f"{words} of {given[:20]}: a pipe gets {script[1:]}"
+        if person != (script[0], said(lines + hints), status):
+            yield f"{words} of {given[:20]}: a terminal gets {person[1:]}"
+
+
+def main():
+    program = os.path.abspath(sys.argv[1])
+    with tempfile.TemporaryDirectory() as folder:
+        for name, data in FILES.items():
+            pathlib.Path(folder, name).write_bytes(data)
+        wrong = list(wrong_runs(program, folder))
+    print(*wrong, sep="\n", end="\n" if wrong else "")
+    print(f"{len(CASES)} runs with a terminal and without passed, {len(wrong)} lines of what is wrong")
+    return 1 if wrong else 0
+
+
+if __name__ == "__main__":
+    sys.exit(main())
