@@ -4,9 +4,10 @@ ghost use Rattle.std.specs.Prelude.{◌≡◌, ◌≤◌, [], length, IfOk};
 ghost use Rattle.std.specs.String.{string_bytes};
 
 use crate::causes::behind;
+use crate::heads::whole_head;
 use crate::notes::{push_path, slice_of};
 use crate::quotes::push_item;
-use crate::walks::{Walk, whole_head};
+use crate::walks::Walk;
 use cborn_model::{KeyOrder, Limit, Major};
 use cborn_wire::Argument;
 use std::alloc::{AllocError, Global};
@@ -31,14 +32,14 @@ pub fn explain_difference<O: KeyOrder>(
     if common == first.len() && common == second.len() {
         return Ok(out);
     }
-    let mut walk = Walk::new(alloc, 0);
+    let mut walk = Walk::new(alloc);
     walk.walk_to(first, common)?;
     walk.leave_keys();
     out.push_str("  path   ")?;
     push_path(alloc, limit, &mut out, first, &walk)?;
     let ours = part_at(alloc, first, walk.at)?;
     let theirs = part_at(alloc, second, walk.at)?;
-    let order = if walk.is_at_key() {
+    let order = if walk.top.level.nesting.is_at_key() {
         Some(O::compare(ours, theirs))
     } else {
         None

@@ -19,8 +19,10 @@
 
 mod causes;
 mod differences;
+mod heads;
 mod hints;
 mod items;
+mod nestings;
 mod notes;
 mod paths;
 mod quotes;
@@ -33,5 +35,6 @@ mod walks;
 
 pub use differences::explain_difference;
 pub use hints::{Hint, hint_of};
-pub use notes::{explain_bytes, explain_text};
+pub use notes::{explain_bytes, explain_text, path_to};
+pub use paths::{Path, Step};
 pub use reasons::{BytesReason, TextReason};
