@@ -4,3 +4,5 @@ pub mod Items
 pub mod Heads
 pub mod Stops
 pub mod Whole
+pub mod Keys
+pub mod Differences

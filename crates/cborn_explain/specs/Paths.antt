@@ -1,5 +1,5 @@
 -- Paths: where a place in some bytes stands among their items (RFC 8949 section 3, RFC 8742).
-use Rattle.std.specs.Prelude.{◌≡◌, ℕ, ◌≤◌, List, [], ◌∷◌, ◌++◌, length}
+use Rattle.std.specs.Prelude.{◌≡◌, ℕ, ◌+◌, ◌≤◌, List, [], ◌∷◌, ◌++◌, length, take, Bool, true, false, if◌then◌else◌}
 use Rattle.cborn_model.specs.Tree.{Trees, count, count_entries, depth_all}
 use Rattle.cborn_model.specs.Spelled.{spelled_all, FitsAll}
 use Rattle.cborn_wire.specs.Slots.{Begun, begun_items, begun_pairs, begun_value, begun_tag, begun_chunks, beginnings, AreBegun}
@@ -28,3 +28,23 @@ abbrev pub LeadsTo : List ℕ → ℕ → List Step → Type 0
 LeadsTo x place path =
     (f : List ℕ) × (y : List ℕ) × (x ≡ f ++ y) × (length f ≤ place) × EndsAt f path
     × ((g z : List ℕ) (other : List Step) → x ≡ g ++ z → length g ≤ place → EndsAt g other → length g ≤ length f)
+
+-- a step to the key of a pair
+abbrev pub is_key : Step → Bool
+is_key (Key n) = true
+is_key _ = false
+
+-- a path as far as the first key into which it leads, if it leads into one
+abbrev pub up_to_key : List Step → List Step
+up_to_key [] = []
+up_to_key (s ∷ path) = s ∷ (if is_key s then [] else up_to_key path)
+
+-- the first n bytes of x and y are the same, and no more
+abbrev pub DifferFirstAt : List ℕ → List ℕ → ℕ → Type 0
+DifferFirstAt x y n = (n ≤ length x) × (n ≤ length y) × (take n x ≡ take n y) × (take (n + 1) x ≡ take (n + 1) y → ⊥)
+
+-- In x and in y the path leads to the byte at which they first differ; but to a key as a whole, the outermost, where it would lead into one. The place is where that begins, in both.
+abbrev pub LeadsToDifference : List ℕ → List ℕ → ℕ → List Step → Type 0
+LeadsToDifference x y place path =
+    (n : ℕ) × (whole : List Step) × DifferFirstAt x y n × LeadsTo x n whole × LeadsTo y n whole
+    × (path ≡ up_to_key whole) × (place ≤ n) × EndsAt (take place x) path × EndsAt (take place y) path

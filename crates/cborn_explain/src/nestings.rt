@@ -1,6 +1,7 @@
 //! What can be open on the way to a place, and how much of it is whole.
 
 ghost use Rattle.std.specs.Prelude.{◌≡◌, ◌<◌, ◌+◌, ◌^◌};
+ghost use Rattle.cborn_explain.specs.Paths.{is_key};
 ghost use Rattle.cborn_explain.specs.devices.Walks.{step_of, parts_of, unless_full, with_part};
 
 use crate::paths::Step;
@@ -41,7 +42,9 @@ impl Nesting {
     }
 
     /// A key comes next, or is open.
-    pub(crate) fn is_at_key(self) -> bool {
+    pub(crate) fn is_at_key(self) -> bool
+        ensures { result ≡ is_key (step_of self) }
+    {
         matches!(self, Nesting::Map(_, _))
     }
 

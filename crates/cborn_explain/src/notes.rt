@@ -57,8 +57,9 @@ pub fn explain_bytes(
 pub fn path_to(alloc: Global, bytes: &[u8], place: u64) -> Result<Path, AllocError>
     ensures leads { IfOk result (λ path. LeadsTo bytes.now place path.steps.items) }
 {
+    let at = place_in(bytes, place);
     let mut walk = Walk::new(alloc);
-    walk.walk_to(bytes, place_in(bytes, place))?;
+    walk.walk_to(bytes, at)?;
     walk.path(alloc)
 }
 

@@ -2,8 +2,8 @@
 
 ghost use Rattle.std.specs.Prelude.{◌≡◌, ◌≤◌, ◌<◌, ℕ, List, true, false, length, IfOk, OnOk};
 ghost use Rattle.cborn_wire.specs.HeadReading.{major_at, seen_argument};
-ghost use Rattle.cborn_explain.specs.Paths.{LeadsTo};
-ghost use Rattle.cborn_explain.specs.devices.Walks.{levels, finish, leave, begun, size_of, take_head, path_of, IsWalked, AreCounted};
+ghost use Rattle.cborn_explain.specs.Paths.{LeadsTo, up_to_key};
+ghost use Rattle.cborn_explain.specs.devices.Walks.{levels, finish, leave, begun, size_of, take_head, path_of, around, has_key, IsWalked, IsOpened, AreCounted};
 
 use crate::heads::{may_stand, whole_head};
 use crate::nestings::Nesting;
@@ -52,7 +52,8 @@ pub(crate) struct Walk {
 impl Walk {
     /// A walk at the front of some bytes.
     pub(crate) fn new(alloc: Global) -> Walk
-        ensures { (x : List ℕ) → IsWalked x result }
+        ensures walked { (x : List ℕ) → IsWalked x result }
+        ensures at { result.at ≡ 0 }
     {
         Walk {
             top: Open::new(Nesting::Sequence(0), 0),
@@ -233,18 +234,37 @@ impl Walk {
     }
 
     /// Goes back from within a key to where it begins: of keys in one another the outermost.
-    pub(crate) fn leave_keys(&mut self) {
-        for i in 0..self.outer.len() {
-            let around = self.outer[i];
-            if around.level.nesting.is_at_key() {
-                self.at = match self.outer.get(i + 1) {
-                    Some(key) => key.level.place,
-                    None => self.top.level.place,
-                };
-                self.top = around;
-                self.outer.truncate(i);
-                return;
+    pub(crate) fn leave_keys(&mut self)
+        ensures path { path_of (levels self.new) ≡ up_to_key (path_of (levels self.old)) }
+        ensures back { (x : List ℕ) → IsOpened x self.old.at (levels self.old) → (self.new.at ≤ self.old.at) × IsOpened x self.new.at (levels self.new) }
+    {
+        'keys: while self.is_in_key() {
+            self.back_out();
+        }
+    }
+
+    /// Something that is open stands in a key.
+    fn is_in_key(&self) -> bool
+        ensures { result ≡ has_key (path_of (around (levels self.now))) }
+    {
+        'levels: for outer in self.outer.iter() {
+            if outer.level.nesting.is_at_key() {
+                return true;
             }
+        }
+        false
+    }
+
+    /// Goes back to where the innermost of what is open begins, if anything is.
+    fn back_out(&mut self)
+        requires { 0 < length (around (levels self.old)) }
+        ensures levels { levels self.new ≡ around (levels self.old) }
+        ensures back { (x : List ℕ) → IsOpened x self.old.at (levels self.old) → (self.new.at ≤ self.old.at) × IsOpened x self.new.at (levels self.new) }
+    {
+        let start = self.top.level.place;
+        if let Some(outer) = self.outer.pop() {
+            self.top = outer;
+            self.at = start;
         }
     }
 

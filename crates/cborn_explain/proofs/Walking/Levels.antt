@@ -26,6 +26,9 @@ count_open top os = omega (arith, turned-length [] os)
 pub opened : (top new : Open) (l : Level) (xs ys : List Open) → new.level ≡ l → ys ≡ xs ++ top ∷ [] → open_levels new ys ≡ l ∷ open_levels top xs
 opened top new l xs ys e h = ap (λ k. k ∷ turned [] ys) e ∙ ap (λ zs. l ∷ turned [] zs) h ∙ ap (λ zs. l ∷ zs) (turned-push [] xs top)
 
+pub pop_around : (around : Open) (xs ys : List Open) → xs ≡ ys ++ around ∷ [] → open_levels around ys ≡ turned [] xs
+pop_around around xs ys e = sym (ap (turned []) e ∙ turned-push [] ys around)
+
 none_around : (v w : Vec Open Global) → v.items ≡ w.items ++ [] → (vec_len v ≡ 0) × (vec_len w ≡ 0) → (v.items ≡ []) × (w.items ≡ [])
 none_around v w e h = (nil_from_length v.items (omega (arith, h.0, v.ok.0)), nil_from_length w.items (omega (arith, h.1, w.ok.0)))
 
@@ -76,7 +79,7 @@ counted_leave (l ∷ m ∷ ls) h = h.1
 
 -- their steps
 
-path_turned : (ls : List Level) (os : List Open) → path_of (turned ls os) ≡ path_of ls ++ map (λ o. step_of o.level.nesting) os
+pub path_turned : (ls : List Level) (os : List Open) → path_of (turned ls os) ≡ path_of ls ++ map (λ o. step_of o.level.nesting) os
 path_turned ls [] = sym (append-nil (path_of ls))
 path_turned ls (o ∷ os) = path_turned (o.level ∷ ls) os ∙ append_assoc (path_of ls) (step_of o.level.nesting ∷ []) (map (λ p. step_of p.level.nesting) os)
 

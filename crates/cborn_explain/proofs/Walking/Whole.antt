@@ -1,5 +1,5 @@
 -- A walk over some bytes, from their start.
-use Rattle.std.proofs.Common.{◌≡◌, refl, sym, ap, ◌∙◌, subst, ℕ, ◌+◌, ◌-◌, ◌<◌, ◌≤◌, ◌^◌, List, [], ◌∷◌, ◌++◌, length, take, drop, true, false, leb, None, ◌⊎◌, inl, inr, arith, append-nil, length-append}
+use Rattle.std.proofs.Common.{◌≡◌, refl, sym, ap, ◌∙◌, subst, ℕ, ◌+◌, ◌-◌, ◌<◌, ◌≤◌, ◌^◌, List, [], ◌∷◌, ◌++◌, length, take, drop, true, false, leb, None, ◌⊎◌, inl, inr, Result, Ok, Err, IfOk, arith, append-nil, length-append}
 use Rattle.std.proofs.lemmas.Bool.{cases_lt}
 use Rattle.std.proofs.lemmas.List.{length-drop, length-take-le, take-append-drop, take-append-le}
 use Rattle.std.proofs.Math.Seq.{take-add, take-append_seam}
@@ -28,10 +28,12 @@ use Rattle.cborn_wire.proofs.Scans.ScanSteps.{reason_here, step_taken}
 use Rattle.cborn_wire.proofs.Spelled.AllBytes.{bytes-left}
 use Rattle.cborn_wire.proofs.Spelled.AsPlaced.{spelled_all-from, depth_all-from, fits_all-from, placed_all-from}
 use Rattle.cborn_wire.proofs.Spelled.OneReading.{takes_sequence}
+use Rattle.std.specs.declared.alloc.AllocError.{AllocError}
 use Rattle.cborn_explain.specs.declared.paths.Step.{Step}
+use Rattle.cborn_explain.specs.declared.paths.Path.{Path}
 use Rattle.cborn_explain.specs.declared.walks.Level.{Level}
 use Rattle.cborn_explain.specs.Paths.{EndsAt, LeadsTo}
-use Rattle.cborn_explain.specs.devices.Walks.{slot_of, may_stand, take_head, nesting_at, open_count, levels_of, path_of, IsBetween, AreCounted, IsWholeHead, HasNoHead}
+use Rattle.cborn_explain.specs.devices.Walks.{slot_of, may_stand, take_head, nesting_at, open_count, levels_of, path_of, IsBetween, IsOpened, AreCounted, IsWholeHead, HasNoHead}
 use Rattle.cborn_explain.proofs.Walking.Items.{levels_length, slot_is, path_is, counted}
 use Rattle.cborn_explain.proofs.Walking.Heads.{HasNotFailed, head_taken}
 use Rattle.cborn_explain.proofs.Walking.Stops.{IsNotBetween, no_head_stops, refused_stops, none_first, reason_first}
@@ -70,10 +72,15 @@ ends_between g path (ts, os, fits, deep, begun, is, e) =
     )
 
 -- The path leads to all places behind the end, too.
-pub leads_beyond : (x : List ℕ) (n place : ℕ) (path : List Step) → (n ≡ place) ⊎ ((n ≡ length x) × (length x ≤ place)) → LeadsTo x n path → LeadsTo x place path
+leads_beyond : (x : List ℕ) (n place : ℕ) (path : List Step) → (n ≡ place) ⊎ ((n ≡ length x) × (length x ≤ place)) → LeadsTo x n path → LeadsTo x place path
 leads_beyond x n place path (inl e) h = subst (λ k. LeadsTo x k path) e h
 leads_beyond x n place path (inr (e, l)) (f, y, whole, up, at, longest) =
     (f, y, whole, omega (arith, e, l, up), at, λ g z other is h ends. longest g z other is (omega (arith, e, ap length is, length-append g z)) ends)
+
+pub leads_path : (x : List ℕ) (n place : ℕ) (ls : List Level) (r : Result Path AllocError) → IfOk r (λ path. path.steps.items ≡ path_of ls) → (n ≡ place) ⊎ ((n ≡ length x) × (length x ≤ place)) → LeadsTo x n (path_of ls)
+    → IfOk r (λ path. LeadsTo x place path.steps.items)
+leads_path x n place ls (Ok path) e h leads = subst (LeadsTo x place) (sym e) (leads_beyond x n place (path_of ls) h leads)
+leads_path x n place ls (Err e) is h leads = tt
 
 module _ (x : List ℕ) (bytes : AreBytes x) (at : ℕ) (ls : List Level) (within : at ≤ length x) (walked : IsBetween at ls (run 1024 (start 0) (take at x))) where
   here : Stands at ls (run 1024 (start 0) (take at x))
@@ -91,6 +98,9 @@ module _ (x : List ℕ) (bytes : AreBytes x) (at : ℕ) (ls : List Level) (withi
   pub walk_counted : at + 1 < 2 ^ 64 → AreCounted ls
   walk_counted short =
       subst AreCounted here.kept (counted here.ready here.os (omega (arith, ap length front_sound.bytes, length-append (front here.ready here.os) [], length-append (spelled_all here.ready) (beginnings here.os), front_len, short)))
+
+  pub walk_opened : IsOpened x at ls
+  walk_opened = (within, (here.ready, here.os, front_sound.ground, front_sound.bytes ∙ append-nil (front here.ready here.os), here.kept))
 
   slotted : slot here.os ≡ slot_of (nesting_at ls)
   slotted = sym (slot_is here.ready here.os) ∙ ap (λ l. slot_of (nesting_at l)) here.kept

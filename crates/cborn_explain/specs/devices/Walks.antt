@@ -1,5 +1,5 @@
 -- A device of the proofs: what a walk keeps of what is open, and what heads and items make of that. No public contract cites it; the contracts of the crate's own functions do.
-use Rattle.std.specs.Prelude.{◌≡◌, ℕ, ◌+◌, ◌-◌, ◌^◌, ◌<◌, ◌≤◌, List, [], ◌∷◌, ◌++◌, length, take, Bool, false, ◌&&◌, not, Option, Some, None, if◌then◌else◌, nat_le}
+use Rattle.std.specs.Prelude.{◌≡◌, ℕ, ◌+◌, ◌-◌, ◌^◌, ◌<◌, ◌≤◌, List, [], ◌∷◌, ◌++◌, length, take, Bool, false, ◌&&◌, ◌||◌, not, Option, Some, None, if◌then◌else◌, nat_le}
 use Rattle.cborn_model.specs.declared.heads.Major.{Major}
 use Rattle.cborn_model.specs.declared.heads.Major.TheVariants.{ByteString, TextString, Other}
 use Rattle.cborn_model.specs.declared.heads.Major.TheVariants as majors
@@ -13,8 +13,10 @@ use Rattle.cborn_wire.specs.HeadReading.{major_at, seen_argument, IsHeadOf, Read
 use Rattle.cborn_wire.specs.Faults.{needs_item}
 use Rattle.cborn_wire.specs.Slots.{StringKind, OfBytes, OfText, Slot, item, value, element_or_end, key_or_end, chunk, Begun, begun_items, begun_pairs, begun_value, begun_tag, begun_chunks}
 use Rattle.cborn_wire.specs.devices.InitialBytes.{Info, Now, Next, Unended, is_bad_chunk, is_break, is_container}
-use Rattle.cborn_wire.specs.devices.Machine.{nothing, gathering, State, Live, Failed, start, run}
+use Rattle.cborn_wire.specs.devices.Machine.{nothing, gathering, State, Live, Failed, start, run, front}
 use Rattle.cborn_wire.specs.devices.Scanning.{content_of}
+use Rattle.cborn_wire.proofs.Machine.SoundItems.{Ground}
+use Rattle.cborn_explain.specs.Paths.{is_key}
 use Rattle.cborn_explain.specs.declared.paths.Step.{Step}
 use Rattle.cborn_explain.specs.declared.paths.Step.TheVariants as paths
 use Rattle.cborn_explain.specs.declared.nestings.Nesting.{Nesting}
@@ -190,3 +192,17 @@ HasNoHead x = (r : HeadRead) × ReadsHead x r × IsNotWhole x r
 abbrev pub path_of : List Level → List Step
 path_of [] = []
 path_of (l ∷ ls) = path_of ls ++ step_of l.nesting ∷ []
+
+-- the path leads into a key
+abbrev pub has_key : List Step → Bool
+has_key [] = false
+has_key (s ∷ path) = is_key s || has_key path
+
+-- all that is open around the innermost
+abbrev pub around : List Level → List Level
+around [] = []
+around (l ∷ ls) = ls
+
+-- The first bytes of x, up to there, end with this open, as the machine has it.
+abbrev pub IsOpened : List ℕ → ℕ → List Level → Type 0
+IsOpened x at ls = (at ≤ length x) × ((ready : Trees) × (os : List Begun) × Ground 1024 0 ready os × (take at x ≡ front ready os) × (levels_of ready os ≡ ls))
