@@ -2,11 +2,13 @@
 
 ghost use Rattle.std.specs.Prelude.{◌≤◌, length, IfOk};
 
+use crate::heads::{content_len, whole_head};
 use crate::items::valid_at;
+use crate::nestings::Nesting;
 use crate::notes::slice_of;
 use crate::quotes::{push_hex, push_item, valid_front};
 use crate::reasons::BytesReason;
-use crate::walks::{Nesting, Open, Walk, content_len, item_end, whole_head};
+use crate::walks::{Level, Walk, item_end};
 use cborn_det::encode;
 use cborn_judge::{DefectReason, InvalidReason};
 use cborn_model::{Bytewise, Limit, Major, same, shortest};
@@ -105,10 +107,7 @@ pub(crate) fn push_too_deep(limit: Limit, out: &mut String) -> Result<(), AllocE
 }
 
 fn push_bad_chunk(out: &mut String, walk: &Walk) -> Result<(), AllocError> {
-    let place = match walk.open.last() {
-        Some(open) => open.place,
-        None => 0,
-    };
+    let place = walk.top.level.place;
     write!(
         out,
         "an indefinite-length string is open since offset {place}: only definite-length strings of its kind may stand here, or the break ff"
@@ -116,61 +115,52 @@ fn push_bad_chunk(out: &mut String, walk: &Walk) -> Result<(), AllocError> {
 }
 
 fn push_bad_break(out: &mut String, walk: &Walk) -> Result<(), AllocError> {
-    let Some(open) = walk.open.last() else {
-        return out.push_str("a break ends an indefinite length, and nothing is open here");
-    };
     out.push_str("a break ends an indefinite length, and ")?;
-    push_missing(out, open)
+    if let Nesting::Sequence(_) = walk.top.level.nesting {
+        return out.push_str("nothing is open here");
+    }
+    push_missing(out, walk.top.level)
 }
 
-/// What is open, and what it lacks.
-fn push_missing(out: &mut String, open: &Open) -> Result<(), AllocError> {
-    let place = open.place;
-    let parts = open.parts;
-    match (open.nesting, open.announced) {
-        (Nesting::Array, Some(count)) => {
+/// What is open, and what it lacks; nothing of the input itself.
+fn push_missing(out: &mut String, level: Level) -> Result<(), AllocError> {
+    let place = level.place;
+    match level.nesting {
+        Nesting::Sequence(_) => Ok(()),
+        Nesting::Array(Some(count), parts) => {
             let elements = counted(count, "element", "elements");
             write!(
                 out,
                 "the array at offset {place} announces {count} {elements} and has {parts}"
             )
         }
-        (Nesting::Map, _) if parts % 2 == 1 => {
+        Nesting::Map(Some(count), parts) => {
+            let pairs = counted(count, "pair", "pairs");
+            write!(
+                out,
+                "the map at offset {place} announces {count} {pairs} and has {parts}"
+            )
+        }
+        Nesting::MapValue(_, _) => {
             write!(
                 out,
                 "the map at offset {place} lacks the value of its last key"
             )
         }
-        (Nesting::Map, Some(count)) => {
-            let whole = parts / 2;
-            let pairs = counted(count, "pair", "pairs");
-            write!(
-                out,
-                "the map at offset {place} announces {count} {pairs} and has {whole}"
-            )
-        }
-        (Nesting::Tag(number), _) => {
+        Nesting::Tag(number) => {
             write!(out, "the tag {number} at offset {place} lacks its content")
         }
-        (Nesting::Array, None) => {
-            write!(
-                out,
-                "the indefinite-length array at offset {place} isn't ended by a break"
-            )
-        }
-        (Nesting::Map, None) => {
-            write!(
-                out,
-                "the indefinite-length map at offset {place} isn't ended by a break"
-            )
-        }
-        (Nesting::Chunks, _) => {
-            write!(
-                out,
-                "the indefinite-length string at offset {place} isn't ended by a break"
-            )
-        }
+        Nesting::Array(None, _) => push_endless(out, "array", place),
+        Nesting::Map(None, _) => push_endless(out, "map", place),
+        Nesting::ByteChunks(_) | Nesting::TextChunks(_) => push_endless(out, "string", place),
     }
+}
+
+fn push_endless(out: &mut String, kind: &str, place: usize) -> Result<(), AllocError> {
+    write!(
+        out,
+        "the indefinite-length {kind} at offset {place} isn't ended by a break"
+    )
 }
 
 /// What the end of the input cuts off.
@@ -181,13 +171,11 @@ fn push_truncated(out: &mut String, bytes: &[u8], walk: &Walk) -> Result<(), All
     let rest = &bytes[place..];
     let Some(first) = rest.first() else {
         out.push_str("the input ends")?;
-        return match walk.open.last() {
-            Some(open) => {
-                out.push_str(", and ")?;
-                push_missing(out, open)
-            }
-            None => Ok(()),
-        };
+        if let Nesting::Sequence(_) = walk.top.level.nesting {
+            return Ok(());
+        }
+        out.push_str(", and ")?;
+        return push_missing(out, walk.top.level);
     };
     let (what, announced, there) = match read_head(rest) {
         HeadRead::Full(head, len) => (
@@ -314,10 +302,7 @@ fn push_duplicate(
     let end = item_end(alloc, bytes, walk.at)?;
     out.push_str("the key ")?;
     push_item(alloc, limit, out, slice_of(bytes, walk.at, end))?;
-    let found = match walk.open.last() {
-        Some(open) => earlier_key(alloc, limit, bytes, open.place, walk.at)?,
-        None => None,
-    };
+    let found = earlier_key(alloc, limit, bytes, walk.top.level.place, walk.at)?;
     match found {
         Some(place) => write!(out, " is the same as the key at offset {place} of this map"),
         None => out.push_str(" is the same as an earlier key of this map"),
@@ -449,12 +434,7 @@ fn push_order(
     out.push_str("the key ")?;
     push_item(alloc, limit, out, slice_of(bytes, walk.at, end))?;
     out.push_str(" has to stand before the key ")?;
-    match walk.open.last() {
-        Some(open) => {
-            let (from, to) = open.key;
-            push_item(alloc, limit, out, slice_of(bytes, from, to))?;
-            write!(out, " at offset {from}, whose encoding is the greater")
-        }
-        None => out.push_str("that is before it"),
-    }
+    let (from, to) = walk.top.key;
+    push_item(alloc, limit, out, slice_of(bytes, from, to))?;
+    write!(out, " at offset {from}, whose encoding is the greater")
 }

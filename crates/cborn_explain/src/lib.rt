@@ -12,15 +12,22 @@
 //! level, and that is the path. [`explain_difference`] does the same for two deterministic encodings
 //! that differ. [`hint_of`] tells of bytes that they look like a text.
 //!
-//! Start with `walks` for bytes and `text_walks` for texts; `paths` writes the path, `causes` and
-//! `text_causes` have a sentence for each reason, `quotes` writes pieces of the input so that they
-//! change nothing but the line that they stand in. docs/FORMATS.md has the form of the lines.
+//! [`path_to`] and [`find_difference`] give the path alone, and their clauses say where it leads:
+//! `specs/Paths.antt` defines that over the nodes that bytes spell. `specs/devices/Walks.antt` is a
+//! device of the proofs.
+//!
+//! Start with `walks` for bytes, over `heads` and `nestings`, and `text_walks` for texts; `paths`
+//! writes the path, `causes` and `text_causes` have a sentence for each reason, `quotes` writes
+//! pieces of the input so that they change nothing but the line that they stand in. docs/FORMATS.md
+//! has the form of the lines.
 #![tactic(auto)]
 
 mod causes;
 mod differences;
+mod heads;
 mod hints;
 mod items;
+mod nestings;
 mod notes;
 mod paths;
 mod quotes;
@@ -31,7 +38,8 @@ mod text_spots;
 mod text_walks;
 mod walks;
 
-pub use differences::explain_difference;
+pub use differences::{Difference, explain_difference, find_difference};
 pub use hints::{Hint, hint_of};
-pub use notes::{explain_bytes, explain_text};
+pub use notes::{explain_bytes, explain_text, path_to};
+pub use paths::{Path, Step};
 pub use reasons::{BytesReason, TextReason};

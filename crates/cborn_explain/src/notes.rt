@@ -1,16 +1,17 @@
 //! An explanation: where, what stands there, and why.
 
-ghost use Rattle.std.specs.Prelude.{◌≤◌, length};
+ghost use Rattle.std.specs.Prelude.{◌≡◌, ◌≤◌, ◌⊎◌, length, IfOk};
+ghost use Rattle.cborn_explain.specs.Paths.{LeadsTo};
 
 use crate::causes::push_cause;
 use crate::hints::{Hint, hint_of};
-use crate::paths::{PathWriter, Step, step_text};
+use crate::paths::{Path, PathWriter, Step, step_text};
 use crate::quotes::{line_and_column, push_bytes_around, push_item, push_line_around, push_text};
 use crate::reasons::{BytesReason, TextReason};
 use crate::text_causes::Refused;
 use crate::text_spots::spot_of;
 use crate::text_walks::{TextWalk, walk_text};
-use crate::walks::{Open, Walk};
+use crate::walks::Walk;
 use cborn_lex::Profile;
 use cborn_model::Limit;
 use std::alloc::{AllocError, Global};
@@ -32,7 +33,7 @@ pub fn explain_bytes(
     reason: BytesReason,
 ) -> Result<String, AllocError> {
     let place = place_in(bytes, place);
-    let mut walk = Walk::new(alloc, 0);
+    let mut walk = Walk::new(alloc);
     walk.walk_to(bytes, place)?;
     let mut out = String::new(alloc);
     out.push_str("  path  ")?;
@@ -44,6 +45,22 @@ pub fn explain_bytes(
     out.push('\n')?;
     push_hint(&mut out, bytes)?;
     Ok(out)
+}
+
+/// The path to a place in some bytes, an offset in bytes from their start: to the node, or the head,
+/// that begins there or, with the bytes of its string, holds it (RFC 8949 section 3). Where bytes
+/// before the place aren't well-formed, it leads to the first head that isn't whole or may not stand
+/// where it stands, or stands in as many arrays, maps and tags as any limit lets be open.
+///
+/// # Errors
+/// Where memory was refused.
+pub fn path_to(alloc: Global, bytes: &[u8], place: u64) -> Result<Path, AllocError>
+    ensures leads { IfOk result (λ path. LeadsTo bytes.now place path.steps.items) }
+{
+    let at = place_in(bytes, place);
+    let mut walk = Walk::new(alloc);
+    walk.walk_to(bytes, at)?;
+    walk.path(alloc)
 }
 
 /// The same of a text of the notation: the path to `place`, line and column and the line itself
@@ -82,7 +99,8 @@ pub fn explain_text(
 
 /// An offset as an index, at most the length.
 fn place_in(bytes: &[u8], place: u64) -> usize
-    ensures { result ≤ length bytes.now }
+    ensures within { result ≤ length bytes.now }
+    ensures place { (result ≡ place) ⊎ ((result ≡ length bytes.now) × (length bytes.now ≤ place)) }
 {
     if place > bytes.len() as u64 {
         bytes.len()
@@ -99,28 +117,18 @@ pub(crate) fn push_path(
     bytes: &[u8],
     walk: &Walk,
 ) -> Result<(), AllocError> {
-    let mut path = PathWriter::begin(alloc, out, walk.items)?;
-    for open in walk.open.iter() {
-        let step = step_of_open(alloc, limit, bytes, open)?;
-        path.step(out, step)?;
+    let path = walk.path(alloc)?;
+    let mut writer = PathWriter::new(alloc);
+    for (i, step) in path.steps.iter().enumerate() {
+        let mut key = String::new(alloc);
+        if let Step::Value(_) = *step {
+            let (from, to) = walk.key_at(i);
+            push_item(alloc, limit, &mut key, slice_of(bytes, from, to))?;
+        }
+        let text = step_text(alloc, *step, key.as_str())?;
+        writer.step(out, text)?;
     }
-    path.end(out)
-}
-
-/// The step into what is open, to its next part.
-fn step_of_open(
-    alloc: Global,
-    limit: Limit,
-    bytes: &[u8],
-    open: &Open,
-) -> Result<String, AllocError> {
-    let mut key = String::new(alloc);
-    let step = open.step();
-    if let Step::Value(_) = step {
-        let (from, to) = open.key;
-        push_item(alloc, limit, &mut key, slice_of(bytes, from, to))?;
-    }
-    step_text(alloc, step, key.as_str())
+    writer.end(out)
 }
 
 /// The slice from an offset to another; nothing where there is none.
@@ -135,7 +143,9 @@ fn push_text_path(
     text: &[u8],
     walk: &TextWalk,
 ) -> Result<(), AllocError> {
-    let mut path = PathWriter::begin(alloc, out, walk.items)?;
+    let mut path = PathWriter::new(alloc);
+    let item = step_text(alloc, Step::Item(walk.items), "")?;
+    path.step(out, item)?;
     for open in walk.open.iter() {
         if let Some(step) = open.step() {
             let mut key = String::new(alloc);

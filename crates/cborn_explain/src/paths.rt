@@ -2,9 +2,11 @@
 
 use std::alloc::{AllocError, Global};
 
-/// A step of a path, from an item into it. Parts are counted from 0.
+/// A step of a path. Parts are counted from 0.
 #[derive(Clone, Copy, PartialEq, Eq, Debug)]
-pub(crate) enum Step {
+pub enum Step {
+    /// To this item of the input.
+    Item(u64),
     /// To this element of an array.
     Element(u64),
     /// To the key of this pair of a map.
@@ -19,6 +21,12 @@ pub(crate) enum Step {
     Embedded(u64),
 }
 
+/// A path: the step to an item of the input, and the steps from there on inwards.
+#[derive(Drop)]
+pub struct Path {
+    pub steps: Vec<Step>,
+}
+
 /// Writes steps of a path behind one another. A step that is written as the one before it is
 /// counted.
 #[derive(Drop)]
@@ -28,13 +36,12 @@ pub(crate) struct PathWriter {
 }
 
 impl PathWriter {
-    /// Writes the item of this index, and goes on from it.
-    pub(crate) fn begin(alloc: Global, out: &mut String, item: u64) -> Result<Self, AllocError> {
-        write!(out, "item {item}")?;
-        Ok(PathWriter {
+    /// A path of which nothing is written.
+    pub(crate) fn new(alloc: Global) -> PathWriter {
+        PathWriter {
             last: String::new(alloc),
             times: 0,
-        })
+        }
     }
 
     /// Goes on by a step, which is written so.
@@ -43,8 +50,10 @@ impl PathWriter {
             self.times = self.times.saturating_add(1);
             return Ok(());
         }
-        self.end(out)?;
-        out.push(' ')?;
+        if self.times > 0 {
+            self.end(out)?;
+            out.push(' ')?;
+        }
         out.push_str(step.as_str())?;
         self.last = step;
         self.times = 1;
@@ -64,6 +73,7 @@ impl PathWriter {
 /// A step; of the value of a map's pair, `key` is its key as it is to be written.
 pub(crate) fn step_text(alloc: Global, step: Step, key: &str) -> Result<String, AllocError> {
     match step {
+        Step::Item(index) => format!(in alloc; "item {index}"),
         Step::Element(index) => format!(in alloc; "[{index}]"),
         Step::Key(index) => format!(in alloc; "{{key #{index}}}"),
         Step::Value(index) => format!(in alloc; "{{{key} #{index}}}"),

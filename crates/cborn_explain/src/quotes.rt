@@ -3,8 +3,8 @@
 
 ghost use Rattle.std.specs.Prelude.{◌≤◌, IfOk};
 
+use crate::heads::{content_len, whole_head};
 use crate::items::notation_at;
-use crate::walks::{content_len, whole_head};
 use cborn_model::{Limit, Major};
 use simdutf8::compat::from_utf8;
 use std::alloc::{AllocError, Global};

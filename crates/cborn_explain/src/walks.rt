@@ -1,264 +1,286 @@
 //! A walk over bytes from head to head, which keeps what is open.
 
-ghost use Rattle.std.specs.Prelude.{◌≡◌, ◌≤◌, ◌<◌, ◌+◌, ◌^◌, length, IfOk, IfSome};
+ghost use Rattle.std.specs.Prelude.{◌≡◌, ◌≤◌, ◌<◌, ℕ, List, true, false, length, IfOk, OnOk};
+ghost use Rattle.cborn_wire.specs.HeadReading.{major_at, seen_argument};
+ghost use Rattle.cborn_explain.specs.Paths.{LeadsTo, up_to_key};
+ghost use Rattle.cborn_explain.specs.devices.Walks.{levels, finish, leave, begun, size_of, take_head, path_of, around, has_key, IsWalked, IsOpened, AreCounted};
 
-use crate::paths::Step;
+use crate::heads::{may_stand, whole_head};
+use crate::nestings::Nesting;
+use crate::paths::{Path, Step};
 use cborn_model::Major;
-use cborn_wire::{Argument, Head, HeadRead, read_head};
+use cborn_wire::{Argument, Head};
 use std::alloc::{AllocError, Global};
 
-/// As many arrays, maps, tags and indefinite strings as can be open in an input that another call
-/// has read: 1,024 and a string.
-const MOST_OPEN: usize = 1025;
-
-/// What is open.
+/// What is open, and the offset of its head.
 #[derive(Clone, Copy, PartialEq, Eq, Debug)]
-pub(crate) enum Nesting {
-    Array,
-    Map,
-    /// A tag of this number.
-    Tag(u64),
-    /// An indefinite string, of bytes or of text.
-    Chunks,
+pub(crate) struct Level {
+    pub nesting: Nesting,
+    pub place: usize,
 }
 
-/// An array, a map, a tag or an indefinite string that has begun.
+/// What is open, and where the last key in it begins and ends.
 #[derive(Clone, Copy, PartialEq, Eq, Debug)]
 pub(crate) struct Open {
-    pub nesting: Nesting,
-    /// The offset of its head.
-    pub place: usize,
-    /// How many parts its head announces: items, or pairs. None: its length is indefinite.
-    pub announced: Option<u64>,
-    /// How many parts are whole; of a map, keys and values both count.
-    pub parts: u64,
-    /// Of a map, where the last key begins and where it ends.
+    pub level: Level,
     pub key: (usize, usize),
 }
 
 impl Open {
-    /// Where its next part stands.
-    pub(crate) fn step(&self) -> Step {
-        match self.nesting {
-            Nesting::Array => Step::Element(self.parts),
-            Nesting::Map => {
-                if self.parts % 2 == 0 {
-                    Step::Key(self.parts / 2)
-                } else {
-                    Step::Value(self.parts / 2)
-                }
-            }
-            Nesting::Tag(number) => Step::Content(u128::from(number)),
-            Nesting::Chunks => Step::Chunk(self.parts),
+    /// What begins at `place`.
+    fn new(nesting: Nesting, place: usize) -> Open
+        ensures { result.level ≡ record { nesting = nesting; place = place } }
+    {
+        Open {
+            level: Level { nesting, place },
+            key: (place, place),
         }
-    }
-
-    /// A key stands next, or is open.
-    fn is_at_key(&self) -> bool {
-        self.nesting == Nesting::Map && self.parts % 2 == 0
-    }
-
-    /// It has all parts that its head announces.
-    fn is_whole(&self) -> bool {
-        match (self.nesting, self.announced) {
-            (Nesting::Tag(_), _) => self.parts > 0,
-            (Nesting::Map, Some(count)) => self.parts % 2 == 0 && self.parts / 2 >= count,
-            (_, Some(count)) => self.parts >= count,
-            (_, None) => false,
-        }
-    }
-
-    /// A further part begins at `at`.
-    fn begin_part(&mut self, at: usize) {
-        if self.is_at_key() {
-            self.key = (at, at);
-        }
-    }
-
-    /// A part is whole, and ends at `at`.
-    fn end_part(&mut self, at: usize) {
-        if self.is_at_key() {
-            self.key.1 = at;
-        }
-        self.parts = self.parts.saturating_add(1);
     }
 }
 
 /// A walk, between two heads.
 #[derive(Drop)]
 pub(crate) struct Walk {
-    /// How many items are whole.
-    pub items: u64,
-    /// What is open, the innermost last.
-    pub open: Vec<Open>,
+    /// The innermost of what is open, or the input itself.
+    pub top: Open,
+    /// What is around it, the innermost last; the first is the input itself.
+    pub outer: Vec<Open>,
     /// The offset of the next head.
     pub at: usize,
 }
 
 impl Walk {
-    /// A walk that begins at the offset `at`.
-    pub(crate) fn new(alloc: Global, at: usize) -> Walk
-        ensures { result.at ≡ at }
+    /// A walk at the front of some bytes.
+    pub(crate) fn new(alloc: Global) -> Walk
+        ensures walked { (x : List ℕ) → IsWalked x result }
+        ensures at { result.at ≡ 0 }
     {
         Walk {
-            items: 0,
-            open: Vec::new(alloc),
-            at,
+            top: Open::new(Nesting::Sequence(0), 0),
+            outer: Vec::new(alloc),
+            at: 0,
         }
     }
 
     /// Goes on from head to head, up to the one at `place`, or that with its string holds `place`,
-    /// or that isn't whole.
+    /// or that isn't whole or may not stand there.
     pub(crate) fn walk_to(&mut self, bytes: &[u8], place: usize) -> Result<(), AllocError>
-        requires { self.old.at ≤ length bytes.now }
-        ensures { self.new.at ≤ length bytes.now }
+        requires within { place ≤ length bytes.now }
+        requires before { self.old.at ≤ place }
+        requires walked { IsWalked bytes.now self.old }
+        ensures walked { OnOk result (IsWalked bytes.now self.new) }
+        ensures before { OnOk result (self.new.at ≤ place) }
+        ensures leads { OnOk result (LeadsTo bytes.now place (path_of (levels self.new))) }
     {
-        'heads: for _ in 0..bytes.len() {
-            if self.at >= place || self.open.len() > MOST_OPEN {
-                break;
-            }
-            let Some((head, len)) = whole_head(&bytes[self.at..]) else {
-                break;
-            };
-            if len > place - self.at {
-                break;
-            }
-            self.take(head, len)?;
-        }
+        'heads: while self.step(bytes, place)? {}
         Ok(())
     }
 
-    /// Takes a head, which with its string has `len` bytes.
-    pub(crate) fn take(&mut self, head: Head, len: usize) -> Result<(), AllocError>
-        requires { self.old.at + len < 2 ^ 64 }
-        ensures { self.new.at ≡ self.old.at + len }
+    /// Goes on behind the next head and the bytes of its string, where these end at `place` at
+    /// most, and answers whether it did.
+    pub(crate) fn step(&mut self, bytes: &[u8], place: usize) -> Result<bool, AllocError>
+        requires within { place ≤ length bytes.now }
+        requires before { self.old.at ≤ place }
+        requires walked { IsWalked bytes.now self.old }
+        ensures walked { OnOk result (IsWalked bytes.now self.new) }
+        ensures before { OnOk result (self.new.at ≤ place) }
+        ensures on { IfOk result (λ went. went ≡ true → self.old.at < self.new.at) }
+        ensures stays { IfOk result (λ went. went ≡ false → LeadsTo bytes.now place (path_of (levels self.new))) }
     {
-        let place = self.at;
-        self.at = place + len;
+        let Some((head, len)) = whole_head(&bytes[self.at..place]) else {
+            return Ok(false);
+        };
+        if !may_stand(self.top.level.nesting, self.outer.len(), head) {
+            return Ok(false);
+        }
+        let start = self.at;
+        self.at += len;
+        self.take(head, start)?;
+        Ok(true)
+    }
+
+    /// Takes a head, which begins at `start` and with its string ends where the walk is.
+    fn take(&mut self, head: Head, start: usize) -> Result<(), AllocError>
+        requires counted { AreCounted (levels self.old) }
+        ensures open { OnOk result (levels self.new ≡ take_head (levels self.old) start (major_at head.major) (seen_argument head.argument)) }
+        ensures at { self.new.at ≡ self.old.at }
+    {
         match (head.major_type(), head.argument) {
+            (Major::ByteString, Argument::Endless) => self.begin(Nesting::ByteChunks(0), start),
+            (Major::TextString, Argument::Endless) => self.begin(Nesting::TextChunks(0), start),
             (Major::Array, Argument::Given(_, 0)) | (Major::Map, Argument::Given(_, 0)) => {
-                self.begin_part(place);
-                self.end_part();
+                self.put(start);
                 Ok(())
             }
-            (Major::Array, argument) => self.begin(Nesting::Array, place, count_of(argument)),
-            (Major::Map, argument) => self.begin(Nesting::Map, place, count_of(argument)),
-            (Major::Tag, Argument::Given(_, number)) => {
-                self.begin(Nesting::Tag(number), place, Some(1))
-            }
-            (Major::ByteString | Major::TextString, Argument::Endless) => {
-                self.begin(Nesting::Chunks, place, None)
-            }
+            (Major::Array, argument) => self.begin(Nesting::Array(size_of(argument), 0), start),
+            (Major::Map, argument) => self.begin(Nesting::Map(size_of(argument), 0), start),
+            (Major::Tag, Argument::Given(_, number)) => self.begin(Nesting::Tag(number), start),
             (Major::Other, Argument::Endless) => {
-                let _ = self.open.pop();
-                self.end_part();
+                self.leave();
+                self.finish();
                 Ok(())
             }
             _ => {
-                self.begin_part(place);
-                self.end_part();
+                self.put(start);
                 Ok(())
             }
         }
     }
+}
 
-    /// Opens what begins at `place`.
-    fn begin(
-        &mut self,
-        nesting: Nesting,
-        place: usize,
-        announced: Option<u64>,
-    ) -> Result<(), AllocError>
-        ensures { self.new.at ≡ self.old.at }
+impl Walk {
+    /// Opens what begins at `start`.
+    fn begin(&mut self, nesting: Nesting, start: usize) -> Result<(), AllocError>
+        ensures open { OnOk result (levels self.new ≡ begun (levels self.old) start nesting) }
+        ensures at { self.new.at ≡ self.old.at }
     {
-        self.begin_part(place);
-        self.open.push(Open {
-            nesting,
-            place,
-            announced,
-            parts: 0,
-            key: (place, place),
-        })?;
+        self.begin_part(start);
+        self.outer.push(self.top)?;
+        self.top = Open::new(nesting, start);
         Ok(())
     }
 
-    fn begin_part(&mut self, place: usize)
-        ensures { self.new.at ≡ self.old.at }
+    /// Puts an item that begins at `start`, and ends where the walk is, into what is open.
+    fn put(&mut self, start: usize)
+        requires counted { AreCounted (levels self.old) }
+        ensures open { levels self.new ≡ finish (levels self.old) }
+        ensures at { self.new.at ≡ self.old.at }
     {
-        if let Some(open) = self.open.last_mut() {
-            open.begin_part(place);
+        self.begin_part(start);
+        self.finish();
+    }
+
+    /// A part begins, which of a map may be a key.
+    fn begin_part(&mut self, start: usize)
+        ensures open { levels self.new ≡ levels self.old }
+        ensures at { self.new.at ≡ self.old.at }
+    {
+        if self.top.level.nesting.is_at_key() {
+            self.top.key = (start, start);
+        }
+    }
+
+    /// A part ends where the walk is, which of a map may be a key.
+    fn end_part(&mut self)
+        ensures open { levels self.new ≡ levels self.old }
+        ensures at { self.new.at ≡ self.old.at }
+    {
+        if self.top.level.nesting.is_at_key() {
+            self.top.key.1 = self.at;
+        }
+    }
+
+    /// Leaves the innermost of what is open, if anything is.
+    fn leave(&mut self)
+        ensures open { levels self.new ≡ leave (levels self.old) }
+        ensures at { self.new.at ≡ self.old.at }
+    {
+        if let Some(around) = self.outer.pop() {
+            self.top = around;
         }
     }
 
     /// An item is whole, and with it what it is the last part of.
-    fn end_part(&mut self)
-        ensures { self.new.at ≡ self.old.at }
+    fn finish(&mut self)
+        requires counted { AreCounted (levels self.old) }
+        ensures open { levels self.new ≡ finish (levels self.old) }
+        ensures at { self.new.at ≡ self.old.at }
     {
-        'levels: for _ in 0..MOST_OPEN + 1 {
-            let Some(open) = self.open.last_mut() else {
-                self.items = self.items.saturating_add(1);
-                return;
-            };
-            open.end_part(self.at);
-            if !open.is_whole() {
-                return;
+        'levels: while self.finish_innermost() {}
+    }
+
+    /// A part of the innermost is whole. Where that is whole with it, it is left, and that is
+    /// answered: it is a part of what is around it.
+    fn finish_innermost(&mut self) -> bool
+        requires counted { AreCounted (levels self.old) }
+        ensures left { result ≡ true → (finish (levels self.new) ≡ finish (levels self.old)) × (length (levels self.new) < length (levels self.old)) × AreCounted (levels self.new) }
+        ensures put { result ≡ false → levels self.new ≡ finish (levels self.old) }
+        ensures at { self.new.at ≡ self.old.at }
+    {
+        self.end_part();
+        match self.top.level.nesting.with_part() {
+            Some(nesting) => {
+                self.top.level.nesting = nesting;
+                false
             }
-            let _ = self.open.pop();
+            None => match self.outer.pop() {
+                Some(around) => {
+                    self.top = around;
+                    true
+                }
+                None => false,
+            },
+        }
+    }
+
+    /// The path to what comes next.
+    pub(crate) fn path(&self, alloc: Global) -> Result<Path, AllocError>
+        ensures { IfOk result (λ path. path.steps.items ≡ path_of (levels self.now)) }
+    {
+        let mut steps: Vec<Step> = Vec::new(alloc);
+        'steps: for around in self.outer.iter() {
+            steps.push(around.level.nesting.step())?;
+        }
+        steps.push(self.top.level.nesting.step())?;
+        Ok(Path { steps })
+    }
+
+    /// Where the last key begins and ends of what is open at this step of the path.
+    pub(crate) fn key_at(&self, step: usize) -> (usize, usize) {
+        match self.outer.get(step) {
+            Some(open) => open.key,
+            None => self.top.key,
         }
     }
 
     /// Goes back from within a key to where it begins: of keys in one another the outermost.
-    pub(crate) fn leave_keys(&mut self) {
-        for i in 0..self.open.len() {
-            if self.open[i].is_at_key() {
-                if i + 1 < self.open.len() {
-                    self.at = self.open[i].key.0;
-                    self.open.truncate(i + 1);
-                }
-                return;
-            }
+    pub(crate) fn leave_keys(&mut self)
+        ensures path { path_of (levels self.new) ≡ up_to_key (path_of (levels self.old)) }
+        ensures back { (x : List ℕ) → IsOpened x self.old.at (levels self.old) → (self.new.at ≤ self.old.at) × IsOpened x self.new.at (levels self.new) }
+    {
+        'keys: while self.is_in_key() {
+            self.back_out();
         }
     }
 
-    /// A key stands next.
-    pub(crate) fn is_at_key(&self) -> bool {
-        match self.open.last() {
-            Some(open) => open.is_at_key(),
-            None => false,
+    /// Something that is open stands in a key.
+    fn is_in_key(&self) -> bool
+        ensures { result ≡ has_key (path_of (around (levels self.now))) }
+    {
+        'levels: for outer in self.outer.iter() {
+            if outer.level.nesting.is_at_key() {
+                return true;
+            }
         }
+        false
+    }
+
+    /// Goes back to where the innermost of what is open begins, if anything is.
+    fn back_out(&mut self)
+        requires { 0 < length (around (levels self.old)) }
+        ensures levels { levels self.new ≡ around (levels self.old) }
+        ensures back { (x : List ℕ) → IsOpened x self.old.at (levels self.old) → (self.new.at ≤ self.old.at) × IsOpened x self.new.at (levels self.new) }
+    {
+        let start = self.top.level.place;
+        if let Some(outer) = self.outer.pop() {
+            self.top = outer;
+            self.at = start;
+        }
+    }
+
+    /// An item is whole, and none is open.
+    fn has_item(&self) -> bool {
+        matches!(self.top.level.nesting, Nesting::Sequence(1..))
     }
 }
 
 /// How many parts are announced.
-fn count_of(argument: Argument) -> Option<u64> {
+fn size_of(argument: Argument) -> Option<u64>
+    ensures { result ≡ size_of (seen_argument argument) }
+{
     match argument {
         Argument::Given(_, count) => Some(count),
         Argument::Endless => None,
-    }
-}
-
-/// The head at the front, and its length with the bytes of its string, where all of them are there.
-pub(crate) fn whole_head(bytes: &[u8]) -> Option<(Head, usize)>
-    ensures { IfSome result (λ found. (0 < found.1) × (found.1 ≤ length bytes.now)) }
-{
-    let HeadRead::Full(head, len) = read_head(bytes) else {
-        return None;
-    };
-    if len == 0 || len > bytes.len() {
-        return None;
-    }
-    let content = content_len(head);
-    if content > (bytes.len() - len) as u64 {
-        return None;
-    }
-    Some((head, len + content as usize))
-}
-
-/// How many bytes of a string follow its head.
-pub(crate) fn content_len(head: Head) -> u64 {
-    match (head.major_type(), head.argument) {
-        (Major::ByteString | Major::TextString, Argument::Given(_, count)) => count,
-        _ => 0,
     }
 }
 
@@ -270,15 +292,8 @@ pub(crate) fn item_end(alloc: Global, bytes: &[u8], at: usize) -> Result<usize, 
     requires { at ≤ length bytes.now }
     ensures { IfOk result (λ end. end ≤ length bytes.now) }
 {
-    let mut walk = Walk::new(alloc, at);
-    'heads: for _ in 0..bytes.len() {
-        if walk.items > 0 || walk.open.len() > MOST_OPEN {
-            break;
-        }
-        let Some((head, len)) = whole_head(&bytes[walk.at..]) else {
-            break;
-        };
-        walk.take(head, len)?;
-    }
-    Ok(walk.at)
+    let rest = &bytes[at..];
+    let mut walk = Walk::new(alloc);
+    'heads: while !walk.has_item() && walk.step(rest, rest.len())? {}
+    Ok(at + walk.at)
 }

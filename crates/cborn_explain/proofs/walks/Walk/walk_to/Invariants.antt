@@ -1,5 +1,9 @@
-use Rattle.std.proofs.Common.{◌≤◌, length}
+use Rattle.std.proofs.Common.{◌≤◌, ◌-◌}
+use Rattle.cborn_explain.specs.devices.Walks.{IsWalked}
 use Rattle.cborn_explain.proofs.walks.Walk.walk_to.Given as goal
 
 abbrev pub invariant-heads : goal.invariant-heads
-invariant-heads l = l.self.at ≤ length l.bytes
+invariant-heads l = IsWalked l.bytes l.self × (l.self.at ≤ l.place)
+
+abbrev pub decreases-heads : goal.decreases-heads
+decreases-heads l = l.place - l.self.at
