@@ -121,7 +121,7 @@ def tried(library, program, tables, *which):
     """A share of the command lines: how many troubles and runs that were, and the wrong ones."""
     troubles = runs = 0
     wrong = []
-    for table, case in shared.share(cases(tables), *which):
+    for table, case in shared.share(cases(shared.tables(tables)), *which):
         runs += 1
         for name, outcome, answer in tried_on(library, case, program):
             troubles += 1

@@ -1,7 +1,7 @@
 #!/usr/bin/env python3
 """Refuse each growth in turn: run something once for each of its requests for memory, with that one refused.
 
-    growths.py PROGRAM [TABLE..]    each command line of the tables of this folder
+    growths.py PROGRAM [TABLE..]    each command line of the tables of this folder, but of those of forms (shared.py)
     growths.py --tests TESTS [WORD..]
                                     each test of a crate's built tests, crates/NAME/out/NAME_tests, or each
                                     whose name has one of the words
@@ -73,7 +73,7 @@ def shorter_explanations(words, ample):
 
 def command_lines(library, program, tables, *which):
     """Each command line of a share: its name, what came of its runs, and which outcomes it may have."""
-    for table, case in shared.share(cases(tables), *which):
+    for table, case in shared.share(cases(shared.tables(tables)), *which):
         ample = case.run(program)
         outcomes = refused_in_turn(library, lambda **how: case.run(program, **how))
 

@@ -7,6 +7,19 @@ import pathlib
 import subprocess
 import tempfile
 
+# Tables of the forms of items and texts, one behind another: what they ask for, and when they read and write, other tables have too.
+FORMS = {"bad-texts", "deterministic", "flaws", "indefinite-lengths", "long-heads", "nests", "shown", "spelled", "two-faults"}
+
+
+def is_of_forms(table):
+    """Whether a table of this name is one of FORMS."""
+    return pathlib.Path(table).stem in FORMS
+
+
+def tables(names):
+    """The tables of these names, or where there are none all but those of forms."""
+    return names or [str(path) for path in sorted(pathlib.Path(__file__).resolve().parent.glob("*.table")) if not is_of_forms(path)]
+
 
 @contextlib.contextmanager
 def library(source):
