@@ -23,7 +23,7 @@ import sys
 import tempfile
 
 from reading import head
-from run import Case, Outcome, cases
+from run import FORMS, HERE, Case, Outcome, cases, tables_in
 
 HERE = pathlib.Path(__file__).resolve().parent
 TOP = HERE.parent
@@ -403,7 +403,7 @@ def tables_of_words(met, callers):
 
 
 def all_cases(folder):
-    yield from ((table, case) for table, case in cases([]))
+    yield from cases(tables_in(HERE, FORMS))
     for name, lines in itertools.chain(nests(), *map(twice, (2, 128, 1024))):
         with tempfile.TemporaryDirectory(dir=folder) as place:
             yield name, Case(lines, place)
@@ -417,7 +417,7 @@ def main():
         as_program = AsProgram(folder, build)
         passed = others = explained = 0
         for table, case in all_cases(folder):
-            if table.endswith(".table"):
+            if (HERE / table).exists():
                 wrong += [f"{table}: {case.name}: python -m cborn: {line}" for line in as_program.differences(case)]
             asked = parsed(case)
             if asked is None:

@@ -43,7 +43,7 @@ import tempfile
 
 Outcome = collections.namedtuple("Outcome", "stdout stderr status")
 HERE = pathlib.Path(__file__).resolve().parent
-# the forms that one of the ways through the program might forget; each growth and each read of the other tables is troubled, too
+# forms of items and texts, one behind another: what they ask for, and when they read and write, the other tables have too
 FORMS = HERE / "forms"
 LONG = 4096
 OF_A_RUN = ("run", "argument", "stdout", "stderr", "status")
