@@ -1,7 +1,7 @@
 #!/usr/bin/env python3
 """Refuse each growth in turn: run something once for each of its requests for memory, with that one refused.
 
-    growths.py PROGRAM [TABLE..]    each command line of the tables of this folder, but of those of forms/
+    growths.py PROGRAM [TABLE..]    each command line of the tables of this folder, and not those of forms/
     growths.py --tests TESTS [WORD..]
                                     each test of a crate's built tests, crates/NAME/out/NAME_tests, or each
                                     whose name has one of the words

@@ -23,7 +23,7 @@ import sys
 import tempfile
 
 from reading import head
-from run import FORMS, HERE, Case, Outcome, cases, tables_in
+from run import FORMS, Case, Outcome, cases, tables_in
 
 HERE = pathlib.Path(__file__).resolve().parent
 TOP = HERE.parent
