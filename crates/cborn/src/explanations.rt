@@ -67,7 +67,7 @@ fn hint(alloc: Global, input: Option<&[u8]>) -> Result<String, AllocError> {
 }
 
 /// What an input is refused for, and where.
-#[derive(Clone, Copy, Debug)]
+#[derive(Clone, Copy)]
 enum Reason {
     Bytes(BytesReason, u64),
     Text(Profile, TextReason, u64),

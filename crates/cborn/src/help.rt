@@ -174,4 +174,4 @@ The maximum nesting depth of arrays, maps and tags, 1 to
 count too";
 
 pub const EXPLAIN: &str =
-    "Say on standard error where in the input, and why,\nbehind a refusal, a defect or a difference";
+    "Say on standard error where in the input, and why,\nafter a refusal, a defect or a difference";

@@ -7,7 +7,7 @@ use cborn_explain::Hint;
 use std::alloc::{AllocError, Global};
 
 /// Who reads standard error.
-#[derive(Clone, Copy, PartialEq, Eq, Debug)]
+#[derive(Clone, Copy, PartialEq, Eq)]
 pub enum Audience {
     /// A person, at a terminal.
     Person,
@@ -53,7 +53,7 @@ fn hint_line(alloc: Global, which: &str, hint: Hint) -> Result<String, AllocErro
 }
 
 /// What the bytes of an input look like, which is noted while they are read, so that none is kept.
-#[derive(Clone, Copy, Debug)]
+#[derive(Clone, Copy)]
 pub struct Look {
     is_text: bool,
     ends_line: bool,
@@ -110,7 +110,7 @@ impl Look {
 }
 
 /// Which of the bytes of a text are hexadecimal digits.
-#[derive(Clone, Copy, Debug)]
+#[derive(Clone, Copy)]
 struct Digits {
     /// All but white space.
     are_all: bool,

@@ -12,7 +12,7 @@ use std::io::Write;
 use std::{fmt, io};
 
 /// Why a task was not done.
-#[derive(Clone, Copy, Debug)]
+#[derive(Clone, Copy)]
 pub enum Trouble<'a> {
     /// The file of this name can't be opened.
     CannotRead(&'a str),
@@ -35,7 +35,7 @@ impl From<EngineFault> for Trouble<'_> {
 }
 
 /// What a command tells in a line on standard output.
-#[derive(Clone, Copy, Debug)]
+#[derive(Clone, Copy)]
 pub enum Answer {
     /// The inputs hold the same items.
     Same,

@@ -16,7 +16,7 @@ const SHOW_ORDER: &str =
     "show sorts nothing, and has no '--order': 'cborn normalise --to notation' sorts the keys of maps";
 
 /// What to say of an option that a command hasn't got.
-#[derive(Clone, Copy, Debug)]
+#[derive(Clone, Copy)]
 pub enum Advice {
     Compare(&'static str),
     Check(&'static str),

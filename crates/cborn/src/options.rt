@@ -10,14 +10,14 @@ use clap::{Arg, ArgAction, ArgMatches, Command, Error};
 use std::alloc::{AllocError, Global};
 
 /// The order of a map's keys.
-#[derive(Clone, Copy, PartialEq, Eq, Debug)]
+#[derive(Clone, Copy)]
 pub enum Order {
     Bytewise,
     LengthFirst,
 }
 
 /// What the program is asked to do. A `file` that isn't named is standard input.
-#[derive(Clone, Copy, Debug)]
+#[derive(Clone, Copy)]
 pub struct Task<'a> {
     pub action: Action<'a>,
     pub order: Order,
@@ -27,7 +27,7 @@ pub struct Task<'a> {
 }
 
 /// The command of a task, with what it alone has.
-#[derive(Clone, Copy, Debug)]
+#[derive(Clone, Copy)]
 pub enum Action<'a> {
     Read {
         file: Option<&'a str>,
@@ -42,7 +42,7 @@ pub enum Action<'a> {
 }
 
 /// What one input is read for.
-#[derive(Clone, Copy, Debug)]
+#[derive(Clone, Copy)]
 pub enum Purpose {
     Show { from: Kind, to: Kind },
     Normalise { from: Kind, to: Kind },

@@ -8,7 +8,7 @@ use crate::paths::Step;
 
 /// The input, or what has begun in it, and how many of its parts are whole. An array or a map has as
 /// many as its head announces, or any number where its length is indefinite.
-#[derive(Clone, Copy, PartialEq, Eq, Debug)]
+#[derive(Clone, Copy)]
 pub(crate) enum Nesting {
     /// The input itself, which is a sequence of items.
     Sequence(u64),

@@ -12,7 +12,7 @@ use std::alloc::{AllocError, Global};
 const MOST_OPEN: usize = 1026;
 
 /// What a bracket opens.
-#[derive(Clone, Copy, PartialEq, Eq, Debug)]
+#[derive(Clone, Copy, PartialEq, Eq)]
 pub(crate) enum Bracket {
     Array,
     Map,
@@ -27,7 +27,7 @@ pub(crate) enum Bracket {
 }
 
 /// A bracket that is open.
-#[derive(Clone, Copy, PartialEq, Eq, Debug)]
+#[derive(Clone, Copy)]
 pub(crate) struct OpenBracket {
     pub bracket: Bracket,
     /// The offset of its token.
@@ -64,7 +64,7 @@ impl OpenBracket {
 }
 
 /// What the last token was.
-#[derive(Clone, Copy, PartialEq, Eq, Debug)]
+#[derive(Clone, Copy, PartialEq, Eq)]
 pub(crate) enum Before {
     /// None, or a bracket that opens.
     Opening,

@@ -13,14 +13,14 @@ use cborn_wire::{Argument, Head};
 use std::alloc::{AllocError, Global};
 
 /// What is open, and the offset of its head.
-#[derive(Clone, Copy, PartialEq, Eq, Debug)]
+#[derive(Clone, Copy)]
 pub(crate) struct Level {
     pub nesting: Nesting,
     pub place: usize,
 }
 
 /// What is open, and where the last key in it begins and ends.
-#[derive(Clone, Copy, PartialEq, Eq, Debug)]
+#[derive(Clone, Copy)]
 pub(crate) struct Open {
     pub level: Level,
     pub key: (usize, usize),

@@ -41,7 +41,7 @@ fn first_bad_piece(bytes: &[u8]) -> Option<u64>
 }
 
 /// What stands at the front of some bytes.
-#[derive(Clone, Copy, PartialEq, Eq, Debug)]
+#[derive(Clone, Copy)]
 pub(crate) enum Look {
     /// A head, and the content of a definite string with it: so many bytes, and no text that isn't
     /// UTF-8.
