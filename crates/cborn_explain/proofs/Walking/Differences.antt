@@ -28,17 +28,17 @@ leads_too n x y path ours theirs same (f, z, whole, up, ends, longest) = (
   λ g r other is low at. longest g (drop (length g) x) other (front_too n y x g r theirs ours (sym same) is low) low at,
 )
 
-last_same : (n : ℕ) (x y : List ℕ) → n < length x → n < length y → take (n + 1) x ≡ take (n + 1) y → get_or x n 0 ≡ get_or y n 0
-last_same n x y ours theirs e = last (take n x) (take n y) (sym (take_more x n 0 ours) ∙ e ∙ take_more y n 0 theirs)
+last_of : (f g : List ℕ) (a b : ℕ) → f ++ a ∷ [] ≡ g ++ b ∷ [] → a ≡ b
+last_of [] [] a b e = cc
+last_of [] (c ∷ g) a b e = absurd (omega (arith, ap length e, length-append g (b ∷ [])))
+last_of (c ∷ f) [] a b e = absurd (omega (arith, ap length e, length-append f (a ∷ [])))
+last_of (c ∷ f) (d ∷ g) a b e = last_of f g a b (rest e)
   where
-    last : (f g : List ℕ) {a b : ℕ} → f ++ a ∷ [] ≡ g ++ b ∷ [] → a ≡ b
-    last [] [] e = cc
-    last [] (c ∷ g) e = absurd (omega (arith, ap length e, length-append g (_ ∷ [])))
-    last (c ∷ f) [] e = absurd (omega (arith, ap length e, length-append f (_ ∷ [])))
-    last (c ∷ f) (d ∷ g) e = last f g (rest e)
-      where
-        rest : {x y : List ℕ} → c ∷ x ≡ d ∷ y → x ≡ y
-        rest e = cc
+    rest : {x y : List ℕ} → c ∷ x ≡ d ∷ y → x ≡ y
+    rest e = cc
+
+last_same : (n : ℕ) (x y : List ℕ) → n < length x → n < length y → take (n + 1) x ≡ take (n + 1) y → get_or x n 0 ≡ get_or y n 0
+last_same n x y ours theirs e = last_of (take n x) (take n y) (get_or x n 0) (get_or y n 0) (sym (take_more x n 0 ours) ∙ e ∙ take_more y n 0 theirs)
 
 -- the first byte that isn't the same in both
 pub differ_first : (n : ℕ) (x y : List ℕ) → n ≤ length x → n ≤ length y → take n x ≡ take n y → (n < length x → n < length y → get_or x n 0 ≡ get_or y n 0 → ⊥) → (n ≡ length x → n ≡ length y → ⊥) → DifferFirstAt x y n
