@@ -2,7 +2,8 @@
 
 use cborn_judge::InvalidReason;
 use cborn_model::Limit;
-use cborn_search::{Validity, first_flaw};
+use cborn_search::{Validity, first_bad_text, first_flaw};
+use std::test::Fail;
 
 /// Where, and why. Each row would catch a walk that tells a flaw too late or at the wrong head, or
 /// that misses a repeated key in one of the forms in which it may be written.
@@ -134,4 +135,73 @@ fn knows_nothing(rt: HostRuntime) {
         let found = first_flaw(rt.alloc(), limit, bytes);
         assert!(rt; found == Validity::Unknown, "{bytes:?}");
     }
+}
+
+/// Well-formed bytes in hexadecimal, and where the first head of a text or a chunk stands whose
+/// content isn't UTF-8.
+const BAD_TEXTS: [(&str, u64); 26] = [
+    ("61ff", 0),
+    ("62c328", 0),
+    ("62c080", 0),
+    ("63eda080", 0),
+    ("64f4908080", 0),
+    ("7801ff", 0),
+    ("0061ff", 1),
+    ("1900ff61ff", 3),
+    ("f82061ff", 2),
+    ("41ff616161ff", 4),
+    ("6161620a0a62c3bc63e282ac61ff", 12),
+    ("8261ff61fe", 1),
+    ("8200817801ff", 3),
+    ("9f8061ffff", 2),
+    ("a161ff00", 1),
+    ("a10061ff", 2),
+    ("a261610061ff61ff", 4),
+    ("bf0061ffff", 2),
+    ("c161ff", 1),
+    ("7f61c361bcff", 1),
+    ("7f616161ffff", 3),
+    ("7f62c3bc60ff7f61ffff", 7),
+    ("5f41ffff61ff", 4),
+    ("9fbf7f61ffff5f41ffffff61ffff", 3),
+    ("c261ff", 1),
+    ("a2010001c201c361ff", 7),
+];
+
+/// Catches a place that is one off, a later text, a byte string that is taken for a text, a chunk at
+/// the place of its string, and another flaw that comes first.
+#[test]
+fn tells_the_first_bad_text(rt: HostRuntime) -> Result<(), Fail> {
+    for (digits, want) in BAD_TEXTS {
+        let bytes = hex::decode(rt.alloc(), digits).expect(&rt, "digits");
+        let place = first_bad_text(rt.alloc(), Limit::USUAL, &bytes).expect(&rt, digits);
+        assert_eq!(rt; place, want, "of {digits}");
+    }
+    Ok(())
+}
+
+/// Bytes whose texts are all UTF-8, well-formed but for the last, whatever other flaws they have.
+const GOOD_TEXTS: [&str; 10] = [
+    "",
+    "64225c0a01",
+    "62c3bc622f5c",
+    "7f616160ff",
+    "bf617a010a5f4101ffff",
+    "c201",
+    "a201020102",
+    "5f41ffff41ff",
+    "c2a200000000",
+    "61ff1c",
+];
+
+/// Catches a flaw that is told although it is of no text, and a text of bytes that aren't
+/// well-formed.
+#[test]
+fn tells_no_text_where_all_are_good(rt: HostRuntime) -> Result<(), Fail> {
+    for digits in GOOD_TEXTS {
+        let bytes = hex::decode(rt.alloc(), digits).expect(&rt, "digits");
+        let place = first_bad_text(rt.alloc(), Limit::USUAL, &bytes);
+        assert_eq!(rt; place, None, "of {digits}");
+    }
+    Ok(())
 }

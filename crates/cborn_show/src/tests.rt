@@ -2,7 +2,7 @@
 //! answered breaks no contract, so these tests hold that there is an answer.
 
 use crate::prospects::is_promising;
-use crate::{first_bad_text, show_bytes};
+use crate::show_bytes;
 use cborn_model::Limit;
 use std::alloc::{AllocError, Global};
 use std::test::Fail;
@@ -179,57 +179,6 @@ fn shows_as_deep_as_the_limit(rt: HostRuntime) -> Result<(), Fail> {
             }
             None => assert!(rt; text.is_none(), "{count} of {front}"),
         }
-    }
-    Ok(())
-}
-
-/// Well-formed bytes in hexadecimal, and where the first head of a text or a chunk stands whose
-/// content isn't UTF-8.
-const BAD_TEXTS: [(&str, u64); 24] = [
-    ("61ff", 0),
-    ("62c328", 0),
-    ("62c080", 0),
-    ("63eda080", 0),
-    ("64f4908080", 0),
-    ("7801ff", 0),
-    ("0061ff", 1),
-    ("1900ff61ff", 3),
-    ("f82061ff", 2),
-    ("41ff616161ff", 4),
-    ("6161620a0a62c3bc63e282ac61ff", 12),
-    ("8261ff61fe", 1),
-    ("8200817801ff", 3),
-    ("9f8061ffff", 2),
-    ("a161ff00", 1),
-    ("a10061ff", 2),
-    ("a261610061ff61ff", 4),
-    ("bf0061ffff", 2),
-    ("c161ff", 1),
-    ("7f61c361bcff", 1),
-    ("7f616161ffff", 3),
-    ("7f62c3bc60ff7f61ffff", 7),
-    ("5f41ffff61ff", 4),
-    ("9fbf7f61ffff5f41ffffff61ffff", 3),
-];
-
-/// Catches a place that is one off, a later text, a byte string that is taken for a text, and a
-/// chunk at the place of its string.
-#[test]
-fn tells_the_first_bad_text(rt: HostRuntime) -> Result<(), Fail> {
-    for (digits, want) in BAD_TEXTS {
-        let bytes = hex::decode(rt.alloc(), digits).expect(&rt, "digits");
-        let place = first_bad_text(&bytes).expect(&rt, digits);
-        assert_eq!(rt; place, want, "of {digits}");
-    }
-    Ok(())
-}
-
-/// Catches a text that is told although each is UTF-8.
-#[test]
-fn tells_no_text_where_all_are_shown(rt: HostRuntime) -> Result<(), Fail> {
-    for (digits, _) in SHOWN {
-        let bytes = hex::decode(rt.alloc(), digits).expect(&rt, "digits");
-        assert_eq!(rt; first_bad_text(&bytes), None, "of {digits}");
     }
     Ok(())
 }
