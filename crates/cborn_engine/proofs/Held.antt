@@ -5,3 +5,4 @@ pub mod Meant
 pub mod Notated
 pub mod Known
 pub mod ShownBack
+pub mod BadTexts

@@ -26,7 +26,8 @@ use crate::texts::{bytes_of_text, read_bytes};
 use cborn_edn::{ShowFault, show};
 use cborn_lex::Profile;
 use cborn_model::{Limit, Spelled};
-use cborn_show::{first_bad_text, show_bytes};
+use cborn_search::first_bad_text;
+use cborn_show::show_bytes;
 use cborn_wire::{WireFault, scan, spell_all};
 use std::alloc::Global;
 
@@ -101,7 +102,7 @@ fn tell_bytes(
     if let Some((place, reason)) = scan(limit, input) {
         return Err(EngineFault::Wire(WireFault::Refused { place, reason }));
     }
-    if let Some(place) = bad_text(out_kind, input) {
+    if let Some(place) = bad_text(alloc, limit, out_kind, input) {
         return Err(EngineFault::Show(ShowFault::NotUtf8 { place }));
     }
     Err(EngineFault::OutOfMemory)
@@ -178,12 +179,12 @@ fn tell_text_by_trees(
 
 /// The place of the first text string in well-formed bytes that keeps them from being told in this
 /// kind.
-fn bad_text(out_kind: Kind, input: &[u8]) -> Option<u64>
+fn bad_text(alloc: Global, limit: Limit, out_kind: Kind, input: &[u8]) -> Option<u64>
     ensures { IfSome result (λ place. (most : ℕ) (nodes : List Tree) → Wellformed most (trees nodes) input.now → PlacedAll 0 (trees nodes) → IsUnshownAs out_kind nodes (NotUtf8 place)) }
 {
     match out_kind {
         Kind::Wire => None,
-        Kind::Notation | Kind::Notation2 => first_bad_text(input),
+        Kind::Notation | Kind::Notation2 => first_bad_text(alloc, limit, input),
     }
 }
 

@@ -18,7 +18,7 @@ use Rattle.cborn_transcode.specs.Transcoding.{IsTranscoded}
 use Rattle.cborn_transcode.proofs.Opening.{put_there}
 use Rattle.cborn_transcode.proofs.Placing.{means-from}
 use Rattle.cborn_search.specs.Reading.{NodeRead}
-use Rattle.cborn_search.specs.Flawed.{Told, FindsTold, Scanned}
+use Rattle.cborn_search.specs.Flawed.{Told, Sought, FindsTold, Scanned}
 
 module _ (order : List ℕ → List ℕ → Ordering) where
   -- of nodes that spell what one node spells
@@ -48,5 +48,5 @@ cut_out P room total x rest k =
     (λ i. take (n i) (k.read i)) ∙ take-append_seam (spelled k.node) rest
 
 -- a key with a flaw
-pub key_unknown : (room total : ℕ) (x rest : List ℕ) (s : Bool) (flaw : Option Told) (f : Told) → flaw ≡ Some f → (k : Scanned room total x rest flaw s) → (v : Value) → Means k.node v → ⊥
-key_unknown room total x rest s flaw f e k v m = no_flaw k.node v m f.0 f.1 (subst (λ (o : Option Told). FindsTold (Flaw k.node) o) e k.holds.0).is
+pub key_unknown : (only : Bool) (room total : ℕ) (x rest : List ℕ) (s : Bool) (flaw : Option Told) (f : Told) → flaw ≡ Some f → (k : Scanned only room total x rest flaw s) → (v : Value) → Means k.node v → ⊥
+key_unknown only room total x rest s flaw f e k v m = no_flaw k.node v m f.0 f.1 (subst (λ (o : Option Told). FindsTold (Sought only (Flaw k.node)) o) e k.holds.0).is.0

@@ -11,7 +11,7 @@ use Rattle.cborn_judge.specs.Flaws.{HasRepeat, flaw_rank}
 use Rattle.cborn_judge.specs.devices.Judged.{RepeatFlaw}
 use Rattle.cborn_judge.specs.devices.Repeats.{IsOneOf, IsAgain, IsTied, PositionsRise}
 use Rattle.cborn_judge.specs.declared.faults.InvalidReason.{InvalidReason}
-use Rattle.cborn_judge.specs.declared.faults.InvalidReason.TheVariants.{DuplicateKey}
+use Rattle.cborn_judge.specs.declared.faults.InvalidReason.TheVariants.{NotUtf8, DuplicateKey}
 use Rattle.cborn_judge.proofs.Loops.Firsts.{Either}
 use Rattle.cborn_judge.proofs.Loops.Passing.{passed_one}
 use Rattle.cborn_judge.proofs.SameKeys.Repeating.{repeat_again, again_repeat, InOrder, again_tied}
@@ -196,6 +196,9 @@ tie_equal whole before w m q e l s p =
     (inr (same, s), record { is = (refl, sym p, same); first = λ k r t. inr (p ∙ t.1, rank_of DuplicateKey r (sym t.0)) })
 
 -- ---- the first key that is repeated
+
+pub no_repeat : (r : InvalidReason) → r ≡ DuplicateKey → r ≡ NotUtf8 → ⊥
+no_repeat r e f = cc
 
 pub first_repeated : (keys : Keys) (ms : List Mark) (ns : List Pair) (ks : List SeenKey) (o : Option Told) → AreMarked ks keys → AreSeen ks ns → IsPermutation keys.marks.items ms → InPlace keys.bytes.items ms → FindsTold (TieFlaw keys.bytes.items ms) o
     → FindsTold (RepeatFlaw (entries ns)) o

@@ -1,21 +1,26 @@
 -- What is found of nodes one after another is what is found of a whole input.
-use Rattle.std.proofs.Common.{◌≡◌, ℕ, ◌+◌, ◌-◌, ◌≤◌, inl, inr, List, [], ◌∷◌, ◌++◌, length, refl, sym, ap, ◌∙◌, subst, arith, append-nil, Bool, Option, None, Some}
+use Rattle.std.proofs.Common.{◌≡◌, ℕ, ◌+◌, ◌-◌, ◌≤◌, inl, inr, List, [], ◌∷◌, ◌++◌, length, refl, sym, ap, ◌∙◌, subst, arith, append-nil, Bool, true, false, Option, None, Some}
 use Rattle.std.specs.List.{AllZip}
 use Rattle.std.specs.Option.{option_or}
 use Rattle.cborn_model.specs.Meaning.{Means}
 use Rattle.cborn_model.specs.Placed.{PlacedAll}
-use Rattle.cborn_model.specs.Spelled.{Wellformed, spelled_all}
-use Rattle.cborn_model.specs.Tree.{Tree, trees}
+use Rattle.cborn_model.specs.Spelled.{Wellformed, spelled_all, FitsAll}
+use Rattle.cborn_model.specs.Tree.{Tree, Trees, trees}
 use Rattle.cborn_model.specs.Value.{Value}
 use Rattle.cborn_judge.specs.Flaws.{Flaw, IsRefusal, IsRefusalOfAll}
 use Rattle.cborn_judge.specs.declared.faults.Invalid.TheVariants.{Refused, OutOfMemory}
 use Rattle.cborn_judge.specs.declared.faults.InvalidReason.{InvalidReason}
+use Rattle.cborn_judge.specs.declared.faults.InvalidReason.TheVariants.{NotUtf8}
+use Rattle.cborn_wire.proofs.Spelled.AsPlaced.{same_all-from}
+use Rattle.cborn_wire.proofs.Spelled.OneReading.{one_spelling}
+use Rattle.cborn_judge.specs.devices.Judged.{FlawIn}
 use Rattle.cborn_judge.proofs.Meaning.Judging.{meaning}
 use Rattle.cborn_judge.proofs.FirstFlaw.Sequences.{mean_more}
-use Rattle.cborn_search.specs.Flawed.{Told, FindsTold, HasFlaw, Scanned}
+use Rattle.cborn_search.specs.Flawed.{Told, FindsTold, HasFlaw, Scanned, HaveFlaw, ScannedAll}
 use Rattle.cborn_search.specs.Reading.{NodesRead}
-use Rattle.cborn_search.specs.Searching.{FlawVerdict, IsFirstFlawOf}
+use Rattle.cborn_search.specs.Searching.{FlawVerdict, IsFirstFlawOf, HasBadText, IsFirstBadText}
 use Rattle.cborn_search.proofs.Nodes.{no_node, node_more}
+use Rattle.cborn_search.proofs.Scanning.{plain}
 
 refused_last : (ts : List Tree) (vs : List Value) (t : Tree) (f : Told) → AllZip Means ts vs → IsRefusal t (Refused f.0 f.1) → IsRefusalOfAll (ts ++ t ∷ []) (Refused f.0 f.1)
 refused_last [] [] t f h r = inl r
@@ -42,10 +47,10 @@ HaveVerdict flaw ts = FlawVerdict ts flaw
 pub none_judged : (room total : ℕ) (input : List ℕ) → NodesRead (HaveVerdict None) room total 0 input input
 none_judged room total input = no_node (HaveVerdict None) room total input ([], tt)
 
-pub judged_more : (room total n : ℕ) (input mid rest : List ℕ) (a flaw o : Option Told) (s : Bool) → length input ≤ total → NodesRead (HaveVerdict a) room total n input mid → Scanned room total mid rest flaw s → o ≡ option_or a flaw → NodesRead (HaveVerdict o) room total (n + 1) input rest
+pub judged_more : (room total n : ℕ) (input mid rest : List ℕ) (a flaw o : Option Told) (s : Bool) → length input ≤ total → NodesRead (HaveVerdict a) room total n input mid → Scanned false room total mid rest flaw s → o ≡ option_or a flaw → NodesRead (HaveVerdict o) room total (n + 1) input rest
 judged_more room total n input mid rest a flaw o s l x y e =
-    node_more (HaveVerdict a) (HaveVerdict o) (HasFlaw flaw s) room total n input mid rest l x y
-    (λ ts t g h. subst (λ (z : Option Told). FlawVerdict (ts ++ t ∷ []) z) (sym e) (verdict_more ts t a flaw g h.0))
+    node_more (HaveVerdict a) (HaveVerdict o) (HasFlaw false flaw s) room total n input mid rest l x y
+    (λ ts t g h. subst (λ (z : Option Told). FlawVerdict (ts ++ t ∷ []) z) (sym e) (verdict_more ts t a flaw g (plain (Flaw t) flaw h.0)))
 
 no_bytes : (x : List ℕ) → length x ≡ 0 → x ≡ []
 no_bytes [] e = refl
@@ -59,3 +64,25 @@ whole_read P room n input rest e x =
 
 pub flaw_found : (room n : ℕ) (input rest : List ℕ) (o : Option Told) → length rest ≡ 0 → NodesRead (HaveVerdict o) room (length input) n input rest → IsFirstFlawOf room input o
 flaw_found room n input rest o e x = let w = whole_read (HaveVerdict o) room n input rest e x in record { nodes = x.nodes; read = w.0; placed = w.1; verdict = x.holds }
+
+-- nodes that spell the same bytes, and stand at the same place
+one_list : (ts us : Trees) → FitsAll ts → FitsAll us → spelled_all ts ≡ spelled_all us → PlacedAll 0 ts → PlacedAll 0 us → ts ≡ us
+one_list ts us f g e h k = sym (same_all-from ts 0 h) ∙ one_spelling ts us f g e 0 ∙ same_all-from us 0 k
+
+module _ (room n : ℕ) (input rest : List ℕ) (p : ℕ) (r : InvalidReason) (e : length rest ≡ 0) (x : ScannedAll true room (length input) n input rest (Some (p, r))) where
+  lowest : (q : ℕ) → HasBadText (trees x.nodes) q → p ≤ q
+  lowest q b = elim (x.holds.first q NotUtf8 (b, λ e. refl)) [ inl l ↦ omega (arith, l) | inr l ↦ omega (arith, l.0) ]
+
+  found : IsFirstBadText (trees x.nodes) p
+  found = record { is = subst (λ (s : InvalidReason). FlawIn (trees x.nodes) p s) (x.holds.is.1 refl) x.holds.is.0; lowest = lowest }
+
+  -- where texts alone were looked for
+  bad_text_found : (most : ℕ) (nodes : Trees) → Wellformed most nodes input → PlacedAll 0 nodes → IsFirstBadText nodes p
+  bad_text_found most nodes w h =
+      let g = whole_read (HaveFlaw true (Some (p, r))) room n input rest e x in
+      let same : trees x.nodes ≡ nodes = one_list (trees x.nodes) nodes g.0.fit w.fit (g.0.spells ∙ sym w.spells) g.1 h in
+      subst (λ (ts : Trees). IsFirstBadText ts p) same found
+
+pub bad_text_of : (room n : ℕ) (input rest : List ℕ) (o : Option Told) (p : ℕ) (r : InvalidReason) → length rest ≡ 0 → ScannedAll true room (length input) n input rest o → o ≡ Some (p, r)
+    → (most : ℕ) (nodes : Trees) → Wellformed most nodes input → PlacedAll 0 nodes → IsFirstBadText nodes p
+bad_text_of room n input rest o p r e x s = bad_text_found room n input rest p r e (subst (λ (z : Option Told). ScannedAll true room (length input) n input rest z) s x)

@@ -1,5 +1,5 @@
 -- What the search for flaws finds.
-use Rattle.std.specs.Prelude.{◌≡◌, ℕ, List, Bool, IsUtf8, Option, MatchBool}
+use Rattle.std.specs.Prelude.{◌≡◌, ℕ, List, Bool, true, false, IsUtf8, Option, MatchBool}
 use Rattle.cborn_model.specs.declared.heads.Major.{Major}
 use Rattle.cborn_model.specs.declared.heads.Major.TheVariants.{TextString}
 use Rattle.cborn_model.specs.Meaning.{IsByteString}
@@ -29,6 +29,10 @@ IsEarliestTold = IsEarliest (λ f. (told_place f, flaw_rank (told_reason f)))
 abbrev pub FindsTold : (ℕ → InvalidReason → Type 0) → Option Told → Type 0
 FindsTold = Finds flaw_rank told_place told_reason
 
+-- what a search looks for: each of these flaws, or the texts among them that are not UTF-8
+abbrev pub Sought : Bool → (ℕ → InvalidReason → Type 0) → ℕ → InvalidReason → Type 0
+Sought only_texts F p r = F p r × (only_texts ≡ true → r ≡ NotUtf8)
+
 -- the text at this place is not UTF-8
 abbrev pub TextFlaw : ℕ → List ℕ → ℕ → InvalidReason → Type 0
 TextFlaw q b p r = (p ≡ q) × (r ≡ NotUtf8) × (IsUtf8 b → ⊥)
@@ -48,19 +52,19 @@ ChunksSeen major total input rest flaw = ChunksRead (λ cs. major ≡ TextString
 abbrev pub IsKind : Bool → Tree → Type 0
 IsKind is_string t = MatchBool is_string ((b : List ℕ) × IsByteString t b) ((b : List ℕ) → IsByteString t b → ⊥)
 
-abbrev pub HasFlaw : Option Told → Bool → Tree → Type 0
-HasFlaw flaw is_string t = FindsTold (Flaw t) flaw × IsKind is_string t
+abbrev pub HasFlaw : Bool → Option Told → Bool → Tree → Type 0
+HasFlaw only_texts flaw is_string t = FindsTold (Sought only_texts (Flaw t)) flaw × IsKind is_string t
 
 -- a node, its first flaw, and whether it is a byte string
-abbrev pub Scanned : ℕ → ℕ → List ℕ → List ℕ → Option Told → Bool → Type 0
-Scanned room total input rest flaw is_string = NodeRead (HasFlaw flaw is_string) room total input rest
+abbrev pub Scanned : Bool → ℕ → ℕ → List ℕ → List ℕ → Option Told → Bool → Type 0
+Scanned only_texts room total input rest flaw is_string = NodeRead (HasFlaw only_texts flaw is_string) room total input rest
 
-abbrev pub HaveFlaw : Option Told → List Tree → Type 0
-HaveFlaw flaw ts = FindsTold (FlawIn (trees ts)) flaw
+abbrev pub HaveFlaw : Bool → Option Told → List Tree → Type 0
+HaveFlaw only_texts flaw ts = FindsTold (Sought only_texts (FlawIn (trees ts))) flaw
 
 -- n nodes one after another, and their first flaw
-abbrev pub ScannedAll : ℕ → ℕ → ℕ → List ℕ → List ℕ → Option Told → Type 0
-ScannedAll room total n input rest flaw = NodesRead (HaveFlaw flaw) room total n input rest
+abbrev pub ScannedAll : Bool → ℕ → ℕ → ℕ → List ℕ → List ℕ → Option Told → Type 0
+ScannedAll only_texts room total n input rest flaw = NodesRead (HaveFlaw only_texts flaw) room total n input rest
 
 -- a key that means something: its encoding, its position in the map, and its place
 abbrev pub SeenKey : Type 0
@@ -79,9 +83,13 @@ seen_place k = k.2
 abbrev pub AreSeen : List SeenKey → List Pair → Type 0
 AreSeen keys ns = AreKeys seen_bytes seen_position seen_place (entries ns) 0 keys
 
-abbrev pub PairsFlaw : Option Told → List SeenKey → List Pair → Type 0
-PairsFlaw flaw keys ns = FindsTold (FlawAmong (entries ns)) flaw × AreSeen keys ns
+-- where texts alone are looked for, no key is kept
+abbrev pub AreSought : Bool → List SeenKey → List Pair → Type 0
+AreSought only_texts keys ns = only_texts ≡ false → AreSeen keys ns
+
+abbrev pub PairsFlaw : Bool → Option Told → List SeenKey → List Pair → Type 0
+PairsFlaw only_texts flaw keys ns = FindsTold (Sought only_texts (FlawAmong (entries ns))) flaw × AreSought only_texts keys ns
 
 -- n pairs one after another, the first flaw of their keys and values, and the keys that mean something
-abbrev pub PairsSeen : ℕ → ℕ → ℕ → List ℕ → List ℕ → Option Told → List SeenKey → Type 0
-PairsSeen room total n input rest flaw keys = PairsRead (PairsFlaw flaw keys) room total n input rest
+abbrev pub PairsSeen : Bool → ℕ → ℕ → ℕ → List ℕ → List ℕ → Option Told → List SeenKey → Type 0
+PairsSeen only_texts room total n input rest flaw keys = PairsRead (PairsFlaw only_texts flaw keys) room total n input rest

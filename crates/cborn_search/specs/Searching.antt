@@ -1,13 +1,14 @@
 -- What a search of a whole input answers.
-use Rattle.std.specs.Prelude.{ℕ, List, Option, None, Some, ⊤}
+use Rattle.std.specs.Prelude.{ℕ, ◌≤◌, List, Option, None, Some, ⊤}
 use Rattle.std.specs.List.{AllZip}
 use Rattle.cborn_model.specs.Meaning.{Means}
 use Rattle.cborn_model.specs.Placed.{PlacedAll}
 use Rattle.cborn_model.specs.Spelled.{Wellformed}
-use Rattle.cborn_model.specs.Tree.{Tree, trees}
+use Rattle.cborn_model.specs.Tree.{Tree, Trees, trees}
 use Rattle.cborn_model.specs.Value.{Value}
-use Rattle.cborn_judge.specs.Flaws.{IsRefusalOfAll}
+use Rattle.cborn_judge.specs.Flaws.{WithinAll, FlawAt, IsRefusalOfAll}
 use Rattle.cborn_judge.specs.declared.faults.Invalid.TheVariants.{Refused}
+use Rattle.cborn_judge.specs.declared.faults.InvalidReason.TheVariants.{NotUtf8}
 use Rattle.cborn_search.specs.Flawed.{Told}
 use Rattle.cborn_search.specs.declared.sequences.Validity.{Validity}
 use Rattle.cborn_search.specs.declared.sequences.Validity.TheVariants.{Valid, Flaw, Unknown}
@@ -29,3 +30,12 @@ abbrev pub IsValidity : ℕ → List ℕ → Validity → Type 0
 IsValidity limit input Valid = IsFirstFlawOf limit input None
 IsValidity limit input (Flaw place reason) = IsFirstFlawOf limit input (Some (place, reason))
 IsValidity limit input Unknown = ⊤
+
+-- a text string in these nodes, or a chunk of one, stands at this place and is not UTF-8
+abbrev pub HasBadText : Trees → ℕ → Type 0
+HasBadText nodes p = (q : Tree) × WithinAll q nodes × FlawAt q p NotUtf8
+
+-- and none stands before it
+pub record IsFirstBadText (nodes : Trees) (p : ℕ) : Type 0 where
+  pub is : HasBadText nodes p
+  pub lowest : (q : ℕ) → HasBadText nodes q → p ≤ q

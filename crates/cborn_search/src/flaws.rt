@@ -13,7 +13,7 @@ ghost use Rattle.cborn_search.specs.Flawed.{Scanned, ScannedAll};
 ghost use Rattle.cborn_search.specs.devices.Marks.{MapSeen};
 
 use crate::leaves::{
-    behind_break, integer_len, is_bignum, is_done, is_simple, last, scan_long_bytes,
+    behind_break, integer_len, is_bignum, is_done, is_simple, is_sound, last, scan_long_bytes,
     scan_long_text, scan_text, string_at,
 };
 use crate::scanned_maps::SpareMaps;
@@ -27,6 +27,7 @@ use cborn_wire::{Argument, HeadRead, read_head};
 #[inline(always)]
 pub(crate) fn scan_item<'a>(
     maps: &mut SpareMaps,
+    only_texts: bool,
     room: u64,
     total: u64,
     bytes: &'a [u8],
@@ -34,9 +35,9 @@ pub(crate) fn scan_item<'a>(
 ) -> Option<&'a [u8]>
     requires room { room ≤ 1024 }
     requires within { length bytes.now ≤ total }
-    ensures { IfSome result (λ rest. Scanned room total bytes.now rest.now found.new.flaw found.new.is_string) }
+    ensures { IfSome result (λ rest. Scanned only_texts room total bytes.now rest.now found.new.flaw found.new.is_string) }
 {
-    let left = scan_node(maps, room, total, bytes, found)?;
+    let left = scan_node(maps, only_texts, room, total, bytes, found)?;
     last(bytes, left)
 }
 
@@ -45,6 +46,7 @@ pub(crate) fn scan_item<'a>(
 #[inline(never)]
 fn scan_node(
     maps: &mut SpareMaps,
+    only_texts: bool,
     room: u64,
     total: u64,
     bytes: &[u8],
@@ -52,7 +54,7 @@ fn scan_node(
 ) -> Option<usize>
     requires room { room ≤ 1024 }
     requires within { length bytes.now ≤ total }
-    ensures { IfSome result (Leaves (λ rest. Scanned room total bytes.now rest found.new.flaw found.new.is_string)) }
+    ensures { IfSome result (Leaves (λ rest. Scanned only_texts room total bytes.now rest found.new.flaw found.new.is_string)) }
 {
     let HeadRead::Full(head, len) = read_head(bytes) else {
         return None;
@@ -74,13 +76,13 @@ fn scan_node(
                 Some(after.len())
             }
             Major::TextString => scan_text(place, n, rest, found),
-            Major::Array => scan_fixed_array(maps, room, total, n, rest, found),
-            Major::Map => scan_fixed_map(maps, room, total, n, rest, found),
+            Major::Array => scan_fixed_array(maps, only_texts, room, total, n, rest, found),
+            Major::Map => scan_fixed_map(maps, only_texts, room, total, n, rest, found),
             Major::Tag => {
                 if is_bignum(n) {
-                    scan_bignum(maps, room, total, place, rest, found)
+                    scan_bignum(maps, only_texts, room, total, place, rest, found)
                 } else {
-                    scan_tagged(maps, room, total, rest, found)
+                    scan_tagged(maps, only_texts, room, total, rest, found)
                 }
             }
             Major::Other => {
@@ -94,8 +96,8 @@ fn scan_node(
         Argument::Endless => match major {
             Major::ByteString => scan_long_bytes(total, rest, found),
             Major::TextString => scan_long_text(total, rest, found),
-            Major::Array => scan_endless_array(maps, room, total, rest, found),
-            Major::Map => scan_endless_map(maps, room, total, rest, found),
+            Major::Array => scan_endless_array(maps, only_texts, room, total, rest, found),
+            Major::Map => scan_endless_map(maps, only_texts, room, total, rest, found),
             _ => None,
         },
     }
@@ -106,6 +108,7 @@ fn scan_node(
 #[inline(never)]
 fn scan_fixed_array(
     maps: &mut SpareMaps,
+    only_texts: bool,
     room: u64,
     total: u64,
     n: u64,
@@ -114,12 +117,21 @@ fn scan_fixed_array(
 ) -> Option<usize>
     requires room { room ≤ 1024 }
     requires within { length bytes.now ≤ total }
-    ensures { IfSome result (λ left. (w : Width) → WidthFits w n → length (head Array (Given w n) ++ bytes.now) ≤ total → Leaves (λ rest. Scanned room total (head Array (Given w n) ++ bytes.now) rest found.new.flaw found.new.is_string) left) }
+    ensures { IfSome result (λ left. (w : Width) → WidthFits w n → length (head Array (Given w n) ++ bytes.now) ≤ total → Leaves (λ rest. Scanned only_texts room total (head Array (Given w n) ++ bytes.now) rest found.new.flaw found.new.is_string) left) }
 {
     if room == 0 {
         return None;
     }
-    let (rest, count, flaw) = scan_items(maps, room - 1, total, n, false, bytes, found)?;
+    let (rest, count, flaw) = scan_items(
+        maps,
+        only_texts,
+        room - 1,
+        total,
+        n,
+        false,
+        bytes,
+        found,
+    )?;
     if count != n {
         return None;
     }
@@ -135,6 +147,7 @@ fn scan_fixed_array(
 #[inline(never)]
 fn scan_endless_array(
     maps: &mut SpareMaps,
+    only_texts: bool,
     room: u64,
     total: u64,
     bytes: &[u8],
@@ -142,12 +155,21 @@ fn scan_endless_array(
 ) -> Option<usize>
     requires room { room ≤ 1024 }
     requires within { length bytes.now ≤ total }
-    ensures { IfSome result (λ left. length (head Array Unbounded ++ bytes.now) ≤ total → Leaves (λ rest. Scanned room total (head Array Unbounded ++ bytes.now) rest found.new.flaw found.new.is_string) left) }
+    ensures { IfSome result (λ left. length (head Array Unbounded ++ bytes.now) ≤ total → Leaves (λ rest. Scanned only_texts room total (head Array Unbounded ++ bytes.now) rest found.new.flaw found.new.is_string) left) }
 {
     if room == 0 {
         return None;
     }
-    let (rest, _, flaw) = scan_items(maps, room - 1, total, u64::MAX, true, bytes, found)?;
+    let (rest, _, flaw) = scan_items(
+        maps,
+        only_texts,
+        room - 1,
+        total,
+        u64::MAX,
+        true,
+        bytes,
+        found,
+    )?;
     let after = behind_break(rest)?;
     *found = Finding {
         flaw,
@@ -162,6 +184,7 @@ fn scan_endless_array(
 #[inline(always)]
 fn scan_items<'a>(
     maps: &mut SpareMaps,
+    only_texts: bool,
     room: u64,
     total: u64,
     most: u64,
@@ -171,7 +194,7 @@ fn scan_items<'a>(
 ) -> Option<(&'a [u8], u64, Option<(u64, InvalidReason)>)>
     requires room { room ≤ 1024 }
     requires within { length bytes.now ≤ total }
-    ensures { IfSome result (λ r. ScannedAll room total r.1 bytes.now r.0.now r.2) }
+    ensures { IfSome result (λ r. ScannedAll only_texts room total r.1 bytes.now r.0.now r.2) }
 {
     let mut rest = bytes;
     let mut count = 0;
@@ -185,7 +208,7 @@ fn scan_items<'a>(
             count += 1;
             continue;
         }
-        rest = scan_item(maps, room, total, rest, found)?;
+        rest = scan_item(maps, only_texts, room, total, rest, found)?;
         first = earliest(first, found.flaw);
         count += 1;
     }
@@ -197,6 +220,7 @@ fn scan_items<'a>(
 #[inline(never)]
 fn scan_fixed_map(
     maps: &mut SpareMaps,
+    only_texts: bool,
     room: u64,
     total: u64,
     n: u64,
@@ -205,12 +229,12 @@ fn scan_fixed_map(
 ) -> Option<usize>
     requires room { room ≤ 1024 }
     requires within { length bytes.now ≤ total }
-    ensures { IfSome result (λ left. (w : Width) → WidthFits w n → length (head Map (Given w n) ++ bytes.now) ≤ total → Leaves (λ rest. Scanned room total (head Map (Given w n) ++ bytes.now) rest found.new.flaw found.new.is_string) left) }
+    ensures { IfSome result (λ left. (w : Width) → WidthFits w n → length (head Map (Given w n) ++ bytes.now) ≤ total → Leaves (λ rest. Scanned only_texts room total (head Map (Given w n) ++ bytes.now) rest found.new.flaw found.new.is_string) left) }
 {
     if room == 0 {
         return None;
     }
-    let (rest, count) = scan_pairs(maps, room - 1, total, n, false, bytes, found)?;
+    let (rest, count) = scan_pairs(maps, only_texts, room - 1, total, n, false, bytes, found)?;
     if count != n {
         return None;
     }
@@ -222,6 +246,7 @@ fn scan_fixed_map(
 #[inline(never)]
 fn scan_endless_map(
     maps: &mut SpareMaps,
+    only_texts: bool,
     room: u64,
     total: u64,
     bytes: &[u8],
@@ -229,12 +254,21 @@ fn scan_endless_map(
 ) -> Option<usize>
     requires room { room ≤ 1024 }
     requires within { length bytes.now ≤ total }
-    ensures { IfSome result (λ left. length (head Map Unbounded ++ bytes.now) ≤ total → Leaves (λ rest. Scanned room total (head Map Unbounded ++ bytes.now) rest found.new.flaw found.new.is_string) left) }
+    ensures { IfSome result (λ left. length (head Map Unbounded ++ bytes.now) ≤ total → Leaves (λ rest. Scanned only_texts room total (head Map Unbounded ++ bytes.now) rest found.new.flaw found.new.is_string) left) }
 {
     if room == 0 {
         return None;
     }
-    let (rest, _) = scan_pairs(maps, room - 1, total, u64::MAX, true, bytes, found)?;
+    let (rest, _) = scan_pairs(
+        maps,
+        only_texts,
+        room - 1,
+        total,
+        u64::MAX,
+        true,
+        bytes,
+        found,
+    )?;
     let after = behind_break(rest)?;
     Some(after.len())
 }
@@ -245,6 +279,7 @@ fn scan_endless_map(
 #[inline(always)]
 fn scan_pairs<'a>(
     maps: &mut SpareMaps,
+    only_texts: bool,
     room: u64,
     total: u64,
     most: u64,
@@ -254,7 +289,7 @@ fn scan_pairs<'a>(
 ) -> Option<(&'a [u8], u64)>
     requires room { room ≤ 1024 }
     requires within { length bytes.now ≤ total }
-    ensures { IfSome result (λ r. MapSeen room total r.1 bytes.now r.0.now found.new.flaw × (found.new.is_string ≡ false)) }
+    ensures { IfSome result (λ r. MapSeen only_texts room total r.1 bytes.now r.0.now found.new.flaw × (found.new.is_string ≡ false)) }
 {
     let mut map = maps.take()?;
     let mut rest = bytes;
@@ -263,13 +298,13 @@ fn scan_pairs<'a>(
         if is_done(count, most, may_end, rest) {
             break;
         }
-        let middle = scan_item(maps, room, total, rest, found)?;
-        map.take_key(maps.alloc(), total, rest, middle, found)?;
-        rest = scan_item(maps, room, total, middle, found)?;
+        let middle = scan_item(maps, only_texts, room, total, rest, found)?;
+        map.take_key(maps.alloc(), only_texts, total, rest, middle, found)?;
+        rest = scan_item(maps, only_texts, room, total, middle, found)?;
         map.note(found.flaw);
         count += 1;
     }
-    map.conclude(found)?;
+    map.conclude(only_texts, found)?;
     maps.put_back(map);
     Some((rest, count))
 }
@@ -279,6 +314,7 @@ fn scan_pairs<'a>(
 #[inline(never)]
 fn scan_bignum(
     maps: &mut SpareMaps,
+    only_texts: bool,
     room: u64,
     total: u64,
     place: u64,
@@ -287,13 +323,13 @@ fn scan_bignum(
 ) -> Option<usize>
     requires room { room ≤ 1024 }
     requires within { length bytes.now ≤ total }
-    ensures { IfSome result (λ left. (w : Width) (n : ℕ) → (n ≡ 2) ⊎ (n ≡ 3) → WidthFits w n → length (head Tag (Given w n) ++ bytes.now) ≤ total → place ≡ total - length (head Tag (Given w n) ++ bytes.now) → Leaves (λ rest. Scanned room total (head Tag (Given w n) ++ bytes.now) rest found.new.flaw found.new.is_string) left) }
+    ensures { IfSome result (λ left. (w : Width) (n : ℕ) → (n ≡ 2) ⊎ (n ≡ 3) → WidthFits w n → length (head Tag (Given w n) ++ bytes.now) ≤ total → place ≡ total - length (head Tag (Given w n) ++ bytes.now) → Leaves (λ rest. Scanned only_texts room total (head Tag (Given w n) ++ bytes.now) rest found.new.flaw found.new.is_string) left) }
 {
     if room == 0 {
         return None;
     }
-    let left = scan_node(maps, room - 1, total, bytes, found)?;
-    if found.is_string {
+    let left = scan_node(maps, only_texts, room - 1, total, bytes, found)?;
+    if is_sound(only_texts, found.is_string) {
         found.is_string = false;
         return Some(left);
     }
@@ -311,6 +347,7 @@ fn scan_bignum(
 #[inline(never)]
 fn scan_tagged(
     maps: &mut SpareMaps,
+    only_texts: bool,
     room: u64,
     total: u64,
     bytes: &[u8],
@@ -318,12 +355,12 @@ fn scan_tagged(
 ) -> Option<usize>
     requires room { room ≤ 1024 }
     requires within { length bytes.now ≤ total }
-    ensures { IfSome result (λ left. (w : Width) (n : ℕ) → n ≢ 2 → n ≢ 3 → WidthFits w n → length (head Tag (Given w n) ++ bytes.now) ≤ total → Leaves (λ rest. Scanned room total (head Tag (Given w n) ++ bytes.now) rest found.new.flaw found.new.is_string) left) }
+    ensures { IfSome result (λ left. (w : Width) (n : ℕ) → n ≢ 2 → n ≢ 3 → WidthFits w n → length (head Tag (Given w n) ++ bytes.now) ≤ total → Leaves (λ rest. Scanned only_texts room total (head Tag (Given w n) ++ bytes.now) rest found.new.flaw found.new.is_string) left) }
 {
     if room == 0 {
         return None;
     }
-    let left = scan_node(maps, room - 1, total, bytes, found)?;
+    let left = scan_node(maps, only_texts, room - 1, total, bytes, found)?;
     found.is_string = false;
     Some(left)
 }

@@ -5,7 +5,7 @@ ghost use Rattle.cborn_model.specs.Orders.{bytewise};
 ghost use Rattle.cborn_model.specs.Tree.{entries};
 ghost use Rattle.cborn_judge.specs.devices.Judged.{RepeatFlaw};
 ghost use Rattle.cborn_transcode.specs.Transcoding.{IsTranscoded};
-ghost use Rattle.cborn_search.specs.Flawed.{FindsTold, SeenKey, AreSeen};
+ghost use Rattle.cborn_search.specs.Flawed.{Sought, FindsTold, SeenKey, AreSought};
 ghost use Rattle.cborn_search.specs.devices.Marks.{mark_bytes, AreMarked, TakesKey, InPlace, ComesAfter, TieAfter, TieFlaw};
 ghost use Rattle.cborn_search.specs.Reading.{Pair};
 
@@ -62,14 +62,18 @@ impl Keys {
     pub(crate) fn take(
         &mut self,
         alloc: Global,
+        only_texts: bool,
         total: u64,
         bytes: &[u8],
         rest: &[u8],
         flaw: Option<(u64, InvalidReason)>,
     ) -> Option<()>
         requires { length bytes.now ≤ total }
-        ensures { OnSome result (TakesKey total bytes.now rest.now flaw self.old self.new) }
+        ensures { OnSome result (TakesKey only_texts total bytes.now rest.now flaw self.old self.new) }
     {
+        if only_texts {
+            return Some(());
+        }
         match flaw {
             Some(_) => Some(()),
             None => {
@@ -116,9 +120,12 @@ impl Keys {
 
     /// The first key that is the same as an earlier one. None promises nothing.
     #[inline(never)]
-    pub(crate) fn first_repeat(&mut self) -> Option<Option<(u64, InvalidReason)>>
-        ensures { IfSome result (λ first. (ns : List Pair) (ks : List SeenKey) → AreMarked ks self.old → AreSeen ks ns → FindsTold (RepeatFlaw (entries ns)) first) }
+    pub(crate) fn first_repeat(&mut self, only_texts: bool) -> Option<Option<(u64, InvalidReason)>>
+        ensures { IfSome result (λ first. (ns : List Pair) (ks : List SeenKey) → AreMarked ks self.old → AreSought only_texts ks ns → FindsTold (Sought only_texts (RepeatFlaw (entries ns))) first) }
     {
+        if only_texts {
+            return Some(None);
+        }
         if let Some(first) = first_tie(&self.bytes, &self.marks) {
             return Some(first);
         }

@@ -46,15 +46,17 @@ impl ScannedMap {
     pub(crate) fn take_key(
         &mut self,
         alloc: Global,
+        only_texts: bool,
         total: u64,
         bytes: &[u8],
         rest: &[u8],
         found: &Finding,
     ) -> Option<()>
         requires { length bytes.now ≤ total }
-        ensures { OnSome result (TakesKey total bytes.now rest.now found.now.flaw self.old.keys self.new.keys × IsEarliestTold self.old.first found.now.flaw self.new.first) }
+        ensures { OnSome result (TakesKey only_texts total bytes.now rest.now found.now.flaw self.old.keys self.new.keys × IsEarliestTold self.old.first found.now.flaw self.new.first) }
     {
-        self.keys.take(alloc, total, bytes, rest, found.flaw)?;
+        self.keys
+            .take(alloc, only_texts, total, bytes, rest, found.flaw)?;
         self.note(found.flaw);
         Some(())
     }
@@ -72,10 +74,10 @@ impl ScannedMap {
 
     /// Tells the first flaw of the map. None promises nothing.
     #[inline(never)]
-    pub(crate) fn conclude(&mut self, found: &mut Finding) -> Option<()>
-        ensures { OnSome result (Concludes self.old.keys self.old.first found.new.flaw × (found.new.is_string ≡ false)) }
+    pub(crate) fn conclude(&mut self, only_texts: bool, found: &mut Finding) -> Option<()>
+        ensures { OnSome result (Concludes only_texts self.old.keys self.old.first found.new.flaw × (found.new.is_string ≡ false)) }
     {
-        let repeat = self.keys.first_repeat()?;
+        let repeat = self.keys.first_repeat(only_texts)?;
         let flaw = earliest(self.first, repeat);
         *found = Finding {
             flaw,

@@ -16,15 +16,11 @@
 //! items, or a text in them isn't UTF-8, or memory was refused: the reader and the writer that keep
 //! trees tell which.
 //!
-//! [`first_bad_text`] tells of well-formed bytes the first text that isn't UTF-8, from head to
-//! head.
-//!
 //! In the code start with `passes`; `items` has a function for each kind of item that holds others,
 //! `leaves` the strings and simple values, `numbers` decimals and indicators, `runs` integers in a
 //! row, with the digits of `digits`; `prospects` looks over what is left where a text grows long.
 #![tactic(auto)]
 
-mod bad_texts;
 mod digits;
 mod items;
 mod leaves;
@@ -33,5 +29,4 @@ mod passes;
 mod prospects;
 mod runs;
 
-pub use bad_texts::first_bad_text;
 pub use passes::show_bytes;

@@ -5,7 +5,9 @@
 
 ghost use Rattle.std.specs.Prelude.{◌≤◌, length, IfSome};
 
-use crate::bad_texts::{Look, look_at};
+use crate::leaves::is_text;
+use cborn_model::Major;
+use cborn_wire::{Argument, Head, HeadRead, read_head};
 
 /// A text shorter than this isn't given up early, since it is small.
 const SHORT: usize = 1 << 16;
@@ -91,9 +93,30 @@ fn len_of_front(lens: &[u8; 256], bytes: &[u8]) -> Option<usize>
 fn len_of_any(bytes: &[u8]) -> Option<usize>
     ensures { IfSome result (λ len. len ≤ length bytes.now) }
 {
-    match look_at(bytes) {
-        Look::Passed(len) => Some(len),
-        _ => None,
+    let HeadRead::Full(head, len) = read_head(bytes) else {
+        return None;
+    };
+    let rest = &bytes[len..];
+    let count = content_len(head);
+    if count > rest.len() as u64 {
+        return None;
+    }
+    let (content, _) = rest.split_at(count as usize);
+    if head.major_type() == Major::TextString && !is_text(content) {
+        return None;
+    }
+    Some(len + count as usize)
+}
+
+/// How many bytes of a string follow its head.
+fn content_len(head: Head) -> u64 {
+    match head.argument {
+        Argument::Given(_, count) => match head.major_type() {
+            Major::ByteString => count,
+            Major::TextString => count,
+            _ => 0,
+        },
+        Argument::Endless => 0,
     }
 }
 

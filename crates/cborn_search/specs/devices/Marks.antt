@@ -1,5 +1,5 @@
 -- A device of the proofs: the keys of a map, as they are kept while its pairs are searched. No public contract cites it.
-use Rattle.std.specs.Prelude.{◌≡◌, ℕ, suc, ◌+◌, ◌<◌, ◌≤◌, ◌⊎◌, List, [], ◌∷◌, ◌++◌, length, take, drop, Bool, Option, None, Some, ⊤}
+use Rattle.std.specs.Prelude.{◌≡◌, ℕ, suc, ◌+◌, ◌<◌, ◌≤◌, ◌⊎◌, List, [], ◌∷◌, ◌++◌, length, take, drop, Bool, false, Option, None, Some, ⊤}
 use Rattle.std.specs.List.{AllZip}
 use Rattle.std.specs.declared.cmp.Ordering.TheVariants.{Less}
 use Rattle.cborn_model.specs.Orders.{bytewise}
@@ -9,7 +9,7 @@ use Rattle.cborn_judge.specs.devices.Repeats.{IsTied}
 use Rattle.cborn_judge.specs.declared.faults.InvalidReason.{InvalidReason}
 use Rattle.cborn_judge.specs.declared.faults.InvalidReason.TheVariants.{DuplicateKey}
 use Rattle.cborn_search.specs.Reading.{Pair, PairsRead}
-use Rattle.cborn_search.specs.Flawed.{Told, IsEarliestTold, FindsTold, Scanned, SeenKey, seen_bytes, seen_place, AreSeen}
+use Rattle.cborn_search.specs.Flawed.{Told, Sought, IsEarliestTold, FindsTold, Scanned, SeenKey, seen_bytes, seen_place, AreSeen, AreSought}
 use Rattle.cborn_search.specs.declared.keys.Keys.{Keys}
 use Rattle.cborn_search.specs.declared.keys.Mark.{Mark}
 
@@ -38,11 +38,11 @@ pub record AreMarked (ks : List SeenKey) (keys : Keys) : Type 0 where
 abbrev pub Joins : ℕ → Tree → List SeenKey → List SeenKey → Type 0
 Joins n k old new = (v : Tree) (ns : List Pair) → length ns ≡ n → AreSeen old ns → AreSeen new (ns ++ (k, v) ∷ [])
 
--- the key that was read joins those that are kept, if it has no flaw
-abbrev pub TakesKey : ℕ → List ℕ → List ℕ → Option Told → Keys → Keys → Type 0
-TakesKey total input rest flaw old new =
-    (room : ℕ) (s : Bool) (k : Scanned room total input rest flaw s) (ks : List SeenKey) (n : ℕ) → AreMarked ks old
-    → (more : List SeenKey) × AreMarked more new × Joins n k.node ks more
+-- the key that was read joins those that are kept, if it has no flaw and keys are kept
+abbrev pub TakesKey : Bool → ℕ → List ℕ → List ℕ → Option Told → Keys → Keys → Type 0
+TakesKey only_texts total input rest flaw old new =
+    (room : ℕ) (s : Bool) (k : Scanned only_texts room total input rest flaw s) (ks : List SeenKey) (n : ℕ) → AreMarked ks old
+    → (more : List SeenKey) × AreMarked more new × (only_texts ≡ false → Joins n k.node ks more)
 
 -- y comes behind x: its bytes are above those of x, or the same, and it begins later
 abbrev pub Comes : List ℕ → Mark → Mark → Type 0
@@ -69,13 +69,13 @@ abbrev pub TieFlaw : List ℕ → List Mark → ℕ → InvalidReason → Type 0
 TieFlaw whole ms p r = (r ≡ DuplicateKey) × (m : Mark) × IsTied (mark_bytes whole) ms m × (m.place ≡ p)
 
 -- the flaws of a map: of its keys and values, and the keys that are repeated
-abbrev pub MapFlaw : Option Told → List Pair → Type 0
-MapFlaw flaw ns = FindsTold (λ p r. FlawAmong (entries ns) p r ⊎ RepeatFlaw (entries ns) p r) flaw
+abbrev pub MapFlaw : Bool → Option Told → List Pair → Type 0
+MapFlaw only_texts flaw ns = FindsTold (Sought only_texts (λ p r. FlawAmong (entries ns) p r ⊎ RepeatFlaw (entries ns) p r)) flaw
 
 -- n pairs one after another, and the first flaw of the map that they are
-abbrev pub MapSeen : ℕ → ℕ → ℕ → List ℕ → List ℕ → Option Told → Type 0
-MapSeen room total n input rest flaw = PairsRead (MapFlaw flaw) room total n input rest
+abbrev pub MapSeen : Bool → ℕ → ℕ → ℕ → List ℕ → List ℕ → Option Told → Type 0
+MapSeen only_texts room total n input rest flaw = PairsRead (MapFlaw only_texts flaw) room total n input rest
 
 -- of a map with these keys, and this first flaw of keys and values, this is the first flaw
-abbrev pub Concludes : Keys → Option Told → Option Told → Type 0
-Concludes keys first flaw = (repeat : Option Told) × ((ns : List Pair) (ks : List SeenKey) → AreMarked ks keys → AreSeen ks ns → FindsTold (RepeatFlaw (entries ns)) repeat) × IsEarliestTold first repeat flaw
+abbrev pub Concludes : Bool → Keys → Option Told → Option Told → Type 0
+Concludes only_texts keys first flaw = (repeat : Option Told) × ((ns : List Pair) (ks : List SeenKey) → AreMarked ks keys → AreSought only_texts ks ns → FindsTold (Sought only_texts (RepeatFlaw (entries ns))) repeat) × IsEarliestTold first repeat flaw

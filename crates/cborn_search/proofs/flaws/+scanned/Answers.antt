@@ -16,89 +16,89 @@ use Rattle.cborn_search.proofs.flaws.+scanned.Goals as goal
 pub scan_item-returns : goal.scan_item-returns
 scan_item-returns t c =
     under c.last.result
-    (λ rest e. node_last (HasFlaw c.scan_node.new.found.flaw c.scan_node.new.found.is_string) c.args.room c.args.total c.args.bytes.now rest.now c.in_ok-left.left c.in_ok-left.ensures e)
+    (λ rest e. node_last (HasFlaw c.args.only_texts c.scan_node.new.found.flaw c.scan_node.new.found.is_string) c.args.room c.args.total c.args.bytes.now rest.now c.in_ok-left.left c.in_ok-left.ensures e)
     c.last.ensures
 
 pub scan_node-returns-in-Unsigned : goal.scan_node-returns-in-Unsigned
 scan_node-returns-in-Unsigned t c =
-    head_alone (HasFlaw None false) c.args.room c.args.total (c.args.total - length c.args.bytes.now) c.args.bytes.now _ _ c.in-Full.head c.in-Full.len Unsigned (Given c.in-Given.field-0 c.in-Given.n) (take_rest c.args.bytes.now c.in-Full.len) c.in-Full.ensures (sym c.major_type-major.ensures ∙ c.in-Unsigned.is) c.in-Given.is c.requires.within refl (search rules)
-    (λ fits p. uint_seen c.args.room c.args.total c.in-Given.field-0 c.in-Given.n _ fits)
+    head_alone (HasFlaw c.args.only_texts None false) c.args.room c.args.total (c.args.total - length c.args.bytes.now) c.args.bytes.now _ _ c.in-Full.head c.in-Full.len Unsigned (Given c.in-Given.field-0 c.in-Given.n) (take_rest c.args.bytes.now c.in-Full.len) c.in-Full.ensures (sym c.major_type-major.ensures ∙ c.in-Unsigned.is) c.in-Given.is c.requires.within refl (search rules)
+    (λ fits p. uint_seen c.args.only_texts c.args.room c.args.total c.in-Given.field-0 c.in-Given.n _ fits)
 
 pub scan_node-returns-in-Negative : goal.scan_node-returns-in-Negative
 scan_node-returns-in-Negative t c =
-    head_alone (HasFlaw None false) c.args.room c.args.total (c.args.total - length c.args.bytes.now) c.args.bytes.now _ _ c.in-Full.head c.in-Full.len Negative (Given c.in-Given.field-0 c.in-Given.n) (take_rest c.args.bytes.now c.in-Full.len) c.in-Full.ensures (sym c.major_type-major.ensures ∙ c.in-Negative.is) c.in-Given.is c.requires.within refl (search rules)
-    (λ fits p. nint_seen c.args.room c.args.total c.in-Given.field-0 c.in-Given.n _ fits)
+    head_alone (HasFlaw c.args.only_texts None false) c.args.room c.args.total (c.args.total - length c.args.bytes.now) c.args.bytes.now _ _ c.in-Full.head c.in-Full.len Negative (Given c.in-Given.field-0 c.in-Given.n) (take_rest c.args.bytes.now c.in-Full.len) c.in-Full.ensures (sym c.major_type-major.ensures ∙ c.in-Negative.is) c.in-Given.is c.requires.within refl (search rules)
+    (λ fits p. nint_seen c.args.only_texts c.args.room c.args.total c.in-Given.field-0 c.in-Given.n _ fits)
 
 pub scan_node-returns-in_ok-after-in-ByteString : goal.scan_node-returns-in_ok-after-in-ByteString
 scan_node-returns-in_ok-after-in-ByteString t c =
-    head_before (HasFlaw None true) c.args.room c.args.total (c.args.total - length c.args.bytes.now) c.args.bytes.now _ _ c.in-Full.head c.in-Full.len ByteString (Given c.in-Given.field-0 c.in-Given.n) (take_rest c.args.bytes.now c.in-Full.len) c.in-Full.ensures (sym c.major_type-major.ensures ∙ c.in-ByteString.is) c.in-Given.is c.requires.within refl
-    (λ fits l p. (c.in_ok-after-in-ByteString.after.now, search rules, bytes_seen c.args.room c.args.total c.in-Given.field-0 c.in-Given.n _ _ c.in_ok-after-in-ByteString.after.now fits c.in_ok-after-in-ByteString.ensures))
+    head_before (HasFlaw c.args.only_texts None true) c.args.room c.args.total (c.args.total - length c.args.bytes.now) c.args.bytes.now _ _ c.in-Full.head c.in-Full.len ByteString (Given c.in-Given.field-0 c.in-Given.n) (take_rest c.args.bytes.now c.in-Full.len) c.in-Full.ensures (sym c.major_type-major.ensures ∙ c.in-ByteString.is) c.in-Given.is c.requires.within refl
+    (λ fits l p. (c.in_ok-after-in-ByteString.after.now, search rules, bytes_seen c.args.only_texts c.args.room c.args.total c.in-Given.field-0 c.in-Given.n _ _ c.in_ok-after-in-ByteString.after.now fits c.in_ok-after-in-ByteString.ensures))
 
 pub scan_node-returns-in-TextString : goal.scan_node-returns-in-TextString
 scan_node-returns-in-TextString t c =
     under c.scan_text.result
-    (λ left s. head_before (HasFlaw c.scan_text.new.found.flaw c.scan_text.new.found.is_string) c.args.room c.args.total (c.args.total - length c.args.bytes.now) c.args.bytes.now _ left c.in-Full.head c.in-Full.len TextString (Given c.in-Given.field-0 c.in-Given.n) (take_rest c.args.bytes.now c.in-Full.len) c.in-Full.ensures (sym c.major_type-major.ensures ∙ c.in-TextString.is) c.in-Given.is c.requires.within refl
-    (λ fits l p. s c.args.room c.args.total c.in-Given.field-0 fits p))
+    (λ left s. head_before (HasFlaw c.args.only_texts c.scan_text.new.found.flaw c.scan_text.new.found.is_string) c.args.room c.args.total (c.args.total - length c.args.bytes.now) c.args.bytes.now _ left c.in-Full.head c.in-Full.len TextString (Given c.in-Given.field-0 c.in-Given.n) (take_rest c.args.bytes.now c.in-Full.len) c.in-Full.ensures (sym c.major_type-major.ensures ∙ c.in-TextString.is) c.in-Given.is c.requires.within refl
+    (λ fits l p. s c.args.only_texts c.args.room c.args.total c.in-Given.field-0 fits p))
     c.scan_text.ensures
 
 pub scan_node-returns-in-Array : goal.scan_node-returns-in-Array
 scan_node-returns-in-Array t c =
     under c.scan_fixed_array.result
-    (λ left s. head_before (HasFlaw c.scan_fixed_array.new.found.flaw c.scan_fixed_array.new.found.is_string) c.args.room c.args.total (c.args.total - length c.args.bytes.now) c.args.bytes.now _ left c.in-Full.head c.in-Full.len Array (Given c.in-Given.field-0 c.in-Given.n) (take_rest c.args.bytes.now c.in-Full.len) c.in-Full.ensures (sym c.major_type-major.ensures ∙ c.in-Array.is) c.in-Given.is c.requires.within refl
+    (λ left s. head_before (HasFlaw c.args.only_texts c.scan_fixed_array.new.found.flaw c.scan_fixed_array.new.found.is_string) c.args.room c.args.total (c.args.total - length c.args.bytes.now) c.args.bytes.now _ left c.in-Full.head c.in-Full.len Array (Given c.in-Given.field-0 c.in-Given.n) (take_rest c.args.bytes.now c.in-Full.len) c.in-Full.ensures (sym c.major_type-major.ensures ∙ c.in-Array.is) c.in-Given.is c.requires.within refl
     (λ fits l p. s c.in-Given.field-0 fits l))
     c.scan_fixed_array.ensures
 
 pub scan_node-returns-in-Map : goal.scan_node-returns-in-Map
 scan_node-returns-in-Map t c =
     under c.scan_fixed_map.result
-    (λ left s. head_before (HasFlaw c.scan_fixed_map.new.found.flaw c.scan_fixed_map.new.found.is_string) c.args.room c.args.total (c.args.total - length c.args.bytes.now) c.args.bytes.now _ left c.in-Full.head c.in-Full.len Map (Given c.in-Given.field-0 c.in-Given.n) (take_rest c.args.bytes.now c.in-Full.len) c.in-Full.ensures (sym c.major_type-major.ensures ∙ c.in-Map.is) c.in-Given.is c.requires.within refl
+    (λ left s. head_before (HasFlaw c.args.only_texts c.scan_fixed_map.new.found.flaw c.scan_fixed_map.new.found.is_string) c.args.room c.args.total (c.args.total - length c.args.bytes.now) c.args.bytes.now _ left c.in-Full.head c.in-Full.len Map (Given c.in-Given.field-0 c.in-Given.n) (take_rest c.args.bytes.now c.in-Full.len) c.in-Full.ensures (sym c.major_type-major.ensures ∙ c.in-Map.is) c.in-Given.is c.requires.within refl
     (λ fits l p. s c.in-Given.field-0 fits l))
     c.scan_fixed_map.ensures
 
 pub scan_node-returns-then-is_bignum : goal.scan_node-returns-then-is_bignum
 scan_node-returns-then-is_bignum t c =
     under c.scan_bignum.result
-    (λ left s. head_before (HasFlaw c.scan_bignum.new.found.flaw c.scan_bignum.new.found.is_string) c.args.room c.args.total (c.args.total - length c.args.bytes.now) c.args.bytes.now _ left c.in-Full.head c.in-Full.len Tag (Given c.in-Given.field-0 c.in-Given.n) (take_rest c.args.bytes.now c.in-Full.len) c.in-Full.ensures (sym c.major_type-major.ensures ∙ c.in-Tag.is) c.in-Given.is c.requires.within refl
+    (λ left s. head_before (HasFlaw c.args.only_texts c.scan_bignum.new.found.flaw c.scan_bignum.new.found.is_string) c.args.room c.args.total (c.args.total - length c.args.bytes.now) c.args.bytes.now _ left c.in-Full.head c.in-Full.len Tag (Given c.in-Given.field-0 c.in-Given.n) (take_rest c.args.bytes.now c.in-Full.len) c.in-Full.ensures (sym c.major_type-major.ensures ∙ c.in-Tag.is) c.in-Given.is c.requires.within refl
     (λ fits l p. s c.in-Given.field-0 c.in-Given.n c.if-is_bignum.ensures fits l p))
     c.scan_bignum.ensures
 
 pub scan_node-returns-else-is_bignum : goal.scan_node-returns-else-is_bignum
 scan_node-returns-else-is_bignum t c =
     under c.scan_tagged.result
-    (λ left s. head_before (HasFlaw c.scan_tagged.new.found.flaw c.scan_tagged.new.found.is_string) c.args.room c.args.total (c.args.total - length c.args.bytes.now) c.args.bytes.now _ left c.in-Full.head c.in-Full.len Tag (Given c.in-Given.field-0 c.in-Given.n) (take_rest c.args.bytes.now c.in-Full.len) c.in-Full.ensures (sym c.major_type-major.ensures ∙ c.in-Tag.is) c.in-Given.is c.requires.within refl
+    (λ left s. head_before (HasFlaw c.args.only_texts c.scan_tagged.new.found.flaw c.scan_tagged.new.found.is_string) c.args.room c.args.total (c.args.total - length c.args.bytes.now) c.args.bytes.now _ left c.in-Full.head c.in-Full.len Tag (Given c.in-Given.field-0 c.in-Given.n) (take_rest c.args.bytes.now c.in-Full.len) c.in-Full.ensures (sym c.major_type-major.ensures ∙ c.in-Tag.is) c.in-Given.is c.requires.within refl
     (λ fits l p. s c.in-Given.field-0 c.in-Given.n c.if-is_bignum.ensures.0 c.if-is_bignum.ensures.1 fits l))
     c.scan_tagged.ensures
 
 pub scan_node-returns-then-is_simple : goal.scan_node-returns-then-is_simple
 scan_node-returns-then-is_simple t c =
-    head_alone (HasFlaw None false) c.args.room c.args.total (c.args.total - length c.args.bytes.now) c.args.bytes.now _ _ c.in-Full.head c.in-Full.len Other c.in-Full.head.argument (take_rest c.args.bytes.now c.in-Full.len) c.in-Full.ensures (sym c.major_type-major.ensures ∙ c.in-Other.is) refl c.requires.within refl (search rules)
-    (λ fits p. simple_seen c.args.room c.args.total c.in-Full.head.argument _ (c.if-is_simple.ensures refl))
+    head_alone (HasFlaw c.args.only_texts None false) c.args.room c.args.total (c.args.total - length c.args.bytes.now) c.args.bytes.now _ _ c.in-Full.head c.in-Full.len Other c.in-Full.head.argument (take_rest c.args.bytes.now c.in-Full.len) c.in-Full.ensures (sym c.major_type-major.ensures ∙ c.in-Other.is) refl c.requires.within refl (search rules)
+    (λ fits p. simple_seen c.args.only_texts c.args.room c.args.total c.in-Full.head.argument _ (c.if-is_simple.ensures refl))
 
 pub scan_node-returns-in-ByteString-major : goal.scan_node-returns-in-ByteString-major
 scan_node-returns-in-ByteString-major t c =
     under c.scan_long_bytes.result
-    (λ left s. head_before (HasFlaw c.scan_long_bytes.new.found.flaw c.scan_long_bytes.new.found.is_string) c.args.room c.args.total (c.args.total - length c.args.bytes.now) c.args.bytes.now _ left c.in-Full.head c.in-Full.len ByteString Endless (take_rest c.args.bytes.now c.in-Full.len) c.in-Full.ensures (sym c.major_type-major.ensures ∙ c.in-ByteString-major.is) c.in-Endless.is c.requires.within refl
-    (λ fits l p. s c.args.room l))
+    (λ left s. head_before (HasFlaw c.args.only_texts c.scan_long_bytes.new.found.flaw c.scan_long_bytes.new.found.is_string) c.args.room c.args.total (c.args.total - length c.args.bytes.now) c.args.bytes.now _ left c.in-Full.head c.in-Full.len ByteString Endless (take_rest c.args.bytes.now c.in-Full.len) c.in-Full.ensures (sym c.major_type-major.ensures ∙ c.in-ByteString-major.is) c.in-Endless.is c.requires.within refl
+    (λ fits l p. s c.args.only_texts c.args.room l))
     c.scan_long_bytes.ensures
 
 pub scan_node-returns-in-TextString-major : goal.scan_node-returns-in-TextString-major
 scan_node-returns-in-TextString-major t c =
     under c.scan_long_text.result
-    (λ left s. head_before (HasFlaw c.scan_long_text.new.found.flaw c.scan_long_text.new.found.is_string) c.args.room c.args.total (c.args.total - length c.args.bytes.now) c.args.bytes.now _ left c.in-Full.head c.in-Full.len TextString Endless (take_rest c.args.bytes.now c.in-Full.len) c.in-Full.ensures (sym c.major_type-major.ensures ∙ c.in-TextString-major.is) c.in-Endless.is c.requires.within refl
-    (λ fits l p. s c.args.room l))
+    (λ left s. head_before (HasFlaw c.args.only_texts c.scan_long_text.new.found.flaw c.scan_long_text.new.found.is_string) c.args.room c.args.total (c.args.total - length c.args.bytes.now) c.args.bytes.now _ left c.in-Full.head c.in-Full.len TextString Endless (take_rest c.args.bytes.now c.in-Full.len) c.in-Full.ensures (sym c.major_type-major.ensures ∙ c.in-TextString-major.is) c.in-Endless.is c.requires.within refl
+    (λ fits l p. s c.args.only_texts c.args.room l))
     c.scan_long_text.ensures
 
 pub scan_node-returns-in-Array-major : goal.scan_node-returns-in-Array-major
 scan_node-returns-in-Array-major t c =
     under c.scan_endless_array.result
-    (λ left s. head_before (HasFlaw c.scan_endless_array.new.found.flaw c.scan_endless_array.new.found.is_string) c.args.room c.args.total (c.args.total - length c.args.bytes.now) c.args.bytes.now _ left c.in-Full.head c.in-Full.len Array Endless (take_rest c.args.bytes.now c.in-Full.len) c.in-Full.ensures (sym c.major_type-major.ensures ∙ c.in-Array-major.is) c.in-Endless.is c.requires.within refl
+    (λ left s. head_before (HasFlaw c.args.only_texts c.scan_endless_array.new.found.flaw c.scan_endless_array.new.found.is_string) c.args.room c.args.total (c.args.total - length c.args.bytes.now) c.args.bytes.now _ left c.in-Full.head c.in-Full.len Array Endless (take_rest c.args.bytes.now c.in-Full.len) c.in-Full.ensures (sym c.major_type-major.ensures ∙ c.in-Array-major.is) c.in-Endless.is c.requires.within refl
     (λ fits l p. s l))
     c.scan_endless_array.ensures
 
 pub scan_node-returns-in-Map-major : goal.scan_node-returns-in-Map-major
 scan_node-returns-in-Map-major t c =
     under c.scan_endless_map.result
-    (λ left s. head_before (HasFlaw c.scan_endless_map.new.found.flaw c.scan_endless_map.new.found.is_string) c.args.room c.args.total (c.args.total - length c.args.bytes.now) c.args.bytes.now _ left c.in-Full.head c.in-Full.len Map Endless (take_rest c.args.bytes.now c.in-Full.len) c.in-Full.ensures (sym c.major_type-major.ensures ∙ c.in-Map-major.is) c.in-Endless.is c.requires.within refl
+    (λ left s. head_before (HasFlaw c.args.only_texts c.scan_endless_map.new.found.flaw c.scan_endless_map.new.found.is_string) c.args.room c.args.total (c.args.total - length c.args.bytes.now) c.args.bytes.now _ left c.in-Full.head c.in-Full.len Map Endless (take_rest c.args.bytes.now c.in-Full.len) c.in-Full.ensures (sym c.major_type-major.ensures ∙ c.in-Map-major.is) c.in-Endless.is c.requires.within refl
     (λ fits l p. s l))
     c.scan_endless_map.ensures
 
@@ -106,16 +106,16 @@ pub scan_items-items-preserved-in-Some : goal.scan_items-items-preserved-in-Some
 scan_items-items-preserved-in-Some t c =
     let left : List ℕ = c.items.rest.now in
     let rest : List ℕ = take (length left - c.in-Some.len) (drop c.in-Some.len left) in
-    let x : Scanned c.args.room c.args.total left rest None false = subst (λ (y : List ℕ). Scanned c.args.room c.args.total left y None false) (sym (take_rest left c.in-Some.len)) (c.in-Some.ensures.integer c.args.room c.args.total c.items.invariant.2) in
-    let some : ScannedAll c.args.room c.args.total (c.items.count + 1) c.args.bytes.now rest c.items.first =
-    all_more c.args.room c.args.total c.items.count c.args.bytes.now left rest c.items.first None c.items.first false c.requires.within c.items.invariant.0 x (still c.items.first) in
+    let x : Scanned c.args.only_texts c.args.room c.args.total left rest None false = subst (λ (y : List ℕ). Scanned c.args.only_texts c.args.room c.args.total left y None false) (sym (take_rest left c.in-Some.len)) (c.in-Some.ensures.integer c.args.only_texts c.args.room c.args.total c.items.invariant.2) in
+    let some : ScannedAll c.args.only_texts c.args.room c.args.total (c.items.count + 1) c.args.bytes.now rest c.items.first =
+    all_more c.args.only_texts c.args.room c.args.total c.items.count c.args.bytes.now left rest c.items.first None c.items.first false c.requires.within c.items.invariant.0 x (still c.items.first) in
     let more : c.items.count ≢ c.args.most = c.is_done.ensures c.if-is_done.false in
     (some, omega (arith, c.items.invariant.1), nodes_left _ c.args.room c.args.total (c.items.count + 1) c.args.bytes.now rest c.requires.within some)
 
 pub scan_items-items-preserved : goal.scan_items-items-preserved
 scan_items-items-preserved t c =
-    let some : ScannedAll c.args.room c.args.total (c.items.count + 1) c.args.bytes.now c.in_ok-rest.rest.now c.earliest-first.result =
-    all_more c.args.room c.args.total c.items.count c.args.bytes.now c.items.rest.now c.in_ok-rest.rest.now c.items.first c.scan_item.new.found.flaw c.earliest-first.result _ c.requires.within c.items.invariant.0 c.in_ok-rest.ensures c.earliest-first.ensures in
+    let some : ScannedAll c.args.only_texts c.args.room c.args.total (c.items.count + 1) c.args.bytes.now c.in_ok-rest.rest.now c.earliest-first.result =
+    all_more c.args.only_texts c.args.room c.args.total c.items.count c.args.bytes.now c.items.rest.now c.in_ok-rest.rest.now c.items.first c.scan_item.new.found.flaw c.earliest-first.result _ c.requires.within c.items.invariant.0 c.in_ok-rest.ensures c.earliest-first.ensures in
     let more : c.items.count ≢ c.args.most = c.is_done.ensures c.if-is_done.false in
     (some, omega (arith, c.items.invariant.1), nodes_left _ c.args.room c.args.total (c.items.count + 1) c.args.bytes.now c.in_ok-rest.rest.now c.requires.within some)
 
@@ -123,37 +123,37 @@ pub scan_fixed_array-returns : goal.scan_fixed_array-returns
 scan_fixed_array-returns t c w h l = (
   c.in_ok-rest.rest.now,
   refl,
-  array_seen c.args.room c.args.total w c.args.n c.args.bytes.now c.in_ok-rest.rest.now c.in_ok-rest.flaw (omega arith) h l
-      (subst (λ (k : ℕ). ScannedAll (c.args.room - 1) c.args.total k c.args.bytes.now c.in_ok-rest.rest.now c.in_ok-rest.flaw) c.if-count-n.false c.in_ok-rest.ensures),
+  array_seen c.args.only_texts c.args.room c.args.total w c.args.n c.args.bytes.now c.in_ok-rest.rest.now c.in_ok-rest.flaw (omega arith) h l
+      (subst (λ (k : ℕ). ScannedAll c.args.only_texts (c.args.room - 1) c.args.total k c.args.bytes.now c.in_ok-rest.rest.now c.in_ok-rest.flaw) c.if-count-n.false c.in_ok-rest.ensures),
 )
 
 pub scan_endless_array-returns : goal.scan_endless_array-returns
 scan_endless_array-returns t c l =
-    (c.in_ok-after.after.now, refl, endless_array_seen c.args.room c.args.total _ c.args.bytes.now c.in_ok-rest.rest.now c.in_ok-after.after.now c.in_ok-rest.flaw (omega arith) c.in_ok-after.ensures l c.in_ok-rest.ensures)
+    (c.in_ok-after.after.now, refl, endless_array_seen c.args.only_texts c.args.room c.args.total _ c.args.bytes.now c.in_ok-rest.rest.now c.in_ok-after.after.now c.in_ok-rest.flaw (omega arith) c.in_ok-after.ensures l c.in_ok-rest.ensures)
 
-pub scan_bignum-returns-then-found : goal.scan_bignum-returns-then-found
-scan_bignum-returns-then-found t c w n d h l p =
+pub scan_bignum-returns-then-is_sound : goal.scan_bignum-returns-then-is_sound
+scan_bignum-returns-then-is_sound t c w n d h l p =
     let s = c.in_ok-left.ensures in
-    (s.0, s.1, bignum_seen c.args.room c.args.total c.args.place w n c.args.bytes.now s.0 c.scan_node.new.found.flaw c.scan_node.new.found.is_string (omega arith) h l s.2 c.if-found.true)
+    (s.0, s.1, bignum_seen c.args.only_texts c.args.room c.args.total c.args.place w n c.args.bytes.now s.0 c.scan_node.new.found.flaw c.scan_node.new.found.is_string (omega arith) h l s.2 c.if-is_sound.ensures)
 
 pub scan_bignum-returns : goal.scan_bignum-returns
 scan_bignum-returns t c w n d h l p =
     let s = c.in_ok-left.ensures in
-    (s.0, s.1, bad_bignum_seen c.args.room c.args.total c.args.place w n c.args.bytes.now s.0 c.scan_node.new.found.flaw c.scan_node.new.found.is_string c.earliest-flaw.result (omega arith) h l p s.2 d c.if-found.false c.earliest-flaw.ensures)
+    (s.0, s.1, bad_bignum_seen c.args.only_texts c.args.room c.args.total c.args.place w n c.args.bytes.now s.0 c.scan_node.new.found.flaw c.scan_node.new.found.is_string c.earliest-flaw.result (omega arith) h l p s.2 d c.if-is_sound.ensures c.earliest-flaw.ensures)
 
 pub scan_tagged-returns : goal.scan_tagged-returns
 scan_tagged-returns t c w n a b h l =
     let s = c.in_ok-left.ensures in
-    (s.0, s.1, tagged_seen c.args.room c.args.total 0 w n c.args.bytes.now s.0 c.scan_node.new.found.flaw c.scan_node.new.found.is_string (omega arith) h l s.2 a b)
+    (s.0, s.1, tagged_seen c.args.only_texts c.args.room c.args.total 0 w n c.args.bytes.now s.0 c.scan_node.new.found.flaw c.scan_node.new.found.is_string (omega arith) h l s.2 a b)
 
 pub scan_fixed_map-returns : goal.scan_fixed_map-returns
 scan_fixed_map-returns t c w h l =
     let found = c.scan_pairs.new.found in (
       c.in_ok-rest.rest.now,
       refl,
-      subst (λ (b : Bool). Scanned c.args.room c.args.total (head Map (heads.Given w c.args.n) ++ c.args.bytes.now) c.in_ok-rest.rest.now found.flaw b) (sym c.in_ok-rest.ensures.1)
-          (map_seen c.args.room c.args.total w c.args.n c.args.bytes.now c.in_ok-rest.rest.now found.flaw (omega arith) h l
-          (subst (λ (k : ℕ). MapSeen (c.args.room - 1) c.args.total k c.args.bytes.now c.in_ok-rest.rest.now found.flaw) c.if-count-n.false c.in_ok-rest.ensures.0)),
+      subst (λ (b : Bool). Scanned c.args.only_texts c.args.room c.args.total (head Map (heads.Given w c.args.n) ++ c.args.bytes.now) c.in_ok-rest.rest.now found.flaw b) (sym c.in_ok-rest.ensures.1)
+          (map_seen c.args.only_texts c.args.room c.args.total w c.args.n c.args.bytes.now c.in_ok-rest.rest.now found.flaw (omega arith) h l
+          (subst (λ (k : ℕ). MapSeen c.args.only_texts (c.args.room - 1) c.args.total k c.args.bytes.now c.in_ok-rest.rest.now found.flaw) c.if-count-n.false c.in_ok-rest.ensures.0)),
     )
 
 pub scan_endless_map-returns : goal.scan_endless_map-returns
@@ -161,14 +161,14 @@ scan_endless_map-returns t c l =
     let found = c.scan_pairs.new.found in (
       c.in_ok-after.after.now,
       refl,
-      subst (λ (b : Bool). Scanned c.args.room c.args.total (head Map Unbounded ++ c.args.bytes.now) c.in_ok-after.after.now found.flaw b) (sym c.in_ok-rest.ensures.1)
-          (endless_map_seen c.args.room c.args.total _ c.args.bytes.now c.in_ok-rest.rest.now c.in_ok-after.after.now found.flaw (omega arith) c.in_ok-after.ensures l c.in_ok-rest.ensures.0),
+      subst (λ (b : Bool). Scanned c.args.only_texts c.args.room c.args.total (head Map Unbounded ++ c.args.bytes.now) c.in_ok-after.after.now found.flaw b) (sym c.in_ok-rest.ensures.1)
+          (endless_map_seen c.args.only_texts c.args.room c.args.total _ c.args.bytes.now c.in_ok-rest.rest.now c.in_ok-after.after.now found.flaw (omega arith) c.in_ok-after.ensures l c.in_ok-rest.ensures.0),
     )
 
 pub scan_pairs-pairs-init : goal.scan_pairs-pairs-init
 scan_pairs-pairs-init t c =
     let e = c.in_ok-map.ensures in
-    ([], subst (λ (o : Option Told). PairsSeen c.args.room c.args.total 0 c.args.bytes.now c.args.bytes.now o []) (sym e.1) (pairs_none c.args.room c.args.total c.args.bytes.now), e.0, omega arith, c.requires.within)
+    ([], subst (λ (o : Option Told). PairsSeen c.args.only_texts c.args.room c.args.total 0 c.args.bytes.now c.args.bytes.now o []) (sym e.1) (pairs_none c.args.only_texts c.args.room c.args.total c.args.bytes.now), e.0, omega arith, c.requires.within)
 
 pub scan_pairs-pairs-preserved : goal.scan_pairs-pairs-preserved
 scan_pairs-pairs-preserved t c =
@@ -180,18 +180,18 @@ scan_pairs-pairs-preserved t c =
     let val = c.scan_item-in-pairs.new.found in
     let old : ScannedMap = c.deref_mut.result.now in
     let new : ScannedMap = c.note.new.self in
-    let k : Scanned c.args.room c.args.total mid half key.flaw key.is_string = c.in_ok-middle.ensures in
-    let v : Scanned c.args.room c.args.total half rest val.flaw val.is_string = c.in_ok-rest.ensures in
-    let so_far : PairsSeen c.args.room c.args.total c.pairs.count c.args.bytes.now mid old.first i.0 = subst (λ (m : ScannedMap). PairsSeen c.args.room c.args.total c.pairs.count c.args.bytes.now mid m.first i.0) (sym c.deref_mut.ensures.value) i.1 in
+    let k : Scanned c.args.only_texts c.args.room c.args.total mid half key.flaw key.is_string = c.in_ok-middle.ensures in
+    let v : Scanned c.args.only_texts c.args.room c.args.total half rest val.flaw val.is_string = c.in_ok-rest.ensures in
+    let so_far : PairsSeen c.args.only_texts c.args.room c.args.total c.pairs.count c.args.bytes.now mid old.first i.0 = subst (λ (m : ScannedMap). PairsSeen c.args.only_texts c.args.room c.args.total c.pairs.count c.args.bytes.now mid m.first i.0) (sym c.deref_mut.ensures.value) i.1 in
     let marked : AreMarked i.0 old.keys = subst (λ (m : ScannedMap). AreMarked i.0 m.keys) (sym c.deref_mut.ensures.value) i.2 in
     let taken = c.in_ok-take_key.ensures.0 c.args.room key.is_string k i.0 c.pairs.count marked in
     let first : IsEarliestTold c.take_key.new.self.first val.flaw new.first = subst (λ (m : ScannedMap). IsEarliestTold m.first val.flaw new.first) c.deref_mut-in-pairs.ensures.value c.note.ensures.first in
     let kept : AreMarked taken.0 new.keys = subst (AreMarked taken.0) (sym c.note.ensures.keys) (subst (λ (m : ScannedMap). AreMarked taken.0 m.keys) (sym c.deref_mut-in-pairs.ensures.value) taken.1) in
     let more : c.pairs.count ≢ c.args.most = c.is_done.ensures c.if-is_done.false in
-    let between : length half ≤ c.args.total = node_left (HasFlaw key.flaw key.is_string) c.args.room c.args.total mid half i.4 k in
-    let least : length rest ≤ c.args.total = node_left (HasFlaw val.flaw val.is_string) c.args.room c.args.total half rest between v in (
+    let between : length half ≤ c.args.total = node_left (HasFlaw c.args.only_texts key.flaw key.is_string) c.args.room c.args.total mid half i.4 k in
+    let least : length rest ≤ c.args.total = node_left (HasFlaw c.args.only_texts val.flaw val.is_string) c.args.room c.args.total half rest between v in (
       taken.0,
-      pairs_more c.args.room c.args.total c.pairs.count c.args.bytes.now mid half rest old.first key.flaw val.flaw c.take_key.new.self.first new.first key.is_string val.is_string i.0 taken.0 c.requires.within so_far k v c.in_ok-take_key.ensures.1 first taken.2,
+      pairs_more c.args.only_texts c.args.room c.args.total c.pairs.count c.args.bytes.now mid half rest old.first key.flaw val.flaw c.take_key.new.self.first new.first key.is_string val.is_string i.0 taken.0 c.requires.within so_far k v c.in_ok-take_key.ensures.1 first taken.2,
       kept,
       omega (arith, i.3),
       least,
@@ -201,7 +201,7 @@ pub scan_pairs-returns : goal.scan_pairs-returns
 scan_pairs-returns t c =
     let i = c.pairs.invariant in
     let map : ScannedMap = c.deref_mut-2.result.now in
-    let so_far : PairsSeen c.args.room c.args.total c.pairs.count c.args.bytes.now c.pairs.rest.now map.first i.0 = subst (λ (m : ScannedMap). PairsSeen c.args.room c.args.total c.pairs.count c.args.bytes.now c.pairs.rest.now m.first i.0) (sym c.deref_mut-2.ensures.value) i.1 in
+    let so_far : PairsSeen c.args.only_texts c.args.room c.args.total c.pairs.count c.args.bytes.now c.pairs.rest.now map.first i.0 = subst (λ (m : ScannedMap). PairsSeen c.args.only_texts c.args.room c.args.total c.pairs.count c.args.bytes.now c.pairs.rest.now m.first i.0) (sym c.deref_mut-2.ensures.value) i.1 in
     let marked : AreMarked i.0 map.keys = subst (λ (m : ScannedMap). AreMarked i.0 m.keys) (sym c.deref_mut-2.ensures.value) i.2 in
     let e = c.in_ok-conclude.ensures in
-    (map_of c.args.room c.args.total c.pairs.count c.args.bytes.now c.pairs.rest.now map.first e.0.0 c.conclude.new.found.flaw i.0 so_far (λ ns s. e.0.1 ns i.0 marked s) e.0.2, e.1)
+    (map_of c.args.only_texts c.args.room c.args.total c.pairs.count c.args.bytes.now c.pairs.rest.now map.first e.0.0 c.conclude.new.found.flaw i.0 so_far (λ ns s. e.0.1 ns i.0 marked s) e.0.2, e.1)

@@ -26,7 +26,7 @@ decreases-scan_bignum l = 8 * l.room + 0
 
 -- the items so far
 abbrev pub invariant-scan_items-items : goal.invariant-scan_items-items
-invariant-scan_items-items l = ScannedAll l.room l.total l.count l.bytes l.rest l.first × (l.count ≤ l.most) × (length l.rest ≤ l.total)
+invariant-scan_items-items l = ScannedAll l.only_texts l.room l.total l.count l.bytes l.rest l.first × (l.count ≤ l.most) × (length l.rest ≤ l.total)
 
 abbrev pub decreases-scan_fixed_map : goal.decreases-scan_fixed_map
 decreases-scan_fixed_map l = 8 * l.room + 0
@@ -39,4 +39,4 @@ decreases-scan_pairs l = 8 * l.room + 3
 
 -- the pairs so far, and their keys
 abbrev pub invariant-scan_pairs-pairs : goal.invariant-scan_pairs-pairs
-invariant-scan_pairs-pairs l = (ks : List SeenKey) × PairsSeen l.room l.total l.count l.bytes l.rest l.map.value.first ks × AreMarked ks l.map.value.keys × (l.count ≤ l.most) × (length l.rest ≤ l.total)
+invariant-scan_pairs-pairs l = (ks : List SeenKey) × PairsSeen l.only_texts l.room l.total l.count l.bytes l.rest l.map.value.first ks × AreMarked ks l.map.value.keys × (l.count ≤ l.most) × (length l.rest ≤ l.total)

@@ -1,4 +1,4 @@
-use Rattle.std.proofs.Common.{◌≡◌, ◌+◌, ℕ, length, rules, arith, subst}
+use Rattle.std.proofs.Common.{◌≡◌, ◌+◌, ℕ, length, rules, arith, subst, false}
 use Rattle.cborn_search.specs.Flawed.{HasFlaw, Scanned}
 use Rattle.cborn_search.specs.Searching.{IsFirstFlawOf}
 use Rattle.cborn_search.proofs.Nodes.{node_left}
@@ -12,10 +12,10 @@ pub items-preserved : goal.items-preserved
 items-preserved c =
     let i = c.items.invariant in
     let total : ℕ = length c.args.bytes.now in
-    let x : Scanned c.get-room.result total c.items.rest.now c.in-Some.behind.now c.scan_item.new.found.flaw c.scan_item.new.found.is_string = c.in-Some.ensures in (
+    let x : Scanned false c.get-room.result total c.items.rest.now c.in-Some.behind.now c.scan_item.new.found.flaw c.scan_item.new.found.is_string = c.in-Some.ensures in (
       i.0 + 1,
       judged_more c.get-room.result total i.0 c.args.bytes.now c.items.rest.now c.in-Some.behind.now c.items.first c.scan_item.new.found.flaw c.or-first.result c.scan_item.new.found.is_string (omega arith) i.1 x c.or-first.ensures,
-      node_left (HasFlaw c.scan_item.new.found.flaw c.scan_item.new.found.is_string) c.get-room.result total c.items.rest.now c.in-Some.behind.now i.2 x,
+      node_left (HasFlaw false c.scan_item.new.found.flaw c.scan_item.new.found.is_string) c.get-room.result total c.items.rest.now c.in-Some.behind.now i.2 x,
     )
 
 pub returns-in-Some-first : goal.returns-in-Some-first
