@@ -6,6 +6,7 @@ use cborn_engine::{
 use cborn_model::{Bytewise, Limit};
 use cborn_wire::{WireFault, WireReason, spell_all};
 use std::alloc::{AllocError, Global};
+use std::process::Abort;
 use std::test::Fail;
 
 /// It normalises to 82014161.
@@ -139,33 +140,37 @@ fn inputs_by_pieces(rt: HostRuntime) -> Result<(), Fail> {
     Ok(())
 }
 
+/// Loading what the reader gives, of at most `most` bytes, is refused for this.
+fn is_refused(rt: &impl Abort, alloc: Global, most: u64, bytes: Bytes<'_>, want: EngineFault) {
+    assert!(rt; most < 10000);
+    let mut bytes = bytes;
+    let result = load_within(alloc, Limit::USUAL, most, Kind::Wire, &mut bytes);
+    assert_eq!(rt; result.err(), Some(want));
+}
+
 /// Catches a fault that is told before a failed read or a byte too many that come behind it, and
 /// one that is told in their place.
 #[test]
 fn troubles_behind_faults(rt: HostRuntime) -> Result<(), Fail> {
     let reason = WireReason::ReservedInfo;
     let fault = EngineFault::Wire(WireFault::Refused { place: 1, reason });
-    for length in [2, 6, 5000] {
-        let mut input = Vec::new(rt.alloc());
+    for (length, step, calls) in [
+        (2, 1, 2),
+        (2, 4096, 1),
+        (6, 3, 2),
+        (5000, 3, 1667),
+        (5000, 4096, 2),
+    ] {
+        let mut input = Vec::from_slice(rt.alloc(), b"\x00\x1c")?;
         input.resize(length, 0)?;
-        input[1] = 0x1c;
-        for step in [1, 3, 4096] {
-            let calls = (length as u64).div_ceil(step as u64);
-            let mut failing = Bytes::failing(&input, step, calls);
-            let most = length as u64;
-            for (most, bytes, want) in [
-                (most, &mut failing, EngineFault::ReadFault),
-                (
-                    most - 1,
-                    &mut Bytes::new(&input, step),
-                    EngineFault::TooLong,
-                ),
-                (most, &mut Bytes::new(&input, step), fault),
-            ] {
-                let result = load_within(rt.alloc(), Limit::USUAL, most, Kind::Wire, bytes);
-                assert_eq!(rt; result.err(), Some(want), "{length} by {step}");
-            }
-        }
+        let most = length as u64;
+        let failing = Bytes::failing(&input, step, calls);
+        is_refused(&rt, rt.alloc(), most, failing, EngineFault::ReadFault);
+        let bytes = Bytes::new(&input, step);
+        let shorter = most.saturating_sub(1);
+        is_refused(&rt, rt.alloc(), shorter, bytes, EngineFault::TooLong);
+        let bytes = Bytes::new(&input, step);
+        is_refused(&rt, rt.alloc(), most, bytes, fault);
     }
     Ok(())
 }
