@@ -38,7 +38,7 @@ help:
 	@echo 'make bench-peers    the program beside its peers, whose drivers it builds (Debian packages; it says which): some ten minutes'
 	@echo 'make bench-growth   time and memory from 1 MB to 1 GB, beside two peers: some 20 minutes, 5 GB of disk'
 	@echo 'make pictures   draw the tables of docs/PERFORMANCE.md under docs/pictures (Debian: python3-matplotlib, graphviz)'
-	@echo 'make bench-cost     what hostile bytes cost: memory beside input and output, and time at two sizes'
+	@echo 'make bench-cost     what hostile bytes and texts cost: memory beside input and output, and time at two sizes'
 	@echo 'make install    prove and build program and library, and put them under PREFIX (PREFIX is $(PREFIX)): bin/cborn,'
 	@echo '                its man page, its completions for bash, zsh and fish, include/cborn.h, libcborn.a, libcborn.so and'
 	@echo '                cborn.pc; make build proves no library'

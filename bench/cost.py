@@ -1,14 +1,15 @@
 #!/usr/bin/env python3
-"""What hostile bytes cost: peak memory over input and output, and time at two sizes.
+"""What hostile bytes and texts cost: peak memory over input and output, and time at two sizes.
 
     cost.py PROGRAM [--mb N] [--most RATIO] [--only WORDS] [--cpu] [--memory]
 
-Each shape is made at a quarter and at the whole of N MB (16). For each command: the peak memory, less 3 MB that the
+Each shape, of bytes and of texts, is made at a quarter and at the whole of N MB (16). For each command: the peak memory, less 3 MB that the
 process itself has, as a multiple of input and output together; MB of input a second; and the status. Ends with status 1
 where a multiple is above RATIO (2.5; 6 for one great map of tiny pairs, whose keys have to be sorted), where time grows by
 more than 1.6 times as much as the input, or where a run was ended. With --memory no time is judged.
 """
 import argparse
+import os
 import pathlib
 import sys
 import tempfile
@@ -21,11 +22,19 @@ OWN = 3_000_000
 GREAT_MAPS = ("map of integers", "map, repeated key last")
 # what is known to take more than RATIO
 MORE = {(name, command): 6 for name in GREAT_MAPS for command in ("normalise", "check", "show", "to notation")}
+# the bytes that are spelled are twice the text, and the deterministic ones a quarter of it
+MORE.update({("text, wide heads", command): 4.5 for command in ("normalise", "profile 2", "compare")})
 COMMANDS = {
     "normalise": ["normalise"],
     "check": ["check"],
     "show": ["show"],
     "to notation": ["normalise", "--to", "notation"],
+}
+TEXT_COMMANDS = {
+    "normalise": ["normalise", "--from", "notation"],
+    "profile 2": ["normalise", "--from", "notation-2"],
+    "show": ["show", "--from", "notation"],
+    "compare": ["compare", "--from-a", "notation", "/dev/stdin", os.devnull],
 }
 
 
@@ -49,6 +58,21 @@ def shapes(n):
         "chunked bignum last": head(4, n) + b"\x01" * (n - 1) + b"\xc2\x5f\x41\x01\xff",
         "text in chunks, bad one last": b"\x7f" + b"\x61a" * (n // 2) + b"\x61\xff\xff",
         "nest, repeated key last": (b"\x81" * 100 + b"\xa2\x00\x00\x01\x00") * (n // 105) + b"\x81" * 100 + b"\xa2\x00\x00\x00\x00",
+    }
+
+
+def texts(n):
+    """Texts of about n bytes, each by its name. All but the last are refused at their end."""
+    row = b"[" + b"1," * (n // 2)
+    return {
+        "text, float last": row + b"2.5]",
+        "text, end missing": row + b"1",
+        "text, narrow width last": row + b"300_0]",
+        "text, indicator last": row + b'"a"_0 "b"_]',
+        "text, mixed chunks last": row + b"(_ 'a', \"b\")]",
+        "text of maps, float last": b"[" + b"{1:1}," * (n // 6) + b"1e1]",
+        "embedded items, float last": b"<<" + b"1," * (n // 2) + b"2.5>>",
+        "text, wide heads": b"[" + b"1_3," * (n // 4) + b"1]",
     }
 
 
@@ -90,18 +114,19 @@ def main():
     bad = []
     with tempfile.TemporaryDirectory() as folder:
         source, sink = pathlib.Path(folder, "in"), pathlib.Path(folder, "out")
-        small, great = shapes(int(given.mb * MB / 4)), shapes(int(given.mb * MB))
-        for name in (name for name in great if given.only in name):
-            cells = []
-            for command, call in COMMANDS.items():
-                runs = []
-                for data in (small[name], great[name]):
-                    source.write_bytes(data)
-                    runs.append((measuring.once([program, *call], source, sink), len(data)))
-                run, size = runs[1]
-                cells.append(f"{command} {cost(run, size):5.1f}x {size / MB / run.seconds(given.cpu):6.1f} MB/s s{run.status}")
-                bad += excess(name, command, *runs, given)
-            print(f"{name:24}| " + " | ".join(cells), flush=True)
+        for inputs, commands in ((shapes, COMMANDS), (texts, TEXT_COMMANDS)):
+            small, great = inputs(int(given.mb * MB / 4)), inputs(int(given.mb * MB))
+            for name in (name for name in great if given.only in name):
+                cells = []
+                for command, call in commands.items():
+                    runs = []
+                    for data in (small[name], great[name]):
+                        source.write_bytes(data)
+                        runs.append((measuring.once([program, *call], source, sink), len(data)))
+                    run, size = runs[1]
+                    cells.append(f"{command} {cost(run, size):5.1f}x {size / MB / run.seconds(given.cpu):6.1f} MB/s s{run.status}")
+                    bad += excess(name, command, *runs, given)
+                print(f"{name:28}| " + " | ".join(cells), flush=True)
     print("\n".join([f"{len(bad)} too much", *bad]) if bad else "all within")
     sys.exit(1 if bad else 0)
 

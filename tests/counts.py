@@ -7,8 +7,8 @@ Each command has bounds for each shape of input: for requests, which no tree kee
 for what is held at one time, as a multiple of input and output together, which no reservation by a declared count keeps
 either. refuse.c, which is compiled by $CC or cc, counts.
 
-Shapes that are known to ask for more have bounds of their own, by name. Left out, since they cost far more: texts that
-are refused for what they mean, which are read into trees.
+Shapes that are known to ask for more have bounds of their own, by name. Left out, since they cost far more: texts with
+a validity error, such as a key that is repeated, which are read into trees.
 """
 import collections
 import os
@@ -48,7 +48,29 @@ IN_PLACE = {("map of strings, keys that fall", "normalise"): 1.4}
 MOST_TO_READ = 2.5
 DETERMINISTIC = ("sequence of integers", "array of integers", "texts", "one text", "tags", "nests", "bignums", "map")
 # two lists for each map whose keys fall, and of both inputs where they are compared
-REQUESTS = {"maps of two pairs": 810_000}
+REQUESTS = {
+    "maps of two pairs": 810_000,
+    # the items of each `<<..>>` and their bytes
+    "last number of embedded items is too wide for its head": 300_000,
+}
+
+# what a text is refused for only at its end, behind an array of integers
+REFUSED_ENDS = {
+    "last token is a float": b"2.5]",
+    "last bracket is missing": b"1",
+    "last bracket is another": b"1}",
+    "last number is too wide for its head": b"300_0]",
+    "last number has an indicator of length": b"1_]",
+    "last tag is too large": b"18446744073709551616(1)]",
+    "last string is too wide for its head": b'"' + b"a" * 300 + b'"_0]',
+    "last string has an indicator inside": b'"a"_0 "b"]',
+    "last string mixes kinds": b"'a' \"b\"]",
+    "last chunks mix kinds": b"(_ 'a', \"b\")]",
+    "last text isn't UTF-8": b"\"\" h'ff']",
+    "last simple value is none": b"simple(24)]",
+    "last array is too wide for its head": b"[_0 " + b"1, " * 255 + b"1]]",
+    "last map is too wide for its head": b"{_0 " + b"".join(b"%d: 0, " % i for i in range(255)) + b"255: 0}]",
+}
 
 Counts = collections.namedtuple("Counts", "requests asked held greatest")
 FROM_BYTES = ("normalise", "normalise --to notation", "show", "show --to wire", "check", "compare")
@@ -106,6 +128,8 @@ def in_text(n):
         "tags in an array": b"[" + b", ".join([b"1(0)"] * (n // 6)) + b"]",
         "map": b"{" + b", ".join(b"%d: 0" % (65536 + i) for i in range(n // 11)) + b"}",
         "comments": b"1" + b" /c/" * (n // 4),
+        **{name: b"[" + b"1, " * (n // 3) + end for name, end in REFUSED_ENDS.items()},
+        "last number of embedded items is too wide for its head": b"<<1>>, " * (n // 7) + b"<<300_0>>",
     }
 
 

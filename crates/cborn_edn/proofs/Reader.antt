@@ -13,3 +13,5 @@ pub mod Underway
 pub mod Innermost
 pub mod Snocs
 pub mod Bignums
+pub mod Leaner
+pub mod Wanting

@@ -6,5 +6,6 @@ pub mod Between
 pub mod Escaping
 pub mod Levels
 pub mod Ready
+pub mod Lean
 pub mod Texts
 pub mod Shapes

@@ -1,7 +1,7 @@
 //! What is open around a place in the text.
 
 use crate::contents::{Chunks, Fields, Row, Sequence};
-use crate::lists::discard;
+use crate::lists::{discard, forget};
 use crate::strings::Pieces;
 use cborn_lex::{Class, Mark};
 use cborn_model::{Node, Width, push_doubling};
@@ -50,8 +50,9 @@ pub(crate) enum Bracket {
 }
 
 impl Bracket {
-    ghost use Rattle.std.specs.Prelude.{◌≡◌, IfOk, Some, None, if◌then◌else◌};
+    ghost use Rattle.std.specs.Prelude.{◌≡◌, IfOk, Some, None, false, if◌then◌else◌};
     ghost use Rattle.cborn_edn.specs.declared.brackets.Bracket.TheVariants.{Tagged};
+    ghost use Rattle.cborn_edn.specs.devices.Lean.{embeds, lean_bracket};
     ghost use Rattle.cborn_edn.specs.devices.Levels.{is_level, has_items, has_pairs};
     ghost use Rattle.cborn_edn.specs.devices.Draft as pure;
     ghost use Rattle.cborn_edn.specs.devices.Ready.{MaySpell, HasRoom};
@@ -63,6 +64,7 @@ impl Bracket {
         requires room { HasRoom self.old }
         ensures settled { IfOk result (λ b. pure.settled self.old item ≡ (if b then Some self.new else None)) }
         ensures level { is_level self.new ≡ is_level self.old }
+        ensures embeds { embeds self.new ≡ embeds self.old }
     {
         match self {
             Bracket::Top(items) => items.add(item)?,
@@ -97,6 +99,7 @@ impl Bracket {
     fn key(&mut self, item: Option<Node>) -> bool
         ensures keyed { pure.keyed self.old item ≡ (if result then Some self.new else None) }
         ensures level { is_level self.new ≡ is_level self.old }
+        ensures embeds { embeds self.new ≡ embeds self.old }
     {
         match self.take() {
             Bracket::Key {
@@ -145,6 +148,35 @@ impl Bracket {
         }
     }
 
+    /// Whether it is `<<`.
+    fn embeds(&self) -> bool
+        ensures { result ≡ embeds self.now }
+    {
+        match self {
+            Bracket::Embedded { .. } => true,
+            _ => false,
+        }
+    }
+
+    /// Drops the nodes that stand in it, unless it is `<<`.
+    pub(crate) fn trim(&mut self)
+        ensures trimmed { self.new ≡ lean_bracket false self.old }
+        ensures level { is_level self.new ≡ is_level self.old }
+        ensures embeds { embeds self.new ≡ embeds self.old }
+    {
+        match self {
+            Bracket::Top(items) => forget(&mut items.items),
+            Bracket::Array { row, .. } => forget(&mut row.nodes),
+            Bracket::Chunked { chunks, .. } => forget(&mut chunks.chunks),
+            Bracket::Key { fields, .. } => forget(&mut fields.pairs),
+            Bracket::Value { fields, key, .. } => {
+                forget(&mut fields.pairs);
+                forget(key);
+            }
+            Bracket::Embedded { .. } | Bracket::Tagged { .. } => {}
+        }
+    }
+
     /// Whether items of a row stand in it.
     fn has_items(&self) -> bool
         ensures { result ≡ has_items self.now }
@@ -173,6 +205,8 @@ impl Bracket {
 pub(crate) struct Brackets {
     brackets: Vec<Bracket>,
     levels: u64,
+    /// How many of them are `<<`.
+    embedded: u64,
 }
 
 impl Model for Brackets {
@@ -188,15 +222,17 @@ impl Model for Brackets {
 
     ghost use Rattle.std.specs.Prelude.{◌≡◌};
     ghost use mathlib.Core.List as lists;
+    ghost use Rattle.cborn_edn.specs.devices.Lean.{embedded_in};
     ghost use Rattle.cborn_edn.specs.devices.Levels.{levels_in};
 
     ghost view = { λ f. lists.reverse f.brackets.items };
 
-    ghost invariant = { λ f. f.levels ≡ levels_in (lists.reverse f.brackets.items) };
+    ghost invariant = { λ f. (f.levels ≡ levels_in (lists.reverse f.brackets.items)) × (f.embedded ≡ embedded_in (lists.reverse f.brackets.items)) };
 }
 
 impl Brackets {
-    ghost use Rattle.std.specs.Prelude.{◌≡◌, ◌<◌, ◌^◌, [], ◌∷◌, OnOk, IfOk, Some, None, MatchOption, if◌then◌else◌};
+    ghost use Rattle.std.specs.Prelude.{◌≡◌, ◌<◌, ◌^◌, [], ◌∷◌, OnOk, IfOk, Some, None, MatchOption, false, if◌then◌else◌};
+    ghost use Rattle.cborn_edn.specs.devices.Lean.{is_embedding, trim_brackets};
     ghost use Rattle.cborn_edn.specs.devices.Levels.{levels_in, filled};
     ghost use Rattle.cborn_edn.specs.devices.Draft as pure;
     ghost use Rattle.cborn_edn.specs.devices.Ready.{MaySpell, HaveRoom};
@@ -208,6 +244,7 @@ impl Brackets {
         Brackets {
             brackets: Vec::new(alloc),
             levels: 0,
+            embedded: 0,
         }
     }
 
@@ -226,9 +263,13 @@ impl Brackets {
         ensures { OnOk result (self.new ≡ bracket ∷ self.old) }
     {
         let deeper = bracket.is_level();
+        let embeds = bracket.embeds();
         push_doubling(&mut self.brackets, bracket)?;
         if deeper {
             self.levels += 1;
+        }
+        if embeds {
+            self.embedded += 1;
         }
         Ok(())
     }
@@ -241,6 +282,9 @@ impl Brackets {
         let bracket = self.brackets.pop()?;
         if bracket.is_level() {
             self.levels -= 1;
+        }
+        if bracket.embeds() {
+            self.embedded -= 1;
         }
         Some(bracket)
     }
@@ -269,6 +313,26 @@ impl Brackets {
             return false;
         };
         bracket.key(item)
+    }
+
+    /// Whether what stands here becomes bytes of a string: some `<<` is open.
+    #[tactic(auto, using(crate::proofs::Reader::Innermost::embedding))]
+    pub(crate) fn is_embedding(&self) -> bool
+        ensures { result ≡ is_embedding self.now }
+    {
+        self.embedded > 0
+    }
+
+    /// Drops the nodes that stand in the innermost, where no `<<` is open.
+    #[tactic(auto, using(crate::proofs::Reader::Innermost::innermost))]
+    pub(crate) fn trim(&mut self)
+        requires { is_embedding self.old ≡ false }
+        ensures { self.new ≡ trim_brackets self.old }
+    {
+        let Some(bracket) = self.brackets.last_mut() else {
+            return;
+        };
+        bracket.trim();
     }
 
     /// Whether the innermost holds the chunks of a string.

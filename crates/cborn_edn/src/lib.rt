@@ -20,10 +20,12 @@
 //!   aside.
 //!
 //! [`recognise`] tells whether a text has a tree, with nothing kept of it; [`read_notation`] gives
-//! what a text notates, or why it notates nothing, and [`show`] gives the fixed notation. Start with `Notates` and follow the definitions that it names; [`laws`] has what
-//! is proved of them alone, above all that the fixed notation notates the nodes that it shows. In
-//! the code start with `readers` and `showing`: the reader takes one token at a time from the text
-//! (`states`), keeps in `brackets` what is open, and keeps no token.
+//! what a text notates, or why it notates nothing, and [`show`] gives the fixed notation. Start with
+//! `Notates` and follow the definitions that it names; [`laws`] has what is proved of them alone,
+//! above all that the fixed notation notates the nodes that it shows. In the code start with
+//! `readers` and `showing`: the reader takes one token at a time from the text (`states`), keeps in
+//! `brackets` what is open, and keeps no token. It reads for the first slip alone before it reads
+//! for nodes (`wanted`).
 #![tactic(auto)]
 
 mod brackets;
@@ -42,6 +44,7 @@ mod slips;
 mod states;
 mod strings;
 mod texts;
+mod wanted;
 mod writing;
 
 pub use faults::{EdnFault, EdnReason, ShowFault};

@@ -1,5 +1,7 @@
 //! Lists of what was read, as values.
 
+ghost use Rattle.std.specs.Prelude.{◌≡◌, None};
+
 use cborn_model::{Chunk, Node, Spelled, push_doubling};
 use std::alloc::{AllocError, Global};
 use std::marker::Model;
@@ -200,3 +202,13 @@ impl ChunkList {
 #[cold]
 #[inline(never)]
 pub(crate) fn discard<T: Drop>(_unwanted: T) {}
+
+/// Drops what stands there, if anything.
+#[inline]
+pub(crate) fn forget<T: Drop>(kept: &mut Option<T>)
+    ensures { kept.new ≡ None }
+{
+    if kept.is_some() {
+        discard(kept.take());
+    }
+}

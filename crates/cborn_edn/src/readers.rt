@@ -1,17 +1,17 @@
 //! Notation, read.
 
-ghost use Rattle.std.specs.Prelude.{◌≡◌, ◌≤◌, ◌⊎◌, ℕ, List, length, Option, Some, None, IfOk, IfErr};
+ghost use Rattle.std.specs.Prelude.{◌≡◌, ◌≤◌, Option, Some, None, IfOk, IfErr};
 ghost use Rattle.cborn_model.specs.Tree.{Trees, trees};
-ghost use Rattle.cborn_lex.specs.Lex.{Lex};
 ghost use Rattle.cborn_edn.specs.Notates.{Notates, IsNoNotation};
-ghost use Rattle.cborn_edn.specs.declared.slips.Slip.{Slip as FoundSlip};
-ghost use Rattle.cborn_edn.specs.devices.Draft.{IsFirstSlip, Done, draft_run, first_state, finished};
+ghost use Rattle.cborn_edn.specs.devices.Draft.{IsFirstSlip};
+ghost use Rattle.cborn_edn.specs.devices.Lean.{Parsed};
 ghost use Rattle.cborn_edn.specs.devices.Ready.{IsReady, IsTold, Steps};
 
-use crate::lists::SpelledList;
-use crate::recognisers::{first_fault, recognise, refused};
+use crate::lists::{SpelledList, discard};
+use crate::recognisers::{cut_short, first_fault, recognise, refused};
 use crate::slips::Slip;
 use crate::states::{State, finished};
+use crate::wanted::Wanted;
 use crate::{EdnFault, EdnReason};
 use cborn_lex::{Profile, Token, token_from};
 use cborn_model::{Limit, Spelled};
@@ -21,8 +21,8 @@ use std::alloc::{AllocError, Global};
 /// a node is the offset of its first token, in bytes from the start of the text; a chunk's is that
 /// of its first piece.
 ///
-/// A text without a tree is refused before a node is made, in the memory that `recognise` takes: a
-/// fault at the end of a long text would else be told only once all nodes before it stand.
+/// A text that notates no items is refused before its nodes are made: a fault at the end of a long
+/// text would else be told only once all nodes before it stand.
 ///
 /// # Errors
 /// A text without tokens is `Lex`. Else `Refused` tells the first token with which no text of the
@@ -37,12 +37,47 @@ pub fn read_notation(
     ensures notates { IfOk result (λ items. Notates profile limit text.now (trees items.items)) }
     ensures refused { IfErr result (IsNoNotation profile limit text.now) }
 {
-    recognise(alloc, limit, profile, text)?;
-    let state = parsed(alloc, limit, profile, text)?;
+    recognise_items(alloc, limit, profile, text)?;
+    let state = parsed(alloc, limit, profile, text, Wanted::Nodes)?;
     let ended = finished(alloc, state)?;
     match ended {
         Some(whole) => told(whole),
-        None => Err(refused(text.len() as u64, EdnReason::UnexpectedEnd)),
+        None => Err(cut_short(text)),
+    }
+}
+
+/// What `read_notation` answers of a text, without the items. Memory goes to one token, to a few
+/// words for each open bracket, to the pieces of one string, and to the nodes inside one outermost
+/// `<<..>>`.
+fn recognise_items(
+    alloc: Global,
+    limit: Limit,
+    profile: Profile,
+    text: &str,
+) -> Result<(), EdnFault>
+    ensures items { IfOk result (λ _. (nodes : Trees) × Notates profile limit text.now nodes) }
+    ensures refused { IfErr result (IsNoNotation profile limit text.now) }
+{
+    recognise(alloc, limit, profile, text)?;
+    let state = parsed(alloc, limit, profile, text, Wanted::Slips)?;
+    let ended = finished(alloc, state)?;
+    match ended {
+        Some((items, slip)) => {
+            discard(items);
+            refuse(slip)
+        }
+        None => Err(cut_short(text)),
+    }
+}
+
+/// Refuses a slip.
+fn refuse(slip: Option<Slip>) -> Result<(), EdnFault>
+    ensures none { IfOk result (λ _. slip ≡ None) }
+    ensures slip { IfErr result (λ fault. (items : Option Trees) → IsFirstSlip (items, slip) fault) }
+{
+    match slip {
+        Some(slip) => Err(refused(slip.place, slip.reason)),
+        None => Ok(()),
     }
 }
 
@@ -62,16 +97,22 @@ fn told(whole: (Option<SpelledList>, Option<Slip>)) -> Result<Vec<Spelled>, EdnF
     }
 }
 
-/// The state behind all tokens of the text.
-fn parsed(alloc: Global, limit: Limit, profile: Profile, text: &str) -> Result<State, EdnFault>
+/// The state behind all tokens of the text, with what is wanted of it.
+fn parsed(
+    alloc: Global,
+    limit: Limit,
+    profile: Profile,
+    text: &str,
+    wanted: Wanted,
+) -> Result<State, EdnFault>
     ensures ready { IfOk result IsReady }
-    ensures told { IfOk result (λ state. (items : Option Trees) (slip : Option FoundSlip) → finished state ≡ Some (items, slip) → IsTold (items, slip)) }
-    ensures parsed { IfOk result (λ state. (tokens : List Token) × Lex profile text.now tokens × (draft_run profile limit tokens first_state ≡ Done state)) }
+    ensures parsed { IfOk result (Parsed wanted profile limit text.now) }
     ensures refused { IfErr result (IsNoNotation profile limit text.now) }
 {
     let mut state = State::new(alloc)?;
     let mut at = 0;
     'tokens: loop {
+        state.keep_wanted(wanted);
         state.in_memory();
         let Some(token) = token_from(alloc, profile, text, at)? else {
             return Ok(state);

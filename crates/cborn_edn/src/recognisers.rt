@@ -12,6 +12,7 @@ ghost use Rattle.cborn_lex.specs.declared.faults.LexFault.{LexFault as LexStop};
 ghost use Rattle.cborn_edn.specs.Syntax.{Input};
 ghost use Rattle.cborn_edn.specs.Notates.{Parses, IsNoTree};
 ghost use Rattle.cborn_edn.specs.declared.faults.EdnFault.TheVariants.{Refused};
+ghost use Rattle.cborn_edn.specs.declared.faults.EdnReason.TheVariants.{UnexpectedEnd};
 ghost use Rattle.cborn_edn.specs.devices.Draft.{lexical};
 ghost use Rattle.cborn_edn.specs.devices.Shapes.{Takes};
 
@@ -40,7 +41,7 @@ pub fn recognise(alloc: Global, limit: Limit, profile: Profile, text: &str) -> R
             if shape.is_whole() {
                 return Ok(());
             }
-            return Err(refused(text.len() as u64, EdnReason::UnexpectedEnd));
+            return Err(cut_short(text));
         };
         let place = token.start;
         at = token.stop;
@@ -77,6 +78,13 @@ pub(crate) fn refused(place: u64, reason: EdnReason) -> EdnFault
     ensures { result ≡ Refused place reason }
 {
     EdnFault::Refused { place, reason }
+}
+
+/// The refusal of a text in which more must follow.
+pub(crate) fn cut_short(text: &str) -> EdnFault
+    ensures { result ≡ Refused (length text.now) UnexpectedEnd }
+{
+    refused(text.len() as u64, EdnReason::UnexpectedEnd)
 }
 
 /// A fault of the grammar, or the lexical fault that follows from `at` on, which comes first: all

@@ -13,7 +13,7 @@ use std::marker::Model;
 
 /// An open bracket, a byte each. A string in chunks is none, since no bracket but those of one chunk
 /// opens inside it: what stands right before the next token tells that it is open.
-#[derive(Clone, Copy, PartialEq, Eq, Debug)]
+#[derive(Clone, Copy)]
 pub(crate) enum Level {
     Array,
     /// `<<` in a string.
@@ -28,7 +28,7 @@ pub(crate) enum Level {
 }
 
 /// What stands right before the next token.
-#[derive(Clone, Copy, PartialEq, Eq, Debug)]
+#[derive(Clone, Copy)]
 pub(crate) enum Stand {
     /// An opening bracket, a colon, or nothing: an item is wanted.
     Wants,
@@ -49,7 +49,7 @@ pub(crate) enum Stand {
 }
 
 /// What a token makes of the open brackets, and what stands behind it.
-#[derive(Clone, Copy, PartialEq, Eq, Debug)]
+#[derive(Clone, Copy)]
 pub(crate) enum Change {
     /// They stay.
     Stay(Stand),

@@ -22,7 +22,7 @@ returns-then-is_whole-clause-tree c =
 pub returns-in_default-clause-refused : goal.returns-in_default-clause-refused
 returns-in_default-clause-refused c =
     let last = subst (IsNext c.args.profile c.args.text.now c.tokens.at) c.in_default.is c.in_ok-token.ensures.ok in
-    subst (IsNoTree c.args.profile c.args.limit c.args.text.now) (sym c.refused.ensures) (has_no_end c.args.profile c.args.limit c.args.text.now c.tokens.at c.tokens.shape c.tokens.invariant.0 last (sym c.is_whole.ensures ∙ c.if-is_whole.false))
+    subst (IsNoTree c.args.profile c.args.limit c.args.text.now) (sym c.cut_short.ensures) (has_no_end c.args.profile c.args.limit c.args.text.now c.tokens.at c.tokens.shape c.tokens.invariant.0 last (sym c.is_whole.ensures ∙ c.if-is_whole.false))
 
 pub first_fault-requires : goal.first_fault-requires
 first_fault-requires c =
@@ -35,7 +35,7 @@ returns-in-Some-refusal-clause-refused c =
     let t = c.in-Some.token in
     let next = subst (IsNext c.args.profile c.args.text.now c.tokens.at) c.in-Some.is c.in_ok-token.ensures.ok in
     let told = c.first_fault.ensures in
-    jams c.args.profile c.args.limit c.args.text.now c.tokens.at c.tokens.shape c.tokens.invariant.0 t c.take.new.shape c.in_ok-refusal.refusal c.in-Some-refusal.reason c.first_fault.result next c.in_ok-refusal.ensures c.in-Some-refusal.is (rw c.refused-in-Some-refusal.ensures at told)
+    jams c.args.profile c.args.limit c.args.text.now c.tokens.at c.tokens.shape c.tokens.invariant.0 t c.take.new.shape c.in_ok-refusal.refusal c.in-Some-refusal.reason c.first_fault.result next c.in_ok-refusal.ensures c.in-Some-refusal.is (rw c.refused.ensures at told)
 
 pub tokens-smaller : goal.tokens-smaller
 tokens-smaller c =

@@ -2,7 +2,7 @@ use Rattle.std.proofs.Common.{rules, ◌≡◌, sym, ap, ◌∙◌, ◌<◌, ◌
 use mathlib.Core.List.{reverse}
 use Rattle.std.specs.Vec.{vec_len}
 use Rattle.cborn_edn.specs.devices.Draft.{settled, settled_in}
-use Rattle.cborn_edn.proofs.Reader.Innermost.{last_is, levels_set, innermost_set, if_ok}
+use Rattle.cborn_edn.proofs.Reader.Innermost.{last_is, counts_set, innermost_set, if_ok}
 use Rattle.cborn_edn.proofs.brackets.Brackets.settle.Goals as goal
 
 pub invariant_of-self-2 : goal.invariant_of-self-2
@@ -11,7 +11,7 @@ invariant_of-self-2 c =
     let n = vec_len c.self.inside.brackets in
     let long : length fs ≡ n = sym c.self.inside.brackets.ok.0 in
     let some : 0 < n = search rules in
-    levels_set fs n c.in-Some.bracket.now c.settle.new.self c.self.inside.levels long some c.in-Some.ensures.value c.settle.ensures.level c.self.invariant
+    counts_set fs n c.in-Some.bracket.now c.settle.new.self c.self.inside.levels c.self.inside.embedded long some c.in-Some.ensures.value c.settle.ensures.level c.settle.ensures.embeds c.self.invariant
 
 pub returns : goal.returns
 returns c =
