@@ -1,4 +1,5 @@
 -- What loops know that read an input by pieces, or write an answer.
 pub mod Collecting
+pub mod Counted
 pub mod Feeding
 pub mod Written

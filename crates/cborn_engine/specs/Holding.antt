@@ -54,5 +54,4 @@ pub record IsFixedText (bytes text : List ℕ) : Type 0 where
 -- the canonical form of items under an order of keys: their deterministic encodings, one after another (RFC 8949 section 4.2), or the fixed notation of these
 abbrev pub Canon : (List ℕ → List ℕ → Ordering) → Kind → List Value → List ℕ → Type 0
 Canon order kind.Wire items w = DetSeq order items w
-Canon order kind.Notation items w = (x : List ℕ) × DetSeq order items x × IsFixedText x w
-Canon order kind.Notation2 items w = (x : List ℕ) × DetSeq order items x × IsFixedText x w
+Canon order _ items w = (x : List ℕ) × DetSeq order items x × IsFixedText x w

@@ -3,7 +3,6 @@ use Rattle.std.specs.Prelude.{◌≡◌, ℕ, ◌+◌, ◌≤◌, List, length, 
 use Rattle.std.specs.Str.{IsValidUpTo}
 use Rattle.std.specs.Io.KnownBytes.{IsAtEnd}
 use Rattle.cborn_model.specs.Tree.{Tree}
-use Rattle.cborn_wire.specs.declared.faults.WireFault.{WireFault}
 use Rattle.cborn_wire.specs.declared.faults.WireFault.TheVariants as wire
 use Rattle.cborn_wire.specs.Faults.{Fault}
 use Rattle.cborn_lex.specs.declared.classes.Profile.{Profile}
@@ -12,7 +11,6 @@ use Rattle.cborn_edn.specs.declared.faults.EdnFault.{EdnFault}
 use Rattle.cborn_edn.specs.declared.faults.EdnFault.TheVariants as edn
 use Rattle.cborn_edn.specs.Notates.{IsNoNotation}
 use Rattle.cborn_judge.specs.declared.faults.InvalidReason.{InvalidReason}
-use Rattle.cborn_judge.specs.declared.faults.Invalid.{Invalid}
 use Rattle.cborn_judge.specs.declared.faults.Invalid.TheVariants as invalid
 use Rattle.cborn_judge.specs.Flaws.{IsRefusalOfAll}
 use Rattle.cborn_engine.specs.declared.faults.EngineFault.{EngineFault}
@@ -21,25 +19,10 @@ use Rattle.cborn_engine.specs.declared.kinds.Kind.{Kind}
 use Rattle.cborn_engine.specs.declared.kinds.Kind.TheVariants as kind
 use Rattle.cborn_engine.specs.Holding.{SpellsInPlace}
 
--- the bytes are not well-formed, for this reason at this place
-abbrev pub IsWireFault : Kind → ℕ → List ℕ → WireFault → Type 0
-IsWireFault kind.Wire limit input (wire.Refused p r) = Fault limit input p r
-IsWireFault _ limit input why = ⊥
-
 -- the text notates nothing, for this reason
 abbrev pub IsNotationFault : Profile → ℕ → List ℕ → EdnFault → Type 0
 IsNotationFault p limit input edn.OutOfMemory = ⊥
 IsNotationFault p limit input why = IsUtf8 input × IsNoNotation p limit input why
-
-abbrev pub IsEdnFault : Kind → ℕ → List ℕ → EdnFault → Type 0
-IsEdnFault kind.Wire limit input why = ⊥
-IsEdnFault kind.Notation limit input why = IsNotationFault profile.One limit input why
-IsEdnFault kind.Notation2 limit input why = IsNotationFault profile.Two limit input why
-
--- the input should be a text, and isn't UTF-8; this is the length of its longest front that is
-abbrev pub IsTextInputFault : Kind → List ℕ → ℕ → Type 0
-IsTextInputFault kind.Wire input p = ⊥
-IsTextInputFault _ input p = (IsUtf8 input → ⊥) × IsValidUpTo input p
 
 -- the input spells nodes, and the first of them that means nothing has this first flaw
 pub record IsFlawed (k : Kind) (limit : ℕ) (input : List ℕ) (p : ℕ) (r : InvalidReason) : Type 0 where
@@ -47,31 +30,25 @@ pub record IsFlawed (k : Kind) (limit : ℕ) (input : List ℕ) (p : ℕ) (r : I
   pub spelled : SpellsInPlace k limit input nodes
   pub flaw : IsRefusalOfAll nodes (invalid.Refused p r)
 
-abbrev pub IsInvalidFault : Kind → ℕ → List ℕ → Invalid → Type 0
-IsInvalidFault k limit input (invalid.Refused p r) = IsFlawed k limit input p r
-IsInvalidFault k limit input invalid.OutOfMemory = ⊥
-
--- The input, of which at most so many bytes are allowed, is refused for this: its content, or its length. What is read when a reader fails, or memory is refused, is no longer than allowed.
+-- The input, of which at most so many bytes are allowed, is refused for this: its content, or its length. Where a text isn't UTF-8, the place is the length of its longest front that is. What is read when a reader fails, or memory is refused, is no longer than allowed.
 abbrev pub IsRefused : Kind → ℕ → ℕ → List ℕ → EngineFault → Type 0
-IsRefused k limit most input (fault.Wire why) = (length input ≤ most) × IsWireFault k limit input why
-IsRefused k limit most input (fault.Invalid why) = (length input ≤ most) × IsInvalidFault k limit input why
-IsRefused k limit most input (fault.Edn why) = (length input ≤ most) × IsEdnFault k limit input why
-IsRefused k limit most input (fault.TextInput p) = (length input ≤ most) × IsTextInputFault k input p
 IsRefused k limit most input fault.TooLong = length input ≡ most + 1
 IsRefused k limit most input fault.ReadFault = length input ≤ most
 IsRefused k limit most input fault.OutOfMemory = length input ≤ most
+IsRefused kind.Wire limit most input (fault.Wire (wire.Refused p r)) = (length input ≤ most) × Fault limit input p r
+IsRefused k limit most input (fault.Invalid (invalid.Refused p r)) = (length input ≤ most) × IsFlawed k limit input p r
+IsRefused kind.Notation limit most input (fault.Edn why) = (length input ≤ most) × IsNotationFault profile.One limit input why
+IsRefused kind.Notation2 limit most input (fault.Edn why) = (length input ≤ most) × IsNotationFault profile.Two limit input why
+IsRefused kind.Wire limit most input (fault.TextInput p) = ⊥
+IsRefused k limit most input (fault.TextInput p) = (length input ≤ most) × (IsUtf8 input → ⊥) × IsValidUpTo input p
 IsRefused k limit most input _ = ⊥
 
--- the reader was read to its end before this fault was told
-abbrev pub IsReadBefore : EngineFault → Option (List ℕ) → Type 0
-IsReadBefore fault.TooLong rest = ⊤
-IsReadBefore fault.ReadFault rest = ⊤
-IsReadBefore fault.OutOfMemory rest = ⊤
-IsReadBefore _ rest = IsAtEnd rest
-
+-- the reader was read to its end before this was told
 abbrev pub IsRead : {A : Type 0} → Result A EngineFault → Option (List ℕ) → Type 0
-IsRead (Ok a) rest = IsAtEnd rest
-IsRead (Err why) rest = IsReadBefore why rest
+IsRead (Err fault.TooLong) rest = ⊤
+IsRead (Err fault.ReadFault) rest = ⊤
+IsRead (Err fault.OutOfMemory) rest = ⊤
+IsRead _ rest = IsAtEnd rest
 
 -- no fault of the input
 abbrev pub IsNoRefusal : EngineFault → Type 0

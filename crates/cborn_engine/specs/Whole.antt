@@ -1,5 +1,5 @@
 -- What is answered for an input that is held whole.
-use Rattle.std.specs.Prelude.{◌≡◌, ℕ, ◌<◌, ◌≤◌, List, length, Result, Err}
+use Rattle.std.specs.Prelude.{◌≡◌, ◌≢◌, ℕ, ◌<◌, ◌≤◌, List, length, Result, Err}
 use Rattle.cborn_model.specs.Value.{Value}
 use Rattle.cborn_wire.specs.declared.faults.WireFault.TheVariants as wire
 use Rattle.cborn_wire.specs.declared.faults.WireReason.{WireReason}
@@ -10,7 +10,6 @@ use Rattle.cborn_engine.specs.declared.faults.EngineFault.{EngineFault}
 use Rattle.cborn_engine.specs.declared.faults.EngineFault.TheVariants as fault
 use Rattle.cborn_engine.specs.declared.kinds.Kind.{Kind}
 use Rattle.cborn_engine.specs.declared.kinds.Kind.TheVariants as kind
-use Rattle.cborn_engine.specs.Comparing.{IsOfOneInput}
 use Rattle.cborn_engine.specs.Holding.{Holds}
 use Rattle.cborn_engine.specs.Loading.{IsNoFlaw}
 use Rattle.cborn_engine.specs.Refusing.{IsRefused}
@@ -29,9 +28,9 @@ IsUnshownWhole k out limit most input why = IsRefusedWhole k limit most input wh
 
 -- why two of them aren't compared: the first is refused, or it isn't, and the second is
 abbrev pub AreRefusedWhole : Kind → Kind → ℕ → ℕ → List ℕ → List ℕ → CompareFault → Type 0
-AreRefusedWhole k l limit most x y (compared.First why) = IsRefusedWhole k limit most x why × IsOfOneInput why
+AreRefusedWhole k l limit most x y (compared.First why) = IsRefusedWhole k limit most x why × (why ≢ fault.OutOfMemory)
 AreRefusedWhole k l limit most x y (compared.Second why) =
-    (length x ≤ most) × ((items : List Value) × Holds k limit x items) × IsRefusedWhole l limit most y why × IsOfOneInput why
+    (length x ≤ most) × ((items : List Value) × Holds k limit x items) × IsRefusedWhole l limit most y why × (why ≢ fault.OutOfMemory)
 AreRefusedWhole k l limit most x y compared.OutOfMemory = length x ≤ most
 
 -- Bytes that aren't well-formed are refused for their one fault, whatever memory there is.

@@ -2,8 +2,11 @@
 ghost use Rattle.std.specs.Prelude.{◌≡◌, ◌≤◌, ◌+◌, ℕ, length};
 ghost use Rattle.cborn_engine.specs.declared.kinds.Kind.TheVariants as kinds;
 ghost use Rattle.cborn_engine.specs.Whole.{TellsFault};
+ghost use Rattle.cborn_engine.specs.declared.faults.EngineFault.TheVariants as fault;
+ghost use Rattle.cborn_engine.specs.Failures.{CountsFault};
 ghost use Rattle.cborn_engine.specs.Checking.{Checks, CheckAnswers};
-ghost use Rattle.cborn_engine.specs.Reading.{most_bytes, read_failures};
+ghost use Rattle.cborn_engine.specs.Reading.{most_bytes};
+ghost use Rattle.cborn_engine.specs.devices.Counting.{read_failures};
 
 use crate::faults::EngineFault;
 use crate::inputs::MOST;
@@ -24,13 +27,14 @@ use std::alloc::Global;
 /// `ReadFault`, `TooLong`, `Wire` and `OutOfMemory`, as `load_within` tells them of bytes, and
 /// `Invalid`: the first flaw of the first item that isn't valid, at its offset in bytes from the
 /// start of the input. A defect is told only of bytes whose items are all valid.
+#[tactic(auto, using(crate::proofs::Streams::Counted::read_counted))]
 pub fn check<O: KeyOrder, R: Source>(
     alloc: Global,
     limit: Limit,
     reader: &mut R,
 ) -> Result<Option<Defect>, EngineFault>
     ensures checks { Checks O.order limit most_bytes (R.remaining reader.old) (R.remaining reader.new) result }
-    ensures failures { R.failed reader.new ≡ read_failures result (R.failed reader.old) }
+    ensures failures { CountsFault fault.ReadFault result (R.failed reader.old) (R.failed reader.new) }
     ensures calls { R.asked reader.new ≤ R.asked reader.old + most_bytes + 1 }
 {
     let input = read_bytes(alloc, MOST, reader)?;

@@ -1,7 +1,11 @@
 //! Whether two inputs hold the same items. Each is read whole and encoded, the first before a byte
 //! of the second is read; the encodings are equal exactly if the items are the same.
-ghost use Rattle.std.specs.Prelude.{◌≡◌, ◌≤◌, ◌⊎◌, ◌+◌, IfErr};
-ghost use Rattle.cborn_engine.specs.Comparing.{Compares, IsOfFirst, IsHeldWhole, first_failures, second_failures};
+ghost use Rattle.std.specs.Prelude.{◌≡◌, ◌≤◌, ◌⊎◌, ◌+◌, Err};
+ghost use Rattle.cborn_engine.specs.declared.faults.CompareFault.TheVariants as compared;
+ghost use Rattle.cborn_engine.specs.declared.faults.EngineFault.{EngineFault};
+ghost use Rattle.cborn_engine.specs.declared.faults.EngineFault.TheVariants as fault;
+ghost use Rattle.cborn_engine.specs.Comparing.{Compares, IsHeldWhole};
+ghost use Rattle.cborn_engine.specs.Failures.{CountsFault};
 ghost use Rattle.cborn_engine.specs.Faults.{of_first, of_second};
 ghost use Rattle.cborn_engine.specs.Reading.{most_bytes};
 
@@ -45,7 +49,7 @@ impl CompareFault {
 /// byte of the second was read. `Second`, likewise, where the first input gave items and the second
 /// gave none. `OutOfMemory` may come at any time, before a byte of the second was read or once the
 /// first is known to hold items, and is never inside of `First` or `Second`.
-#[tactic(auto, using(crate::proofs::Answers::Unanswered::not_compared))]
+#[tactic(auto, using(crate::proofs::Answers::Unanswered::not_compared, crate::proofs::Streams::Counted::first_kept, crate::proofs::Streams::Counted::first_counted, crate::proofs::Streams::Counted::second_kept, crate::proofs::Streams::Counted::second_counted))]
 pub fn compare<O: KeyOrder, R: Source, Q: Source>(
     alloc: Global,
     limit: Limit,
@@ -55,10 +59,10 @@ pub fn compare<O: KeyOrder, R: Source, Q: Source>(
     second: &mut Q,
 ) -> Result<Option<u64>, CompareFault>
     ensures compares { Compares kind_a kind_b limit most_bytes (R.remaining first.old) (R.remaining first.new) (Q.remaining second.old) (Q.remaining second.new) result }
-    ensures unread { IfErr result (λ why. IsOfFirst why → second.new ≡ second.old) }
+    ensures unread { (why : EngineFault) → result ≡ Err (compared.First why) → second.new ≡ second.old }
     ensures first_held { (second.new ≡ second.old) ⊎ IsHeldWhole kind_a limit (R.remaining first.old) (R.remaining first.new) }
-    ensures first_failures { R.failed first.new ≡ first_failures result (R.failed first.old) }
-    ensures second_failures { Q.failed second.new ≡ second_failures result (Q.failed second.old) }
+    ensures first_failures { CountsFault (compared.First fault.ReadFault) result (R.failed first.old) (R.failed first.new) }
+    ensures second_failures { CountsFault (compared.Second fault.ReadFault) result (Q.failed second.old) (Q.failed second.new) }
     ensures first_calls { R.asked first.new ≤ R.asked first.old + most_bytes + 1 }
     ensures second_calls { Q.asked second.new ≤ Q.asked second.old + most_bytes + 1 }
 {

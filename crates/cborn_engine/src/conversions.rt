@@ -4,11 +4,11 @@ ghost use Rattle.cborn_model.specs.Value.{Value};
 ghost use Rattle.cborn_engine.specs.declared.faults.EngineFault.TheVariants as fault;
 ghost use Rattle.cborn_engine.specs.declared.kinds.Kind.TheVariants as kinds;
 ghost use Rattle.cborn_engine.specs.Canonical.{Normalises};
-ghost use Rattle.cborn_engine.specs.Reading.{most_bytes, read_failures};
+ghost use Rattle.cborn_engine.specs.Reading.{most_bytes};
 ghost use Rattle.cborn_engine.specs.Holding.{Holds, IsFixedText};
 ghost use Rattle.cborn_engine.specs.devices.Encoding.{IsWrittenAs};
 ghost use Rattle.cborn_engine.specs.Showing.{Shows};
-ghost use Rattle.cborn_engine.specs.Writing.{write_failures};
+ghost use Rattle.cborn_engine.specs.Failures.{CountsFault};
 
 use crate::encodings::read_encoded;
 use crate::faults::EngineFault;
@@ -30,7 +30,7 @@ use std::alloc::{AllocError, Global};
 /// Those of `load_within`, and `Invalid`: the first flaw of the first item that isn't valid, at its
 /// offset in bytes from the start of the input. At these the writer is as it was. `WriteFault`
 /// where the writer failed; then a front of the answer went out.
-#[tactic(auto, using(crate::proofs::Answers::Unanswered::not_normalised, crate::proofs::Canonical::Canonicity::no_answer))]
+#[tactic(auto, using(crate::proofs::Answers::Unanswered::not_normalised, crate::proofs::Canonical::Canonicity::no_answer, crate::proofs::Streams::Counted::read_counted, crate::proofs::Streams::Counted::write_counted))]
 pub fn normalise<O: KeyOrder, R: Source, W: Sink>(
     alloc: Global,
     limit: Limit,
@@ -40,8 +40,8 @@ pub fn normalise<O: KeyOrder, R: Source, W: Sink>(
     writer: &mut W,
 ) -> Result<(), EngineFault>
     ensures normalises { Normalises O.order in_kind out_kind limit most_bytes (R.remaining reader.old) (R.remaining reader.new) (W.contents writer.old) (W.contents writer.new) result }
-    ensures read_failures { R.failed reader.new ≡ read_failures result (R.failed reader.old) }
-    ensures write_failures { W.failed writer.new ≡ write_failures result (W.failed writer.old) }
+    ensures read_failures { CountsFault fault.ReadFault result (R.failed reader.old) (R.failed reader.new) }
+    ensures write_failures { CountsFault fault.WriteFault result (W.failed writer.old) (W.failed writer.new) }
     ensures untouched { IfErr result (λ why. why ≢ fault.WriteFault → writer.new ≡ writer.old) }
     ensures flushed { OnOk result (W.unflushed writer.new ≡ 0) }
     ensures calls { R.asked reader.new ≤ R.asked reader.old + most_bytes + 1 }
@@ -59,6 +59,7 @@ pub fn normalise<O: KeyOrder, R: Source, W: Sink>(
 /// Those of `load_within`, and `Show` where the output is notation and a text string in it isn't
 /// UTF-8, at the lowest place of one. At these the writer is as it was. `WriteFault` where the
 /// writer failed; then a front of the answer went out.
+#[tactic(auto, using(crate::proofs::Streams::Counted::read_counted, crate::proofs::Streams::Counted::write_counted))]
 pub fn show_all<R: Source, W: Sink>(
     alloc: Global,
     limit: Limit,
@@ -68,8 +69,8 @@ pub fn show_all<R: Source, W: Sink>(
     writer: &mut W,
 ) -> Result<(), EngineFault>
     ensures shows { Shows in_kind out_kind limit most_bytes (R.remaining reader.old) (R.remaining reader.new) (W.contents writer.old) (W.contents writer.new) result }
-    ensures read_failures { R.failed reader.new ≡ read_failures result (R.failed reader.old) }
-    ensures write_failures { W.failed writer.new ≡ write_failures result (W.failed writer.old) }
+    ensures read_failures { CountsFault fault.ReadFault result (R.failed reader.old) (R.failed reader.new) }
+    ensures write_failures { CountsFault fault.WriteFault result (W.failed writer.old) (W.failed writer.new) }
     ensures untouched { IfErr result (λ why. why ≢ fault.WriteFault → writer.new ≡ writer.old) }
     ensures flushed { OnOk result (W.unflushed writer.new ≡ 0) }
     ensures calls { R.asked reader.new ≤ R.asked reader.old + most_bytes + 1 }

@@ -7,7 +7,8 @@ ghost use Rattle.cborn_transcode.specs.Transcoding.{IsTranscoded};
 ghost use Rattle.cborn_engine.specs.declared.kinds.Kind.TheVariants as kinds;
 ghost use Rattle.cborn_engine.specs.devices.Encoding.{EncodeAnswers, IsEncoded, kind_of};
 ghost use Rattle.cborn_engine.specs.devices.Pieces.{Reads};
-ghost use Rattle.cborn_engine.specs.Reading.{most_bytes, read_failures};
+ghost use Rattle.cborn_engine.specs.Reading.{most_bytes};
+ghost use Rattle.cborn_engine.specs.devices.Counting.{read_failures};
 ghost use Rattle.cborn_engine.specs.Whole.{TellsFault};
 
 use crate::faults::EngineFault;

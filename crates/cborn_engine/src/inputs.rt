@@ -1,9 +1,12 @@
 //! Reading a whole input as nodes: bytes by pieces that aren't kept, a text whole.
 ghost use Rattle.std.specs.Prelude.{◌≡◌, ◌≤◌, ◌+◌};
+ghost use Rattle.cborn_engine.specs.declared.faults.EngineFault.TheVariants as fault;
 ghost use Rattle.cborn_engine.specs.declared.kinds.Kind.TheVariants as kinds;
+ghost use Rattle.cborn_engine.specs.Failures.{CountsFault};
 ghost use Rattle.cborn_engine.specs.devices.Encoding.{kind_of};
 ghost use Rattle.cborn_engine.specs.Loading.{Loads};
-ghost use Rattle.cborn_engine.specs.Reading.{most_bytes, read_failures};
+ghost use Rattle.cborn_engine.specs.Reading.{most_bytes};
+ghost use Rattle.cborn_engine.specs.devices.Counting.{read_failures};
 
 use crate::faults::EngineFault;
 use crate::kinds::{Kind, profile_of};
@@ -31,7 +34,7 @@ pub fn load<R: Source>(
     reader: &mut R,
 ) -> Result<Vec<Spelled>, EngineFault>
     ensures loads { Loads kind limit most_bytes (R.remaining reader.old) (R.remaining reader.new) result }
-    ensures failures { R.failed reader.new ≡ read_failures result (R.failed reader.old) }
+    ensures failures { CountsFault fault.ReadFault result (R.failed reader.old) (R.failed reader.new) }
     ensures calls { R.asked reader.new ≤ R.asked reader.old + most_bytes + 1 }
 {
     load_within(alloc, limit, MOST, kind, reader)
@@ -47,6 +50,7 @@ pub fn load<R: Source>(
 /// in bytes from the start of the input: `Wire` where bytes aren't well-formed (RFC 8949 section
 /// 3), `TextInput` where a text isn't UTF-8, `Edn` where a text notates no items (RFC 8949 section
 /// 8). `OutOfMemory` may come at any time.
+#[tactic(auto, using(crate::proofs::Streams::Counted::read_counted))]
 pub fn load_within<R: Source>(
     alloc: Global,
     limit: Limit,
@@ -56,7 +60,7 @@ pub fn load_within<R: Source>(
 ) -> Result<Vec<Spelled>, EngineFault>
     requires { most ≤ most_bytes }
     ensures loads { Loads kind limit most (R.remaining reader.old) (R.remaining reader.new) result }
-    ensures failures { R.failed reader.new ≡ read_failures result (R.failed reader.old) }
+    ensures failures { CountsFault fault.ReadFault result (R.failed reader.old) (R.failed reader.new) }
     ensures calls { R.asked reader.new ≤ R.asked reader.old + most + 1 }
 {
     match profile_of(kind) {

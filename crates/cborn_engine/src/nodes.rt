@@ -4,7 +4,7 @@ ghost use Rattle.std.specs.Prelude.{◌≡◌, ◌≤◌, ℕ, length, IfOk, IfE
 ghost use Rattle.cborn_engine.specs.devices.Encoding.{kind_of};
 ghost use Rattle.cborn_engine.specs.Holding.{SpellsInPlace};
 ghost use Rattle.cborn_engine.specs.Loading.{IsNoFlaw};
-ghost use Rattle.cborn_engine.specs.Reading.{read_failures};
+ghost use Rattle.cborn_engine.specs.devices.Counting.{read_failures};
 ghost use Rattle.cborn_engine.specs.Refusing.{IsRefused};
 
 use crate::faults::EngineFault;

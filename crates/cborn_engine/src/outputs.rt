@@ -1,7 +1,7 @@
 //! Writing a whole answer.
 ghost use Rattle.std.specs.Prelude.{◌≡◌, IfErr, OnOk};
 ghost use Rattle.cborn_engine.specs.declared.faults.EngineFault.TheVariants as fault;
-ghost use Rattle.cborn_engine.specs.Writing.{write_failures};
+ghost use Rattle.cborn_engine.specs.devices.Counting.{write_failures};
 ghost use Rattle.cborn_engine.specs.devices.Sending.{Sends};
 
 use crate::faults::EngineFault;

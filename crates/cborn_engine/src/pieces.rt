@@ -1,7 +1,8 @@
 //! Reading a piece of an input, and room for the next.
 ghost use Rattle.std.specs.Prelude.{◌≡◌, ◌≤◌, ◌<◌, ◌+◌, length, take, drop, OnOk};
 ghost use Rattle.cborn_engine.specs.devices.Pieces.{PieceAnswers};
-ghost use Rattle.cborn_engine.specs.Reading.{most_bytes, read_failures};
+ghost use Rattle.cborn_engine.specs.Reading.{most_bytes};
+ghost use Rattle.cborn_engine.specs.devices.Counting.{read_failures};
 
 use crate::faults::EngineFault;
 use crate::sources::Source;

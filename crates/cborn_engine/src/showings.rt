@@ -13,7 +13,8 @@ ghost use Rattle.cborn_wire.specs.Faults.{Fault};
 ghost use Rattle.cborn_engine.specs.declared.kinds.Kind.TheVariants as kinds;
 ghost use Rattle.cborn_engine.specs.devices.Encoding.{kind_of};
 ghost use Rattle.cborn_engine.specs.devices.Pieces.{Reads};
-ghost use Rattle.cborn_engine.specs.Reading.{most_bytes, read_failures};
+ghost use Rattle.cborn_engine.specs.Reading.{most_bytes};
+ghost use Rattle.cborn_engine.specs.devices.Counting.{read_failures};
 ghost use Rattle.cborn_engine.specs.Showing.{TellAnswers, IsShown, IsSpelledAs, IsUnshownAs, IsUnspelledAs};
 ghost use Rattle.cborn_engine.specs.Whole.{TellsFault};
 

@@ -5,7 +5,8 @@ ghost use Rattle.cborn_spell.specs.Descent.{IsSpelling};
 ghost use Rattle.cborn_engine.specs.devices.Encoding.{kind_of};
 ghost use Rattle.cborn_engine.specs.Loading.{IsNoFlaw};
 ghost use Rattle.cborn_engine.specs.devices.Pieces.{Collects};
-ghost use Rattle.cborn_engine.specs.Reading.{most_bytes, read_failures};
+ghost use Rattle.cborn_engine.specs.Reading.{most_bytes};
+ghost use Rattle.cborn_engine.specs.devices.Counting.{read_failures};
 ghost use Rattle.cborn_engine.specs.Refusing.{IsRefused};
 
 use crate::faults::EngineFault;

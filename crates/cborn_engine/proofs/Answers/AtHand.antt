@@ -14,7 +14,8 @@ use Rattle.cborn_engine.specs.declared.kinds.Kind.TheVariants as kind
 use Rattle.cborn_engine.specs.Checking.{CheckAnswers}
 use Rattle.cborn_engine.specs.devices.Encoding.{EncodeAnswers, IsEncoded, IsWrittenAs}
 use Rattle.cborn_engine.specs.Holding.{Holds}
-use Rattle.cborn_engine.specs.Reading.{most_bytes, read_failures, read_failures_at}
+use Rattle.cborn_engine.specs.devices.Counting.{read_failures, read_failures_at}
+use Rattle.cborn_engine.specs.Reading.{most_bytes}
 use Rattle.cborn_engine.specs.Refusing.{IsRefused}
 use Rattle.cborn_engine.specs.Showing.{TellAnswers}
 use Rattle.cborn_engine.specs.Whole.{IsRefusedWhole, IsUnshownWhole}

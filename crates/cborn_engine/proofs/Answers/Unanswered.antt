@@ -1,12 +1,12 @@
 -- What is answered for an input that is refused.
-use Rattle.std.proofs.Common.{◌≤◌, ℕ, List, [], append-nil, refl, sym, Option, Some, None, Err, Ordering, arith}
+use Rattle.std.proofs.Common.{◌≤◌, ℕ, List, [], append-nil, refl, sym, Option, Some, None, Err, Vec, Global, Ordering, arith}
 use Rattle.std.specs.Io.KnownBytes.{Appends, Consumes}
 use Rattle.cborn_engine.specs.declared.faults.EngineFault.{EngineFault}
 use Rattle.cborn_engine.specs.declared.faults.EngineFault.TheVariants as fault
 use Rattle.cborn_engine.specs.declared.kinds.Kind.{Kind}
 use Rattle.cborn_engine.specs.Faults.{of_first}
 use Rattle.cborn_engine.specs.devices.Pieces.{Reads}
-use Rattle.cborn_engine.specs.Refusing.{IsRefused, IsReadBefore}
+use Rattle.cborn_engine.specs.Refusing.{IsRefused, IsRead}
 use Rattle.cborn_engine.specs.devices.Encoding.{EncodeAnswers}
 use Rattle.cborn_engine.specs.Canonical.{NormaliseAnswers, Normalises}
 use Rattle.cborn_engine.specs.Comparing.{CompareAnswers, AreRead, Compares}
@@ -33,8 +33,8 @@ not_compared order k l limit most before after before2 why h = record { first = 
     answer : (why : EngineFault) → IsRefused k limit most h.input why → CompareAnswers k l limit most h.input [] (Err (of_first why))
     answer (fault.Show w) r = absurd r
     answer fault.OutOfMemory r = let n : 0 ≤ most = omega arith in (r, n)
-    answer _ r = (r, tt, refl)
+    answer _ r = (r, λ p. absurd cc, refl)
 
-    ended : (why : EngineFault) → IsReadBefore why after → AreRead (Err (of_first why)) after before2
+    ended : (why : EngineFault) → IsRead {A = Vec ℕ Global} (Err why) after → AreRead (Err (of_first why)) after before2
     ended fault.OutOfMemory e = tt
     ended _ e = e

@@ -15,7 +15,7 @@ use Rattle.cborn_engine.specs.declared.kinds.Kind.{Kind}
 use Rattle.cborn_engine.specs.declared.kinds.Kind.TheVariants as kind
 use Rattle.cborn_engine.specs.Holding.{Holds, SpellsInPlace}
 use Rattle.cborn_engine.specs.Loading.{IsNoFlaw, LoadAnswers, Loads}
-use Rattle.cborn_engine.specs.Refusing.{IsRefused, IsReadBefore, IsRead}
+use Rattle.cborn_engine.specs.Refusing.{IsRefused, IsRead}
 use Rattle.cborn_engine.specs.devices.Pieces.{Collects, CollectAnswers, Reads}
 use Rattle.cborn_engine.specs.devices.Encoding.{IsEncoded}
 use Rattle.cborn_engine.specs.Checking.{CheckAnswers, Checks}
@@ -24,24 +24,24 @@ use Rattle.cborn_search.specs.Searching.{IsFirstFlawOf}
 use Rattle.cborn_transcode.specs.Departing.{IsFirstDefectOfItems}
 use Rattle.cborn_engine.proofs.Answers.Checked.{with_defect}
 
-ended : (why : EngineFault) (rest : Option (List ℕ)) → IsAtEnd rest → IsReadBefore why rest
-ended fault.TooLong rest h = tt
-ended fault.ReadFault rest h = tt
-ended fault.OutOfMemory rest h = tt
-ended _ rest h = h
+ended : (A : Type 0) (why : EngineFault) (rest : Option (List ℕ)) → IsAtEnd rest → IsRead {A = A} (Err why) rest
+ended A fault.TooLong rest h = tt
+ended A fault.ReadFault rest h = tt
+ended A fault.OutOfMemory rest h = tt
+ended A _ rest h = h
 
 -- ---- what was read
 
 -- the reader stopped
-stopped : (k : Kind) (limit most : ℕ) (input : List ℕ) (after : Option (List ℕ)) (why : EngineFault) → CollectAnswers most input after (Err why) → (IsRefused k limit most input why × IsNoFlaw why) × IsReadBefore why after
-stopped k limit most input after fault.TooLong h = ((h, tt), tt)
-stopped k limit most input after fault.ReadFault h = ((h, tt), tt)
-stopped k limit most input after fault.OutOfMemory h = ((h, tt), tt)
-stopped k limit most input after _ h = absurd h
+stopped : (A : Type 0) (k : Kind) (limit most : ℕ) (input : List ℕ) (after : Option (List ℕ)) (why : EngineFault) → CollectAnswers most input after (Err why) → (IsRefused k limit most input why × IsNoFlaw why) × IsRead {A = A} (Err why) after
+stopped A k limit most input after fault.TooLong h = ((h, tt), tt)
+stopped A k limit most input after fault.ReadFault h = ((h, tt), tt)
+stopped A k limit most input after fault.OutOfMemory h = ((h, tt), tt)
+stopped A k limit most input after _ h = absurd h
 
 module _ {A : Type 0} (Answers : List ℕ → Result A EngineFault → Type 0) (most : ℕ) (before after : Option (List ℕ)) where
   pub unread : (k : Kind) (limit : ℕ) (why : EngineFault) → ((input : List ℕ) → IsRefused k limit most input why × IsNoFlaw why → Answers input (Err why)) → Collects most before after (Err why) → Reads Answers before after (Err why)
-  unread k limit why f h = let r = stopped k limit most h.input after why h.answer in record { input = h.input; taken = h.taken; answer = f h.input r.0; to_end = r.1 }
+  unread k limit why f h = let r = stopped A k limit most h.input after why h.answer in record { input = h.input; taken = h.taken; answer = f h.input r.0; to_end = r.1 }
 
   -- it was read to its end
   pub read_whole : (bytes : Vec ℕ Global) (now : List ℕ) → Collects most before after (Ok bytes) → now ≡ bytes.items → (r : Result A EngineFault) → (length now ≤ most → Answers now r) → Reads Answers before after r
@@ -52,11 +52,11 @@ module _ {A : Type 0} (Answers : List ℕ → Result A EngineFault → Type 0) (
     where
       at_end : (r : Result A EngineFault) → IsRead r after
       at_end (Ok a) = h.answer.2
-      at_end (Err why) = ended why after h.answer.2
+      at_end (Err why) = ended A why after h.answer.2
 
 pub not_loaded : (k : Kind) (limit most : ℕ) (before after : Option (List ℕ)) (why : EngineFault) → Collects most before after (Err why) → Loads k limit most before after (Err why)
 not_loaded k limit most before after why h =
-    let r = stopped k limit most h.input after why h.answer in record { input = h.input; taken = h.taken; answer = r.0; to_end = r.1 }
+    let r = stopped (Vec Tree Global) k limit most h.input after why h.answer in record { input = h.input; taken = h.taken; answer = r.0; to_end = r.1 }
 
 pub loaded : (k : Kind) (limit most : ℕ) (before after : Option (List ℕ)) (bytes : Vec ℕ Global) (now : List ℕ) → Collects most before after (Ok bytes) → now ≡ bytes.items → (r : Result (Vec Tree Global) EngineFault)
     → IfOk r (λ nodes. SpellsInPlace k limit now nodes.items) → IfErr r (λ why. (most : ℕ) → length now ≤ most → IsRefused k limit most now why × IsNoFlaw why) → Loads k limit most before after r
@@ -70,7 +70,7 @@ loaded k limit most before after bytes now h e r good bad =
 
 module _ (order : List ℕ → List ℕ → Ordering) (limit most : ℕ) (before after : Option (List ℕ)) where
   pub not_checked : (why : EngineFault) → Collects most before after (Err why) → Checks order limit most before after (Err why)
-  not_checked why h = let r = stopped kind.Wire limit most h.input after why h.answer in record { input = h.input; taken = h.taken; answer = r.0.0; to_end = r.1 }
+  not_checked why h = let r = stopped (Option Defect) kind.Wire limit most h.input after why h.answer in record { input = h.input; taken = h.taken; answer = r.0.0; to_end = r.1 }
 
   pub checked_whole : (bytes : Vec ℕ Global) (now : List ℕ) → Collects most before after (Ok bytes) → now ≡ bytes.items → (r : Result (Option Defect) EngineFault) → (length now ≤ most → CheckAnswers order limit most now r) → Checks order limit most before after r
   checked_whole bytes now h e r f =

@@ -1,5 +1,5 @@
 -- What is known of two deterministic encodings that are walked side by side.
-use Rattle.std.proofs.Common.{◌≡◌, ◌<◌, ◌+◌, ℕ, zero, suc, ◌⊎◌, inl, inr, List, [], ◌∷◌, ◌++◌, length, Option, None, Some, Ordering, refl, sym, ◌∙◌, ap, subst, arith}
+use Rattle.std.proofs.Common.{◌≡◌, ◌<◌, ◌+◌, ℕ, zero, suc, ◌⊎◌, inl, inr, List, [], ◌∷◌, ◌++◌, length, take, Option, None, Some, Ordering, refl, sym, ◌∙◌, ap, subst, arith}
 use Rattle.std.specs.List.{AllZip, AllByRecursion}
 use Rattle.cborn_model.specs.Orders.{IsKeyOrder}
 use Rattle.cborn_model.specs.Valid.{IsProper}
@@ -10,7 +10,7 @@ use Rattle.cborn_det.proofs.Reading.{reads}
 use Rattle.cborn_det.proofs.Canon.{same_of_one, one_of_same, seq_of_one}
 use Rattle.cborn_transcode.specs.Transcoding.{ItemTranscoded}
 use Rattle.cborn_engine.specs.declared.kinds.Kind.TheVariants as kind
-use Rattle.cborn_engine.specs.Comparing.{AreAlikeAt, IsFirstDifference, Difference, AreCompared}
+use Rattle.cborn_engine.specs.Comparing.{Difference, AreCompared}
 use Rattle.cborn_engine.specs.devices.Encoding.{IsEncoded}
 use Rattle.cborn_engine.specs.Holding.{Holds}
 use Rattle.cborn_engine.proofs.Held.Meant.{all_turned}
@@ -22,32 +22,17 @@ nothing (c ∷ x) e = absurd (omega (arith, e))
 
 -- ---- where items differ
 
-unwrapped : {x y : Value} → Some x ≡ Some y → x ≡ y
-unwrapped e = cc
+ours_longer : (v : Value) (vs : List Value) → Difference (v ∷ vs) [] (Some 0)
+ours_longer v vs = (tt, λ h. h)
 
-ours_longer : (v : Value) (vs : List Value) → IsFirstDifference (v ∷ vs) [] 0
-ours_longer v vs = record { alike = λ k l. absurd (omega (arith, l)); differs = λ h. let never = h.there in cc; within = omega arith }
+theirs_longer : (w : Value) (ws : List Value) → Difference [] (w ∷ ws) (Some 0)
+theirs_longer w ws = (tt, λ h. h)
 
-theirs_longer : (w : Value) (ws : List Value) → IsFirstDifference [] (w ∷ ws) 0
-theirs_longer w ws = record { alike = λ k l. absurd (omega (arith, l)); differs = λ h. let never = h.here in cc; within = omega arith }
+differ_here : (v w : Value) (vs ws : List Value) → (Same v w → ⊥) → Difference (v ∷ vs) (w ∷ ws) (Some 0)
+differ_here v w vs ws never = (tt, λ h. never h.0)
 
-differ_here : (v w : Value) (vs ws : List Value) → (Same v w → ⊥) → IsFirstDifference (v ∷ vs) (w ∷ ws) 0
-differ_here v w vs ws never = record {
-  alike = λ k l. absurd (omega (arith, l));
-  differs = λ h. never (subst (λ (z : Value). Same z w) (sym (unwrapped h.here)) (subst (Same h.ours) (sym (unwrapped h.there)) h.same));
-  within = omega arith;
-}
-
-alike_before : (v w : Value) (vs ws : List Value) (j : ℕ) → Same v w → ((k : ℕ) → k < j → AreAlikeAt vs ws k) → (k : ℕ) → k < suc j → AreAlikeAt (v ∷ vs) (w ∷ ws) k
-alike_before v w vs ws j same h zero l = record { ours = v; theirs = w; here = refl; there = refl; same = same }
-alike_before v w vs ws j same h (suc k) l = let r = h k (omega (arith, l)) in record { ours = r.ours; theirs = r.theirs; here = r.here; there = r.there; same = r.same }
-
-differ_behind : (v w : Value) (vs ws : List Value) (j : ℕ) → Same v w → IsFirstDifference vs ws j → IsFirstDifference (v ∷ vs) (w ∷ ws) (suc j)
-differ_behind v w vs ws j same d = record {
-  alike = alike_before v w vs ws j same d.alike;
-  differs = λ h. d.differs (record { ours = h.ours; theirs = h.theirs; here = h.here; there = h.there; same = h.same });
-  within = omega (arith, d.within);
-}
+differ_behind : (v w : Value) (vs ws : List Value) (j : ℕ) → Same v w → Difference vs ws (Some j) → Difference (v ∷ vs) (w ∷ ws) (Some (suc j))
+differ_behind v w vs ws j same d = ((same, d.0), λ h. d.1 h.1)
 
 -- ---- what is left of two encodings
 
@@ -65,7 +50,7 @@ module _ (order : List ℕ → List ℕ → Ordering) where
     others : List Value
     others2 : List Value
     ahead : Ahead others others2 left right
-    lift : (j : ℕ) → IsFirstDifference others others2 j → IsFirstDifference vs ws (suc j)
+    lift : (j : ℕ) → Difference others others2 (Some j) → Difference vs ws (Some (suc j))
 
   -- a walk that has passed k items on both sides
   pub record SoFar (limit : ℕ) (ours theirs left right : List ℕ) (k : ℕ) : Type 0 where
@@ -76,11 +61,11 @@ module _ (order : List ℕ → List ℕ → Ordering) where
     vs : List Value
     ws : List Value
     ahead : Ahead vs ws left right
-    lift : (j : ℕ) → IsFirstDifference vs ws j → IsFirstDifference a b (j + k)
+    lift : (j : ℕ) → Difference vs ws (Some j) → Difference a b (Some (j + k))
 
 module _ (order : List ℕ → List ℕ → Ordering) (laws : IsKeyOrder order) where
   -- one side has ended
-  ended : (vs ws : List Value) (left right : List ℕ) → Ahead order vs ws left right → (left ≡ []) ⊎ (right ≡ []) → IsFirstDifference vs ws 0
+  ended : (vs ws : List Value) (left right : List ℕ) → Ahead order vs ws left right → (left ≡ []) ⊎ (right ≡ []) → Difference vs ws (Some 0)
   ended [] [] left right h e = absurd (h.apart (h.det ∙ sym h.det2))
   ended (v ∷ vs) [] left right h e = ours_longer v vs
   ended [] (w ∷ ws) left right h e = theirs_longer w ws
@@ -88,7 +73,7 @@ module _ (order : List ℕ → List ℕ → Ordering) (laws : IsKeyOrder order) 
   ended (v ∷ vs) (w ∷ ws) left right h (inr e) = absurd (seq_of_one order laws (w ∷ ws) [] right h.proper2 tt h.det2 e)
 
   -- the one begins with an item's encoding, and the other doesn't
-  differing : (vs ws : List Value) (left right x l : List ℕ) (u : Value) → Ahead order vs ws left right → Det order u x → left ≡ x ++ l → ((r : List ℕ) → right ≡ x ++ r → ⊥) → IsFirstDifference vs ws 0
+  differing : (vs ws : List Value) (left right x l : List ℕ) (u : Value) → Ahead order vs ws left right → Det order u x → left ≡ x ++ l → ((r : List ℕ) → right ≡ x ++ r → ⊥) → Difference vs ws (Some 0)
   differing [] [] left right x l u h d e never = absurd (h.apart (h.det ∙ sym h.det2))
   differing (v ∷ vs) [] left right x l u h d e never = ours_longer v vs
   differing [] (w ∷ ws) left right x l u h d e never = theirs_longer w ws
@@ -136,7 +121,7 @@ module _ (order : List ℕ → List ℕ → Ordering) (laws : IsKeyOrder order) 
       vs = h.items;
       ws = k.items;
       ahead = record { proper = proper ours h; proper2 = proper theirs k; det = h.encoded; det2 = k.encoded; apart = never };
-      lift = λ j d. let e : j ≡ j + 0 = omega arith in subst (IsFirstDifference h.items k.items) e d;
+      lift = λ j d. let e : j ≡ j + 0 = omega arith in subst (λ (i : ℕ). Difference h.items k.items (Some i)) e d;
     }
 
     pub equal : IsEncoded order kind.Wire limit ours ours → IsEncoded order kind.Wire limit theirs theirs → ours ≡ theirs → AreCompared kind.Wire kind.Wire limit ours theirs None
@@ -148,10 +133,10 @@ module _ (order : List ℕ → List ℕ → Ordering) (laws : IsKeyOrder order) 
       difference = seq_of_one order laws h.items k.items ours (proper ours h) (proper theirs k) h.encoded (subst (DetSeq order k.items) (sym e) k.encoded);
     }
 
-    found : (left right : List ℕ) (k : ℕ) (s : SoFar order limit ours theirs left right k) → IsFirstDifference s.vs s.ws 0 → AreCompared kind.Wire kind.Wire limit ours theirs (Some k)
+    found : (left right : List ℕ) (k : ℕ) (s : SoFar order limit ours theirs left right k) → Difference s.vs s.ws (Some 0) → AreCompared kind.Wire kind.Wire limit ours theirs (Some k)
     found left right k s d =
         let e : 0 + k ≡ k = omega arith in
-        record { ours = s.a; theirs = s.b; held = s.held; held2 = s.held2; difference = subst (IsFirstDifference s.a s.b) e (s.lift 0 d) }
+        record { ours = s.a; theirs = s.b; held = s.held; held2 = s.held2; difference = subst (λ (i : ℕ). Difference s.a s.b (Some i)) e (s.lift 0 d) }
 
     pub ours_ended : (left right : List ℕ) (k : ℕ) → SoFar order limit ours theirs left right k → length left ≡ 0 → AreCompared kind.Wire kind.Wire limit ours theirs (Some k)
     ours_ended left right k s e = found left right k s (ended s.vs s.ws left right s.ahead (inl (nothing left e)))
@@ -173,7 +158,7 @@ module _ (order : List ℕ → List ℕ → Ordering) (laws : IsKeyOrder order) 
           vs = t.others;
           ws = t.others2;
           ahead = t.ahead;
-          lift = λ j q. let same : suc j + k ≡ j + (k + 1) = omega arith in subst (IsFirstDifference s.a s.b) same (s.lift (suc j) (t.lift j q));
+          lift = λ j q. let same : suc j + k ≡ j + (k + 1) = omega arith in subst (λ (i : ℕ). Difference s.a s.b (Some i)) same (s.lift (suc j) (t.lift j q));
         }
 
 -- ---- an encoding at the front
@@ -183,18 +168,6 @@ encoding_taken order limit bytes rest x t = (t.item, subst (Det order t.item) (s
 
 -- ---- items that are the same as those that were compared
 
-alike_too : (a b c d : List Value) (k : ℕ) → AllZip Same a c → AllZip Same b d → AreAlikeAt a b k → AreAlikeAt c d k
-alike_too [] b c d k p q h = let never = h.here in absurd cc
-alike_too (v ∷ a) [] c d k p q h = let never = h.there in absurd cc
-alike_too (v ∷ a) (w ∷ b) [] d k p q h = absurd p
-alike_too (v ∷ a) (w ∷ b) (x ∷ c) [] k p q h = absurd q
-alike_too (v ∷ a) (w ∷ b) (x ∷ c) (y ∷ d) zero p q h =
-    let same : Same v w = subst (λ (z : Value). Same z w) (sym (unwrapped h.here)) (subst (Same h.ours) (sym (unwrapped h.there)) h.same) in
-    record { ours = x; theirs = y; here = refl; there = refl; same = same_chained x v y (same_turned v x p.0) (same_chained v w y same q.0) }
-alike_too (v ∷ a) (w ∷ b) (x ∷ c) (y ∷ d) (suc k) p q h =
-    let r = alike_too a b c d k p.1 q.1 (record { ours = h.ours; theirs = h.theirs; here = h.here; there = h.there; same = h.same }) in
-    record { ours = r.ours; theirs = r.theirs; here = r.here; there = r.there; same = r.same }
-
 chained : (a b c : List Value) → AllZip Same a b → AllZip Same b c → AllZip Same a c
 chained [] [] [] h k = tt
 chained [] [] (x ∷ c) h k = absurd k
@@ -203,16 +176,17 @@ chained (v ∷ a) [] c h k = absurd h
 chained (v ∷ a) (w ∷ b) [] h k = absurd k
 chained (v ∷ a) (w ∷ b) (x ∷ c) h k = (same_chained v w x h.0 k.0, chained a b c h.1 k.1)
 
-same_length : (a b : List Value) → AllZip Same a b → length a ≡ length b
-same_length [] [] h = refl
-same_length [] (w ∷ b) h = absurd h
-same_length (v ∷ a) [] h = absurd h
-same_length (v ∷ a) (w ∷ b) h = ap suc (same_length a b h.1)
+front_same : (i : ℕ) (a b : List Value) → AllZip Same a b → AllZip Same (take i a) (take i b)
+front_same zero a b h = tt
+front_same (suc i) [] [] h = tt
+front_same (suc i) [] (w ∷ b) h = absurd h
+front_same (suc i) (v ∷ a) [] h = absurd h
+front_same (suc i) (v ∷ a) (w ∷ b) h = (h.0, front_same i a b h.1)
+
+fronts_same : (i : ℕ) (a b c d : List Value) → AllZip Same a c → AllZip Same b d → AllZip Same (take i a) (take i b) → AllZip Same (take i c) (take i d)
+fronts_same i a b c d p q h =
+    chained (take i c) (take i a) (take i d) (front_same i c a (all_turned a c p)) (chained (take i a) (take i b) (take i d) h (front_same i b d q))
 
 pub difference_too : (a b c d : List Value) (answer : Option ℕ) → AllZip Same a c → AllZip Same b d → Difference a b answer → Difference c d answer
 difference_too a b c d None p q h = chained c a d (all_turned a c p) (chained a b d h q)
-difference_too a b c d (Some i) p q h = record {
-  alike = λ k l. alike_too a b c d k p q (h.alike k l);
-  differs = λ k. h.differs (alike_too c d a b i (all_turned a c p) (all_turned b d q) k);
-  within = omega (arith, h.within, same_length a c p, same_length b d q);
-}
+difference_too a b c d (Some i) p q h = (fronts_same i a b c d p q h.0, λ k. h.1 (fronts_same (suc i) c d a b (all_turned a c p) (all_turned b d q) k))

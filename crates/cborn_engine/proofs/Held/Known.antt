@@ -23,7 +23,7 @@ use Rattle.cborn_engine.specs.declared.faults.EngineFault.TheVariants as fault
 use Rattle.cborn_engine.specs.declared.kinds.Kind.{Kind}
 use Rattle.cborn_engine.specs.declared.kinds.Kind.TheVariants as kind
 use Rattle.cborn_engine.specs.Holding.{IsNotation, Spells, Holds}
-use Rattle.cborn_engine.specs.Refusing.{IsWireFault, IsNotationFault, IsEdnFault, IsTextInputFault, IsRefused, IsNoRefusal}
+use Rattle.cborn_engine.specs.Refusing.{IsNotationFault, IsRefused, IsNoRefusal}
 use Rattle.cborn_engine.specs.Loading.{LoadAnswers, IsNoFlaw}
 use Rattle.cborn_engine.proofs.Held.Meant.{in_place, means_too}
 use Rattle.cborn_engine.proofs.Held.Notated.{no_stop, no_jam, no_slip}
@@ -56,28 +56,28 @@ told p limit x ns (edn.Refused q r) h (u, inr f) = no_slip p limit x ns h q r f
 told p limit x ns edn.OutOfMemory h f = absurd f
 
 -- nodes that are spelled are read
-notated : (k : Kind) (limit : ℕ) (x : List ℕ) (ns : List Tree) (why : EdnFault) → Spells k limit x ns → IsEdnFault k limit x why → ⊥
-notated kind.Wire limit x ns why h f = absurd f
-notated kind.Notation limit x ns why h f = told profile.One limit x ns why h f
-notated kind.Notation2 limit x ns why h f = told profile.Two limit x ns why h f
+notated : (k : Kind) (limit most : ℕ) (x : List ℕ) (ns : List Tree) (why : EdnFault) → Spells k limit x ns → IsRefused k limit most x (fault.Edn why) → ⊥
+notated kind.Wire limit most x ns why h f = absurd f
+notated kind.Notation limit most x ns why h f = told profile.One limit x ns why h f.1
+notated kind.Notation2 limit most x ns why h f = told profile.Two limit x ns why h f.1
 
-wellformed : (k : Kind) (limit : ℕ) (x : List ℕ) (ns : List Tree) (why : WireFault) → Spells k limit x ns → IsWireFault k limit x why → ⊥
-wellformed kind.Wire limit x ns (wire.Refused p r) h f = not_both limit x p r (trees ns, h) f
-wellformed kind.Wire limit x ns wire.OutOfMemory h f = absurd f
-wellformed kind.Notation limit x ns why h f = absurd f
-wellformed kind.Notation2 limit x ns why h f = absurd f
+wellformed : (k : Kind) (limit most : ℕ) (x : List ℕ) (ns : List Tree) (why : WireFault) → Spells k limit x ns → IsRefused k limit most x (fault.Wire why) → ⊥
+wellformed kind.Wire limit most x ns (wire.Refused p r) h f = not_both limit x p r (trees ns, h) f.1
+wellformed kind.Wire limit most x ns wire.OutOfMemory h f = absurd f
+wellformed kind.Notation limit most x ns why h f = absurd f
+wellformed kind.Notation2 limit most x ns why h f = absurd f
 
-text : (k : Kind) (limit : ℕ) (x : List ℕ) (ns : List Tree) (p : ℕ) → Spells k limit x ns → IsTextInputFault k x p → ⊥
-text kind.Wire limit x ns p h f = absurd f
-text kind.Notation limit x ns p h f = f.0 h.0
-text kind.Notation2 limit x ns p h f = f.0 h.0
+text : (k : Kind) (limit most : ℕ) (x : List ℕ) (ns : List Tree) (p : ℕ) → Spells k limit x ns → IsRefused k limit most x (fault.TextInput p) → ⊥
+text kind.Wire limit most x ns p h f = absurd f
+text kind.Notation limit most x ns p h f = f.1 h.0
+text kind.Notation2 limit most x ns p h f = f.1 h.0
 
 -- nodes that are spelled are loaded
 unloaded : (k : Kind) (limit most : ℕ) (x : List ℕ) (ns : List Tree) (why : EngineFault) → length x ≤ most → Spells k limit x ns → IsRefused k limit most x why → IsNoFlaw why → IsNoRefusal why
-unloaded k limit most x ns (fault.Wire why) l h f n = wellformed k limit x ns why h f.1
+unloaded k limit most x ns (fault.Wire why) l h f n = wellformed k limit most x ns why h f
 unloaded k limit most x ns (fault.Invalid why) l h f n = absurd n
-unloaded k limit most x ns (fault.Edn why) l h f n = notated k limit x ns why h f.1
-unloaded k limit most x ns (fault.TextInput p) l h f n = text k limit x ns p h f.1
+unloaded k limit most x ns (fault.Edn why) l h f n = notated k limit most x ns why h f
+unloaded k limit most x ns (fault.TextInput p) l h f n = text k limit most x ns p h f
 unloaded k limit most x ns fault.TooLong l h f n = absurd (omega (arith, f))
 unloaded k limit most x ns fault.ReadFault l h f n = tt
 unloaded k limit most x ns fault.OutOfMemory l h f n = tt
@@ -89,5 +89,5 @@ nodes_loaded k limit most x ns why l h f = unloaded k limit most x ns why l h f.
 pub input_read : (k : Kind) (limit most : ℕ) (x : List ℕ) (vs : List Value) (why : EngineFault) → length x ≤ most → Holds k limit x vs → IsRefused k limit most x why → IsNoRefusal why
 input_read k limit most x vs (fault.Invalid (invalid.Refused p r)) l h f =
     flawless f.1.nodes vs p r (means_too k limit x h.nodes f.1.nodes vs h.spelled (in_place k limit x f.1.nodes f.1.spelled) h.meant) f.1.flaw
-input_read k limit most x vs (fault.Invalid invalid.OutOfMemory) l h f = absurd f.1
+input_read k limit most x vs (fault.Invalid invalid.OutOfMemory) l h f = absurd f
 input_read k limit most x vs why l h f = unloaded k limit most x h.nodes why l h.spelled f tt

@@ -1,15 +1,15 @@
 -- What a loop over a writer knows.
-use Rattle.std.proofs.Common.{◌≡◌, ◌≢◌, ℕ, zero, suc, ◌+◌, ◌-◌, ◌<◌, List, length, take, drop, Option, Err, refl, sym, ◌∙◌, ap, subst, length-drop}
+use Rattle.std.proofs.Common.{◌≡◌, ◌≢◌, ℕ, zero, suc, ◌+◌, ◌-◌, ◌<◌, List, length, take, drop, Option, Ok, Err, refl, sym, ◌∙◌, ap, subst, length-drop}
 use Rattle.std.specs.Io.KnownBytes.{Appends}
 use Rattle.std.proofs.KnownBytes.{Appends-trans}
 use Rattle.std.proofs.lemmas.List.{take-append-drop, take_rest}
 use Rattle.std.proofs.Math.Seq.{take-add, drop-cons}
 use Rattle.cborn_engine.specs.devices.Sending.{Sends}
-use Rattle.cborn_engine.specs.Failures.{failures_taking, one_more}
+use Rattle.cborn_engine.specs.Failures.{failures_after_write, one_more}
 use Rattle.cborn_engine.specs.declared.faults.EngineFault.TheVariants.{WriteFault}
 
 -- a write that takes some bytes is no failure
-pub no_failure : (n : ℕ) (piece : List ℕ) (count : ℕ) → n ≢ 0 → failures_taking n piece count ≡ count
+pub no_failure : (n : ℕ) (piece : List ℕ) (count : ℕ) → n ≢ 0 → failures_after_write {E = Unit} (Ok n) piece count ≡ count
 no_failure zero piece count h = absurd (h refl)
 no_failure (suc n) piece count h = refl
 
@@ -18,10 +18,10 @@ abbrev pub rest_after : List ℕ → ℕ → List ℕ
 rest_after bytes sent = take (length bytes - sent) (drop sent bytes)
 
 -- nothing taken of what is left to send is a failure
-pub no_progress : (sent n : ℕ) (bytes : List ℕ) (count : ℕ) → sent < length bytes → n ≡ 0 → failures_taking n (rest_after bytes sent) count ≡ one_more count
+pub no_progress : (sent n : ℕ) (bytes : List ℕ) (count : ℕ) → sent < length bytes → n ≡ 0 → failures_after_write {E = Unit} (Ok n) (rest_after bytes sent) count ≡ one_more count
 no_progress sent n bytes count h e =
-    ap (λ (m : ℕ). failures_taking m (rest_after bytes sent) count) e
-    ∙ ap (λ (r : List ℕ). failures_taking 0 r count) (take_rest bytes sent ∙ drop-cons bytes sent 0 h)
+    ap (λ (m : ℕ). failures_after_write {E = Unit} (Ok m) (rest_after bytes sent) count) e
+    ∙ ap (λ (r : List ℕ). failures_after_write {E = Unit} (Ok 0) r count) (take_rest bytes sent ∙ drop-cons bytes sent 0 h)
 
 -- more went out
 pub sent_on : (bytes : List ℕ) (sent n : ℕ) (a b c : Option (List ℕ)) → Appends a b (take sent bytes) → Appends b c (take n (rest_after bytes sent)) → Appends a c (take (sent + n) bytes)
