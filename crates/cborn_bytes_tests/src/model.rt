@@ -1,7 +1,8 @@
-//! What no clause of the model says: what its trees take of memory. Its functions answer by clauses
-//! that name the answer for each argument.
+//! What no clause of the model says: what its trees take of memory, and that a number's bytes are
+//! given, which could be want of memory by the contract. Its other functions answer by clauses that
+//! name the answer for each argument.
 
-use cborn_model::{Item, Node, push_doubling};
+use cborn_model::{Item, Magnitude, Node, push_doubling};
 use std::mem::size_of;
 use std::test::Fail;
 
@@ -21,5 +22,13 @@ fn grows_by_doubling(rt: HostRuntime) -> Result<(), Fail> {
         assert_eq!(rt; list.capacity(), *room);
     }
     assert_eq!(rt; list.as_slice(), [0usize, 1, 2, 3, 4].as_slice());
+    Ok(())
+}
+
+/// Catches a number that never gives its bytes.
+#[test]
+fn gives_bytes(rt: HostRuntime) -> Result<(), Fail> {
+    let bytes = Magnitude::word(258).into_vec(rt.alloc())?;
+    assert_eq!(rt; bytes.as_slice(), b"\x01\x02".as_slice());
     Ok(())
 }
