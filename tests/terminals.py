@@ -15,7 +15,7 @@ import sys
 import tempfile
 
 HEXADECIMAL = "hint: the input looks like hexadecimal, and was read as CBOR bytes: xxd -r -p makes bytes of it"
-NOTATION = "hint: the input is a text, and was read as CBOR bytes: --from notation reads diagnostic notation"
+NOTATION = "hint: the input is a text, and was read as CBOR bytes: normalise and show read diagnostic notation by --from notation, compare by --from-a and --from-b"
 FILES = {
     "digits": b"8301\n",
     "text": b"1\n",

@@ -116,12 +116,16 @@ pub fn print_lines<E: Write>(err: &mut E, lines: &str) {
 
 fn print_trouble<E: Write>(err: &mut E, trouble: Trouble<'_>) -> io::Result<()> {
     match trouble {
-        Trouble::CannotRead(name) => writeln!(err, "cborn: cannot read {name}"),
-        Trouble::CannotReadFirst(name) => writeln!(err, "cborn: first: cannot read {name}"),
-        Trouble::CannotReadSecond(name) => writeln!(err, "cborn: second: cannot read {name}"),
+        Trouble::CannotRead(name) => print_after(err, "cborn: cannot read ", name),
+        Trouble::CannotReadFirst(name) => print_after(err, "cborn: first: cannot read ", name),
+        Trouble::CannotReadSecond(name) => print_after(err, "cborn: second: cannot read ", name),
         Trouble::Engine(fault) => writeln!(err, "cborn: {fault}"),
         Trouble::Compare(fault) => writeln!(err, "cborn: {fault}"),
     }
+}
+
+fn print_after<E: Write>(err: &mut E, start: &str, name: &str) -> io::Result<()> {
+    writeln!(err, "{start}{name}")
 }
 
 fn status_of_trouble(trouble: Trouble<'_>) -> u8

@@ -4,6 +4,7 @@
 ghost use Rattle.std.specs.Prelude.{◌≡◌, ◌≤◌, ◌⊎◌, IfOk, IfErr};
 ghost use Rattle.cborn.specs.Statuses.{status_of_trouble};
 
+mod commands;
 mod explanations;
 mod help;
 mod hints;
@@ -21,7 +22,7 @@ use clap::Error;
 use clap::error::ErrorKind;
 use hints::{Audience, Remarks};
 use lines::{Trouble, explain_trouble, print, print_lines, tell_trouble};
-use options::read_task;
+use options::{Task, read_task};
 use statuses::{DONE, FAILED, REFUSED, USAGE};
 use std::alloc::Global;
 use std::io::{IsTerminal, Read, Write};
@@ -46,23 +47,47 @@ pub fn run<F: Files, I: Read + Drop, W: Write, E: Write + Drop>(
     ensures refused { result ≡ REFUSED → out.new ≡ out.old }
     ensures usage { result ≡ USAGE → out.new ≡ out.old }
 {
+    match read_task(alloc, words) {
+        Ok(task) => run_task(rt, alloc, &task, input, out, err, audience),
+        Err(why) => tell_usage(alloc, &why, &mut out.inner, err),
+    }
+}
+
+/// Does a task, and gives its status.
+fn run_task<F: Files, I: Read + Drop, W: Write, E: Write + Drop>(
+    rt: &F,
+    alloc: Global,
+    task: &Task<'_>,
+    input: I,
+    out: &mut Counted<W>,
+    err: E,
+    audience: Audience,
+) -> u8
+    ensures status { result ≤ 4 }
+    ensures refused { result ≡ REFUSED → out.new ≡ out.old }
+    ensures usage { result ≡ USAGE → out.new ≡ out.old }
+{
     let mut err = err;
-    let task = match read_task(alloc, words) {
-        Ok(task) => task,
-        Err(why) => {
-            return match answer_usage(alloc, &why, &mut out.inner, &mut err) {
-                Ok(status) => status,
-                Err(trouble) => tell_trouble(&mut err, trouble),
-            };
-        }
-    };
     let mut remarks = Remarks::new(alloc, audience);
-    match perform(rt, alloc, &task, input, out, &mut remarks) {
+    match perform(rt, alloc, task, input, out, &mut remarks) {
         Ok(status) => {
             print_lines(&mut err, remarks.lines.as_str());
             status
         }
         Err(trouble) => explain_trouble(&mut err, trouble, remarks.lines.as_str()),
+    }
+}
+
+/// Prints why there is no task, and gives the status.
+fn tell_usage<W: Write, E: Write + Drop>(alloc: Global, why: &Error, out: &mut W, err: E) -> u8
+    ensures status { result ≤ 4 }
+    ensures refused { result ≡ REFUSED → out.new ≡ out.old }
+    ensures usage { result ≡ USAGE → out.new ≡ out.old }
+{
+    let mut err = err;
+    match answer_usage(alloc, why, out, &mut err) {
+        Ok(status) => status,
+        Err(trouble) => tell_trouble(&mut err, trouble),
     }
 }
 

@@ -1,5 +1,7 @@
 //! Options that are given to a command which hasn't got them, while another command has.
 
+use crate::commands::{CHECK, COMPARE, Form, SHOW};
+
 const COMPARE_FROM: &str =
     "compare reads two files, and each has its own format: use '--from-a <KIND>' for FILE_A and '--from-b <KIND>' for FILE_B, in place of '--from'";
 
@@ -17,31 +19,50 @@ const SHOW_ORDER: &str =
 
 /// What to say of an option that a command hasn't got.
 #[derive(Clone, Copy)]
-pub enum Advice {
-    Compare(&'static str),
-    Check(&'static str),
-    Show(&'static str),
+pub struct Advice {
+    pub command: Form,
+    option: &'static str,
+    pub line: &'static str,
 }
+
+const ADVICE: &[Advice] = &[
+    Advice {
+        command: COMPARE,
+        option: "--from",
+        line: COMPARE_FROM,
+    },
+    Advice {
+        command: COMPARE,
+        option: "--to",
+        line: COMPARE_TO,
+    },
+    Advice {
+        command: CHECK,
+        option: "--from",
+        line: CHECK_FROM,
+    },
+    Advice {
+        command: CHECK,
+        option: "--to",
+        line: CHECK_TO,
+    },
+    Advice {
+        command: SHOW,
+        option: "--order",
+        line: SHOW_ORDER,
+    },
+];
 
 /// What is meant by an option of another command, if one is given. The first of `words` is the
 /// program's name, the second the command's.
-pub fn advice_on(words: &[&str]) -> Option<Advice> {
-    match *words.get(1)? {
-        "compare" => {
-            if has_option(words, "--from") {
-                return Some(Advice::Compare(COMPARE_FROM));
-            }
-            has_option(words, "--to").then_some(Advice::Compare(COMPARE_TO))
+pub fn advice_on(words: &[&str]) -> Option<&'static Advice> {
+    let name = *words.get(1)?;
+    for advice in ADVICE {
+        if advice.command.name == name && has_option(words, advice.option) {
+            return Some(advice);
         }
-        "check" => {
-            if has_option(words, "--from") {
-                return Some(Advice::Check(CHECK_FROM));
-            }
-            has_option(words, "--to").then_some(Advice::Check(CHECK_TO))
-        }
-        "show" => has_option(words, "--order").then_some(Advice::Show(SHOW_ORDER)),
-        _ => None,
     }
+    None
 }
 
 /// Whether an option is among some words, alone or with `=` and its value. Behind `--` there are no options.

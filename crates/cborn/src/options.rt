@@ -1,10 +1,10 @@
 //! The command line.
 
+use crate::commands::{Argument, COMMANDS, Form, Takes, Value};
 use crate::help;
 use crate::misplaced::{Advice, advice_on};
 use cborn_engine::Kind;
 use cborn_model::Limit;
-use clap::builder::ValueParser;
 use clap::error::ErrorKind;
 use clap::{Arg, ArgAction, ArgMatches, Command, Error};
 use std::alloc::{AllocError, Global};
@@ -65,13 +65,27 @@ impl Purpose {
 /// What is wrong with the words, or a request for help or the version.
 pub fn read_task<'a>(alloc: Global, words: &'a [&'a str]) -> Result<Task<'a>, Error> {
     let mut program = program(alloc)?;
-    let matches = match program.try_get_matches_from_mut(words) {
-        Ok(matches) => matches,
-        Err(why) => return Err(explained(alloc, words, why)),
-    };
-    match task_of(&matches) {
-        Some(task) => Ok(task),
-        None => Err(program.error(ErrorKind::MissingSubcommand, "a command is required")?),
+    task_for(alloc, &mut program, words)
+}
+
+fn task_for<'a>(
+    alloc: Global,
+    program: &mut Command<'a>,
+    words: &'a [&'a str],
+) -> Result<Task<'a>, Error> {
+    match program.try_get_matches_from_mut(words) {
+        Ok(matches) => match task_of(&matches) {
+            Some(task) => Ok(task),
+            None => Err(no_command(program)),
+        },
+        Err(why) => Err(explained(alloc, words, why)),
+    }
+}
+
+fn no_command(program: &mut Command<'_>) -> Error {
+    match program.error(ErrorKind::MissingSubcommand, "a command is required") {
+        Ok(error) => error,
+        Err(refused) => Error::from(refused),
     }
 }
 
@@ -80,26 +94,24 @@ fn explained(alloc: Global, words: &[&str], why: Error) -> Error {
     if why.kind() != ErrorKind::UnknownArgument {
         return why;
     }
-    let told = match advice_on(words) {
-        Some(Advice::Compare(line)) => told_of(compare(alloc), "cborn compare", line),
-        Some(Advice::Check(line)) => told_of(check(alloc), "cborn check", line),
-        Some(Advice::Show(line)) => told_of(show(alloc), "cborn show", line),
-        None => return why,
-    };
-    match told {
+    match advice_on(words) {
+        Some(advice) => told_of(alloc, advice),
+        None => why,
+    }
+}
+
+fn told_of(alloc: Global, advice: &Advice) -> Error {
+    match advised(alloc, advice) {
         Ok(error) => error,
         Err(refused) => Error::from(refused),
     }
 }
 
 /// A line with the usage of a command, whose name is given with the program's.
-fn told_of(
-    command: Result<Command<'_>, AllocError>,
-    name: &str,
-    line: &str,
-) -> Result<Error, AllocError> {
-    let mut command = command?.bin_name(name)?;
-    command.error(ErrorKind::UnknownArgument, line)
+fn advised(alloc: Global, advice: &Advice) -> Result<Error, AllocError> {
+    let command = command(alloc, &advice.command)?;
+    let mut command = command.bin_name(advice.command.whole_name)?;
+    command.error(ErrorKind::UnknownArgument, advice.line)
 }
 
 fn task_of<'a>(matches: &ArgMatches<'a>) -> Option<Task<'a>> {
@@ -107,36 +119,43 @@ fn task_of<'a>(matches: &ArgMatches<'a>) -> Option<Task<'a>> {
     Some(Task {
         action: action_of(name, found)?,
         order: order_of(found),
-        limit: Limit::new(found.get_one::<u64>("depth")?)?,
+        limit: limit_of(found)?,
         explain: found.get_flag("explain"),
     })
 }
 
+fn limit_of(found: &ArgMatches<'_>) -> Option<Limit> {
+    Limit::new(found.get_one::<u64>("depth")?)
+}
+
 fn action_of<'a>(name: &str, found: &ArgMatches<'a>) -> Option<Action<'a>> {
-    let purpose = match name {
-        "show" => Purpose::Show {
-            from: kind_of(found, "from"),
-            to: kind_of(found, "to"),
-        },
-        "normalise" => Purpose::Normalise {
-            from: kind_of(found, "from"),
-            to: kind_of(found, "to"),
-        },
-        "check" => Purpose::Check,
-        "compare" => {
-            return Some(Action::Compare {
-                first: found.get_str("FILE_A")?,
-                second: found.get_str("FILE_B")?,
-                from_a: kind_of(found, "from-a"),
-                from_b: kind_of(found, "from-b"),
-            });
-        }
-        _ => return None,
-    };
+    if name == "compare" {
+        return comparison_of(found);
+    }
     Some(Action::Read {
         file: found.get_str("FILE"),
-        purpose,
+        purpose: purpose_of(name, found)?,
     })
+}
+
+fn comparison_of<'a>(found: &ArgMatches<'a>) -> Option<Action<'a>> {
+    Some(Action::Compare {
+        first: found.get_str("FILE_A")?,
+        second: found.get_str("FILE_B")?,
+        from_a: kind_of(found, "from-a"),
+        from_b: kind_of(found, "from-b"),
+    })
+}
+
+fn purpose_of(name: &str, found: &ArgMatches<'_>) -> Option<Purpose> {
+    let from = kind_of(found, "from");
+    let to = kind_of(found, "to");
+    match name {
+        "show" => Some(Purpose::Show { from, to }),
+        "normalise" => Some(Purpose::Normalise { from, to }),
+        "check" => Some(Purpose::Check),
+        _ => None,
+    }
 }
 
 fn order_of(found: &ArgMatches<'_>) -> Order {
@@ -146,6 +165,7 @@ fn order_of(found: &ArgMatches<'_>) -> Order {
     }
 }
 
+/// The format that an option names. A command that hasn't got the option has bytes.
 fn kind_of(found: &ArgMatches<'_>, name: &str) -> Kind {
     match found.get_str(name) {
         Some("notation") => Kind::Notation,
@@ -155,110 +175,53 @@ fn kind_of(found: &ArgMatches<'_>, name: &str) -> Kind {
 }
 
 fn program<'a>(alloc: Global) -> Result<Command<'a>, AllocError> {
+    let mut program = named(alloc);
+    for form in COMMANDS {
+        program = with_command(alloc, program, form)?;
+    }
+    Ok(program)
+}
+
+fn with_command<'a>(
+    alloc: Global,
+    program: Command<'a>,
+    form: &Form,
+) -> Result<Command<'a>, AllocError> {
+    let command = command(alloc, form)?;
+    program.subcommand(command)
+}
+
+fn named<'a>(alloc: Global) -> Command<'a> {
     Command::new(alloc, "cborn")
         .version("0.3.0")
         .about(help::PROGRAM)
         .after_long_help(help::PROGRAM_NOTES)
         .subcommand_required(true)
         .disable_help_subcommand(true)
-        .subcommand(show(alloc)?)?
-        .subcommand(normalise(alloc)?)?
-        .subcommand(compare(alloc)?)?
-        .subcommand(check(alloc)?)
 }
 
-fn show<'a>(alloc: Global) -> Result<Command<'a>, AllocError> {
-    Command::new(alloc, "show")
-        .about(help::SHOW)
-        .after_long_help(help::SHOW_NOTES)
-        .arg(file_argument(alloc))?
-        .arg(from_option(alloc, "from", help::FROM))?
-        .arg(to_option(alloc, "notation"))?
-        .arg(depth_option(alloc))?
-        .arg(explain_flag(alloc))
+fn command<'a>(alloc: Global, form: &Form) -> Result<Command<'a>, AllocError> {
+    let mut command = Command::new(alloc, form.name)
+        .about(form.about)
+        .after_long_help(form.notes);
+    for argument in form.arguments {
+        command = command.arg(argument_of(alloc, argument))?;
+    }
+    Ok(command)
 }
 
-fn normalise<'a>(alloc: Global) -> Result<Command<'a>, AllocError> {
-    Command::new(alloc, "normalise")
-        .about(help::NORMALISE)
-        .after_long_help(help::NORMALISE_NOTES)
-        .arg(file_argument(alloc))?
-        .arg(from_option(alloc, "from", help::FROM))?
-        .arg(to_option(alloc, "wire"))?
-        .arg(order_option(alloc))?
-        .arg(depth_option(alloc))?
-        .arg(explain_flag(alloc))
+fn argument_of<'a>(alloc: Global, argument: &Argument) -> Arg<'a> {
+    let arg = Arg::new(alloc, argument.name).help(argument.help);
+    match argument.takes {
+        Takes::File { is_required } => arg.required(is_required),
+        Takes::Value(value) => with_value(arg.long(argument.name), value),
+        Takes::Nothing => arg.long(argument.name).action(ArgAction::SetTrue),
+    }
 }
 
-fn compare<'a>(alloc: Global) -> Result<Command<'a>, AllocError> {
-    Command::new(alloc, "compare")
-        .about(help::COMPARE)
-        .after_long_help(help::COMPARE_NOTES)
-        .arg(Arg::new(alloc, "FILE_A").required(true).help(help::FILE_A))?
-        .arg(Arg::new(alloc, "FILE_B").required(true).help(help::FILE_B))?
-        .arg(from_option(alloc, "from-a", help::FROM_A))?
-        .arg(from_option(alloc, "from-b", help::FROM_B))?
-        .arg(order_option(alloc))?
-        .arg(depth_option(alloc))?
-        .arg(explain_flag(alloc))
-}
-
-fn check<'a>(alloc: Global) -> Result<Command<'a>, AllocError> {
-    Command::new(alloc, "check")
-        .about(help::CHECK)
-        .after_long_help(help::CHECK_NOTES)
-        .arg(file_argument(alloc))?
-        .arg(order_option(alloc))?
-        .arg(depth_option(alloc))?
-        .arg(explain_flag(alloc))
-}
-
-fn file_argument<'a>(alloc: Global) -> Arg<'a> {
-    Arg::new(alloc, "FILE").help(help::FILE)
-}
-
-fn from_option<'a>(alloc: Global, name: &'a str, help: &'a str) -> Arg<'a> {
-    Arg::new(alloc, name)
-        .long(name)
-        .value_name("KIND")
-        .value_parser(ValueParser::Names(&["wire", "notation", "notation-2"]))
+fn with_value<'a>(arg: Arg<'a>, value: Value) -> Arg<'a> {
+    arg.value_name(value.name)
+        .value_parser(value.parser)
         .hide_possible_values(true)
-        .default_value("wire")
-        .help(help)
-}
-
-fn to_option<'a>(alloc: Global, default: &'a str) -> Arg<'a> {
-    Arg::new(alloc, "to")
-        .long("to")
-        .value_name("KIND")
-        .value_parser(ValueParser::Names(&["wire", "notation"]))
-        .hide_possible_values(true)
-        .default_value(default)
-        .help(help::TO)
-}
-
-fn order_option<'a>(alloc: Global) -> Arg<'a> {
-    Arg::new(alloc, "order")
-        .long("order")
-        .value_name("ORDER")
-        .value_parser(ValueParser::Names(&["bytewise", "length-first"]))
-        .hide_possible_values(true)
-        .default_value("bytewise")
-        .help(help::ORDER)
-}
-
-fn depth_option<'a>(alloc: Global) -> Arg<'a> {
-    Arg::new(alloc, "depth")
-        .long("depth")
-        .value_name("N")
-        .value_parser(ValueParser::Unsigned(1, 1024))
-        .default_value("128")
-        .help(help::DEPTH)
-}
-
-fn explain_flag<'a>(alloc: Global) -> Arg<'a> {
-    Arg::new(alloc, "explain")
-        .long("explain")
-        .action(ArgAction::SetTrue)
-        .help(help::EXPLAIN)
+        .default_value(value.default)
 }

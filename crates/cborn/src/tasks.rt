@@ -179,17 +179,28 @@ fn compare_files<'a, O: KeyOrder, F: Files, W: Write>(
         inner: LateFile::new(rt, files.1),
         look: remarks.look(kinds.1),
     };
-    match compare::<O, _, _>(alloc, limit, kinds.0, &mut reader, kinds.1, &mut late) {
-        Ok(index) => {
-            let status = tell_answer(&mut out.inner, difference(index))?;
-            remarks.hint(alloc, "first: ", reader.look);
-            remarks.hint(alloc, "second: ", late.look);
-            Ok(status)
-        }
-        Err(CompareFault::Second(_)) if late.inner.is_missing() => {
-            Err(Trouble::CannotReadSecond(files.1))
-        }
-        Err(why) => Err(Trouble::Compare(why)),
+    let compared = compare::<O, _, _>(alloc, limit, kinds.0, &mut reader, kinds.1, &mut late);
+    let missing = late.inner.is_missing().then_some(files.1);
+    let status = tell_comparison(&mut out.inner, compared, missing)?;
+    remarks.hint(alloc, "first: ", reader.look);
+    remarks.hint(alloc, "second: ", late.look);
+    Ok(status)
+}
+
+/// Tells how a comparison came out. `missing` is the name of the second file, where it can't be
+/// opened.
+fn tell_comparison<'a, W: Write>(
+    out: &mut W,
+    compared: Result<Option<u64>, CompareFault>,
+    missing: Option<&'a str>,
+) -> Result<u8, Trouble<'a>>
+    ensures status { IfOk result (λ status. status ≤ 1) }
+    ensures untouched { IfErr result (λ why. IsRefusal why → out.new ≡ out.old) }
+{
+    match (compared, missing) {
+        (Ok(index), _) => tell_answer(out, difference(index)),
+        (Err(CompareFault::Second(_)), Some(name)) => Err(Trouble::CannotReadSecond(name)),
+        (Err(why), _) => Err(Trouble::Compare(why)),
     }
 }
 
@@ -287,30 +298,37 @@ fn compare_explained<'a, O: KeyOrder, F: Files, W: Write>(
     };
     let mut reader = Kept::new(alloc, Counted::new(file));
     let mut late = Kept::new(alloc, LateFile::new(rt, files.1));
-    match compare::<O, _, _>(alloc, limit, kinds.0, &mut reader, kinds.1, &mut late) {
-        Ok(answer) => {
-            let status = tell_answer(&mut out.inner, difference(answer))?;
-            if answer.is_some() {
-                explain_index::<O>(alloc, limit, kinds, (reader.bytes(), late.bytes()), lines);
+    let compared = compare::<O, _, _>(alloc, limit, kinds.0, &mut reader, kinds.1, &mut late);
+    let missing = late.inner.is_missing().then_some(files.1);
+    let told = tell_comparison(&mut out.inner, compared, missing);
+    let inputs = (reader.bytes(), late.bytes());
+    explain_comparison::<O>(alloc, limit, kinds, inputs, told, lines);
+    told
+}
+
+/// Explains what was told of two inputs.
+fn explain_comparison<O: KeyOrder>(
+    alloc: Global,
+    limit: Limit,
+    kinds: (Kind, Kind),
+    inputs: (Option<&[u8]>, Option<&[u8]>),
+    told: Result<u8, Trouble<'_>>,
+    lines: &mut String,
+) {
+    match told {
+        Ok(status) => {
+            if status != DONE {
+                explain_index::<O>(alloc, limit, kinds, inputs, lines);
             }
-            explain_kind(alloc, kinds.0, reader.bytes(), lines);
-            explain_kind(alloc, kinds.1, late.bytes(), lines);
-            Ok(status)
+            explain_kind(alloc, kinds.0, inputs.0, lines);
+            explain_kind(alloc, kinds.1, inputs.1, lines);
         }
-        Err(CompareFault::Second(_)) if late.inner.is_missing() => {
-            Err(Trouble::CannotReadSecond(files.1))
+        Err(Trouble::Compare(CompareFault::First(fault))) => {
+            explain_fault(alloc, limit, kinds.0, inputs.0, fault, lines);
         }
-        Err(why) => {
-            match why {
-                CompareFault::First(fault) => {
-                    explain_fault(alloc, limit, kinds.0, reader.bytes(), fault, lines);
-                }
-                CompareFault::Second(fault) => {
-                    explain_fault(alloc, limit, kinds.1, late.bytes(), fault, lines);
-                }
-                CompareFault::OutOfMemory => {}
-            }
-            Err(Trouble::Compare(why))
+        Err(Trouble::Compare(CompareFault::Second(fault))) => {
+            explain_fault(alloc, limit, kinds.1, inputs.1, fault, lines);
         }
+        Err(_) => {}
     }
 }

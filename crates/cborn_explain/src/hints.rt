@@ -20,7 +20,7 @@ impl Display for Hint {
         match self {
             Hint::Notation => write!(
                 f,
-                "the input is a text, and was read as CBOR bytes: --from notation reads diagnostic notation"
+                "the input is a text, and was read as CBOR bytes: normalise and show read diagnostic notation by --from notation, compare by --from-a and --from-b"
             ),
             Hint::Hexadecimal => write!(
                 f,

@@ -1,5 +1,5 @@
 -- What a walk keeps of what is open goes as the machine does, item by item.
-use Rattle.std.proofs.Common.{◌≡◌, refl, sym, ap, ◌∙◌, subst, ℕ, suc, ◌+◌, ◌≤◌, ◌<◌, ◌^◌, List, [], ◌∷◌, ◌++◌, length, Bool, true, false, cond, leb, Some, None, arith, add-one, length-append}
+use Rattle.std.proofs.Common.{◌≡◌, refl, sym, ap, ◌∙◌, subst, ℕ, ◌+◌, ◌≤◌, ◌<◌, ◌^◌, List, [], ◌∷◌, ◌++◌, length, Bool, true, false, cond, leb, Some, None, arith, length-append}
 use Rattle.std.specs.List.{flat_map}
 use Rattle.cborn_model.specs.declared.heads.Width.{Width}
 use Rattle.cborn_model.specs.declared.heads.Size.TheVariants.{Endless}
@@ -7,15 +7,13 @@ use Rattle.cborn_model.specs.declared.heads.Major.{Major}
 use Rattle.cborn_model.specs.declared.heads.Major.TheVariants as majors
 use Rattle.cborn_model.specs.declared.nodes.Chunk.{Chunk}
 use Rattle.cborn_model.specs.Heads.{Given, Unbounded, head}
-use Rattle.cborn_model.specs.Heads as heads
 use Rattle.cborn_model.specs.Tree.{Tree, Items, Pairs, Tagged, Trees, no_item, more, Entries, no_entry, entry, count, count_entries}
 use Rattle.cborn_model.specs.Spelled.{chunk_bytes, spelled, spelled_all, spelled_entries}
-use Rattle.cborn_wire.specs.Slots.{StringKind, OfBytes, OfText, Begun, begun_items, begun_pairs, begun_value, begun_tag, begun_chunks, beginning, beginnings, slot, slot_in, IsNoChunk, AreBegun, major_of}
+use Rattle.cborn_wire.specs.Slots.{StringKind, OfBytes, OfText, Begun, begun_items, begun_pairs, begun_value, begun_tag, begun_chunks, beginning, beginnings, slot, slot_in, IsNoChunk, AreBegun}
 use Rattle.cborn_wire.specs.Faults.{needs_item}
-use Rattle.cborn_wire.specs.devices.Machine.{snoc, snoc_entry, State, items_tree, pairs_tree, string_tree, chunks_tree, finished, string_done, ended, front}
+use Rattle.cborn_wire.specs.devices.Machine.{snoc, snoc_entry, State, items_tree, pairs_tree, string_tree, chunks_tree, finished, string_done, ended}
 use Rattle.cborn_wire.proofs.Machine.TakesItems.{count-snoc, count_entries-snoc, items_open, pairs_open}
 use Rattle.cborn_judge.proofs.Meaning.Meanings.{some_bytes}
-use Rattle.cborn_explain.specs.declared.paths.Step.{Step}
 use Rattle.cborn_explain.specs.declared.nestings.Nesting.{Nesting}
 use Rattle.cborn_explain.specs.declared.nestings.Nesting.TheVariants.{Sequence, Array, Map}
 use Rattle.cborn_explain.specs.declared.walks.Level.{Level}

@@ -1,7 +1,6 @@
 -- Going back from within a key to where it begins.
-use Rattle.std.proofs.Common.{◌≡◌, refl, sym, ap, ◌∙◌, subst, ℕ, zero, suc, ◌+◌, ◌≤◌, ◌<◌, List, [], ◌∷◌, ◌++◌, length, map, take, drop, get_or, Bool, true, false, cond, ◌||◌, arith, append_assoc, append-nil, length-append}
+use Rattle.std.proofs.Common.{◌≡◌, refl, sym, ap, ◌∙◌, ℕ, zero, suc, ◌+◌, ◌≤◌, ◌<◌, List, [], ◌∷◌, ◌++◌, length, map, take, drop, get_or, Bool, true, false, cond, ◌||◌, arith, append_assoc, length-append}
 use Rattle.std.proofs.lemmas.List.{length-take-le, take-append-drop, take_at}
-use Rattle.cborn_model.specs.Tree.{Trees}
 use Rattle.cborn_model.specs.Spelled.{spelled_all}
 use Rattle.cborn_wire.specs.Slots.{Begun, begun_items, begun_pairs, begun_value, begun_tag, begun_chunks, beginning, beginnings}
 use Rattle.cborn_wire.specs.devices.Machine.{front}

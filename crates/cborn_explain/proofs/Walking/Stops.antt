@@ -1,10 +1,10 @@
 -- Where a walk stops no longer front ends between two heads: the machine fails there, or is amid a head or a string.
-use Rattle.std.proofs.Common.{◌≡◌, refl, sym, ap, ◌∙◌, subst, ℕ, suc, ◌+◌, ◌-◌, ◌/◌, ◌%◌, ◌<◌, ◌≤◌, List, [], ◌∷◌, ◌++◌, length, take, drop, get_or, Bool, true, false, cond, leb, not, ◌&&◌, Option, Some, None, inl, inr, arith, append_assoc, length-append}
+use Rattle.std.proofs.Common.{◌≡◌, refl, sym, ap, ◌∙◌, subst, ℕ, ◌+◌, ◌/◌, ◌%◌, ◌<◌, ◌≤◌, List, [], ◌∷◌, ◌++◌, length, Bool, true, false, leb, not, ◌&&◌, Option, Some, None, inl, inr, arith, append_assoc, length-append}
 use Rattle.std.proofs.lemmas.Bool.{cases_lt}
 use Rattle.std.proofs.Math.Bool.{and-false}
 use Rattle.cborn_model.specs.declared.heads.Width.TheVariants.{Direct, One, Two, Four, Eight}
 use Rattle.cborn_model.specs.declared.heads.Major.{Major}
-use Rattle.cborn_model.specs.Heads.{Argument, head}
+use Rattle.cborn_model.specs.Heads.{head}
 use Rattle.cborn_model.specs.Tree.{Trees}
 use Rattle.cborn_wire.specs.declared.faults.WireReason.{WireReason}
 use Rattle.cborn_wire.specs.declared.heads.Head.{Head}
@@ -23,7 +23,7 @@ use Rattle.cborn_wire.proofs.Machine.TakesHeads.{info_for}
 use Rattle.cborn_wire.proofs.Machine.SoundSteps.{is_clear}
 use Rattle.cborn_wire.proofs.Scans.ScanItems.{reason_levels, slot_levels}
 use Rattle.cborn_wire.proofs.Scans.ScanSteps.{reason_here, step_refused, step_bad, step_cut, step_short}
-use Rattle.cborn_explain.specs.devices.Walks.{may_stand, IsWholeHead, IsNotWhole, HasNoHead}
+use Rattle.cborn_explain.specs.devices.Walks.{may_stand, IsNotWhole, HasNoHead}
 
 -- the machine isn't between two heads
 abbrev pub IsNotBetween : State → Type 0

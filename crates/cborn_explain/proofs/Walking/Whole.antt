@@ -4,16 +4,14 @@ use Rattle.std.proofs.lemmas.Bool.{cases_lt}
 use Rattle.std.proofs.lemmas.List.{length-drop, length-take-le, take-append-drop, take-append-le}
 use Rattle.std.proofs.Math.Seq.{take-add, take-append_seam}
 use Rattle.cborn_model.specs.Bytes.{AreBytes}
-use Rattle.cborn_model.specs.declared.heads.Major.{Major}
-use Rattle.cborn_model.specs.Heads as heads
-use Rattle.cborn_model.specs.Tree.{Trees, no_item, depth_all}
-use Rattle.cborn_model.specs.Spelled.{spelled_all, FitsAll}
+use Rattle.cborn_model.specs.Tree.{Trees, no_item}
+use Rattle.cborn_model.specs.Spelled.{spelled_all}
 use Rattle.cborn_wire.specs.declared.heads.Head.{Head}
-use Rattle.cborn_wire.specs.Slots.{Slot, Begun, beginnings, slot, AreBegun}
+use Rattle.cborn_wire.specs.Slots.{Begun, beginnings, slot, AreBegun}
 use Rattle.cborn_wire.specs.HeadReading.{major_at, seen_argument, IsHeadOf}
 use Rattle.cborn_wire.specs.Places.{all_from}
 use Rattle.cborn_wire.specs.devices.InitialBytes.{head_reason}
-use Rattle.cborn_wire.specs.devices.Machine.{Partial, nothing, gathering, State, Live, Failed, start, front, after_head, run}
+use Rattle.cborn_wire.specs.devices.Machine.{nothing, gathering, State, Live, Failed, start, front, after_head, run}
 use Rattle.cborn_wire.specs.devices.Scanning as scanning
 use Rattle.cborn_wire.specs.devices.Scanning.{content_of, IsScanned}
 use Rattle.cborn_wire.proofs.HeadReading.HeadSteps as steps

@@ -1,4 +1,4 @@
-use Rattle.std.proofs.Common.{◌≤◌, ◌-◌, length}
+use Rattle.std.proofs.Common.{◌-◌, length}
 use Rattle.cborn_explain.specs.devices.Walks.{IsWalked}
 use Rattle.cborn_explain.proofs.walks.item_end.Given as goal
 

@@ -1,5 +1,5 @@
-use Rattle.std.proofs.Common.{sym, ap, ◌∙◌, subst, ◌∷◌, []}
-use Rattle.cborn_explain.specs.devices.Walks.{turned, open_levels, IsOpened}
+use Rattle.std.proofs.Common.{sym, subst, ◌∷◌, []}
+use Rattle.cborn_explain.specs.devices.Walks.{turned, IsOpened}
 use Rattle.cborn_explain.proofs.Walking.Levels.{pop_around}
 use Rattle.cborn_explain.proofs.Walking.Keys.{opened_back}
 use Rattle.cborn_explain.proofs.walks.Walk.back_out.Goals as goal

@@ -1,4 +1,4 @@
-use Rattle.std.proofs.Common.{◌≡◌, suc, sym, ap, ◌∙◌, false, map, take, arith, add-one}
+use Rattle.std.proofs.Common.{suc, sym, ap, ◌∙◌, map, take, arith, add-one}
 use Rattle.std.proofs.lemmas.List.{take_all}
 use Rattle.cborn_explain.specs.devices.Walks.{step_of, has_key}
 use Rattle.cborn_explain.proofs.Walking.Keys.{around_is, key_there, no_key_more}

@@ -1,6 +1,6 @@
-use Rattle.std.proofs.Common.{◌≡◌, sym, ap, ◌∙◌, subst, true, false, length, arith}
+use Rattle.std.proofs.Common.{sym, ap, ◌∙◌, length, arith}
 use Rattle.cborn_explain.specs.Paths.{up_to_key}
-use Rattle.cborn_explain.specs.devices.Walks.{levels, path_of, around, has_key}
+use Rattle.cborn_explain.specs.devices.Walks.{levels, path_of}
 use Rattle.cborn_explain.proofs.Walking.Keys.{key_stays, some_around, key_last, fewer}
 use Rattle.cborn_explain.proofs.walks.Walk.leave_keys.Goals as goal
 
