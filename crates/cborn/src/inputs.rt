@@ -4,8 +4,8 @@ ghost use Rattle.std.specs.Io.{ReadsAtMost};
 ghost use Rattle.std.specs.Io.KnownBytes.{ReadConsumes};
 ghost use Rattle.cborn_engine.specs.Failures.{failures_after};
 
-use crate::hints::Look;
 use cborn_engine::Source;
+use cborn_explain::Look;
 use std::alloc::Global;
 use std::io::{ErrorKind, Read};
 use std::rt::Files;
@@ -79,21 +79,77 @@ impl<F: Files> Source for LateFile<'_, F> {
     }
 }
 
-/// A source that keeps what was read from it.
+/// A source of which something is noted as it is read.
 #[derive(Drop)]
-pub struct Kept<S> {
+pub struct Noted<S> {
     pub inner: S,
+    pub notes: Notes,
+}
+
+impl<S: Source> Source for Noted<S> {
+    ghost remaining = { λ n. S.remaining n.inner };
+
+    ghost failed = { λ n. S.failed n.inner };
+
+    ghost asked = { λ n. S.asked n.inner };
+
+    fn read_some(&mut self, buf: &mut [u8]) -> io::Result<usize>
+        ensures bound { ReadsAtMost result buf.new }
+        ensures bytes { ReadConsumes (S.remaining self.old.inner) (S.remaining self.new.inner) result buf.new }
+        ensures failures { S.failed self.new.inner ≡ failures_after result (S.failed self.old.inner) }
+        ensures calls { S.asked self.new.inner ≤ S.asked self.old.inner + 1 }
+    {
+        let result = self.inner.read_some(buf);
+        if let Ok(count) = &result {
+            self.notes.see(&buf[..*count]);
+        }
+        result
+    }
+
+    fn failures(&self) -> u64 {
+        self.inner.failures()
+    }
+}
+
+/// What is noted of an input, for what is said of it on standard error.
+#[derive(Drop)]
+pub enum Notes {
+    Nothing,
+    /// What it looks like.
+    Look(Look),
+    /// All of it.
+    Whole(Kept),
+}
+
+impl Notes {
+    fn see(&mut self, bytes: &[u8]) {
+        match self {
+            Notes::Nothing => {}
+            Notes::Look(look) => look.see(bytes),
+            Notes::Whole(kept) => kept.see(bytes),
+        }
+    }
+}
+
+/// The bytes of an input.
+#[derive(Drop)]
+pub struct Kept {
     bytes: Vec<u8>,
     is_lost: bool,
 }
 
-impl<S> Kept<S> {
-    /// Keeps what is read from `inner`, from now on.
-    pub fn new(alloc: Global, inner: S) -> Self {
+impl Kept {
+    /// None yet.
+    pub fn new(alloc: Global) -> Self {
         Kept {
-            inner,
             bytes: Vec::new(alloc),
             is_lost: false,
+        }
+    }
+
+    fn see(&mut self, bytes: &[u8]) {
+        if self.bytes.extend_from_slice(bytes).is_err() {
+            self.is_lost = true;
         }
     }
 
@@ -104,64 +160,5 @@ impl<S> Kept<S> {
         } else {
             Some(self.bytes.as_slice())
         }
-    }
-}
-
-impl<S: Source> Source for Kept<S> {
-    ghost remaining = { λ k. S.remaining k.inner };
-
-    ghost failed = { λ k. S.failed k.inner };
-
-    ghost asked = { λ k. S.asked k.inner };
-
-    fn read_some(&mut self, buf: &mut [u8]) -> io::Result<usize>
-        ensures bound { ReadsAtMost result buf.new }
-        ensures bytes { ReadConsumes (S.remaining self.old.inner) (S.remaining self.new.inner) result buf.new }
-        ensures failures { S.failed self.new.inner ≡ failures_after result (S.failed self.old.inner) }
-        ensures calls { S.asked self.new.inner ≤ S.asked self.old.inner + 1 }
-    {
-        let result = self.inner.read_some(buf);
-        if let Ok(count) = &result {
-            if self.bytes.extend_from_slice(&buf[..*count]).is_err() {
-                self.is_lost = true;
-            }
-        }
-        result
-    }
-
-    fn failures(&self) -> u64 {
-        self.inner.failures()
-    }
-}
-
-/// A source of which is noted what it looks like.
-#[derive(Drop)]
-pub struct Looked<S> {
-    pub inner: S,
-    pub look: Look,
-}
-
-impl<S: Source> Source for Looked<S> {
-    ghost remaining = { λ l. S.remaining l.inner };
-
-    ghost failed = { λ l. S.failed l.inner };
-
-    ghost asked = { λ l. S.asked l.inner };
-
-    fn read_some(&mut self, buf: &mut [u8]) -> io::Result<usize>
-        ensures bound { ReadsAtMost result buf.new }
-        ensures bytes { ReadConsumes (S.remaining self.old.inner) (S.remaining self.new.inner) result buf.new }
-        ensures failures { S.failed self.new.inner ≡ failures_after result (S.failed self.old.inner) }
-        ensures calls { S.asked self.new.inner ≤ S.asked self.old.inner + 1 }
-    {
-        let result = self.inner.read_some(buf);
-        if let Ok(count) = &result {
-            self.look.see(&buf[..*count]);
-        }
-        result
-    }
-
-    fn failures(&self) -> u64 {
-        self.inner.failures()
     }
 }

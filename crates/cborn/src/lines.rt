@@ -1,11 +1,11 @@
 //! The lines that the program prints.
-ghost use Rattle.std.specs.Prelude.{◌≡◌, ◌≢◌, ◌↔◌, ◌≤◌, IfOk, IfErr};
-ghost use Rattle.cborn.specs.Statuses.{IsRefusal, status_of_answer, status_of_trouble};
+ghost use Rattle.std.specs.Prelude.{◌≡◌, ◌≤◌, IfOk, IfErr, OnOk};
+ghost use Rattle.cborn.specs.Statuses.{status_of_answer, status_of_trouble};
 ghost use Rattle.cborn_engine.specs.declared.EngineFault.TheVariants as fault;
 ghost use Rattle.cborn.specs.declared.lines.Trouble.TheVariants as trouble;
 
 use crate::statuses::{DIFFERENT, DONE, FAILED, REFUSED};
-use cborn_engine::{CompareFault, EngineFault};
+use cborn_engine::{CompareFault, Counted, EngineFault};
 use cborn_judge::Defect;
 use std::fmt::{Display, Formatter};
 use std::io::Write;
@@ -58,12 +58,13 @@ impl Display for Answer {
     }
 }
 
-/// Prints an answer on a line, and gives the status that goes with it.
+/// Prints an answer on a line, flushes, and gives the status that goes with it.
 ///
 /// # Errors
 /// Where the line can't be written.
-pub fn tell_answer<'a, W: Write>(out: &mut W, answer: Answer) -> Result<u8, Trouble<'a>>
+pub fn tell_answer<'a, W: Write>(out: &mut Counted<W>, answer: Answer) -> Result<u8, Trouble<'a>>
     ensures status { IfOk result (λ status. status ≡ status_of_answer answer) }
+    ensures flushed { OnOk result (out.new.unflushed ≡ 0) }
     ensures trouble { IfErr result (λ why. why ≡ trouble.Engine fault.WriteFault) }
 {
     match print(out, &answer, "\n") {
@@ -85,21 +86,25 @@ fn status_of_answer(answer: Answer) -> u8
 ///
 /// # Errors
 /// Where it can't be written.
-pub fn print<W: Write, T: Display>(out: &mut W, text: &T, end: &str) -> io::Result<()> {
+pub fn print<W: Write, T: Display>(out: &mut Counted<W>, text: &T, end: &str) -> io::Result<()>
+    ensures flushed { OnOk result (out.new.unflushed ≡ 0) }
+{
     write!(out, "{text}{end}")?;
     out.flush()
 }
 
 /// Prints a trouble on a line, and gives its status. That the line can't be printed is ignored.
 pub fn tell_trouble<E: Write>(err: &mut E, trouble: Trouble<'_>) -> u8
-    ensures { result ≡ status_of_trouble trouble.entry }
+    ensures status { result ≡ status_of_trouble trouble.entry }
+    ensures undone { 2 ≤ result }
 {
     explain_trouble(err, trouble, "")
 }
 
 /// The same, with further lines behind that line.
 pub fn explain_trouble<E: Write>(err: &mut E, trouble: Trouble<'_>, lines: &str) -> u8
-    ensures { result ≡ status_of_trouble trouble.entry }
+    ensures status { result ≡ status_of_trouble trouble.entry }
+    ensures undone { 2 ≤ result }
 {
     if print_trouble(err, trouble).is_ok() {
         print_lines(err, lines);
@@ -129,7 +134,8 @@ fn print_after<E: Write>(err: &mut E, start: &str, name: &str) -> io::Result<()>
 }
 
 fn status_of_trouble(trouble: Trouble<'_>) -> u8
-    ensures { result ≡ status_of_trouble trouble.entry }
+    ensures status { result ≡ status_of_trouble trouble.entry }
+    ensures undone { 2 ≤ result }
 {
     match trouble {
         Trouble::Engine(fault)

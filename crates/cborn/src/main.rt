@@ -7,22 +7,20 @@ ghost use Rattle.cborn.specs.Statuses.{status_of_trouble};
 mod commands;
 mod explanations;
 mod help;
-mod hints;
 mod inputs;
 mod lines;
 mod misplaced;
 mod options;
+mod remarks;
 mod statuses;
 mod tasks;
-#[cfg(test)]
-mod tests;
 
 use cborn_engine::{Counted, EngineFault};
 use clap::Error;
 use clap::error::ErrorKind;
-use hints::{Audience, Remarks};
 use lines::{Trouble, explain_trouble, print, print_lines, tell_trouble};
 use options::{Task, read_task};
+use remarks::{Audience, Remarks};
 use statuses::{DONE, FAILED, REFUSED, USAGE};
 use std::alloc::Global;
 use std::io::{IsTerminal, Read, Write};
@@ -46,10 +44,11 @@ pub fn run<F: Files, I: Read + Drop, W: Write, E: Write + Drop>(
     ensures status { result ≤ 4 }
     ensures refused { result ≡ REFUSED → out.new ≡ out.old }
     ensures usage { result ≡ USAGE → out.new ≡ out.old }
+    ensures flushed { result ≤ 1 → out.new.unflushed ≡ 0 }
 {
     match read_task(alloc, words) {
         Ok(task) => run_task(rt, alloc, &task, input, out, err, audience),
-        Err(why) => tell_usage(alloc, &why, &mut out.inner, err),
+        Err(why) => tell_usage(alloc, &why, out, err),
     }
 }
 
@@ -66,9 +65,10 @@ fn run_task<F: Files, I: Read + Drop, W: Write, E: Write + Drop>(
     ensures status { result ≤ 4 }
     ensures refused { result ≡ REFUSED → out.new ≡ out.old }
     ensures usage { result ≡ USAGE → out.new ≡ out.old }
+    ensures flushed { result ≤ 1 → out.new.unflushed ≡ 0 }
 {
     let mut err = err;
-    let mut remarks = Remarks::new(alloc, audience);
+    let mut remarks = Remarks::new(alloc, audience, task.explain);
     match perform(rt, alloc, task, input, out, &mut remarks) {
         Ok(status) => {
             print_lines(&mut err, remarks.lines.as_str());
@@ -79,10 +79,16 @@ fn run_task<F: Files, I: Read + Drop, W: Write, E: Write + Drop>(
 }
 
 /// Prints why there is no task, and gives the status.
-fn tell_usage<W: Write, E: Write + Drop>(alloc: Global, why: &Error, out: &mut W, err: E) -> u8
+fn tell_usage<W: Write, E: Write + Drop>(
+    alloc: Global,
+    why: &Error,
+    out: &mut Counted<W>,
+    err: E,
+) -> u8
     ensures status { result ≤ 4 }
     ensures refused { result ≡ REFUSED → out.new ≡ out.old }
     ensures usage { result ≡ USAGE → out.new ≡ out.old }
+    ensures flushed { result ≤ 1 → out.new.unflushed ≡ 0 }
 {
     let mut err = err;
     match answer_usage(alloc, why, out, &mut err) {
@@ -95,11 +101,12 @@ fn tell_usage<W: Write, E: Write + Drop>(alloc: Global, why: &Error, out: &mut W
 fn answer_usage<'a, W: Write, E: Write>(
     alloc: Global,
     why: &Error,
-    out: &mut W,
+    out: &mut Counted<W>,
     err: &mut E,
 ) -> Result<u8, Trouble<'a>>
     ensures status { IfOk result (λ status. (status ≡ DONE) ⊎ (status ≡ USAGE)) }
     ensures untouched { IfOk result (λ status. status ≡ USAGE → out.new ≡ out.old) }
+    ensures flushed { IfOk result (λ status. status ≡ DONE → out.new.unflushed ≡ 0) }
     ensures trouble { IfErr result (λ why. status_of_trouble why ≡ FAILED) }
 {
     if why.kind() == ErrorKind::OutOfMemory {

@@ -1,12 +1,11 @@
 //! The program's commands.
-ghost use Rattle.std.specs.Prelude.{◌≡◌, ◌≤◌, IfOk, IfErr};
+ghost use Rattle.std.specs.Prelude.{◌≡◌, ◌≤◌, IfOk, IfErr, OnOk, None};
 ghost use Rattle.cborn.specs.Statuses.{IsRefusal};
 
-use crate::explanations::{explain_defect, explain_fault, explain_index, explain_kind};
-use crate::hints::Remarks;
-use crate::inputs::{Kept, LateFile, Looked};
+use crate::inputs::{LateFile, Noted};
 use crate::lines::{Answer, Trouble, tell_answer};
 use crate::options::{Action, Order, Purpose, Task};
+use crate::remarks::Remarks;
 use crate::statuses::DONE;
 use cborn_engine::{CompareFault, Counted, Kind, Source, check, compare, normalise, show_all};
 use cborn_model::{Bytewise, KeyOrder, LengthFirst, Limit};
@@ -15,9 +14,8 @@ use std::fs;
 use std::io::{Read, Write};
 use std::rt::Files;
 
-/// Does a task, and gives its status: `DONE` or `DIFFERENT`. Puts into `remarks` what is said on
-/// standard error then, or behind the line of a trouble: explanations, where the task wants them,
-/// and hints, where a person reads it.
+/// Does a task, flushes what it wrote, and gives its status: `DONE` or `DIFFERENT`. Puts into
+/// `remarks` what is said on standard error then, or behind the line of a trouble.
 ///
 /// # Errors
 /// What keeps the task from being done, in the words that are told of it. Where that is a refusal,
@@ -32,27 +30,18 @@ pub fn perform<'a, F: Files, I: Read + Drop, W: Write>(
 ) -> Result<u8, Trouble<'a>>
     ensures status { IfOk result (λ status. status ≤ 1) }
     ensures untouched { IfErr result (λ why. IsRefusal why → out.new ≡ out.old) }
+    ensures flushed { OnOk result (out.new.unflushed ≡ 0) }
 {
     let Task {
         action,
         order,
         limit,
-        explain,
+        ..
     } = *task;
-    match (explain, order) {
-        (false, Order::Bytewise) => {
-            act::<Bytewise, F, I, W>(rt, alloc, limit, action, input, out, remarks)
-        }
-        (false, Order::LengthFirst) => {
+    match order {
+        Order::Bytewise => act::<Bytewise, F, I, W>(rt, alloc, limit, action, input, out, remarks),
+        Order::LengthFirst => {
             act::<LengthFirst, F, I, W>(rt, alloc, limit, action, input, out, remarks)
-        }
-        (true, Order::Bytewise) => {
-            let lines = &mut remarks.lines;
-            act_explained::<Bytewise, F, I, W>(rt, alloc, limit, action, input, out, lines)
-        }
-        (true, Order::LengthFirst) => {
-            let lines = &mut remarks.lines;
-            act_explained::<LengthFirst, F, I, W>(rt, alloc, limit, action, input, out, lines)
         }
     }
 }
@@ -69,6 +58,7 @@ fn act<'a, O: KeyOrder, F: Files, I: Read + Drop, W: Write>(
 ) -> Result<u8, Trouble<'a>>
     ensures status { IfOk result (λ status. status ≤ 1) }
     ensures untouched { IfErr result (λ why. IsRefusal why → out.new ≡ out.old) }
+    ensures flushed { OnOk result (out.new.unflushed ≡ 0) }
 {
     match action {
         Action::Read {
@@ -114,16 +104,25 @@ fn read_for<'a, O: KeyOrder, I: Read + Drop, W: Write>(
 ) -> Result<u8, Trouble<'a>>
     ensures status { IfOk result (λ status. status ≤ 1) }
     ensures untouched { IfErr result (λ why. IsRefusal why → out.new ≡ out.old) }
+    ensures flushed { OnOk result (out.new.unflushed ≡ 0) }
 {
-    let mut reader = Looked {
+    let kind = purpose.from();
+    let mut reader = Noted {
         inner: Counted::new(input),
-        look: remarks.look(purpose.from()),
+        notes: remarks.notes(alloc, kind),
     };
-    let status = match answer_for::<O, _, W>(alloc, limit, purpose, &mut reader, out)? {
+    let answer = match answer_for::<O, _, W>(alloc, limit, purpose, &mut reader, out) {
+        Ok(answer) => answer,
+        Err(trouble) => {
+            remarks.on_trouble(alloc, limit, kind, &reader.notes, trouble);
+            return Err(trouble);
+        }
+    };
+    let status = match answer {
         None => DONE,
-        Some(answer) => tell_answer(&mut out.inner, answer)?,
+        Some(answer) => tell_answer(out, answer)?,
     };
-    remarks.hint(alloc, "", reader.look);
+    remarks.on_answer(alloc, limit, kind, &reader.notes, answer);
     Ok(status)
 }
 
@@ -137,6 +136,7 @@ fn answer_for<'a, O: KeyOrder, R: Source, W: Write>(
     out: &mut Counted<W>,
 ) -> Result<Option<Answer>, Trouble<'a>>
     ensures untouched { IfErr result (λ why. IsRefusal why → out.new ≡ out.old) }
+    ensures flushed { IfOk result (λ answer. answer ≡ None → out.new.unflushed ≡ 0) }
 {
     match purpose {
         Purpose::Show { from, to } => {
@@ -166,169 +166,41 @@ fn compare_files<'a, O: KeyOrder, F: Files, W: Write>(
 ) -> Result<u8, Trouble<'a>>
     ensures status { IfOk result (λ status. status ≤ 1) }
     ensures untouched { IfErr result (λ why. IsRefusal why → out.new ≡ out.old) }
+    ensures flushed { OnOk result (out.new.unflushed ≡ 0) }
 {
     let file = match fs::open(rt, files.0) {
         Ok(file) => file,
         Err(_) => return Err(Trouble::CannotReadFirst(files.0)),
     };
-    let mut reader = Looked {
+    let mut reader = Noted {
         inner: Counted::new(file),
-        look: remarks.look(kinds.0),
+        notes: remarks.notes(alloc, kinds.0),
     };
-    let mut late = Looked {
+    let mut late = Noted {
         inner: LateFile::new(rt, files.1),
-        look: remarks.look(kinds.1),
+        notes: remarks.notes(alloc, kinds.1),
     };
     let compared = compare::<O, _, _>(alloc, limit, kinds.0, &mut reader, kinds.1, &mut late);
     let missing = late.inner.is_missing().then_some(files.1);
-    let status = tell_comparison(&mut out.inner, compared, missing)?;
-    remarks.hint(alloc, "first: ", reader.look);
-    remarks.hint(alloc, "second: ", late.look);
-    Ok(status)
+    let told = tell_comparison(out, compared, missing);
+    remarks.on_comparison::<O>(alloc, limit, kinds, (&reader.notes, &late.notes), told);
+    told
 }
 
 /// Tells how a comparison came out. `missing` is the name of the second file, where it can't be
 /// opened.
 fn tell_comparison<'a, W: Write>(
-    out: &mut W,
+    out: &mut Counted<W>,
     compared: Result<Option<u64>, CompareFault>,
     missing: Option<&'a str>,
 ) -> Result<u8, Trouble<'a>>
     ensures status { IfOk result (λ status. status ≤ 1) }
     ensures untouched { IfErr result (λ why. IsRefusal why → out.new ≡ out.old) }
+    ensures flushed { OnOk result (out.new.unflushed ≡ 0) }
 {
     match (compared, missing) {
         (Ok(index), _) => tell_answer(out, difference(index)),
         (Err(CompareFault::Second(_)), Some(name)) => Err(Trouble::CannotReadSecond(name)),
         (Err(why), _) => Err(Trouble::Compare(why)),
-    }
-}
-
-/// The same as `act`, with what was read kept, and explained where it is refused or departs.
-fn act_explained<'a, O: KeyOrder, F: Files, I: Read + Drop, W: Write>(
-    rt: &F,
-    alloc: Global,
-    limit: Limit,
-    action: Action<'a>,
-    input: I,
-    out: &mut Counted<W>,
-    lines: &mut String,
-) -> Result<u8, Trouble<'a>>
-    ensures status { IfOk result (λ status. status ≤ 1) }
-    ensures untouched { IfErr result (λ why. IsRefusal why → out.new ≡ out.old) }
-{
-    match action {
-        Action::Read {
-            file: None,
-            purpose,
-        } => read_explained::<O, I, W>(alloc, limit, purpose, input, out, lines),
-        Action::Read {
-            file: Some(name),
-            purpose,
-        } => match fs::open(rt, name) {
-            Ok(file) => read_explained::<O, F::File, W>(alloc, limit, purpose, file, out, lines),
-            Err(_) => Err(Trouble::CannotRead(name)),
-        },
-        Action::Compare {
-            first,
-            second,
-            from_a,
-            from_b,
-        } => {
-            let files = (first, second);
-            let kinds = (from_a, from_b);
-            compare_explained::<O, F, W>(rt, alloc, limit, files, kinds, out, lines)
-        }
-    }
-}
-
-/// The same as `read_for`, explained.
-fn read_explained<'a, O: KeyOrder, I: Read + Drop, W: Write>(
-    alloc: Global,
-    limit: Limit,
-    purpose: Purpose,
-    input: I,
-    out: &mut Counted<W>,
-    lines: &mut String,
-) -> Result<u8, Trouble<'a>>
-    ensures status { IfOk result (λ status. status ≤ 1) }
-    ensures untouched { IfErr result (λ why. IsRefusal why → out.new ≡ out.old) }
-{
-    let mut reader = Kept::new(alloc, Counted::new(input));
-    match answer_for::<O, _, W>(alloc, limit, purpose, &mut reader, out) {
-        Ok(None) => {
-            explain_kind(alloc, purpose.from(), reader.bytes(), lines);
-            Ok(DONE)
-        }
-        Ok(Some(answer)) => {
-            let status = tell_answer(&mut out.inner, answer)?;
-            match answer {
-                Answer::Defective(defect) => {
-                    explain_defect(alloc, limit, reader.bytes(), defect, lines);
-                }
-                _ => explain_kind(alloc, purpose.from(), reader.bytes(), lines),
-            }
-            Ok(status)
-        }
-        Err(trouble) => {
-            if let Trouble::Engine(fault) = trouble {
-                explain_fault(alloc, limit, purpose.from(), reader.bytes(), fault, lines);
-            }
-            Err(trouble)
-        }
-    }
-}
-
-/// The same as `compare_files`, explained.
-fn compare_explained<'a, O: KeyOrder, F: Files, W: Write>(
-    rt: &F,
-    alloc: Global,
-    limit: Limit,
-    files: (&'a str, &'a str),
-    kinds: (Kind, Kind),
-    out: &mut Counted<W>,
-    lines: &mut String,
-) -> Result<u8, Trouble<'a>>
-    ensures status { IfOk result (λ status. status ≤ 1) }
-    ensures untouched { IfErr result (λ why. IsRefusal why → out.new ≡ out.old) }
-{
-    let file = match fs::open(rt, files.0) {
-        Ok(file) => file,
-        Err(_) => return Err(Trouble::CannotReadFirst(files.0)),
-    };
-    let mut reader = Kept::new(alloc, Counted::new(file));
-    let mut late = Kept::new(alloc, LateFile::new(rt, files.1));
-    let compared = compare::<O, _, _>(alloc, limit, kinds.0, &mut reader, kinds.1, &mut late);
-    let missing = late.inner.is_missing().then_some(files.1);
-    let told = tell_comparison(&mut out.inner, compared, missing);
-    let inputs = (reader.bytes(), late.bytes());
-    explain_comparison::<O>(alloc, limit, kinds, inputs, told, lines);
-    told
-}
-
-/// Explains what was told of two inputs.
-fn explain_comparison<O: KeyOrder>(
-    alloc: Global,
-    limit: Limit,
-    kinds: (Kind, Kind),
-    inputs: (Option<&[u8]>, Option<&[u8]>),
-    told: Result<u8, Trouble<'_>>,
-    lines: &mut String,
-) {
-    match told {
-        Ok(status) => {
-            if status != DONE {
-                explain_index::<O>(alloc, limit, kinds, inputs, lines);
-            }
-            explain_kind(alloc, kinds.0, inputs.0, lines);
-            explain_kind(alloc, kinds.1, inputs.1, lines);
-        }
-        Err(Trouble::Compare(CompareFault::First(fault))) => {
-            explain_fault(alloc, limit, kinds.0, inputs.0, fault, lines);
-        }
-        Err(Trouble::Compare(CompareFault::Second(fault))) => {
-            explain_fault(alloc, limit, kinds.1, inputs.1, fault, lines);
-        }
-        Err(_) => {}
     }
 }

@@ -1,7 +1,8 @@
 //! That the path to a place, and to a difference, is told: by their contracts these calls could answer
 //! want of memory each time, and no run of the program makes them. Where the path leads is a clause.
+//! And that a look at pieces tells what the whole is.
 
-use cborn_explain::{Step, find_difference, path_to};
+use cborn_explain::{Hint, Look, Step, find_difference, hint_of, path_to};
 use std::test::Fail;
 
 /// Behind an item a map of one pair, whose value is an array; its second element is an integer in a
@@ -37,5 +38,37 @@ fn leads_to_a_difference(rt: HostRuntime) -> Result<(), Fail> {
     assert_eq!(rt; found.path.steps.as_slice(), PATH.as_slice());
     let none = find_difference(rt.alloc(), FIRST, FIRST)?;
     assert!(rt; none.is_none());
+    Ok(())
+}
+
+/// Catches a look that hangs on where the input is cut: of both parts it says what is said of the
+/// whole.
+#[test]
+fn looks_at_pieces(rt: HostRuntime) -> Result<(), Fail> {
+    let inputs = [
+        (b"8301\n".as_slice(), Some(Hint::Hexadecimal), true),
+        (b"83 01\r\n".as_slice(), Some(Hint::Hexadecimal), true),
+        (b"831\n".as_slice(), Some(Hint::Notation), true),
+        (b"[1, 2]".as_slice(), Some(Hint::Notation), false),
+        (b"aAfF\t09\n\n".as_slice(), Some(Hint::Hexadecimal), true),
+        (b" \n".as_slice(), Some(Hint::Notation), true),
+        (b"~\n".as_slice(), Some(Hint::Notation), true),
+        (b"0g\n".as_slice(), Some(Hint::Notation), true),
+        (b"12\x7f\n".as_slice(), None, false),
+        (b"\x0012\n".as_slice(), None, false),
+        (b"12\x0c\n".as_slice(), None, false),
+        (b"12\x00\n".as_slice(), None, false),
+        (b"".as_slice(), None, false),
+    ];
+    for (input, hint, ends_line) in inputs {
+        assert_eq!(rt; hint_of(input), hint, "{input:?}");
+        for cut in 0..=input.len() {
+            let mut look = Look::new();
+            look.see(&input[..cut]);
+            look.see(&input[cut..]);
+            assert_eq!(rt; look.hint(), hint, "{input:?} at {cut}");
+            assert_eq!(rt; look.ends_line(), ends_line, "{input:?} at {cut}");
+        }
+    }
     Ok(())
 }

@@ -110,3 +110,25 @@ impl<T: Write> Sink for Counted<T> {
         self.failed
     }
 }
+
+/// For `write!` and whatever else asks for a writer of std: the calls of [`Sink`], by std's names.
+impl<T: Write> Write for Counted<T> {
+    ghost contents = { λ c. T.contents c.inner };
+
+    fn write(&mut self, piece: &[u8]) -> io::Result<usize>
+        ensures bound { WritesAtMost result piece.now }
+        ensures bytes { WriteAppends (T.contents self.old.inner) (T.contents self.new.inner) result piece.now }
+        ensures failures { self.new.failed ≡ failures_after_write result piece.now self.old.failed }
+        ensures unflushed { self.new.unflushed ≡ unflushed_after_write result self.old.unflushed }
+    {
+        self.write_some(piece)
+    }
+
+    fn flush(&mut self) -> io::Result<()>
+        ensures bytes { Keeps (T.contents self.old.inner) (T.contents self.new.inner) }
+        ensures failures { self.new.failed ≡ failures_after result self.old.failed }
+        ensures unflushed { self.new.unflushed ≡ unflushed_after_flush result self.old.unflushed }
+    {
+        self.flush_all()
+    }
+}

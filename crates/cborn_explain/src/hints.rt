@@ -1,6 +1,6 @@
 //! Bytes that look like something else.
 
-ghost use Rattle.std.specs.Prelude.{◌<◌, ◌↔◌, length, All, IsSome, IsTrue};
+ghost use Rattle.std.specs.Prelude.{◌≡◌, ◌<◌, ◌↔◌, ◌⊎◌, length, All, IsSome, IsTrue, None};
 ghost use Rattle.cborn_explain.specs.Hints.{IsTextByte};
 
 use std::fmt;
@@ -36,13 +36,100 @@ pub fn hint_of(bytes: &[u8]) -> Option<Hint>
     ensures text { IsSome result → All IsTextByte bytes.now }
     ensures some { IsSome result → 0 < length bytes.now }
 {
-    if bytes.is_empty() || !bytes.iter().all(|b| is_text_byte(*b)) {
-        return None;
+    let mut look = Look::new();
+    look.see(bytes);
+    look.hint()
+}
+
+/// What bytes look like, noted as they come in, so that none is kept.
+#[derive(Clone, Copy)]
+pub struct Look {
+    /// All of them are printable ASCII and white space.
+    pub is_text: bool,
+    /// The last of a text; none where there is no byte yet.
+    pub last: Option<u8>,
+    /// What is known of a text's digits.
+    pub digits: Digits,
+}
+
+/// Which characters of a text are hexadecimal digits.
+#[derive(Clone, Copy)]
+pub enum Digits {
+    /// There are none: all is white space.
+    Missing,
+    /// All but white space, and their number is even.
+    Even,
+    /// All but white space, and their number is odd.
+    Odd,
+    /// There is another character.
+    Mixed,
+}
+
+impl Look {
+    /// Before the first byte.
+    pub fn new() -> Self
+        ensures text { IsTrue result.is_text }
+        ensures last { result.last ≡ None }
+    {
+        Look {
+            is_text: true,
+            last: None,
+            digits: Digits::Missing,
+        }
     }
-    if is_hexadecimal(bytes) {
-        return Some(Hint::Hexadecimal);
+
+    /// Looks at the next bytes. Behind the first byte that no text has nothing is looked at any more.
+    pub fn see(&mut self, bytes: &[u8])
+        ensures text { IsTrue self.new.is_text ↔ IsTrue self.old.is_text × All IsTextByte bytes.now }
+        ensures last { IsSome self.new.last → IsSome self.old.last ⊎ (0 < length bytes.now) }
+    {
+        if !self.is_text {
+            return;
+        }
+        self.is_text = bytes.iter().all(|b| is_text_byte(*b));
+        if self.is_text {
+            self.digits = self.digits.behind(bytes);
+            if let Some(last) = bytes.last() {
+                self.last = Some(*last);
+            }
+        }
     }
-    Some(Hint::Notation)
+
+    /// Whether the last byte of a text ends a line.
+    pub fn ends_line(self) -> bool {
+        self.is_text && self.last == Some(b'\n')
+    }
+
+    /// What all of the bytes look like, as [`hint_of`] says it of them.
+    pub fn hint(self) -> Option<Hint>
+        ensures text { IsSome result → IsTrue self.is_text }
+        ensures some { IsSome result → IsSome self.last }
+    {
+        if !self.is_text || self.last.is_none() {
+            return None;
+        }
+        match self.digits {
+            Digits::Even => Some(Hint::Hexadecimal),
+            Digits::Missing | Digits::Odd | Digits::Mixed => Some(Hint::Notation),
+        }
+    }
+}
+
+impl Digits {
+    /// With the next characters of a text.
+    fn behind(self, bytes: &[u8]) -> Digits {
+        let mut digits = self;
+        for byte in bytes.iter() {
+            digits = match digits {
+                Digits::Mixed => return Digits::Mixed,
+                _ if byte.is_ascii_whitespace() => digits,
+                _ if !byte.is_ascii_hexdigit() => return Digits::Mixed,
+                Digits::Odd => Digits::Even,
+                Digits::Missing | Digits::Even => Digits::Odd,
+            };
+        }
+        digits
+    }
 }
 
 /// Printable ASCII, or white space.
@@ -50,17 +137,4 @@ fn is_text_byte(byte: u8) -> bool
     ensures { IsTrue result ↔ IsTextByte byte }
 {
     (32 <= byte && byte <= 126) || byte == 9 || byte == 10 || byte == 13
-}
-
-/// White space, and an even number of hexadecimal digits, but no other character.
-fn is_hexadecimal(bytes: &[u8]) -> bool {
-    let mut digits: u64 = 0;
-    for byte in bytes.iter() {
-        if byte.is_ascii_hexdigit() {
-            digits = digits.saturating_add(1);
-        } else if !byte.is_ascii_whitespace() {
-            return false;
-        }
-    }
-    digits > 0 && digits % 2 == 0
 }

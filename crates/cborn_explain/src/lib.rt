@@ -10,7 +10,8 @@
 //! take that and the input, and walk once over it, up to the offset: [`explain_bytes`] from head to
 //! head, [`explain_text`] from token to token. What is open on the way is kept as one small record a
 //! level, and that is the path. [`explain_difference`] does the same for two deterministic encodings
-//! that differ. [`hint_of`] tells of bytes that they look like a text.
+//! that differ. [`hint_of`] tells of bytes that they look like a text, and [`Look`] of what comes in by
+//! pieces.
 //!
 //! [`path_to`] and [`find_difference`] give the path alone, and their clauses say where it leads:
 //! `specs/Paths.antt` defines that over the nodes that bytes spell. `specs/devices/Walks.antt` is a
@@ -39,7 +40,7 @@ mod text_walks;
 mod walks;
 
 pub use differences::{Difference, explain_difference, find_difference};
-pub use hints::{Hint, hint_of};
+pub use hints::{Digits, Hint, Look, hint_of};
 pub use notes::{explain_bytes, explain_text, path_to};
 pub use paths::{Path, Step};
 pub use reasons::{BytesReason, TextReason};
