@@ -1,6 +1,6 @@
 //! Bytes that look like something else.
 
-ghost use Rattle.std.specs.Prelude.{◌≡◌, ◌<◌, ◌↔◌, ◌⊎◌, length, All, IsSome, IsTrue, None};
+ghost use Rattle.std.specs.Prelude.{◌≡◌, ◌<◌, ◌↔◌, ◌⊎◌, length, All, IsSome, IsTrue, Some, None};
 ghost use Rattle.cborn_explain.specs.Hints.{IsTextByte};
 
 use std::fmt;
@@ -33,8 +33,7 @@ impl Display for Hint {
 /// What the bytes look like, where they are all printable ASCII and white space. None: they aren't,
 /// or there are none.
 pub fn hint_of(bytes: &[u8]) -> Option<Hint>
-    ensures text { IsSome result → All IsTextByte bytes.now }
-    ensures some { IsSome result → 0 < length bytes.now }
+    ensures { IsSome result ↔ All IsTextByte bytes.now × 0 < length bytes.now }
 {
     let mut look = Look::new();
     look.see(bytes);
@@ -81,7 +80,7 @@ impl Look {
     /// Looks at the next bytes. Behind the first byte that no text has nothing is looked at any more.
     pub fn see(&mut self, bytes: &[u8])
         ensures text { IsTrue self.new.is_text ↔ IsTrue self.old.is_text × All IsTextByte bytes.now }
-        ensures last { IsSome self.new.last → IsSome self.old.last ⊎ (0 < length bytes.now) }
+        ensures some { IsTrue self.new.is_text → (IsSome self.new.last ↔ IsSome self.old.last ⊎ (0 < length bytes.now)) }
     {
         if !self.is_text {
             return;
@@ -96,14 +95,15 @@ impl Look {
     }
 
     /// Whether the last byte of a text ends a line.
-    pub fn ends_line(self) -> bool {
+    pub fn ends_line(self) -> bool
+        ensures { IsTrue result ↔ IsTrue self.is_text × self.last ≡ Some 10 }
+    {
         self.is_text && self.last == Some(b'\n')
     }
 
     /// What all of the bytes look like, as [`hint_of`] says it of them.
     pub fn hint(self) -> Option<Hint>
-        ensures text { IsSome result → IsTrue self.is_text }
-        ensures some { IsSome result → IsSome self.last }
+        ensures { IsSome result ↔ IsTrue self.is_text × IsSome self.last }
     {
         if !self.is_text || self.last.is_none() {
             return None;
