@@ -93,3 +93,12 @@ fn failed_flushes(rt: HostRuntime) -> Result<(), Fail> {
     }
     Ok(())
 }
+
+/// Catches a flush by std's name that is counted, but not handed on: that keeps every clause.
+#[test]
+fn hands_on_what_is_printed(rt: HostRuntime) {
+    let mut unflushed = Counted::new(Unflushed { taken: 0 });
+    assert!(rt; unflushed.write(b"abc").is_ok());
+    assert_eq!(rt; unflushed.inner.taken, 3);
+    assert!(rt; unflushed.flush().is_err());
+}
