@@ -5,3 +5,4 @@ pub mod Shaped
 pub mod Shown
 pub mod Lexed
 pub mod RoundTrip
+pub mod Started

@@ -5,4 +5,5 @@ pub mod Meaning
 pub mod Shown
 pub mod Counted
 pub mod ReadingBack
+pub mod Starts
 pub mod devices

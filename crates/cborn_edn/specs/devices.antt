@@ -9,3 +9,4 @@ pub mod Ready
 pub mod Lean
 pub mod Texts
 pub mod Shapes
+pub mod Begun

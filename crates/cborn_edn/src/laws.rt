@@ -20,6 +20,7 @@ ghost use Rattle.cborn_edn.specs.Meaning.{Says, HasSlip, FirstSlip};
 ghost use Rattle.cborn_edn.specs.Counted.{CountedInput};
 ghost use Rattle.cborn_edn.specs.ReadingBack.{bare, notated_input, ReadsBack, unplaced_all};
 ghost use Rattle.cborn_edn.specs.Shown.{AreShowable, Shown, shown_lines};
+ghost use Rattle.cborn_edn.specs.Starts.{spots_all, IsRising};
 ghost use Rattle.cborn_edn.specs.Notates.{Notates, Slips, Jams};
 
 /// Tokens have at most one tree, whatever the profiles.
@@ -102,4 +103,11 @@ pub fn short_text()
     ensures no_slip { (profile : Profile) (limit most : ℕ) (text : List ℕ) (nodes : Trees) (p : ℕ) (r : EdnReason) → Notates profile limit text nodes → Slips profile most text p r → ⊥ }
     ensures fits { (profile : Profile) (limit : ℕ) (text : List ℕ) (nodes : Trees) → AreBytes text → length text < 2 ^ 56 → Notates profile limit text nodes → FitsAll nodes × (depth_all nodes ≤ limit) }
     ensures counted { (profile : Profile) (text : List ℕ) (tokens : List Token) (t : Input) → AreBytes text → length text < 2 ^ 56 → Lex profile text tokens → Parse profile tokens t → CountedInput t }
+{}
+
+/// Of the nodes that a text notates, and of the chunks in them, each stands behind those before it
+/// in the order of heads, but for the byte string right under a tag, as the one of a bignum stands
+/// where its tag does.
+pub fn spots_rise()
+    ensures { (profile : Profile) (limit : ℕ) (text : List ℕ) (nodes : Trees) → Notates profile limit text nodes → IsRising (spots_all nodes) }
 {}

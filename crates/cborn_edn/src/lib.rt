@@ -20,12 +20,13 @@
 //!   aside.
 //!
 //! [`recognise`] tells whether a text has a tree, with nothing kept of it; [`read_notation`] gives
-//! what a text notates, or why it notates nothing, and [`show`] gives the fixed notation. Start with
-//! `Notates` and follow the definitions that it names; [`laws`] has what is proved of them alone,
-//! above all that the fixed notation notates the nodes that it shows. In the code start with
-//! `readers` and `showing`: the reader takes one token at a time from the text (`states`), keeps in
-//! `brackets` what is open, and keeps no token. It reads for the first slip alone before it reads
-//! for nodes (`wanted`).
+//! what a text notates, or why it notates nothing, and [`recognise_items`] the latter alone, without
+//! the nodes. [`start_at`] gives the place of a node or a chunk by its number, and [`show`] the fixed
+//! notation. Start with `Notates` and follow the definitions that it names; [`laws`] has what is
+//! proved of them alone, above all that the fixed notation notates the nodes that it shows. In the
+//! code start with `readers` and `showing`: the reader takes one token at a time from the text
+//! (`states`), keeps in `brackets` what is open, and keeps no token. It reads for the first slip
+//! alone before it reads for nodes (`wanted`).
 #![tactic(auto)]
 
 mod brackets;
@@ -41,6 +42,7 @@ mod recognisers;
 mod shapes;
 mod showing;
 mod slips;
+mod starts;
 mod states;
 mod strings;
 mod texts;
@@ -48,8 +50,9 @@ mod wanted;
 mod writing;
 
 pub use faults::{EdnFault, EdnReason, ShowFault};
-pub use readers::read_notation;
+pub use readers::{read_notation, recognise_items};
 pub use recognisers::recognise;
 pub use showing::show;
+pub use starts::start_at;
 pub use strings::StringKind;
 pub use writing::{push_between, push_escaped, push_indicator, push_simple};

@@ -46,10 +46,13 @@ pub fn read_notation(
     }
 }
 
-/// What `read_notation` answers of a text, without the items. Memory goes to one token, to a few
-/// words for each open bracket, to the pieces of one string, and to the nodes inside one outermost
-/// `<<..>>`.
-fn recognise_items(
+/// Tells whether `text` notates items under that profile of the notation, none deeper than `limit`,
+/// without the items. Memory goes to one token, to a few words for each open bracket, to the pieces
+/// of one string, and to the nodes inside one outermost `<<..>>`.
+///
+/// # Errors
+/// Those of `read_notation`, each of the same texts and at the same place.
+pub fn recognise_items(
     alloc: Global,
     limit: Limit,
     profile: Profile,

@@ -7,3 +7,5 @@ mod edn;
 mod lex;
 #[cfg(test)]
 mod recognise;
+#[cfg(test)]
+mod starts;

@@ -1,0 +1,5 @@
+use Rattle.cborn_edn.proofs.Started.Rises.{spots_rise}
+use Rattle.cborn_edn.proofs.laws.spots_rise.Goals as goal
+
+pub returns : goal.returns
+returns c = spots_rise

@@ -1,0 +1,62 @@
+-- Where nodes and the chunks of strings stand, in the order of their heads: each node before what stands in it.
+use Rattle.std.specs.Prelude.{ℕ, ◌<◌, List, [], ◌∷◌, ◌++◌}
+use Rattle.std.specs.List.{AllByRecursion}
+use Rattle.cborn_model.specs.declared.nodes.Chunk.{Chunk}
+use Rattle.cborn_model.specs.Tree.{Tree, Uint, Nint, Bytes, Text, ByteChunks, TextChunks, Items, Pairs, Tagged, Simple, Trees, no_item, more, Entries, no_entry, entry}
+
+abbrev pub starts_of_chunks : List Chunk → List ℕ
+starts_of_chunks [] = []
+starts_of_chunks (c ∷ cs) = c.place ∷ starts_of_chunks cs
+
+-- the places of the node, of all nodes below it and of all chunks
+abbrev mutual
+  pub starts : Tree → List ℕ
+  starts (Uint p w n) = p ∷ []
+  starts (Nint p w n) = p ∷ []
+  starts (Bytes p w b) = p ∷ []
+  starts (Text p w b) = p ∷ []
+  starts (ByteChunks p cs) = p ∷ starts_of_chunks cs
+  starts (TextChunks p cs) = p ∷ starts_of_chunks cs
+  starts (Items p s ts) = p ∷ starts_all ts
+  starts (Pairs p s es) = p ∷ starts_entries es
+  starts (Tagged p w n t) = p ∷ starts t
+  starts (Simple p n) = p ∷ []
+
+  pub starts_all : Trees → List ℕ
+  starts_all no_item = []
+  starts_all (more t ts) = starts t ++ starts_all ts
+
+  pub starts_entries : Entries → List ℕ
+  starts_entries no_entry = []
+  starts_entries (entry k v es) = starts k ++ (starts v ++ starts_entries es)
+
+abbrev pub unless_bytes : Tree → List ℕ → List ℕ
+unless_bytes (Bytes p w b) ps = []
+unless_bytes t ps = ps
+
+-- The same without a byte string in one piece right under a tag: the one of a bignum stands where its tag does, so that places rise no further there.
+abbrev mutual
+  pub spots : Tree → List ℕ
+  spots (Uint p w n) = p ∷ []
+  spots (Nint p w n) = p ∷ []
+  spots (Bytes p w b) = p ∷ []
+  spots (Text p w b) = p ∷ []
+  spots (ByteChunks p cs) = p ∷ starts_of_chunks cs
+  spots (TextChunks p cs) = p ∷ starts_of_chunks cs
+  spots (Items p s ts) = p ∷ spots_all ts
+  spots (Pairs p s es) = p ∷ spots_entries es
+  spots (Tagged p w n t) = p ∷ unless_bytes t (spots t)
+  spots (Simple p n) = p ∷ []
+
+  pub spots_all : Trees → List ℕ
+  spots_all no_item = []
+  spots_all (more t ts) = spots t ++ spots_all ts
+
+  pub spots_entries : Entries → List ℕ
+  spots_entries no_entry = []
+  spots_entries (entry k v es) = spots k ++ (spots v ++ spots_entries es)
+
+-- each is less than all behind it
+abbrev pub IsRising : List ℕ → Type 0
+IsRising [] = Unit {0}
+IsRising (p ∷ ps) = AllByRecursion (λ q. p < q) ps × IsRising ps

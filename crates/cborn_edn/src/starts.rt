@@ -1,0 +1,98 @@
+//! Where a node or a chunk stands in a text, told without nodes.
+//!
+//! A fault that is found in the bytes that a text spells is told by the number of the head at which
+//! it stands. Which tokens begin a node or a chunk depends on the shape of what is open (`shapes`),
+//! so heads are counted token by token. What stands in `<<..>>` becomes bytes, and counts as none.
+
+ghost use Rattle.std.specs.Prelude.{◌≡◌, ℕ, suc, ◌+◌, ◌<◌, ◌^◌, IfSome, Some, slice_get};
+ghost use Rattle.cborn_model.specs.Tree.{Trees};
+ghost use Rattle.cborn_edn.specs.Notates.{Notates};
+ghost use Rattle.cborn_edn.specs.Starts.{starts_all};
+ghost use Rattle.cborn_edn.specs.devices.Begun as pure;
+
+use crate::numbers::is_small;
+use crate::shapes::{Shape, Stand};
+use cborn_lex::{Class, Profile, token_from};
+use std::alloc::Global;
+
+/// The place of a node or a chunk in `text`, under that profile of the notation: of the one with
+/// `index` others before it, where each node comes before what stands in it. It is the offset of its
+/// first token, in bytes from the start of the text. An integer outside 64 bits is two nodes at one
+/// place, a tag and the byte string under it (RFC 8949 section 3.4.3).
+///
+/// The answer is that of the nodes that the text notates. `None` where there are no more nodes and
+/// chunks, and also where memory was refused; of a text that notates nothing, nothing is said.
+/// Memory goes to one byte for each open bracket and to the token at hand.
+pub fn start_at(alloc: Global, profile: Profile, text: &str, index: u64) -> Option<u64>
+    ensures { IfSome result (λ place. (limit : ℕ) (nodes : Trees) → Notates profile limit text.now nodes → slice_get (starts_all nodes) index ≡ Some place) }
+{
+    let mut shape = Shape::new(alloc);
+    let mut embedded = 0;
+    let mut left = index;
+    let mut at = 0;
+    'tokens: loop {
+        let Ok(Some(token)) = token_from(alloc, profile, text, at) else {
+            return None;
+        };
+        let place = token.start;
+        at = token.stop;
+        let count = begun(embedded, shape.stand, &token.class);
+        embedded = embedded_after(embedded, &token.class);
+        let taken = shape.step(profile, &token.class);
+        drop(token);
+        if left < count {
+            return Some(place);
+        }
+        left -= count;
+        let Ok(true) = taken else {
+            return None;
+        };
+    }
+}
+
+/// How many nodes and chunks begin with a token of this class, inside so many open `<<`.
+fn begun(embedded: u64, stand: Stand, class: &Class) -> u64
+    ensures { result ≡ pure.begun embedded stand class.now }
+{
+    if embedded > 0 {
+        return 0;
+    }
+    match stand {
+        Stand::Wants | Stand::WantsMore => begun_item(class),
+        Stand::WantsChunk => 1,
+        _ => 0,
+    }
+}
+
+/// How many nodes begin with a token of this class where an item is wanted.
+fn begun_item(class: &Class) -> u64
+    ensures { result ≡ pure.begun_item class.now }
+{
+    match class {
+        Class::ArrayClose | Class::MapClose | Class::EmbedClose(_) => 0,
+        Class::Number {
+            negative,
+            magnitude,
+            ..
+        } => {
+            if is_small(*negative, *magnitude) {
+                1
+            } else {
+                2
+            }
+        }
+        _ => 1,
+    }
+}
+
+/// How many `<<` are open behind a token of this class.
+fn embedded_after(embedded: u64, class: &Class) -> u64
+    requires { suc embedded < 2 ^ 64 }
+    ensures { result ≡ pure.embedded_after embedded class.now }
+{
+    match class {
+        Class::EmbedOpen => embedded + 1,
+        Class::EmbedClose(_) => embedded.saturating_sub(1),
+        _ => embedded,
+    }
+}
