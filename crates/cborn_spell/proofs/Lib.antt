@@ -7,3 +7,4 @@ pub mod Joining
 pub mod Integers
 pub mod Runs
 pub mod Escapes
+pub mod Naming

@@ -1,7 +1,7 @@
 -- What is taken from a text between two places, and written at the end of a buffer.
 -- Start with IsSpelling, at the end: it is all that the public call promises. The definitions before it say the same of a
 -- part: of the text, tokens between two places were taken; of the buffer, what was old became new.
-use Rattle.std.specs.Prelude.{◌≡◌, ℕ, ◌+◌, ◌*◌, ◌≤◌, ◌<◌, ◌∷◌, List, [], ◌++◌, Bool, true, false, ◌||◌, ◌&&◌, not, ◌==◌, take, drop, length, Option, Some, if◌then◌else◌, ◌^◌, ◌⊎◌, IsUtf8}
+use Rattle.std.specs.Prelude.{◌≡◌, ℕ, suc, ◌+◌, ◌*◌, ◌≤◌, ◌<◌, ◌∷◌, List, [], ◌++◌, Bool, true, false, ◌||◌, ◌&&◌, not, ◌==◌, take, drop, length, bytes_eq, codes, Option, Some, if◌then◌else◌, ◌^◌, ◌⊎◌, IsUtf8}
 use Rattle.std.specs.List.{list_all}
 use Rattle.std.specs.Int.Digits.{digits_of}
 use Rattle.std.specs.Char.{is_digit, is_ascii_alphanumeric}
@@ -9,8 +9,9 @@ use Rattle.std.specs.List.{flat_map}
 use Rattle.cborn_model.specs.declared.heads.Width.{Width}
 use Rattle.cborn_lex.specs.declared.classes.Mark.{Mark}
 use Rattle.cborn_lex.specs.declared.classes.Mark.TheVariants.{Absent, Endless, Wide}
-use Rattle.cborn_lex.specs.Tokens.{begins}
-use Rattle.cborn_lex.specs.Numbers.{number}
+use Rattle.cborn_lex.specs.Tokens.{Read, begins, is_word}
+use Rattle.cborn_lex.specs.Forms.{start_of, letter as letter_start}
+use Rattle.cborn_lex.specs.Numbers.{number, word_front}
 use Rattle.cborn_lex.specs.Strings.{is_content, IsText, are_hex, code}
 use Rattle.cborn_lex.specs.devices.Letters.{Letter, is_letter, meant, written as letter}
 use Rattle.cborn_lex.specs.devices.Scan.{is_raw}
@@ -23,7 +24,7 @@ use Rattle.cborn_model.specs.Tree.{Tree, Trees, Entries, trees, count, count_ent
 use Rattle.cborn_model.specs.Spelled.{string, chunk_bytes, spelled, spelled_all, spelled_entries}
 use Rattle.cborn_lex.specs.declared.classes.Profile.{Profile}
 use Rattle.cborn_lex.specs.declared.classes.Profile.TheVariants.{Two}
-use Rattle.cborn_lex.specs.declared.classes.Class.TheVariants.{Comma}
+use Rattle.cborn_lex.specs.declared.classes.Class.TheVariants.{Comma, Word}
 use Rattle.cborn_lex.specs.declared.classes.Class.{Class}
 use Rattle.cborn_lex.specs.Lex.{Between}
 use Rattle.cborn_edn.specs.Syntax.{Piece, tokens_of_piece, depth_of_piece, Pieces, tokens_of_pieces, depth_of_pieces, Strings, tokens_of_strings, depth_of_strings, is_small, is_below, argument_of, Item, tokens_of, depth, Row, RowBefore, tokens_of_row, tokens_of_row_before, depth_of_row, depth_of_row_before, Pairs, PairsBefore, tokens_of_pairs, tokens_of_pairs_before, depth_of_pairs, depth_of_pairs_before}
@@ -120,6 +121,17 @@ pub record IsPlain (tail : List ℕ) (n len : ℕ) : Type 0 where
   pub value : number 10 0 (take len tail) ≡ n
   pub lone : ((len ≡ 1) → ⊥) → begins (λ c. c == 48) tail ≡ false
   pub ends : begins goes_on (drop len tail) ≡ false
+
+-- a word for the simple value n is at the front, of len characters, and rest follows it
+pub record IsWord (tail : List ℕ) (n len : ℕ) (rest : List ℕ) : Type 0 where
+  pub first : ℕ
+  pub others : List ℕ
+  pub whole : tail ≡ first ∷ (others ++ rest)
+  pub size : suc (length others) ≡ len
+  pub begun : start_of first ≡ letter_start
+  pub run : list_all is_word others ≡ true
+  pub names : word_front (first ∷ others) ≡ Read (Word n)
+  pub no_bracket : bytes_eq (first ∷ others) (codes "simple") ≡ false
 
 -- the letter stands for itself, and closes no string
 abbrev pub is_plain : ℕ → Bool

@@ -10,6 +10,7 @@ ghost use Rattle.cborn_spell.specs.Descent.{TokenAt, Ends, Opens, Closes, Closes
 
 use crate::leaves::is_text;
 use crate::scans::{behind, skip};
+use crate::sources::Source;
 use crate::tokens::next_token;
 use cborn_det::set_head;
 use cborn_edn::StringKind;
@@ -158,27 +159,27 @@ fn major_of(kind: StringKind) -> Major
 
 /// The end of the closing bracket, behind one comma in the second profile.
 #[inline(always)]
-pub(crate) fn ending(c: u8, profile: Profile, text: &str, at: usize) -> Option<usize>
-    requires { at ≤ length text.now }
-    ensures within { IfSome result (λ end. end ≤ length text.now) }
-    ensures ends { IfSome result (λ end. (k : Class) → start_of c ≡ single k → Ends profile text.now at end k) }
+pub(crate) fn ending(c: u8, source: &Source, at: usize) -> Option<usize>
+    requires { at ≤ length source.now.text.now }
+    ensures within { IfSome result (λ end. end ≤ length source.now.text.now) }
+    ensures ends { IfSome result (λ end. (k : Class) → start_of c ≡ single k → Ends source.now.profile source.now.text.now at end k) }
 {
-    match behind(c, profile, text, at) {
+    match behind(c, source, at) {
         Some(end) => Some(end),
-        None => ending_behind_comma(c, profile, text, at),
+        None => ending_behind_comma(c, source, at),
     }
 }
 
 /// The same, behind a comma.
 #[inline(never)]
-fn ending_behind_comma(c: u8, profile: Profile, text: &str, at: usize) -> Option<usize>
-    requires { at ≤ length text.now }
-    ensures within { IfSome result (λ end. end ≤ length text.now) }
-    ensures ends { IfSome result (λ end. (k : Class) → start_of c ≡ single k → Ends profile text.now at end k) }
+fn ending_behind_comma(c: u8, source: &Source, at: usize) -> Option<usize>
+    requires { at ≤ length source.now.text.now }
+    ensures within { IfSome result (λ end. end ≤ length source.now.text.now) }
+    ensures ends { IfSome result (λ end. (k : Class) → start_of c ≡ single k → Ends source.now.profile source.now.text.now at end k) }
 {
-    let middle = behind(b',', profile, text, at)?;
-    let end = behind(c, profile, text, middle)?;
-    match profile {
+    let middle = behind(b',', source, at)?;
+    let end = behind(c, source, middle)?;
+    match source.profile {
         Profile::One => None,
         Profile::Two => Some(end),
     }
@@ -187,37 +188,33 @@ fn ending_behind_comma(c: u8, profile: Profile, text: &str, at: usize) -> Option
 /// Whether a closing bracket stands behind a comma, where one may. Nothing is promised: it is read
 /// again.
 #[inline(always)]
-pub(crate) fn is_last(profile: Profile, text: &str, at: usize) -> bool
-    requires { at ≤ length text.now }
+pub(crate) fn is_last(source: &Source, at: usize) -> bool
+    requires { at ≤ length source.now.text.now }
 {
-    match profile {
+    match source.profile {
         Profile::One => false,
-        Profile::Two => is_closing(profile, text, at),
+        Profile::Two => is_closing(source, at),
     }
 }
 
 /// Whether a closing bracket is next.
-fn is_closing(profile: Profile, text: &str, at: usize) -> bool
-    requires { at ≤ length text.now }
+fn is_closing(source: &Source, at: usize) -> bool
+    requires { at ≤ length source.now.text.now }
 {
-    match skip(profile, text, at) {
-        Some(place) => place < text.len() && matches!(text.as_bytes()[place], b']' | b'}' | b'>'),
+    match skip(source, at) {
+        Some(place) => place < source.text.len()
+            && matches!(source.text.as_bytes()[place], b']' | b'}' | b'>'),
         None => false,
     }
 }
 
 /// The end of `>>`, and its indicator.
-pub(crate) fn embed_end(
-    alloc: Global,
-    profile: Profile,
-    text: &str,
-    at: usize,
-) -> Option<(usize, Mark)>
-    requires { at ≤ length text.now }
-    ensures within { IfSome result (λ r. r.0 ≤ length text.now) }
-    ensures token { IfSome result (λ r. TokenAt profile text.now at r.0 (classes.EmbedClose r.1)) }
+pub(crate) fn embed_end(source: &Source, at: usize) -> Option<(usize, Mark)>
+    requires { at ≤ length source.now.text.now }
+    ensures within { IfSome result (λ r. r.0 ≤ length source.now.text.now) }
+    ensures token { IfSome result (λ r. TokenAt source.now.profile source.now.text.now at r.0 (classes.EmbedClose r.1)) }
 {
-    let (class, end) = next_token(alloc, profile, text, at)?;
+    let (class, end) = next_token(source, at)?;
     match class {
         Class::EmbedClose(mark) => Some((end, mark)),
         _ => None,
@@ -225,36 +222,26 @@ pub(crate) fn embed_end(
 }
 
 /// The same, behind one comma in the second profile.
-pub(crate) fn embed_ending(
-    alloc: Global,
-    profile: Profile,
-    text: &str,
-    at: usize,
-) -> Option<(usize, Mark)>
-    requires { at ≤ length text.now }
-    ensures within { IfSome result (λ r. r.0 ≤ length text.now) }
-    ensures ends { IfSome result (λ r. Ends profile text.now at r.0 (classes.EmbedClose r.1)) }
+pub(crate) fn embed_ending(source: &Source, at: usize) -> Option<(usize, Mark)>
+    requires { at ≤ length source.now.text.now }
+    ensures within { IfSome result (λ r. r.0 ≤ length source.now.text.now) }
+    ensures ends { IfSome result (λ r. Ends source.now.profile source.now.text.now at r.0 (classes.EmbedClose r.1)) }
 {
-    match behind(b',', profile, text, at) {
-        None => embed_end(alloc, profile, text, at),
-        Some(_) => embed_end_behind_comma(alloc, profile, text, at),
+    match behind(b',', source, at) {
+        None => embed_end(source, at),
+        Some(_) => embed_end_behind_comma(source, at),
     }
 }
 
 /// The same, where the comma stands.
-fn embed_end_behind_comma(
-    alloc: Global,
-    profile: Profile,
-    text: &str,
-    at: usize,
-) -> Option<(usize, Mark)>
-    requires { at ≤ length text.now }
-    ensures within { IfSome result (λ r. r.0 ≤ length text.now) }
-    ensures ends { IfSome result (λ r. Ends profile text.now at r.0 (classes.EmbedClose r.1)) }
+fn embed_end_behind_comma(source: &Source, at: usize) -> Option<(usize, Mark)>
+    requires { at ≤ length source.now.text.now }
+    ensures within { IfSome result (λ r. r.0 ≤ length source.now.text.now) }
+    ensures ends { IfSome result (λ r. Ends source.now.profile source.now.text.now at r.0 (classes.EmbedClose r.1)) }
 {
-    let middle = behind(b',', profile, text, at)?;
-    let (end, mark) = embed_end(alloc, profile, text, middle)?;
-    match profile {
+    let middle = behind(b',', source, at)?;
+    let (end, mark) = embed_end(source, middle)?;
+    match source.profile {
         Profile::One => None,
         Profile::Two => Some((end, mark)),
     }

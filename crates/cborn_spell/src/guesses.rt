@@ -4,28 +4,33 @@
 ghost use Rattle.std.specs.Prelude.{◌≤◌, ◌<◌, length, IfSome};
 
 use crate::scans::skip;
-use cborn_lex::Profile;
+use crate::sources::Source;
 
 /// Whether another piece of a string may stand behind the place.
 #[inline(always)]
-pub(crate) fn joins(profile: Profile, text: &str, at: usize) -> bool
-    requires { at ≤ length text.now }
+pub(crate) fn joins(source: &Source, at: usize) -> bool
+    requires { at ≤ length source.now.text.now }
 {
-    if at < text.len() && matches!(text.as_bytes()[at], b',' | b']' | b'}' | b':' | b')') {
+    if at < source.text.len()
+        && matches!(source.text.as_bytes()[at], b',' | b']' | b'}' | b':' | b')')
+    {
         return false;
     }
-    is_piece(profile, text, at)
+    is_piece(source, at)
 }
 
 /// Whether a piece of a string begins behind white space and comments.
 #[inline(never)]
-fn is_piece(profile: Profile, text: &str, at: usize) -> bool
-    requires { at ≤ length text.now }
+fn is_piece(source: &Source, at: usize) -> bool
+    requires { at ≤ length source.now.text.now }
 {
-    match skip(profile, text, at) {
+    match skip(source, at) {
         Some(place) => {
-            place < text.len()
-                && matches!(text.as_bytes()[place], b'"' | b'\'' | b'<' | b'h' | b'b')
+            place < source.text.len()
+                && matches!(
+                    source.text.as_bytes()[place],
+                    b'"' | b'\'' | b'<' | b'h' | b'b'
+                )
         }
         None => false,
     }
@@ -33,11 +38,11 @@ fn is_piece(profile: Profile, text: &str, at: usize) -> bool
 
 /// Whether a byte string stands at the place that goes on in another piece.
 #[inline(never)]
-pub(crate) fn is_joined(profile: Profile, text: &str, at: usize) -> bool
-    requires { at ≤ length text.now }
+pub(crate) fn is_joined(source: &Source, at: usize) -> bool
+    requires { at ≤ length source.now.text.now }
 {
-    match string_len(&text.as_bytes()[at..]) {
-        Some(len) => joins(profile, text, at + len),
+    match string_len(&source.text.as_bytes()[at..]) {
+        Some(len) => joins(source, at + len),
         None => false,
     }
 }
@@ -92,11 +97,11 @@ pub(crate) fn is_tag(tail: &[u8]) -> bool {
 
 /// Whether no item stands from the place on, but the end of embedded items.
 #[inline(never)]
-pub(crate) fn is_void(profile: Profile, text: &str, at: usize) -> bool
-    requires { at ≤ length text.now }
+pub(crate) fn is_void(source: &Source, at: usize) -> bool
+    requires { at ≤ length source.now.text.now }
 {
-    match skip(profile, text, at) {
-        Some(place) => place < text.len() && text.as_bytes()[place] == b'>',
+    match skip(source, at) {
+        Some(place) => place < source.text.len() && source.text.as_bytes()[place] == b'>',
         None => false,
     }
 }

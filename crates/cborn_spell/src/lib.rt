@@ -8,20 +8,20 @@
 //!
 //! [`spell_text`] has a function for each production of the grammar. Each takes the place where it
 //! begins, appends the bytes of what it takes to one buffer, and answers the place where it ends.
-//! Tokens that are common (integers, strings, brackets) are read in place, and all others by
+//! Tokens that are common (integers, strings, words, brackets) are read in place, and all others by
 //! `cborn_lex`. Start with `IsSpelling` of `specs/Descent.antt`, which says what the bytes are: the
 //! text notates nodes, as `cborn_edn` defines it, and the bytes are what these nodes spell, as they
 //! are written: an indicator gives a width, and pairs stand as they stood. So nothing is normalised
 //! here, nor judged.
 //!
 //! It answers only where all is as it should be. Where it answers none, the text may notate no
-//! items, or memory was refused: the reader that keeps nodes tells which, and why.
+//! items, or memory was refused: `recognise_items` of `cborn_edn` tells which, and why.
 //!
-//! In the code start with `passes`; `items`, `rows` (arrays and maps) and `pieces` (strings of
-//! several pieces) have the descent, `brackets` and `marks` what opens and closes, `scans` what
-//! stands between tokens, `tokens` what is read by `cborn_lex`, and `numerals`, `numbers`, `strings`
-//! and `leaves` what has no items inside; `letters` and `units` have the letters of text strings,
-//! which are copied by sixteen at a time, and their escapes.
+//! In the code start with `passes`; `sources` says what is read. `items`, `rows` (arrays and maps)
+//! and `pieces` (strings of several pieces) have the descent, `brackets` and `marks` what opens and
+//! closes, `scans` what stands between tokens, `tokens` what is read by `cborn_lex`, and `numerals`,
+//! `numbers`, `strings`, `words` and `leaves` what has no items inside; `letters` and `units` have
+//! the letters of text strings, which are copied by sixteen at a time, and their escapes.
 #![tactic(auto)]
 
 mod brackets;
@@ -36,8 +36,10 @@ mod passes;
 mod pieces;
 mod rows;
 mod scans;
+mod sources;
 mod strings;
 mod tokens;
 mod units;
+mod words;
 
 pub use passes::spell_text;

@@ -63,7 +63,7 @@ fn width_of(c: u8) -> Option<Width>
 
 /// Whether a character of words is at the front.
 #[inline(always)]
-fn begins_word(tail: &[u8]) -> bool
+pub(crate) fn begins_word(tail: &[u8]) -> bool
     ensures { result ≡ begins is_word tail.now }
 {
     tail.len() > 0 && is_word(tail[0])

@@ -9,21 +9,22 @@ ghost use Rattle.cborn_lex.specs.Forms.{start_of, single};
 ghost use Rattle.cborn_lex.specs.Lex.{Between};
 ghost use Rattle.cborn_spell.specs.Descent.{TokenAt};
 
+use crate::sources::Source;
 use cborn_lex::Profile;
 
 /// The place of the first character at or behind `at` that is neither white space nor in a comment,
 /// or the text's end.
 #[inline(always)]
-pub(crate) fn skip(profile: Profile, text: &str, at: usize) -> Option<usize>
-    requires { at ≤ length text.now }
-    ensures within { IfSome result (λ end. end ≤ length text.now) }
-    ensures gap { IfSome result (λ end. Between profile text.now at end []) }
+pub(crate) fn skip(source: &Source, at: usize) -> Option<usize>
+    requires { at ≤ length source.now.text.now }
+    ensures within { IfSome result (λ end. end ≤ length source.now.text.now) }
+    ensures gap { IfSome result (λ end. Between source.now.profile source.now.text.now at end []) }
 {
-    let bytes = text.as_bytes();
+    let bytes = source.text.as_bytes();
     if at < bytes.len() && bytes[at] > b'/' {
         return Some(at);
     }
-    skip_gaps(profile, bytes, at)
+    skip_gaps(source.profile, bytes, at)
 }
 
 /// The same, where one may stand.
@@ -129,13 +130,13 @@ pub(crate) fn stands(c: u8, text: &str, at: usize) -> bool
 /// The end of the character, which is a token alone, where it stands behind white space and
 /// comments.
 #[inline(always)]
-pub(crate) fn behind(c: u8, profile: Profile, text: &str, at: usize) -> Option<usize>
-    requires { at ≤ length text.now }
-    ensures within { IfSome result (λ end. end ≤ length text.now) }
-    ensures token { IfSome result (λ end. (k : Class) → start_of c ≡ single k → TokenAt profile text.now at end k) }
+pub(crate) fn behind(c: u8, source: &Source, at: usize) -> Option<usize>
+    requires { at ≤ length source.now.text.now }
+    ensures within { IfSome result (λ end. end ≤ length source.now.text.now) }
+    ensures token { IfSome result (λ end. (k : Class) → start_of c ≡ single k → TokenAt source.now.profile source.now.text.now at end k) }
 {
-    let place = skip(profile, text, at)?;
-    if stands(c, text, place) {
+    let place = skip(source, at)?;
+    if stands(c, source.text, place) {
         Some(place + 1)
     } else {
         None

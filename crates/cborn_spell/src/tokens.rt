@@ -9,27 +9,22 @@ ghost use Rattle.cborn_spell.specs.Descent.{AddsMarked, TokenAt, ItemTaken, Piec
 use crate::leaves::{put_marked, put_simple, put_string};
 use crate::numbers::put_number;
 use crate::scans::behind;
+use crate::sources::Source;
 use cborn_edn::StringKind;
-use cborn_lex::{Class, Mark, Profile, token_from};
+use cborn_lex::{Class, Mark, token_from};
 use cborn_model::Major;
-use std::alloc::Global;
 
 /// The token at or behind the place, and its end.
-pub(crate) fn next_token(
-    alloc: Global,
-    profile: Profile,
-    text: &str,
-    at: usize,
-) -> Option<(Class, usize)>
-    requires { at ≤ length text.now }
-    ensures within { IfSome result (λ r. r.1 ≤ length text.now) }
-    ensures token { IfSome result (λ r. TokenAt profile text.now at r.1 r.0) }
+pub(crate) fn next_token(source: &Source, at: usize) -> Option<(Class, usize)>
+    requires { at ≤ length source.now.text.now }
+    ensures within { IfSome result (λ r. r.1 ≤ length source.now.text.now) }
+    ensures token { IfSome result (λ r. TokenAt source.now.profile source.now.text.now at r.1 r.0) }
 {
-    let Ok(Some(token)) = token_from(alloc, profile, text, at as u64) else {
+    let Ok(Some(token)) = token_from(source.alloc, source.profile, source.text, at as u64) else {
         return None;
     };
     let end = token.stop as usize;
-    if end > text.len() {
+    if end > source.text.len() {
         return None;
     }
     Some((token.class, end))
@@ -37,26 +32,19 @@ pub(crate) fn next_token(
 
 /// The item without children at the place.
 #[inline(never)]
-pub(crate) fn put_leaf(
-    alloc: Global,
-    room: u64,
-    profile: Profile,
-    text: &str,
-    at: usize,
-    out: &mut Vec<u8>,
-) -> Option<usize>
-    requires { at ≤ length text.now }
-    ensures within { IfSome result (λ end. end ≤ length text.now) }
-    ensures taken { IfSome result (λ end. ItemTaken profile text.now at end room out.old.items out.new.items) }
+pub(crate) fn put_leaf(source: &Source, room: u64, at: usize, out: &mut Vec<u8>) -> Option<usize>
+    requires { at ≤ length source.now.text.now }
+    ensures within { IfSome result (λ end. end ≤ length source.now.text.now) }
+    ensures taken { IfSome result (λ end. ItemTaken source.now.profile source.now.text.now at end room out.old.items out.new.items) }
 {
-    let (class, end) = next_token(alloc, profile, text, at)?;
+    let (class, end) = next_token(source, at)?;
     match class {
         Class::Number {
             negative,
             magnitude,
             mark,
         } => {
-            put_number(alloc, room, negative, magnitude, mark, out)?;
+            put_number(source.alloc, room, negative, magnitude, mark, out)?;
             Some(end)
         }
         Class::Word(n) => {
@@ -75,36 +63,30 @@ pub(crate) fn put_leaf(
             put_string(Major::ByteString, quoted, mark, bytes.as_slice(), out)?;
             Some(end)
         }
-        Class::SimpleOpen => put_simple_item(alloc, profile, text, end, out),
+        Class::SimpleOpen => put_simple_item(source, end, out),
         _ => None,
     }
 }
 
 /// A simple value, behind `simple(`.
-fn put_simple_item(
-    alloc: Global,
-    profile: Profile,
-    text: &str,
-    at: usize,
-    out: &mut Vec<u8>,
-) -> Option<usize>
-    requires at { at ≤ length text.now }
-    ensures within { IfSome result (λ end. end ≤ length text.now) }
-    ensures taken { IfSome result (λ end. (n room : ℕ) → TokenAt profile text.now n at classes.SimpleOpen → ItemTaken profile text.now n end room out.old.items out.new.items) }
+fn put_simple_item(source: &Source, at: usize, out: &mut Vec<u8>) -> Option<usize>
+    requires at { at ≤ length source.now.text.now }
+    ensures within { IfSome result (λ end. end ≤ length source.now.text.now) }
+    ensures taken { IfSome result (λ end. (n room : ℕ) → TokenAt source.now.profile source.now.text.now n at classes.SimpleOpen → ItemTaken source.now.profile source.now.text.now n end room out.old.items out.new.items) }
 {
-    let (n, last) = whole_number(alloc, profile, text, at)?;
+    let (n, last) = whole_number(source, at)?;
     put_simple(n, out)?;
-    behind(b')', profile, text, last)
+    behind(b')', source, last)
 }
 
 /// The number at or behind the place that isn't below zero and has no indicator, and its end.
-fn whole_number(alloc: Global, profile: Profile, text: &str, at: usize) -> Option<(u64, usize)>
-    requires { at ≤ length text.now }
-    ensures within { IfSome result (λ r. r.1 ≤ length text.now) }
+fn whole_number(source: &Source, at: usize) -> Option<(u64, usize)>
+    requires { at ≤ length source.now.text.now }
+    ensures within { IfSome result (λ r. r.1 ≤ length source.now.text.now) }
     ensures small { IfSome result (λ r. r.0 < 2 ^ 64) }
-    ensures token { IfSome result (λ r. TokenAt profile text.now at r.1 (classes.Number false r.0 marks.Absent)) }
+    ensures token { IfSome result (λ r. TokenAt source.now.profile source.now.text.now at r.1 (classes.Number false r.0 marks.Absent)) }
 {
-    let (class, end) = next_token(alloc, profile, text, at)?;
+    let (class, end) = next_token(source, at)?;
     match class {
         Class::Number {
             negative: false,
@@ -124,18 +106,16 @@ fn whole_number(alloc: Global, profile: Profile, text: &str, at: usize) -> Optio
 /// and its indicator.
 #[inline(never)]
 pub(crate) fn put_string_piece(
-    alloc: Global,
+    source: &Source,
     room: u64,
-    profile: Profile,
-    text: &str,
     at: usize,
     out: &mut Vec<u8>,
 ) -> Option<(usize, StringKind, Mark)>
-    requires { at ≤ length text.now }
-    ensures within { IfSome result (λ r. r.0 ≤ length text.now) }
-    ensures taken { IfSome result (λ r. PieceTaken profile text.now at r.0 room r.1 r.2 out.old.items out.new.items) }
+    requires { at ≤ length source.now.text.now }
+    ensures within { IfSome result (λ r. r.0 ≤ length source.now.text.now) }
+    ensures taken { IfSome result (λ r. PieceTaken source.now.profile source.now.text.now at r.0 room r.1 r.2 out.old.items out.new.items) }
 {
-    let (class, end) = next_token(alloc, profile, text, at)?;
+    let (class, end) = next_token(source, at)?;
     match class {
         Class::Text { bytes, mark } => {
             out.extend_from_slice(bytes.as_slice()).ok()?;
@@ -151,18 +131,12 @@ pub(crate) fn put_string_piece(
 
 /// Appends the head of the tag whose number stands at the place, and answers where its item begins.
 #[inline(never)]
-pub(crate) fn put_tag_head(
-    alloc: Global,
-    profile: Profile,
-    text: &str,
-    at: usize,
-    out: &mut Vec<u8>,
-) -> Option<usize>
-    requires { at ≤ length text.now }
-    ensures within { IfSome result (λ end. end ≤ length text.now) }
-    ensures head { IfSome result (λ end. (k : ℕ) × (mark : Mark) × TokenAt profile text.now at end (classes.TagOpen k mark) × AddsMarked 6 mark k out.old.items out.new.items) }
+pub(crate) fn put_tag_head(source: &Source, at: usize, out: &mut Vec<u8>) -> Option<usize>
+    requires { at ≤ length source.now.text.now }
+    ensures within { IfSome result (λ end. end ≤ length source.now.text.now) }
+    ensures head { IfSome result (λ end. (k : ℕ) × (mark : Mark) × TokenAt source.now.profile source.now.text.now at end (classes.TagOpen k mark) × AddsMarked 6 mark k out.old.items out.new.items) }
 {
-    let (class, end) = next_token(alloc, profile, text, at)?;
+    let (class, end) = next_token(source, at)?;
     match class {
         Class::TagOpen { number, mark } => {
             if number > 18446744073709551615 {
@@ -177,12 +151,12 @@ pub(crate) fn put_tag_head(
 
 /// The end of the `<<` at or behind the place.
 #[inline(never)]
-pub(crate) fn embed_open(alloc: Global, profile: Profile, text: &str, at: usize) -> Option<usize>
-    requires { at ≤ length text.now }
-    ensures within { IfSome result (λ end. end ≤ length text.now) }
-    ensures token { IfSome result (λ end. TokenAt profile text.now at end classes.EmbedOpen) }
+pub(crate) fn embed_open(source: &Source, at: usize) -> Option<usize>
+    requires { at ≤ length source.now.text.now }
+    ensures within { IfSome result (λ end. end ≤ length source.now.text.now) }
+    ensures token { IfSome result (λ end. TokenAt source.now.profile source.now.text.now at end classes.EmbedOpen) }
 {
-    let (class, end) = next_token(alloc, profile, text, at)?;
+    let (class, end) = next_token(source, at)?;
     match class {
         Class::EmbedOpen => Some(end),
         _ => None,
@@ -191,12 +165,12 @@ pub(crate) fn embed_open(alloc: Global, profile: Profile, text: &str, at: usize)
 
 /// The end of the `(_` at or behind the place.
 #[inline(never)]
-pub(crate) fn chunk_open(alloc: Global, profile: Profile, text: &str, at: usize) -> Option<usize>
-    requires { at ≤ length text.now }
-    ensures within { IfSome result (λ end. end ≤ length text.now) }
-    ensures token { IfSome result (λ end. TokenAt profile text.now at end classes.ChunkOpen) }
+pub(crate) fn chunk_open(source: &Source, at: usize) -> Option<usize>
+    requires { at ≤ length source.now.text.now }
+    ensures within { IfSome result (λ end. end ≤ length source.now.text.now) }
+    ensures token { IfSome result (λ end. TokenAt source.now.profile source.now.text.now at end classes.ChunkOpen) }
 {
-    let (class, end) = next_token(alloc, profile, text, at)?;
+    let (class, end) = next_token(source, at)?;
     match class {
         Class::ChunkOpen => Some(end),
         _ => None,

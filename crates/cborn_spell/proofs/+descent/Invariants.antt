@@ -41,9 +41,6 @@ decreases-pieces::put_pieces_item l = 16 * l.room + 5
 abbrev pub decreases-pieces::put_joined : goal.decreases-pieces::put_joined
 decreases-pieces::put_joined l = 16 * l.room + 4
 
-abbrev pub decreases-pieces::put_pieces : goal.decreases-pieces::put_pieces
-decreases-pieces::put_pieces l = 16 * l.room + 3
-
 abbrev pub decreases-pieces::put_further : goal.decreases-pieces::put_further
 decreases-pieces::put_further l = 16 * l.room + 2
 
@@ -61,16 +58,16 @@ decreases-pieces::put_chunks l = 16 * l.room + 5
 
 -- the items so far
 abbrev pub invariant-rows::put_row-items : goal.invariant-rows::put_row-items
-invariant-rows::put_row-items l = (l.place ≤ length l.text) × BeforeTaken l.profile l.text l.fn.at l.place l.room l.count l.initial.out.items l.out.items
+invariant-rows::put_row-items l = (l.place ≤ length l.source.text.now) × BeforeTaken l.source.profile l.source.text.now l.fn.at l.place l.room l.count l.initial.out.items l.out.items
 
 -- the pairs so far
 abbrev pub invariant-rows::put_pairs-pairs : goal.invariant-rows::put_pairs-pairs
-invariant-rows::put_pairs-pairs l = (l.place ≤ length l.text) × PairsBeforeTaken l.profile l.text l.fn.at l.place l.room l.count l.initial.out.items l.out.items
+invariant-rows::put_pairs-pairs l = (l.place ≤ length l.source.text.now) × PairsBeforeTaken l.source.profile l.source.text.now l.fn.at l.place l.room l.count l.initial.out.items l.out.items
 
 -- the pieces so far
 abbrev pub invariant-pieces::put_further-pieces : goal.invariant-pieces::put_further-pieces
-invariant-pieces::put_further-pieces l = (l.place ≤ length l.text) × ((n : ℕ) (start : List ℕ) → PiecesTaken l.profile l.text n l.fn.at l.room l.kind l.fn.mark start l.initial.out.items → PiecesTaken l.profile l.text n l.place l.room l.kind l.last_mark start l.out.items)
+invariant-pieces::put_further-pieces l = (l.place ≤ length l.source.text.now) × ((n : ℕ) (start : List ℕ) → PiecesTaken l.source.profile l.source.text.now n l.fn.at l.room l.kind l.fn.mark start l.initial.out.items → PiecesTaken l.source.profile l.source.text.now n l.place l.room l.kind l.last_mark start l.out.items)
 
 -- the chunks so far
 abbrev pub invariant-pieces::put_chunks-chunks : goal.invariant-pieces::put_chunks-chunks
-invariant-pieces::put_chunks-chunks l = (l.place ≤ length l.text) × ChunksTaken l.profile l.text l.fn.at l.place l.room l.kind l.fn.out.items l.out.items
+invariant-pieces::put_chunks-chunks l = (l.place ≤ length l.source.text.now) × ChunksTaken l.source.profile l.source.text.now l.fn.at l.place l.room l.kind l.fn.out.items l.out.items

@@ -3,4 +3,4 @@ use Rattle.cborn_spell.proofs.Scanning.{single_behind}
 use Rattle.cborn_spell.proofs.scans.behind.Goals as goal
 
 pub returns-then-stands-clause-token : goal.returns-then-stands-clause-token
-returns-then-stands-clause-token c k e = single_behind c.args.profile c.args.text.now c.args.at c.in_ok-place.place c.args.c k c.in_ok-place.ensures.gap (sym c.stands.ensures.is ∙ c.if-stands.true) e
+returns-then-stands-clause-token c k e = single_behind c.args.source.now.profile c.args.source.now.text.now c.args.at c.in_ok-place.place c.args.c k c.in_ok-place.ensures.gap (sym c.stands.ensures.is ∙ c.if-stands.true) e

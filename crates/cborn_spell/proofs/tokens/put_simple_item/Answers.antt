@@ -7,4 +7,4 @@ use Rattle.cborn_spell.proofs.tokens.put_simple_item.Goals as goal
 pub returns-clause-taken : goal.returns-clause-taken
 returns-clause-taken c =
     IfSome_then c.behind.result c.behind.ensures.token
-    (λ end token n room o. simple_done c.args.profile c.args.text.now n c.args.at c.in_ok-n.last end room c.in_ok-n.n c.args.out.now.items c.put_simple.new.out.items c.in_ok-n.ensures.small o c.in_ok-n.ensures.token (token ParenClose refl) c.in_ok-put_simple.ensures)
+    (λ end token n room o. simple_done c.args.source.now.profile c.args.source.now.text.now n c.args.at c.in_ok-n.last end room c.in_ok-n.n c.args.out.now.items c.put_simple.new.out.items c.in_ok-n.ensures.small o c.in_ok-n.ensures.token (token ParenClose refl) c.in_ok-put_simple.ensures)
