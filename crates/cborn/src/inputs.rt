@@ -2,7 +2,7 @@
 ghost use Rattle.std.specs.Prelude.{◌≡◌, ◌≤◌, ◌+◌, None};
 ghost use Rattle.std.specs.Io.{ReadsAtMost};
 ghost use Rattle.std.specs.Io.KnownBytes.{ReadConsumes};
-ghost use Rattle.cborn_engine.specs.Failures.{failures_after};
+ghost use Rattle.cborn_streams.specs.Failures.{failures_after};
 
 use cborn_engine::Source;
 use cborn_explain::Look;

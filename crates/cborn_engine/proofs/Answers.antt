@@ -8,3 +8,4 @@ pub mod Noted
 pub mod Telling
 pub mod AtHand
 pub mod Malformed
+pub mod Flawed

@@ -1,5 +1,3 @@
 -- What loops know that read an input by pieces, or write an answer.
-pub mod Collecting
 pub mod Counted
 pub mod Feeding
-pub mod Written

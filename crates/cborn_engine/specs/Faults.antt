@@ -8,10 +8,22 @@ use Rattle.cborn_edn.specs.declared.faults.ShowFault.{ShowFault}
 use Rattle.cborn_edn.specs.declared.faults.ShowFault.TheVariants as unshown
 use Rattle.cborn_judge.specs.declared.faults.Invalid.{Invalid}
 use Rattle.cborn_judge.specs.declared.faults.Invalid.TheVariants as invalid
+use Rattle.cborn_streams.specs.declared.faults.InputFault.{InputFault}
+use Rattle.cborn_streams.specs.declared.faults.InputFault.TheVariants as input
+use Rattle.cborn_streams.specs.declared.faults.OutputFault.{OutputFault}
+use Rattle.cborn_streams.specs.declared.faults.OutputFault.TheVariants as output
 use Rattle.cborn_engine.specs.declared.faults.CompareFault.{CompareFault}
 use Rattle.cborn_engine.specs.declared.faults.CompareFault.TheVariants as compared
 use Rattle.cborn_engine.specs.declared.faults.EngineFault.{EngineFault}
 use Rattle.cborn_engine.specs.declared.faults.EngineFault.TheVariants as fault
+
+abbrev pub of_input : InputFault → EngineFault
+of_input input.ReadFault = fault.ReadFault
+of_input input.TooLong = fault.TooLong
+of_input input.OutOfMemory = fault.OutOfMemory
+
+abbrev pub of_output : OutputFault → EngineFault
+of_output output.WriteFault = fault.WriteFault
 
 abbrev pub of_wire : WireFault → EngineFault
 of_wire (wire.Refused p r) = fault.Wire (wire.Refused p r)

@@ -1,7 +1,5 @@
-pub mod Failures
 pub mod Faults
 pub mod Reading
-pub mod Writing
 pub mod Bytes
 pub mod Holding
 pub mod Refusing

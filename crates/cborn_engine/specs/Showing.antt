@@ -14,7 +14,7 @@ use Rattle.cborn_engine.specs.declared.kinds.Kind.TheVariants as kind
 use Rattle.cborn_engine.specs.Holding.{Spells, SpellsInPlace}
 use Rattle.cborn_engine.specs.Loading.{IsNoFlaw}
 use Rattle.cborn_engine.specs.Refusing.{IsRefused, IsRead}
-use Rattle.cborn_engine.specs.Writing.{IsFront}
+use Rattle.cborn_streams.specs.Writing.{IsFront}
 
 -- the nodes as they are spelled, or their fixed notation
 abbrev pub IsSpelledAs : Kind → List Tree → List ℕ → Type 0
@@ -31,12 +31,6 @@ abbrev pub IsUnshownAs : Kind → List Tree → ShowFault → Type 0
 IsUnshownAs kind.Wire nodes why = ⊥
 IsUnshownAs kind.Notation nodes why = HasNoNotation nodes why
 IsUnshownAs kind.Notation2 nodes why = HasNoNotation nodes why
-
--- why nodes aren't spelled in an output of this kind
-abbrev pub IsUnspelledAs : Kind → List Tree → EngineFault → Type 0
-IsUnspelledAs out nodes (fault.Show why) = IsUnshownAs out nodes why
-IsUnspelledAs out nodes fault.OutOfMemory = ⊤
-IsUnspelledAs out nodes _ = ⊥
 
 -- the input spells nodes that aren't shown
 pub record IsUnshowable (k out : Kind) (limit : ℕ) (input : List ℕ) (why : ShowFault) : Type 0 where

@@ -1,4 +1,3 @@
 pub mod Counting
 pub mod Encoding
-pub mod Pieces
-pub mod Sending
+pub mod Reading

@@ -8,17 +8,15 @@ ghost use Rattle.cborn_engine.specs.Reading.{most_bytes};
 ghost use Rattle.cborn_engine.specs.Holding.{Holds, IsFixedText};
 ghost use Rattle.cborn_engine.specs.devices.Encoding.{IsWrittenAs};
 ghost use Rattle.cborn_engine.specs.Showing.{Shows};
-ghost use Rattle.cborn_engine.specs.Failures.{CountsFault};
+ghost use Rattle.cborn_streams.specs.Failures.{CountsFault};
 
 use crate::encodings::read_encoded;
 use crate::faults::EngineFault;
 use crate::kinds::Kind;
-use crate::outputs::write_answer;
 use crate::showings::read_shown;
-use crate::sinks::Sink;
-use crate::sources::Source;
 use cborn_model::{KeyOrder, Limit};
 use cborn_show::show_bytes;
+use cborn_streams::{Sink, Source, write_answer};
 use std::alloc::{AllocError, Global};
 
 /// Writes the canonical form of the items that the input holds: their deterministic encodings one
@@ -48,7 +46,7 @@ pub fn normalise<O: KeyOrder, R: Source, W: Sink>(
 {
     let bytes = read_encoded::<O, R>(alloc, limit, in_kind, reader)?;
     let answer = written_as(alloc, limit, out_kind, bytes)?;
-    write_answer(writer, &answer)
+    Ok(write_answer(writer, &answer)?)
 }
 
 /// Writes the items of the input as they are spelled: as bytes (RFC 8949 section 3), or in the
@@ -76,7 +74,7 @@ pub fn show_all<R: Source, W: Sink>(
     ensures calls { R.asked reader.new ≤ R.asked reader.old + most_bytes + 1 }
 {
     let answer = read_shown(alloc, limit, in_kind, out_kind, reader)?;
-    write_answer(writer, &answer)
+    Ok(write_answer(writer, &answer)?)
 }
 
 /// Bytes that hold items, as an output of this kind: themselves, or their fixed notation.

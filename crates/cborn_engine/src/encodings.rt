@@ -1,12 +1,11 @@
 //! Reading a whole input, and encoding what it holds. Bytes go by a pass that keeps no tree; where
 //! it answers nothing, what is wrong with them is looked for, without a tree too. A text becomes
-//! bytes first, by such a pass; where that or the next answers nothing, its nodes are made, which
-//! know their places in the text, and judged.
+//! bytes first, by such a pass.
 ghost use Rattle.std.specs.Prelude.{◌≡◌, ◌≤◌, ◌+◌, ℕ, length, IfSome, IsTrue};
 ghost use Rattle.cborn_transcode.specs.Transcoding.{IsTranscoded};
 ghost use Rattle.cborn_engine.specs.declared.kinds.Kind.TheVariants as kinds;
 ghost use Rattle.cborn_engine.specs.devices.Encoding.{EncodeAnswers, IsEncoded, kind_of};
-ghost use Rattle.cborn_engine.specs.devices.Pieces.{Reads};
+ghost use Rattle.cborn_engine.specs.devices.Reading.{Reads};
 ghost use Rattle.cborn_engine.specs.Reading.{most_bytes};
 ghost use Rattle.cborn_engine.specs.devices.Counting.{read_failures};
 ghost use Rattle.cborn_engine.specs.Whole.{TellsFault};
@@ -14,14 +13,13 @@ ghost use Rattle.cborn_engine.specs.Whole.{TellsFault};
 use crate::faults::EngineFault;
 use crate::inputs::MOST;
 use crate::kinds::{Kind, profile_of};
-use crate::nodes::notated_nodes;
-use crate::sources::Source;
-use crate::texts::{bytes_of_text, read_bytes};
-use cborn_det::encode_all;
-use cborn_judge::{Invalid, judge_all};
+use crate::refusals::{fault_of_text, flaw_of_text};
+use crate::texts::bytes_of_text;
+use cborn_judge::Invalid;
 use cborn_lex::Profile;
 use cborn_model::{KeyOrder, Limit};
 use cborn_search::{Validity, first_flaw};
+use cborn_streams::{Source, read_bytes};
 use cborn_transcode::{is_deterministic, transcode};
 use cborn_wire::{WireFault, scan};
 use std::alloc::Global;
@@ -99,7 +97,8 @@ fn encode_bytes<O: KeyOrder>(
     Err(EngineFault::OutOfMemory)
 }
 
-/// What `encode_input` answers of a text.
+/// What `encode_input` answers of a text: it is spelled, and these bytes are encoded. Where that
+/// has no answer, the text is refused.
 fn encode_text<O: KeyOrder>(
     alloc: Global,
     limit: Limit,
@@ -109,47 +108,14 @@ fn encode_text<O: KeyOrder>(
     ensures answers { length input.now ≤ most_bytes → EncodeAnswers O.order (kind_of profile) limit most_bytes input.now result }
     ensures failures { (n : ℕ) → read_failures result n ≡ n }
 {
-    match encode_text_by_pass::<O>(alloc, limit, profile, input) {
-        Some(bytes) => Ok(bytes),
-        None => encode_text_by_trees::<O>(alloc, limit, profile, input),
-    }
-}
-
-/// The same by passes over the text and the bytes that it spells. None promises nothing.
-fn encode_text_by_pass<O: KeyOrder>(
-    alloc: Global,
-    limit: Limit,
-    profile: Profile,
-    input: &[u8],
-) -> Option<Vec<u8>>
-    ensures { IfSome result (λ bytes. length input.now ≤ most_bytes → IsEncoded O.order (kind_of profile) limit input.now bytes.items) }
-{
-    let bytes = bytes_of_text(alloc, limit, profile, input)?;
-    encode_spelled::<O>(alloc, limit, bytes)
-}
-
-/// The deterministic encodings of what the bytes hold, which are moved where they are these. None
-/// promises nothing.
-fn encode_spelled<O: KeyOrder>(alloc: Global, limit: Limit, bytes: Vec<u8>) -> Option<Vec<u8>>
-    ensures { IfSome result (λ encodings. IsTranscoded O.order limit bytes.items encodings.items) }
-{
+    let Some(bytes) = bytes_of_text(alloc, limit, profile, input) else {
+        return Err(fault_of_text(alloc, limit, profile, input));
+    };
     if is_deterministic::<O>(alloc, limit, &bytes) {
-        return Some(bytes);
+        return Ok(bytes);
     }
-    transcode::<O>(alloc, limit, &bytes)
-}
-
-/// What `encode_text` answers, by trees.
-fn encode_text_by_trees<O: KeyOrder>(
-    alloc: Global,
-    limit: Limit,
-    profile: Profile,
-    input: &[u8],
-) -> Result<Vec<u8>, EngineFault>
-    ensures answers { length input.now ≤ most_bytes → EncodeAnswers O.order (kind_of profile) limit most_bytes input.now result }
-    ensures failures { (n : ℕ) → read_failures result n ≡ n }
-{
-    let nodes = notated_nodes(alloc, limit, profile, input)?;
-    let items = judge_all(alloc, &nodes)?;
-    Ok(encode_all::<O>(alloc, &items)?)
+    match transcode::<O>(alloc, limit, &bytes) {
+        Some(encodings) => Ok(encodings),
+        None => Err(flaw_of_text(alloc, limit, profile, input, &bytes)),
+    }
 }

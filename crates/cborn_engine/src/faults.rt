@@ -6,6 +6,7 @@ ghost use Rattle.cborn_engine.specs.declared.faults.EngineFault.{EngineFault};
 use cborn_edn::{EdnFault, ShowFault};
 use cborn_judge::Invalid;
 use cborn_lex::LexFault;
+use cborn_streams::{InputFault, OutputFault};
 use cborn_wire::WireFault;
 use std::alloc::AllocError;
 use thiserror::Error;
@@ -70,6 +71,32 @@ impl From<AllocError> for CompareFault {
 
     fn from(_why: AllocError) -> Self {
         CompareFault::OutOfMemory
+    }
+}
+
+impl From<InputFault> for EngineFault {
+    ghost use Rattle.cborn_engine.specs.Faults.{of_input};
+
+    ghost from_gives = { λ why e. e ≡ of_input why };
+
+    fn from(why: InputFault) -> Self {
+        match why {
+            InputFault::ReadFault => EngineFault::ReadFault,
+            InputFault::TooLong => EngineFault::TooLong,
+            InputFault::OutOfMemory => EngineFault::OutOfMemory,
+        }
+    }
+}
+
+impl From<OutputFault> for EngineFault {
+    ghost use Rattle.cborn_engine.specs.Faults.{of_output};
+
+    ghost from_gives = { λ why e. e ≡ of_output why };
+
+    fn from(why: OutputFault) -> Self {
+        match why {
+            OutputFault::WriteFault => EngineFault::WriteFault,
+        }
     }
 }
 

@@ -1,7 +1,7 @@
 //! What follows from the contracts. Each function but `two_calls` does nothing; its contract is a
 //! theorem over the definitions in `specs/`.
 
-ghost use Rattle.std.specs.Prelude.{◌≡◌, ◌≤◌, ◌↔◌, ℕ, List, ◌++◌, Option, None, Some, Ok, Err, IfOk, length};
+ghost use Rattle.std.specs.Prelude.{◌≡◌, ◌≤◌, ◌↔◌, ◌⊎◌, ℕ, List, ◌++◌, Option, None, Some, Ok, Err, IfOk, IfErr, length};
 ghost use Rattle.std.specs.Cow.{cow_slice_items};
 ghost use Rattle.std.specs.Io.KnownBytes.{Consumes, IsAtEnd};
 ghost use Rattle.std.specs.List.{AllZip, AllByRecursion};
@@ -17,10 +17,11 @@ ghost use Rattle.cborn_engine.specs.Holding.{Holds, HoldSameItems, Spells, Canon
 ghost use Rattle.cborn_engine.specs.Loading.{LoadAnswers};
 ghost use Rattle.cborn_engine.specs.Refusing.{IsRefused, IsNoRefusal, IsTrouble};
 ghost use Rattle.cborn_engine.specs.Canonical.{IsCanonical, NormaliseAnswers};
-ghost use Rattle.cborn_engine.specs.Writing.{IsFront};
+ghost use Rattle.cborn_streams.specs.Writing.{IsFront};
 ghost use Rattle.cborn_engine.specs.Comparing.{AreCompared};
 ghost use Rattle.cborn_engine.specs.Checking.{IsChecked};
 ghost use Rattle.cborn_engine.specs.Showing.{IsShown};
+ghost use Rattle.cborn_engine.specs.Whole.{IsRefusedWhole};
 ghost use Rattle.cborn_engine.specs.Reading.{most_bytes};
 
 use crate::faults::EngineFault;
@@ -39,7 +40,8 @@ pub fn headline<O: KeyOrder>()
     ensures again { (k out : Kind) (limit : ℕ) (x v : List ℕ) → length x ≤ most_bytes → IsCanonical O.order k out limit x v → IsCanonical O.order out out limit v v }
 {}
 
-/// The headline of two calls. This law has a body: it calls `normalise_slice` twice.
+/// The headline of two calls. This law has a body: it calls `normalise_slice` twice. It fails only
+/// where one of the inputs is refused.
 ///
 /// # Errors
 /// Those of the calls.
@@ -54,6 +56,7 @@ pub fn two_calls<'a, 'b, O: KeyOrder>(
 ) -> Result<(CowSlice<'a, u8, Global>, CowSlice<'b, u8, Global>), EngineFault>
     ensures alike { IfOk result (λ both. (cow_slice_items both.0 ≡ cow_slice_items both.1) ↔ HoldSameItems kind_a kind_b limit first.now second.now) }
     ensures held { IfOk result (λ both. HoldSameItems kind_a out_kind limit first.now (cow_slice_items both.0) × HoldSameItems kind_b out_kind limit second.now (cow_slice_items both.1)) }
+    ensures refused { IfErr result (λ why. IsRefusedWhole kind_a limit most_bytes first.now why ⊎ IsRefusedWhole kind_b limit most_bytes second.now why) }
 {
     let ours = normalise_slice::<O>(alloc, limit, kind_a, out_kind, first)?;
     let theirs = normalise_slice::<O>(alloc, limit, kind_b, out_kind, second)?;

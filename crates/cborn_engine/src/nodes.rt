@@ -1,5 +1,4 @@
-//! Texts that are held whole, read as nodes: where a caller asks for nodes, and where no pass had an
-//! answer.
+//! Texts that are held whole, read as nodes, for a caller who asks for nodes.
 ghost use Rattle.std.specs.Prelude.{◌≡◌, ◌≤◌, ℕ, length, IfOk, IfErr};
 ghost use Rattle.cborn_engine.specs.devices.Encoding.{kind_of};
 ghost use Rattle.cborn_engine.specs.Holding.{SpellsInPlace};

@@ -1,9 +1,8 @@
 //! Reading a whole input, and telling what it holds in another form. Bytes that are to stay bytes
 //! are what their nodes spell, once it is known that they are well-formed. Else they become
 //! notation by a pass that keeps no tree; where it answers nothing, what is wrong with them is
-//! looked for, without a tree too. A text becomes bytes first, by such a pass; where that or the
-//! next answers nothing, its nodes are made, which know their places in the text.
-ghost use Rattle.std.specs.Prelude.{◌≡◌, ◌≤◌, ◌+◌, ℕ, List, length, IfOk, IfErr, IfSome, IsTrue, IsFalse};
+//! looked for, without a tree too. A text becomes bytes first, by such a pass.
+ghost use Rattle.std.specs.Prelude.{◌≡◌, ◌≤◌, ◌+◌, ℕ, List, length, IfSome, IsTrue, IsFalse};
 ghost use Rattle.cborn_model.specs.Placed.{PlacedAll};
 ghost use Rattle.cborn_model.specs.Spelled.{Wellformed};
 ghost use Rattle.cborn_model.specs.Tree.{Tree, trees};
@@ -12,24 +11,24 @@ ghost use Rattle.cborn_wire.specs.declared.faults.WireReason.{WireReason};
 ghost use Rattle.cborn_wire.specs.Faults.{Fault};
 ghost use Rattle.cborn_engine.specs.declared.kinds.Kind.TheVariants as kinds;
 ghost use Rattle.cborn_engine.specs.devices.Encoding.{kind_of};
-ghost use Rattle.cborn_engine.specs.devices.Pieces.{Reads};
+ghost use Rattle.cborn_engine.specs.devices.Reading.{Reads};
 ghost use Rattle.cborn_engine.specs.Reading.{most_bytes};
 ghost use Rattle.cborn_engine.specs.devices.Counting.{read_failures};
-ghost use Rattle.cborn_engine.specs.Showing.{TellAnswers, IsShown, IsSpelledAs, IsUnshownAs, IsUnspelledAs};
+ghost use Rattle.cborn_engine.specs.Showing.{TellAnswers, IsShown, IsUnshownAs};
 ghost use Rattle.cborn_engine.specs.Whole.{TellsFault};
 
 use crate::faults::EngineFault;
 use crate::inputs::MOST;
 use crate::kinds::{Kind, profile_of};
-use crate::nodes::notated_nodes;
-use crate::sources::Source;
-use crate::texts::{bytes_of_text, read_bytes};
-use cborn_edn::{ShowFault, show};
+use crate::refusals::fault_of_text;
+use crate::texts::bytes_of_text;
+use cborn_edn::ShowFault;
 use cborn_lex::Profile;
-use cborn_model::{Limit, Spelled};
+use cborn_model::Limit;
 use cborn_search::first_bad_text;
 use cborn_show::show_bytes;
-use cborn_wire::{WireFault, scan, spell_all};
+use cborn_streams::{Source, read_bytes};
+use cborn_wire::{WireFault, scan};
 use std::alloc::Global;
 
 /// The items of the whole input as they are spelled, in a form of this kind. Bytes that are to stay
@@ -129,7 +128,9 @@ fn copy_of(alloc: Global, limit: Limit, input: &[u8]) -> Option<Vec<u8>>
     Vec::from_slice(alloc, input).ok()
 }
 
-/// What `show_input` answers of a text.
+/// What `show_input` answers of a text: it is spelled, and these bytes are told. Where it spells
+/// none, it is refused; where they aren't told, memory was refused, since texts of notation are
+/// UTF-8.
 fn tell_text(
     alloc: Global,
     limit: Limit,
@@ -140,42 +141,16 @@ fn tell_text(
     ensures answers { length input.now ≤ most_bytes → TellAnswers (kind_of profile) out_kind limit most_bytes input.now result }
     ensures failures { (n : ℕ) → read_failures result n ≡ n }
 {
-    match tell_text_by_pass(alloc, limit, profile, out_kind, input) {
-        Some(answer) => Ok(answer),
-        None => tell_text_by_trees(alloc, limit, profile, out_kind, input),
-    }
-}
-
-/// The same by passes. None promises nothing.
-fn tell_text_by_pass(
-    alloc: Global,
-    limit: Limit,
-    profile: Profile,
-    out_kind: Kind,
-    input: &[u8],
-) -> Option<Vec<u8>>
-    ensures { IfSome result (λ answer. length input.now ≤ most_bytes → IsShown (kind_of profile) out_kind limit input.now answer.items) }
-{
-    let bytes = bytes_of_text(alloc, limit, profile, input)?;
+    let Some(bytes) = bytes_of_text(alloc, limit, profile, input) else {
+        return Err(fault_of_text(alloc, limit, profile, input));
+    };
     match out_kind {
-        Kind::Wire => Some(bytes),
-        Kind::Notation | Kind::Notation2 => show_bytes(alloc, limit, &bytes),
+        Kind::Wire => Ok(bytes),
+        Kind::Notation | Kind::Notation2 => match show_bytes(alloc, limit, &bytes) {
+            Some(answer) => Ok(answer),
+            None => Err(EngineFault::OutOfMemory),
+        },
     }
-}
-
-/// The same by trees.
-fn tell_text_by_trees(
-    alloc: Global,
-    limit: Limit,
-    profile: Profile,
-    out_kind: Kind,
-    input: &[u8],
-) -> Result<Vec<u8>, EngineFault>
-    ensures answers { length input.now ≤ most_bytes → TellAnswers (kind_of profile) out_kind limit most_bytes input.now result }
-    ensures failures { (n : ℕ) → read_failures result n ≡ n }
-{
-    let nodes = notated_nodes(alloc, limit, profile, input)?;
-    spelled(alloc, out_kind, &nodes)
 }
 
 /// The place of the first text string in well-formed bytes that keeps them from being told in this
@@ -186,21 +161,5 @@ fn bad_text(alloc: Global, limit: Limit, out_kind: Kind, input: &[u8]) -> Option
     match out_kind {
         Kind::Wire => None,
         Kind::Notation | Kind::Notation2 => first_bad_text(alloc, limit, input),
-    }
-}
-
-/// Nodes as they are spelled, or their fixed notation.
-///
-/// # Errors
-/// `Show` where a text string of theirs isn't UTF-8 and they are to become notation, or
-/// `OutOfMemory`.
-fn spelled(alloc: Global, kind: Kind, nodes: &[Spelled]) -> Result<Vec<u8>, EngineFault>
-    ensures spelled { IfOk result (λ answer. IsSpelledAs kind nodes.now answer.items) }
-    ensures unspelled { IfErr result (IsUnspelledAs kind nodes.now) }
-    ensures failures { (n : ℕ) → read_failures result n ≡ n }
-{
-    match kind {
-        Kind::Wire => Ok(spell_all(alloc, nodes)?),
-        Kind::Notation | Kind::Notation2 => Ok(show(alloc, nodes)?.into_bytes()),
     }
 }

@@ -1,50 +1,18 @@
-//! All the bytes of an input, and the text that they are.
-ghost use Rattle.std.specs.Prelude.{◌≡◌, ◌≤◌, ◌+◌, ℕ, length, IfOk, IfErr, IfSome, IsUtf8};
+//! The text that the bytes of an input are.
+ghost use Rattle.std.specs.Prelude.{◌≡◌, ◌≤◌, ℕ, length, IfOk, IfErr, IfSome, IsUtf8};
 ghost use Rattle.cborn_lex.specs.declared.classes.Profile.{Profile as ProfileSpec};
 ghost use Rattle.cborn_spell.specs.Descent.{IsSpelling};
 ghost use Rattle.cborn_engine.specs.devices.Encoding.{kind_of};
 ghost use Rattle.cborn_engine.specs.Loading.{IsNoFlaw};
-ghost use Rattle.cborn_engine.specs.devices.Pieces.{Collects};
-ghost use Rattle.cborn_engine.specs.Reading.{most_bytes};
 ghost use Rattle.cborn_engine.specs.devices.Counting.{read_failures};
 ghost use Rattle.cborn_engine.specs.Refusing.{IsRefused};
 
 use crate::faults::EngineFault;
-use crate::pieces::{make_room, read_behind};
-use crate::sources::Source;
 use cborn_lex::Profile;
 use cborn_model::Limit;
 use cborn_spell::spell_text;
 use simdutf8::compat::from_utf8;
 use std::alloc::Global;
-
-/// All the bytes of an input, of which at most `most` are allowed. They are read to where they
-/// stay, in a buffer that grows with them.
-///
-/// # Errors
-/// `ReadFault`, `TooLong` or `OutOfMemory`, and no other fault.
-pub fn read_bytes<R: Source>(
-    alloc: Global,
-    most: u64,
-    reader: &mut R,
-) -> Result<Vec<u8>, EngineFault>
-    requires { most ≤ most_bytes }
-    ensures collects { Collects most (R.remaining reader.old) (R.remaining reader.new) result }
-    ensures failures { R.failed reader.new ≡ read_failures result (R.failed reader.old) }
-    ensures calls { R.asked reader.new ≤ R.asked reader.old + most + 1 }
-{
-    let mut bytes = Vec::new(alloc);
-    let mut filled = 0;
-    'pieces: loop {
-        make_room(&mut bytes, filled)?;
-        let count = read_behind(reader, &mut bytes, filled, most - filled as u64)?;
-        if count == 0 {
-            bytes.truncate(filled);
-            return Ok(bytes);
-        }
-        filled += count;
-    }
-}
 
 /// The text that bytes are.
 ///

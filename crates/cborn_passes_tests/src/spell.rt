@@ -43,7 +43,7 @@ const TEXTS: [&str; 26] = [
     " 1 , 2 /end/, [_0 1, 2], {_0 1: 2}, [_1 ], {_3 }",
 ];
 
-/// Catches a form that is left to the reader that keeps nodes.
+/// Catches a form that the pass forgets.
 #[test]
 fn spells_each_form(rt: HostRuntime) {
     for text in TEXTS {
@@ -66,7 +66,7 @@ const IN_TWO: [&str; 4] = [
     "# a / b\n[1 # c\n, # d\n] #",
 ];
 
-/// Catches a comment or a comma of profile 2 that is left to the reader that keeps nodes.
+/// Catches a comment or a comma of profile 2 that the pass forgets.
 #[test]
 fn spells_the_second_profile(rt: HostRuntime) {
     for text in IN_TWO {

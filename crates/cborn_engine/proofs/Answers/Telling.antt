@@ -12,10 +12,13 @@ use Rattle.cborn_engine.specs.declared.kinds.Kind.{Kind}
 use Rattle.cborn_engine.specs.declared.kinds.Kind.TheVariants as kind
 use Rattle.cborn_engine.specs.Holding.{IsFixedText}
 use Rattle.cborn_engine.specs.Loading.{IsNoFlaw}
-use Rattle.cborn_engine.specs.devices.Pieces.{Reads}
+use Rattle.cborn_engine.specs.devices.Reading.{Reads}
 use Rattle.cborn_engine.specs.Refusing.{IsRefused, IsRead}
 use Rattle.cborn_engine.specs.Showing.{ShowAnswers, Shows, IsShown, IsUnshownAs, TellAnswers}
-use Rattle.cborn_engine.specs.devices.Sending.{Sends, WriteAnswers}
+use Rattle.cborn_streams.specs.declared.faults.OutputFault.{OutputFault}
+use Rattle.cborn_streams.specs.declared.faults.OutputFault.TheVariants as output
+use Rattle.cborn_streams.specs.Writing.{Sends, WriteAnswers}
+use Rattle.cborn_engine.proofs.Answers.Told.{answer_of}
 use Rattle.cborn_engine.proofs.Answers.Unanswered.{nothing_written}
 
 -- a refusal is told as it is
@@ -58,16 +61,14 @@ not_told k out limit most before after sent why h = record { input = h.input; ou
     answer (fault.Invalid w) r = absurd r.1
     answer _ r = (r.0, r.1, refl)
 
-pub told_out : (k out : Kind) (limit most : ℕ) (before after sent sent_after : Option (List ℕ)) (bytes : Vec ℕ Global) (ys : List ℕ) (r : Result Unit EngineFault) → Reads (TellAnswers k out limit most) before after (Ok bytes) → ys ≡ bytes.items → Sends sent sent_after ys r → Shows k out limit most before after sent sent_after r
+pub told_out : (k out : Kind) (limit most : ℕ) (before after sent sent_after : Option (List ℕ)) (bytes : Vec ℕ Global) (ys : List ℕ) (r : Result Unit OutputFault) → Reads (TellAnswers k out limit most) before after (Ok bytes) → ys ≡ bytes.items → Sends sent sent_after ys r → Shows k out limit most before after sent sent_after (answer_of r)
 told_out k out limit most before after sent sent_after bytes ys r h e w =
-    record { input = h.input; output = w.output; taken = h.taken; given = w.written; answer = answer r w.answer (subst (IsShown k out limit h.input) (sym e) h.answer.1); to_end = at_end r w.answer }
+    record { input = h.input; output = w.output; taken = h.taken; given = w.written; answer = answer r w.answer (subst (IsShown k out limit h.input) (sym e) h.answer.1); to_end = at_end r }
   where
-    answer : (r : Result Unit EngineFault) → WriteAnswers ys w.output r → IsShown k out limit h.input ys → ShowAnswers k out limit most h.input w.output r
+    answer : (r : Result Unit OutputFault) → WriteAnswers ys w.output r → IsShown k out limit h.input ys → ShowAnswers k out limit most h.input w.output (answer_of r)
     answer (Ok u) a c = (h.answer.0, subst (IsShown k out limit h.input) (sym a) c)
-    answer (Err fault.WriteFault) a c = (h.answer.0, (ys, c, a))
-    answer (Err _) a c = absurd a
+    answer (Err output.WriteFault) a c = (h.answer.0, (ys, c, a))
 
-    at_end : (r : Result Unit EngineFault) → WriteAnswers ys w.output r → IsRead r after
-    at_end (Ok u) a = h.to_end
-    at_end (Err fault.WriteFault) a = h.to_end
-    at_end (Err _) a = absurd a
+    at_end : (r : Result Unit OutputFault) → IsRead (answer_of r) after
+    at_end (Ok u) = h.to_end
+    at_end (Err output.WriteFault) = h.to_end

@@ -1,13 +1,16 @@
 -- What `?` answers, and what an output is that isn't bytes.
-use Rattle.std.proofs.Common.{◌≡◌, Result, Ok, Err, refl, subst, sym, ap}
-use Rattle.std.specs.Result.{IsErrAnd}
+use Rattle.std.proofs.Common.{◌≡◌, Result, Ok, Err, refl}
+pub use Rattle.cborn_streams.proofs.Told.{told}
+use Rattle.cborn_streams.specs.declared.faults.OutputFault.{OutputFault}
+use Rattle.cborn_engine.specs.Faults.{of_output}
+use Rattle.cborn_engine.specs.declared.faults.EngineFault.{EngineFault}
 use Rattle.cborn_engine.specs.declared.kinds.Kind.{Kind}
 use Rattle.cborn_engine.specs.declared.kinds.Kind.TheVariants as kind
 
--- an error that is known
-pub told : {A E : Type 0} (P : Result A E → Type 0) (why : E) (r : Result A E) → IsErrAnd r (λ e. e ≡ why) → P (Err why) → P r
-told P why (Ok a) h p = absurd h
-told P why (Err e) h p = subst P (sym (ap Err h)) p
+-- what a call answers that ends with this write
+abbrev pub answer_of : Result Unit OutputFault → Result Unit EngineFault
+answer_of (Ok u) = Ok u
+answer_of (Err why) = Err (of_output why)
 
 -- notation of one of the two kinds
 pub notation : (out : Kind) → (out ≡ kind.Wire → ⊥) → (P : Kind → Type 0) → P kind.Notation → P kind.Notation2 → P out

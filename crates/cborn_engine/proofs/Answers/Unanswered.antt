@@ -5,7 +5,7 @@ use Rattle.cborn_engine.specs.declared.faults.EngineFault.{EngineFault}
 use Rattle.cborn_engine.specs.declared.faults.EngineFault.TheVariants as fault
 use Rattle.cborn_engine.specs.declared.kinds.Kind.{Kind}
 use Rattle.cborn_engine.specs.Faults.{of_first}
-use Rattle.cborn_engine.specs.devices.Pieces.{Reads}
+use Rattle.cborn_engine.specs.devices.Reading.{Reads}
 use Rattle.cborn_engine.specs.Refusing.{IsRefused, IsRead}
 use Rattle.cborn_engine.specs.devices.Encoding.{EncodeAnswers}
 use Rattle.cborn_engine.specs.Canonical.{NormaliseAnswers, Normalises}

@@ -16,7 +16,11 @@ use Rattle.cborn_engine.specs.declared.kinds.Kind.TheVariants as kind
 use Rattle.cborn_engine.specs.Holding.{Holds, SpellsInPlace}
 use Rattle.cborn_engine.specs.Loading.{IsNoFlaw, LoadAnswers, Loads}
 use Rattle.cborn_engine.specs.Refusing.{IsRefused, IsRead}
-use Rattle.cborn_engine.specs.devices.Pieces.{Collects, CollectAnswers, Reads}
+use Rattle.cborn_streams.specs.declared.faults.InputFault.{InputFault}
+use Rattle.cborn_streams.specs.declared.faults.InputFault.TheVariants as input
+use Rattle.cborn_streams.specs.Reading.{Collects, CollectAnswers}
+use Rattle.cborn_engine.specs.Faults.{of_input}
+use Rattle.cborn_engine.specs.devices.Reading.{Reads}
 use Rattle.cborn_engine.specs.devices.Encoding.{IsEncoded}
 use Rattle.cborn_engine.specs.Checking.{CheckAnswers, Checks}
 use Rattle.cborn_engine.specs.Reading.{most_bytes}
@@ -33,14 +37,13 @@ ended A _ rest h = h
 -- ---- what was read
 
 -- the reader stopped
-stopped : (A : Type 0) (k : Kind) (limit most : ℕ) (input : List ℕ) (after : Option (List ℕ)) (why : EngineFault) → CollectAnswers most input after (Err why) → (IsRefused k limit most input why × IsNoFlaw why) × IsRead {A = A} (Err why) after
-stopped A k limit most input after fault.TooLong h = ((h, tt), tt)
-stopped A k limit most input after fault.ReadFault h = ((h, tt), tt)
-stopped A k limit most input after fault.OutOfMemory h = ((h, tt), tt)
-stopped A k limit most input after _ h = absurd h
+stopped : (A : Type 0) (k : Kind) (limit most : ℕ) (x : List ℕ) (after : Option (List ℕ)) (why : InputFault) → CollectAnswers most x after (Err why) → (IsRefused k limit most x (of_input why) × IsNoFlaw (of_input why)) × IsRead {A = A} (Err (of_input why)) after
+stopped A k limit most x after input.TooLong h = ((h, tt), tt)
+stopped A k limit most x after input.ReadFault h = ((h, tt), tt)
+stopped A k limit most x after input.OutOfMemory h = ((h, tt), tt)
 
 module _ {A : Type 0} (Answers : List ℕ → Result A EngineFault → Type 0) (most : ℕ) (before after : Option (List ℕ)) where
-  pub unread : (k : Kind) (limit : ℕ) (why : EngineFault) → ((input : List ℕ) → IsRefused k limit most input why × IsNoFlaw why → Answers input (Err why)) → Collects most before after (Err why) → Reads Answers before after (Err why)
+  pub unread : (k : Kind) (limit : ℕ) (why : InputFault) → ((x : List ℕ) → IsRefused k limit most x (of_input why) × IsNoFlaw (of_input why) → Answers x (Err (of_input why))) → Collects most before after (Err why) → Reads Answers before after (Err (of_input why))
   unread k limit why f h = let r = stopped A k limit most h.input after why h.answer in record { input = h.input; taken = h.taken; answer = f h.input r.0; to_end = r.1 }
 
   -- it was read to its end
@@ -54,7 +57,7 @@ module _ {A : Type 0} (Answers : List ℕ → Result A EngineFault → Type 0) (
       at_end (Ok a) = h.answer.2
       at_end (Err why) = ended A why after h.answer.2
 
-pub not_loaded : (k : Kind) (limit most : ℕ) (before after : Option (List ℕ)) (why : EngineFault) → Collects most before after (Err why) → Loads k limit most before after (Err why)
+pub not_loaded : (k : Kind) (limit most : ℕ) (before after : Option (List ℕ)) (why : InputFault) → Collects most before after (Err why) → Loads k limit most before after (Err (of_input why))
 not_loaded k limit most before after why h =
     let r = stopped (Vec Tree Global) k limit most h.input after why h.answer in record { input = h.input; taken = h.taken; answer = r.0; to_end = r.1 }
 
@@ -69,7 +72,7 @@ loaded k limit most before after bytes now h e r good bad =
     answer (Err why) good bad l = bad most l
 
 module _ (order : List ℕ → List ℕ → Ordering) (limit most : ℕ) (before after : Option (List ℕ)) where
-  pub not_checked : (why : EngineFault) → Collects most before after (Err why) → Checks order limit most before after (Err why)
+  pub not_checked : (why : InputFault) → Collects most before after (Err why) → Checks order limit most before after (Err (of_input why))
   not_checked why h = let r = stopped (Option Defect) kind.Wire limit most h.input after why h.answer in record { input = h.input; taken = h.taken; answer = r.0.0; to_end = r.1 }
 
   pub checked_whole : (bytes : Vec ℕ Global) (now : List ℕ) → Collects most before after (Ok bytes) → now ≡ bytes.items → (r : Result (Option Defect) EngineFault) → (length now ≤ most → CheckAnswers order limit most now r) → Checks order limit most before after r

@@ -13,11 +13,14 @@ use Rattle.cborn_engine.specs.declared.faults.EngineFault.{EngineFault}
 use Rattle.cborn_engine.specs.declared.faults.EngineFault.TheVariants as fault
 use Rattle.cborn_engine.specs.declared.kinds.Kind.{Kind}
 use Rattle.cborn_engine.specs.declared.kinds.Kind.TheVariants as kind
-use Rattle.cborn_engine.specs.devices.Pieces.{Reads}
+use Rattle.cborn_engine.specs.devices.Reading.{Reads}
 use Rattle.cborn_engine.specs.Holding.{Spells, Holds, Canon}
 use Rattle.cborn_engine.specs.devices.Encoding.{IsWrittenAs, IsEncoded, EncodeAnswers}
 use Rattle.cborn_engine.specs.Refusing.{IsRead}
-use Rattle.cborn_engine.specs.devices.Sending.{Sends, WriteAnswers}
+use Rattle.cborn_streams.specs.declared.faults.OutputFault.{OutputFault}
+use Rattle.cborn_streams.specs.declared.faults.OutputFault.TheVariants as output
+use Rattle.cborn_streams.specs.Writing.{Sends, WriteAnswers}
+use Rattle.cborn_engine.proofs.Answers.Told.{answer_of}
 use Rattle.cborn_engine.specs.Canonical.{IsCanonical, NormaliseAnswers, Normalises}
 use Rattle.cborn_engine.specs.Reading.{most_bytes}
 use Rattle.cborn_engine.proofs.Held.Notated.{fits}
@@ -165,22 +168,20 @@ encoded_held order laws k limit most before after bytes bounded h =
     (o.own.items, o.own.held)
 
 -- what was encoded of what was read, written out
-pub normalised : (order : List ℕ → List ℕ → Ordering) (k out : Kind) (limit most : ℕ) (before after sent sent_after : Option (List ℕ)) (bytes : Vec ℕ Global) (zs ys : List ℕ) (r : Result Unit EngineFault) → Reads (EncodeAnswers order k limit most) before after (Ok bytes) → IsWrittenAs out bytes.items zs → ys ≡ zs → Sends sent sent_after ys r → Normalises order k out limit most before after sent sent_after r
+pub normalised : (order : List ℕ → List ℕ → Ordering) (k out : Kind) (limit most : ℕ) (before after sent sent_after : Option (List ℕ)) (bytes : Vec ℕ Global) (zs ys : List ℕ) (r : Result Unit OutputFault) → Reads (EncodeAnswers order k limit most) before after (Ok bytes) → IsWrittenAs out bytes.items zs → ys ≡ zs → Sends sent sent_after ys r → Normalises order k out limit most before after sent sent_after (answer_of r)
 normalised order k out limit most before after sent sent_after bytes zs ys r h t f w =
     let e = h.answer.1 in
     let told : IsWrittenAs out bytes.items ys = subst (IsWrittenAs out bytes.items) (sym f) t in
     let all : IsCanonical order k out limit h.input ys = record { items = e.items; held = e.held; written = canon_of order out e.items bytes.items ys e.encoded told } in
-    record { input = h.input; output = w.output; taken = h.taken; given = w.written; answer = answer r w.answer all; to_end = ended r w.answer }
+    record { input = h.input; output = w.output; taken = h.taken; given = w.written; answer = answer r w.answer all; to_end = ended r }
   where
-    answer : (r : Result Unit EngineFault) → WriteAnswers ys w.output r → IsCanonical order k out limit h.input ys → NormaliseAnswers order k out limit most h.input w.output r
+    answer : (r : Result Unit OutputFault) → WriteAnswers ys w.output r → IsCanonical order k out limit h.input ys → NormaliseAnswers order k out limit most h.input w.output (answer_of r)
     answer (Ok u) a c = (h.answer.0, subst (IsCanonical order k out limit h.input) (sym a) c)
-    answer (Err fault.WriteFault) a c = (h.answer.0, (ys, c, a))
-    answer (Err _) a c = absurd a
+    answer (Err output.WriteFault) a c = (h.answer.0, (ys, c, a))
 
-    ended : (r : Result Unit EngineFault) → WriteAnswers ys w.output r → IsRead r after
-    ended (Ok u) a = h.to_end
-    ended (Err fault.WriteFault) a = h.to_end
-    ended (Err _) a = absurd a
+    ended : (r : Result Unit OutputFault) → IsRead (answer_of r) after
+    ended (Ok u) = h.to_end
+    ended (Err output.WriteFault) = h.to_end
 
 -- there was no memory to answer
 pub no_answer : (order : List ℕ → List ℕ → Ordering) (k out : Kind) (limit most : ℕ) (before after sent : Option (List ℕ)) (bytes : Vec ℕ Global) → Reads (EncodeAnswers order k limit most) before after (Ok bytes) → Normalises order k out limit most before after sent sent (Err fault.OutOfMemory)

@@ -7,7 +7,7 @@ use Rattle.cborn_engine.specs.declared.kinds.Kind.{Kind}
 use Rattle.cborn_engine.specs.declared.kinds.Kind.TheVariants as kind
 use Rattle.cborn_engine.specs.Comparing.{AreCompared, Compares}
 use Rattle.cborn_engine.specs.devices.Encoding.{IsEncoded, EncodeAnswers}
-use Rattle.cborn_engine.specs.devices.Pieces.{Reads}
+use Rattle.cborn_engine.specs.devices.Reading.{Reads}
 use Rattle.cborn_engine.specs.Canonical.{IsCanonical}
 use Rattle.cborn_engine.specs.Holding.{Holds, HoldSameItems}
 use Rattle.cborn_engine.specs.Reading.{most_bytes}

@@ -14,12 +14,12 @@ use Rattle.cborn_wire.specs.Faults.{Refused, Fault}
 use Rattle.cborn_wire.specs.declared.faults.WireReason.TheVariants.{Truncated}
 use Rattle.cborn_wire.specs.Feeding.{Feeding, IsFed, Feeds, fresh}
 use Rattle.cborn_wire.proofs.Spelled.FaultLaws.{refused_stays}
-use Rattle.cborn_engine.specs.declared.faults.EngineFault.{EngineFault}
-use Rattle.cborn_engine.specs.declared.faults.EngineFault.TheVariants as fault
 use Rattle.cborn_engine.specs.declared.kinds.Kind.TheVariants as kind
-use Rattle.cborn_engine.specs.Faults.{of_wire}
+use Rattle.cborn_engine.specs.Faults.{of_input, of_wire}
 use Rattle.cborn_engine.specs.Loading.{Loads}
-use Rattle.cborn_engine.specs.devices.Pieces.{PieceAnswers}
+use Rattle.cborn_streams.specs.declared.faults.InputFault.{InputFault}
+use Rattle.cborn_streams.specs.declared.faults.InputFault.TheVariants as input
+use Rattle.cborn_streams.specs.Reading.{PieceAnswers}
 
 abbrev pub StaysRefused : ℕ → List ℕ → WireFault → Type 0
 StaysRefused limit x (wire.Refused p r) = Refused limit x p r
@@ -57,14 +57,14 @@ pub fed_below : (limit most left : ℕ) (before after : Option (List ℕ)) (f : 
 fed_below limit most left before after f s = omega (arith, s.fed.2, s.count)
 
 -- no further piece came
-pub halted : (limit most left : ℕ) (a b c : Option (List ℕ)) (refused : Bool) (f : Feeding) (buf : List ℕ) (why : EngineFault) → SoFar limit most left a b refused f → PieceAnswers b c left buf (Err why) → Loads kind.Wire limit most a c (Err why)
-halted limit most left a b c refused f buf fault.TooLong s p =
+pub halted : (limit most left : ℕ) (a b c : Option (List ℕ)) (refused : Bool) (f : Feeding) (buf : List ℕ) (why : InputFault) → SoFar limit most left a b refused f → PieceAnswers b c left buf (Err why) → Loads kind.Wire limit most a c (Err (of_input why))
+halted limit most left a b c refused f buf input.TooLong s p =
     let n : length (s.input ++ p.0) ≡ most + 1 = omega (arith, length-append s.input p.0, p.2, s.count) in
     record { input = s.input ++ p.0; taken = Consumes-trans a b c s.input p.0 s.taken p.1; answer = (n, tt); to_end = tt }
-halted limit most left a b c refused f buf fault.ReadFault s p =
+halted limit most left a b c refused f buf input.ReadFault s p =
     let n : length s.input ≤ most = omega (arith, s.count) in
     record { input = s.input; taken = Consumes-kept a b c s.input s.taken p; answer = (n, tt); to_end = tt }
-halted limit most left a b c refused f buf _ s p = absurd p
+halted limit most left a b c refused f buf input.OutOfMemory s p = absurd p
 
 pub stays : (limit : ℕ) (x y : List ℕ) (why : WireFault) → StaysRefused limit x why → StaysRefused limit (x ++ y) why
 stays limit x y (wire.Refused p r) h = refused_stays limit x y p r h

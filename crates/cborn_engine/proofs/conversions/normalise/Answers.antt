@@ -1,5 +1,6 @@
-use Rattle.std.proofs.Common.{List, ℕ, Option, arith, rules}
-use Rattle.cborn_engine.specs.devices.Sending.{Sends}
+use Rattle.std.proofs.Common.{arith}
+use Rattle.cborn_engine.specs.Canonical.{Normalises}
+use Rattle.cborn_engine.proofs.Answers.Told.{told}
 use Rattle.cborn_engine.proofs.Canonical.Canonicity.{encoded_held, normalised}
 use Rattle.cborn_engine.proofs.conversions.normalise.Goals as goal
 
@@ -9,7 +10,11 @@ written_as-requires g c =
 
 pub returns-clause-normalises : goal.returns-clause-normalises
 returns-clause-normalises g c =
-    let answered = λ (sent sent_after : Option (List ℕ)) (writes : Sends sent sent_after c.deref.result.now c.write_answer.result).
-    normalised g.O.KeyOrder.order c.args.in_kind c.args.out_kind c.args.limit _ _ _ sent sent_after c.in_ok-bytes.bytes c.in_ok-answer.answer.items c.deref.result.now c.write_answer.result
-    c.in_ok-bytes.ensures.encodes c.in_ok-answer.ensures c.deref.ensures.value writes in
-    search (rules, answered, c.write_answer.ensures.writes)
+    normalised g.O.KeyOrder.order c.args.in_kind c.args.out_kind c.args.limit _ _ _ _ _ c.in_ok-bytes.bytes c.in_ok-answer.answer.items c.deref.result.now _
+    c.in_ok-bytes.ensures.encodes c.in_ok-answer.ensures c.deref.ensures.value c.in_ok-write_answer.ensures.writes
+
+pub returns-in_err-write_answer-clause-normalises : goal.returns-in_err-write_answer-clause-normalises
+returns-in_err-write_answer-clause-normalises g c =
+    told (Normalises g.O.KeyOrder.order c.args.in_kind c.args.out_kind c.args.limit _ _ _ _ _) _ _ c.from_residual-in_err-write_answer.ensures.1
+    (normalised g.O.KeyOrder.order c.args.in_kind c.args.out_kind c.args.limit _ _ _ _ _ c.in_ok-bytes.bytes c.in_ok-answer.answer.items c.deref.result.now _
+    c.in_ok-bytes.ensures.encodes c.in_ok-answer.ensures c.deref.ensures.value c.in_err-write_answer.ensures.writes)

@@ -10,4 +10,9 @@ returns-in_err-answer-clause-shows g c =
 
 pub returns-clause-shows : goal.returns-clause-shows
 returns-clause-shows g c =
-    told_out c.args.in_kind c.args.out_kind c.args.limit _ _ _ _ _ c.in_ok-answer.answer c.deref.result.now c.write_answer.result c.in_ok-answer.ensures.tells c.deref.ensures.value c.write_answer.ensures.writes
+    told_out c.args.in_kind c.args.out_kind c.args.limit _ _ _ _ _ c.in_ok-answer.answer c.deref.result.now _ c.in_ok-answer.ensures.tells c.deref.ensures.value c.in_ok-write_answer.ensures.writes
+
+pub returns-in_err-write_answer-clause-shows : goal.returns-in_err-write_answer-clause-shows
+returns-in_err-write_answer-clause-shows g c =
+    told (Shows c.args.in_kind c.args.out_kind c.args.limit _ _ _ _ _) _ _ c.from_residual-in_err-write_answer.ensures.1
+    (told_out c.args.in_kind c.args.out_kind c.args.limit _ _ _ _ _ c.in_ok-answer.answer c.deref.result.now _ c.in_ok-answer.ensures.tells c.deref.ensures.value c.in_err-write_answer.ensures.writes)

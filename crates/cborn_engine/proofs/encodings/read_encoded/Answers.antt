@@ -1,6 +1,6 @@
 use Rattle.std.proofs.Common.{ℕ, List, Ok, subst}
 use Rattle.cborn_engine.specs.devices.Encoding.{EncodeAnswers, IsEncoded}
-use Rattle.cborn_engine.specs.devices.Pieces.{Reads}
+use Rattle.cborn_engine.specs.devices.Reading.{Reads}
 use Rattle.cborn_engine.specs.Reading.{most_bytes}
 use Rattle.cborn_engine.proofs.Answers.Told.{told}
 use Rattle.cborn_engine.proofs.Answers.Whole.{unread, read_whole}

@@ -1,0 +1,20 @@
+use Rattle.std.proofs.Common.{◌≤◌, ℕ, length}
+use Rattle.std.specs.Prelude.{IfErr}
+use Rattle.cborn_engine.specs.devices.Encoding.{kind_of}
+use Rattle.cborn_engine.specs.Loading.{IsNoFlaw}
+use Rattle.cborn_engine.specs.Refusing.{IsRefused}
+use Rattle.cborn_engine.proofs.Answers.Told.{told}
+use Rattle.cborn_engine.proofs.Answers.Untold.{untold}
+use Rattle.cborn_engine.proofs.refusals.recognise_text.Goals as goal
+
+pub returns-in_err-recognise_items-clause-refused : goal.returns-in_err-recognise_items-clause-refused
+returns-in_err-recognise_items-clause-refused c =
+    let input = c.args.input.now in
+    told (λ r. IfErr r (λ why. (most : ℕ) → length input ≤ most → IsRefused (kind_of c.args.profile) c.args.limit most input why × IsNoFlaw why)) _ _ c.from_residual-in_err-recognise_items.ensures.1
+    (λ most l. untold c.args.profile c.args.limit most input c.in_ok-text.text.now c.in_err-recognise_items.field-0.0 c.in_ok-text.ensures.text.0 c.in_ok-text.ensures.text.1 c.in_err-recognise_items.ensures.refused l)
+
+pub returns-in_err-text-clause-refused : goal.returns-in_err-text-clause-refused
+returns-in_err-text-clause-refused c =
+    let input = c.args.input.now in
+    told (λ r. IfErr r (λ why. (most : ℕ) → length input ≤ most → IsRefused (kind_of c.args.profile) c.args.limit most input why × IsNoFlaw why)) _ _ c.from_residual.ensures.1
+    (c.in_err-text.ensures.refused c.args.profile c.args.limit)

@@ -1,0 +1,40 @@
+//! That a place in a text is told of the place of a flaw in its bytes. That none is told breaks no
+//! contract, and the engine reads the text by nodes then. Which place it is, a clause says of a flaw
+//! alone, so each case is one, but for that of a place where nothing starts.
+
+use cborn_lex::Profile;
+use cborn_places::place_in_text;
+
+/// Texts with the bytes that they spell, and a place in these with the one in the text.
+const PLACES: [(&str, &[u8], u64, Option<u64>); 6] = [
+    ("{1: 2, 1: 3}", b"\xa2\x01\x02\x01\x03", 3, Some(7)),
+    (
+        "/a/ [1, {\"a\": h'00', \"a\" : 1}]",
+        b"\x82\x01\xa2\x61a\x41\x00\x61a\x01",
+        7,
+        Some(21),
+    ),
+    ("[<<1, 2>>, 3(1)]", b"\x82\x42\x01\x02\xc3\x01", 4, Some(11)),
+    (
+        "{18446744073709551616: 0, 18446744073709551616: 1}",
+        b"\xa2\xc2\x49\x01\x00\x00\x00\x00\x00\x00\x00\x00\x00\xc2\x49\x01\x00\x00\x00\x00\x00\x00\x00\x00\x01",
+        13,
+        Some(26),
+    ),
+    (
+        "[(_ 'a', 'b' 'c'), 2(0)]",
+        b"\x82\x5f\x41a\x42bc\xff\xc2\x00",
+        8,
+        Some(19),
+    ),
+    ("24, 2(0)", b"\x18\x18\xc2\x00", 1, None),
+];
+
+/// Catches a walk that loses its count behind what is embedded, a bignum or chunks.
+#[test]
+fn finds_places_in_texts(rt: HostRuntime) {
+    for (text, bytes, place, want) in PLACES {
+        let there = place_in_text(rt.alloc(), Profile::One, text, bytes, place);
+        assert_eq!(rt; there, want, "{text}");
+    }
+}

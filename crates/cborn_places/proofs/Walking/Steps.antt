@@ -1,0 +1,87 @@
+-- A walk passes one piece after another.
+use Rattle.std.proofs.Common.{◌≡◌, refl, sym, ap, ◌∙◌, subst, ℕ, ◌+◌, ◌<◌, ◌≤◌, List, [], ◌∷◌, ◌++◌, length, drop, get_or, Bool, true, false, cond, Some, arith, append_assoc, length-append}
+use Rattle.std.proofs.Math.Seq.{drop-append_seam, get_or-append_seam}
+use Rattle.std.proofs.lemmas.List.{length-drop, get_or-drop, drop-drop}
+use Rattle.std.proofs.lemmas.Option.{slice_get-get_or}
+use Rattle.std.specs.List.{slice_get}
+use Rattle.cborn_model.specs.Tree.{Trees}
+use Rattle.cborn_model.specs.Spelled.{Wellformed}
+use Rattle.cborn_model.specs.Placed.{PlacedAll}
+use Rattle.cborn_edn.specs.Starts.{starts_all}
+use Rattle.cborn_places.specs.devices.Pieces.{Piece, piece_bytes, all_bytes, IsPiece, ArePieces, is_end, start_of, starts_from}
+use Rattle.cborn_places.proofs.Walking.Fronts.{break_first, no_break_first}
+use Rattle.cborn_places.proofs.Walking.Parts.{all_parts}
+
+-- The walk is at this offset, before some pieces, and behind so many of the starts.
+pub record Passed (starts x : List ℕ) (at index : ℕ) : Type 0 where
+  pub before : List ℕ
+  pub pieces : List Piece
+  pub are : ArePieces pieces
+  pub left : drop at x ≡ all_bytes pieces
+  pub many : length before ≡ index
+  pub start : starts ≡ before ++ starts_from at pieces
+
+-- the same of whatever nodes the bytes spell
+abbrev pub IsPassed : List ℕ → ℕ → ℕ → Type 0
+IsPassed x at index = (limit : ℕ) (nodes : Trees) → Wellformed limit nodes x → PlacedAll 0 nodes → Passed (starts_all nodes) x at index
+
+pub none_passed : (x : List ℕ) → IsPassed x 0 0
+none_passed x limit nodes h placed =
+    let p = all_parts nodes 0 h.fit placed in
+    record { before = []; pieces = p.pieces; are = p.are; left = sym (p.spell ∙ h.spells); many = refl; start = sym p.start }
+
+-- Of the piece at the front, so many bytes are.
+abbrev pub IsLength : List ℕ → ℕ → Type 0
+IsLength front n = (p : Piece) (rest : List ℕ) → IsPiece p → front ≡ piece_bytes p ++ rest → n ≡ length (piece_bytes p)
+
+module _ (x : List ℕ) (at index n : ℕ) (front : List ℕ) (same : front ≡ drop at x) (some : 0 < n) (within : n ≤ length front) (len : IsLength front n) where
+  behind : (p : Piece) (ps : List Piece) → drop at x ≡ piece_bytes p ++ all_bytes ps → n ≡ length (piece_bytes p) → drop (at + n) x ≡ all_bytes ps
+  behind p ps left is =
+      sym (drop-drop n at x) ∙ ap (drop n) left ∙ ap (λ k. drop k (piece_bytes p ++ all_bytes ps)) is ∙ drop-append_seam (piece_bytes p) (all_bytes ps)
+
+  passes : (starts : List ℕ) (c : Bool) → ((p : Piece) (rest : List ℕ) → IsPiece p → front ≡ piece_bytes p ++ rest → is_end p.major p.argument ≡ c) → Passed starts x at index → Passed starts x (at + n) (index + length (cond c [] (at ∷ [])))
+  passes starts c ends h = go h.pieces h.are h.left h.start
+    where
+      go : (ps : List Piece) → ArePieces ps → drop at x ≡ all_bytes ps → starts ≡ h.before ++ starts_from at ps → Passed starts x (at + n) (index + length (cond c [] (at ∷ [])))
+      go [] are left start = absurd (omega (arith, ap length (same ∙ left)))
+      go (p ∷ ps) are left start =
+          let is : n ≡ length (piece_bytes p) = len p (all_bytes ps) are.0 (same ∙ left) in
+          let here : start_of at p ≡ cond c [] (at ∷ []) = ap (λ (d : Bool). cond d [] (at ∷ [])) (ends p (all_bytes ps) are.0 (same ∙ left)) in
+          record {
+            before = h.before ++ start_of at p;
+            pieces = ps;
+            are = are.1;
+            left = behind p ps left is;
+            many = omega (arith, length-append h.before (start_of at p), ap length here, h.many);
+            start = start ∙ sym (append_assoc h.before (start_of at p) (starts_from (at + length (piece_bytes p)) ps)) ∙ ap (λ k. (h.before ++ start_of at p) ++ starts_from (at + k) ps) (sym is);
+          }
+
+  -- A break is passed, and any other piece is counted.
+  pub break_passed : get_or front 0 0 ≡ 255 → IsPassed x at index → IsPassed x (at + n) index
+  break_passed first h limit nodes well placed =
+      let none : index + 0 ≡ index = omega arith in
+      subst (Passed (starts_all nodes) x (at + n)) none (passes (starts_all nodes) true (λ p rest is e. break_first p front rest is e first) (h limit nodes well placed))
+
+  pub piece_passed : (get_or front 0 0 ≡ 255 → ⊥) → IsPassed x at index → IsPassed x (at + n) (index + 1)
+  piece_passed first h limit nodes well placed = passes (starts_all nodes) false (λ p rest is e. no_break_first p front rest e first) (h limit nodes well placed)
+
+-- Where no break stands, a start does.
+pub starts_here : (x : List ℕ) (at index : ℕ) → at < length x → (get_or x at 0 ≡ 255 → ⊥) → IsPassed x at index
+    → (limit : ℕ) (nodes : Trees) → Wellformed limit nodes x → PlacedAll 0 nodes → slice_get (starts_all nodes) index ≡ Some at
+starts_here x at index within first h limit nodes well placed = let p = h limit nodes well placed in go p p.pieces p.are p.left p.start
+  where
+    here : (c : Bool) (before rest : List ℕ) → c ≡ false → before ++ (cond c [] (at ∷ []) ++ rest) ≡ before ++ at ∷ rest
+    here true before rest e = cc
+    here false before rest e = refl
+
+    go : (p : Passed (starts_all nodes) x at index) (ps : List Piece) → ArePieces ps → drop at x ≡ all_bytes ps → starts_all nodes ≡ p.before ++ starts_from at ps → slice_get (starts_all nodes) index ≡ Some at
+    go p [] are left start = absurd (omega (arith, ap length left, length-drop at x))
+    go p (q ∷ ps) are left start =
+        let rest = starts_from (at + length (piece_bytes q)) ps in
+        let byte : get_or (drop at x) 0 0 ≡ get_or x at 0 = get_or-drop at x 0 0 ∙ (let none : at + 0 ≡ at = omega arith in ap (λ k. get_or x k 0) none) in
+        let plain : is_end q.major q.argument ≡ false = no_break_first q (drop at x) (all_bytes ps) left (λ e. first (sym byte ∙ e)) in
+        let all : starts_all nodes ≡ p.before ++ at ∷ rest = start ∙ here (is_end q.major q.argument) p.before rest plain in
+        let many : length (p.before ++ at ∷ rest) ≡ length p.before + length (at ∷ rest) = length-append p.before (at ∷ rest) in
+        ap (λ l. slice_get l index) all ∙ ap (slice_get (p.before ++ at ∷ rest)) (sym p.many)
+        ∙ slice_get-get_or (p.before ++ at ∷ rest) (length p.before) 0 (omega (arith, many))
+        ∙ ap Some (get_or-append_seam p.before at rest 0)

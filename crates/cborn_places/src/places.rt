@@ -1,0 +1,35 @@
+//! From a place in bytes to the place in a text that spells them.
+
+ghost use Rattle.std.specs.Prelude.{◌≡◌, ◌<◌, ◌^◌, ℕ, IfSome, List, length};
+ghost use Rattle.cborn_model.specs.Placed.{PlacedAll};
+ghost use Rattle.cborn_model.specs.Spelled.{Wellformed, spelled_all};
+ghost use Rattle.cborn_model.specs.Tree.{Tree, trees};
+ghost use Rattle.cborn_edn.specs.Notates.{Notates};
+ghost use Rattle.cborn_judge.specs.declared.faults.Invalid.TheVariants.{Refused};
+ghost use Rattle.cborn_judge.specs.declared.faults.InvalidReason.{InvalidReason};
+ghost use Rattle.cborn_judge.specs.Flaws.{IsRefusalOfAll};
+
+use crate::indices::index_at;
+use cborn_edn::start_at;
+use cborn_lex::Profile;
+use std::alloc::Global;
+
+/// Where in `text`, under that profile of the notation, the first flaw stands that was found at
+/// `place` in the `bytes` that the text spells (RFC 8949 sections 3.1, 3.4.3 and 5.6). Both places
+/// are offsets in bytes from the start.
+///
+/// Goes through the bytes up to `place` and then through the text up to the answer. `None` where
+/// nothing starts at `place`, and where memory was refused. Of a text of 2^56 bytes or more nothing
+/// is said.
+pub fn place_in_text(
+    alloc: Global,
+    profile: Profile,
+    text: &str,
+    bytes: &[u8],
+    place: u64,
+) -> Option<u64>
+    ensures { IfSome result (λ there. length text.now < 2 ^ 56 → (limit : ℕ) (nodes others : List Tree) (r : InvalidReason) → Notates profile limit text.now (trees nodes) → spelled_all (trees nodes) ≡ bytes.now → Wellformed limit (trees others) bytes.now → PlacedAll 0 (trees others) → IsRefusalOfAll others (Refused place r) → IsRefusalOfAll nodes (Refused there r)) }
+{
+    let index = index_at(bytes, place)?;
+    start_at(alloc, profile, text, index)
+}

@@ -1,0 +1,3 @@
+pub mod Collecting
+pub mod Told
+pub mod Written

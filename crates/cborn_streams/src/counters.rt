@@ -1,0 +1,134 @@
+//! Readers and writers of std, with counts of their failures, reads and bytes.
+ghost use Rattle.std.specs.Prelude.{◌≡◌};
+ghost use Rattle.std.specs.Io.{ReadsAtMost, WritesAtMost};
+ghost use Rattle.std.specs.Io.KnownBytes.{Keeps, ReadConsumes, WriteAppends};
+ghost use Rattle.cborn_streams.specs.Failures.{one_more, failures_after, failures_after_write, unflushed_after_write, unflushed_after_flush};
+
+use crate::sinks::Sink;
+use crate::sources::Source;
+use std::io;
+use std::io::{Read, Write};
+
+/// A reader or a writer of std, with counts. Each stays at `u64::MAX` once it is there. An
+/// interrupted call is a failure as any other: nothing is tried again.
+#[derive(Drop)]
+pub struct Counted<T> {
+    pub inner: T,
+    /// How many calls failed.
+    pub failed: u64,
+    /// How many reads were asked for.
+    pub asked: u64,
+    /// How many bytes were written since the last flush that didn't fail.
+    pub unflushed: u64,
+}
+
+impl<T> Counted<T> {
+    /// Counts for a reader or a writer, from 0.
+    pub fn new(inner: T) -> Self
+        ensures inner { result.inner ≡ inner }
+        ensures failures { result.failed ≡ 0 }
+        ensures calls { result.asked ≡ 0 }
+        ensures unflushed { result.unflushed ≡ 0 }
+    {
+        Counted {
+            inner,
+            failed: 0,
+            asked: 0,
+            unflushed: 0,
+        }
+    }
+}
+
+impl<T: Read> Source for Counted<T> {
+    ghost remaining = { λ c. T.remaining c.inner };
+
+    ghost failed = { λ c. c.failed };
+
+    ghost asked = { λ c. c.asked };
+
+    fn read_some(&mut self, buf: &mut [u8]) -> io::Result<usize>
+        ensures bound { ReadsAtMost result buf.new }
+        ensures bytes { ReadConsumes (T.remaining self.old.inner) (T.remaining self.new.inner) result buf.new }
+        ensures failures { self.new.failed ≡ failures_after result self.old.failed }
+        ensures calls { self.new.asked ≡ one_more self.old.asked }
+    {
+        self.asked = self.asked.saturating_add(1);
+        let result = self.inner.read(buf);
+        if result.is_err() {
+            self.failed = self.failed.saturating_add(1);
+        }
+        result
+    }
+
+    fn failures(&self) -> u64 {
+        self.failed
+    }
+}
+
+impl<T: Write> Sink for Counted<T> {
+    ghost contents = { λ c. T.contents c.inner };
+
+    ghost failed = { λ c. c.failed };
+
+    ghost unflushed = { λ c. c.unflushed };
+
+    fn write_some(&mut self, piece: &[u8]) -> io::Result<usize>
+        ensures bound { WritesAtMost result piece.now }
+        ensures bytes { WriteAppends (T.contents self.old.inner) (T.contents self.new.inner) result piece.now }
+        ensures failures { self.new.failed ≡ failures_after_write result piece.now self.old.failed }
+        ensures unflushed { self.new.unflushed ≡ unflushed_after_write result self.old.unflushed }
+    {
+        let result = self.inner.write(piece);
+        if let Ok(count) = &result {
+            self.unflushed = self.unflushed.saturating_add(*count as u64);
+        }
+        let is_failure = match &result {
+            Ok(count) => *count == 0 && !piece.is_empty(),
+            Err(_) => true,
+        };
+        if is_failure {
+            self.failed = self.failed.saturating_add(1);
+        }
+        result
+    }
+
+    fn flush_all(&mut self) -> io::Result<()>
+        ensures bytes { Keeps (T.contents self.old.inner) (T.contents self.new.inner) }
+        ensures failures { self.new.failed ≡ failures_after result self.old.failed }
+        ensures unflushed { self.new.unflushed ≡ unflushed_after_flush result self.old.unflushed }
+    {
+        let result = self.inner.flush();
+        if result.is_err() {
+            self.failed = self.failed.saturating_add(1);
+        } else {
+            self.unflushed = 0;
+        }
+        result
+    }
+
+    fn failures(&self) -> u64 {
+        self.failed
+    }
+}
+
+/// For `write!` and whatever else asks for a writer of std: the calls of [`Sink`], by std's names.
+impl<T: Write> Write for Counted<T> {
+    ghost contents = { λ c. T.contents c.inner };
+
+    fn write(&mut self, piece: &[u8]) -> io::Result<usize>
+        ensures bound { WritesAtMost result piece.now }
+        ensures bytes { WriteAppends (T.contents self.old.inner) (T.contents self.new.inner) result piece.now }
+        ensures failures { self.new.failed ≡ failures_after_write result piece.now self.old.failed }
+        ensures unflushed { self.new.unflushed ≡ unflushed_after_write result self.old.unflushed }
+    {
+        self.write_some(piece)
+    }
+
+    fn flush(&mut self) -> io::Result<()>
+        ensures bytes { Keeps (T.contents self.old.inner) (T.contents self.new.inner) }
+        ensures failures { self.new.failed ≡ failures_after result self.old.failed }
+        ensures unflushed { self.new.unflushed ≡ unflushed_after_flush result self.old.unflushed }
+    {
+        self.flush_all()
+    }
+}

@@ -1,0 +1,38 @@
+//! All the bytes of an input.
+ghost use Rattle.std.specs.Prelude.{◌≡◌, ◌≤◌, ◌<◌, ◌+◌, ◌^◌};
+ghost use Rattle.cborn_streams.specs.Failures.{failures_after_read};
+ghost use Rattle.cborn_streams.specs.Reading.{Collects};
+
+use crate::faults::InputFault;
+use crate::pieces::{make_room, read_behind};
+use crate::sources::Source;
+use std::alloc::Global;
+
+/// All the bytes of an input, of which at most `most` are allowed, and `most` is below 2^64 - 1.
+/// They are read to where they stay, in a buffer that grows with them.
+///
+/// # Errors
+/// `ReadFault` where the reader failed, which ends the reading. `TooLong` where it gave `most` + 1
+/// bytes; no more are read. `OutOfMemory` may come at any time.
+pub fn read_bytes<R: Source>(
+    alloc: Global,
+    most: u64,
+    reader: &mut R,
+) -> Result<Vec<u8>, InputFault>
+    requires { most + 1 < 2 ^ 64 }
+    ensures collects { Collects most (R.remaining reader.old) (R.remaining reader.new) result }
+    ensures failures { R.failed reader.new ≡ failures_after_read result (R.failed reader.old) }
+    ensures calls { R.asked reader.new ≤ R.asked reader.old + most + 1 }
+{
+    let mut bytes = Vec::new(alloc);
+    let mut filled = 0;
+    'pieces: loop {
+        make_room(&mut bytes, filled)?;
+        let count = read_behind(reader, &mut bytes, filled, most - filled as u64)?;
+        if count == 0 {
+            bytes.truncate(filled);
+            return Ok(bytes);
+        }
+        filled += count;
+    }
+}
