@@ -1,16 +1,20 @@
 #!/usr/bin/env python3
 """Give the built program inputs for which there is memory enough, and fail where it says 'out of memory'.
 
-    ample.py PROGRAM [--inputs N] [--seed N]
+    ample.py PROGRAM [--inputs N] [--texts N] [--seed N]
 
-The program has no second way for bytes: where a pass answers nothing, and nothing is found wrong with the input, it
+The program has no second way, for bytes or for texts: where a pass answers nothing, and nothing is found wrong with the input, it
 says that memory was refused. A form that a pass forgets would be told so too, and the proof allows that. So here are
 all inputs of the tables and of the vectors, the shapes of bench/cost.py, and N (12,000) inputs that are made from a
 seed: valid ones in each form that bytes have (long heads, chunks, bignums in chunks, indefinite lengths, keys that
 fall), others that are changed in places or cut, nests about the limit, and bytes at random. What is made valid has to
 be read, too, and normalised to what reading.py computes.
+
+And here are N (4,000) texts of the notation: ones that notating.py writes of valid bytes, which have to be read as
+exactly these; ones with one flaw, which has to be told at its place; and others that are changed in places or cut.
 """
 import argparse
+import collections
 import itertools
 import pathlib
 import random
@@ -18,6 +22,7 @@ import subprocess
 import sys
 import tempfile
 
+import notating
 import reading
 import shared
 from run import FORMS, given_bytes, paragraphs, tables_in
@@ -37,6 +42,9 @@ COMMANDS = (
     ["show"],
 )
 FROM_TEXT = ("normalise", "show")
+KINDS = ("notation", "notation-2")
+# the bytes that a text spells, or none where it isn't known to be read, and the line of its flaw, if it has one
+Text = collections.namedtuple("Text", "kind content spelled refusal", defaults=(None, b""))
 NUMBERS = (0, 1, 23, 24, 255, 256, 65535, 65536, 2**32 - 1, 2**32, 2**64 - 1)
 LETTERS = 'az"\\é中😀\n'
 # behind a part of an input these are most often what it doesn't await
@@ -133,6 +141,46 @@ class Maker:
                 content[place:place] = content[place : place + self.random.randrange(1, 9)]
         return bytes(content)
 
+    def flaw(self):
+        """An item with one flaw, its words, and the place of it."""
+        if self.is_drawn(0.5):
+            wrong = self.random.choice((b"\x00", b"\x61a", b"\x80", b"\xa0", b"\xc1\x40", b"\xf6"))
+            return self.head(reading.TAG, self.random.choice((2, 3))) + wrong, "bad bignum", 0
+        keys = self.keys(1) or [b"\x00"]
+        front = self.head(reading.MAP, len(keys) + 1) + b"".join(key + self.item(1) for key in keys)
+        return front + self.random.choice(keys) + self.item(1), "duplicate key", len(front)
+
+    def flawed(self):
+        """Items with one flaw, its words, and the place of it."""
+        content, words, place = self.flaw()
+        for _ in range(self.random.choice((0, 1, 3))):
+            opening = self.head(reading.ARRAY, 2) + self.item(1)
+            content, place = opening + content, len(opening) + place
+        front = self.item(1)
+        return front + content + self.item(1), words, len(front) + place
+
+    def changed_text(self, text):
+        """A text with a character dropped, doubled, exchanged with the next, or cut there."""
+        for _ in range(self.random.choice((1, 1, 2, 4))):
+            place = self.random.randrange(len(text) + 1)
+            front, at, after = text[:place], text[place : place + 1], text[place + 1 :]
+            text = self.random.choice((front + after, front + at + at + after, front + after[:1] + at + after[1:], front))
+        return text
+
+    def text_made(self):
+        """A text of items: as it spells them, changed, or of items with a flaw."""
+        drawn, kind = self.random.random(), self.random.choice(KINDS)
+        if drawn < 0.25:
+            content, words, place = self.flawed()
+            notator = notating.Notator(self.random, kind, content)
+            text = notator.items()
+            return Text(kind, text.encode(), content, f"cborn: offset {notator.offset(place)}: {words}\n".encode())
+        content = self.valid()
+        text = notating.Notator(self.random, kind, content).items()
+        if drawn < 0.75:
+            return Text(kind, text.encode(), content)
+        return Text(kind, self.changed_text(text).encode())
+
     def nest(self):
         levels = self.random.choice((1, 127, 128, 129))
         front, back = self.random.choice(NESTS)
@@ -160,20 +208,26 @@ def of_tables():
                     yield given_bytes(what)
 
 
-def inputs(count, seed):
-    """Each input, and whether it is known to be valid."""
-    yield from ((content, False) for content in of_tables())
-    yield from ((content, False) for path in sorted(HERE.glob("*.vectors")) for _, content, _ in vectors(path))
-    yield from ((content, False) for content in shapes(COST).values())
+def given_inputs():
+    """The inputs that aren't made from a seed."""
+    yield from of_tables()
+    yield from (content for path in sorted(HERE.glob("*.vectors")) for _, content, _ in vectors(path))
+    yield from shapes(COST).values()
+
+
+def inputs(count, texts, seed):
+    """Each input: what judges it, and what that is handed."""
+    yield from ((wrong_of, (content, False)) for content in given_inputs())
     maker = Maker(seed)
-    yield from (maker.made() for _ in range(count))
+    yield from ((wrong_of, maker.made()) for _ in range(count))
+    yield from ((wrong_of_text, (maker.text_made(),)) for _ in range(texts))
 
 
 def wrong_of(program, path, content, is_valid):
     """What is wrong about each command on this input."""
     path.write_bytes(content)
     given = content if len(content) < 100 else content[:100] + b".."
-    kinds = [[], *(["--from", kind] for kind in ("notation", "notation-2"))]
+    kinds = [[], *(["--from", kind] for kind in KINDS)]
     for kind in kinds if content.isascii() and not is_valid else kinds[:1]:
         for words in COMMANDS:
             if kind and words[0] not in FROM_TEXT:
@@ -187,12 +241,31 @@ def wrong_of(program, path, content, is_valid):
                 yield f"{words} {given!r}: {done.stdout[:100]!r}"
 
 
-def tried(program, count, seed, first, shares):
+def is_right(words, text, done):
+    """Whether a command answers what it has to of a text that spells items."""
+    if words[0] == "show":
+        return done.returncode == 0 and (words[-1] != "wire" or done.stdout == text.spelled)
+    if text.refusal:
+        return (done.stdout, done.stderr, done.returncode) == (b"", text.refusal, 2)
+    return done.returncode == 0 and done.stdout == b"".join(reading.canonical(text.spelled))
+
+
+def wrong_of_text(program, path, text):
+    """What is wrong about each command on a text that was made."""
+    path.write_bytes(text.content)
+    for words in (["show", "--to", "wire"], ["normalise"], ["show"]):
+        done = subprocess.run([program, *words, "--from", text.kind, path], capture_output=True, timeout=60, check=False)
+        is_refused = WANT in done.stderr or done.returncode not in (0, 2)
+        if is_refused or text.spelled is not None and not is_right(words, text, done):
+            yield f"{words} {text.kind} {text.content!r}: {done.stdout[:100]!r}, {done.stderr!r}, status {done.returncode}"
+
+
+def tried(program, count, texts, seed, first, shares):
     """How many inputs were given, and what is wrong."""
     number, wrong = 0, []
     with tempfile.TemporaryDirectory() as folder:
-        for number, (content, is_valid) in enumerate(shared.share(inputs(count, seed), first, shares), 1):
-            wrong += wrong_of(program, pathlib.Path(folder, "input"), content, is_valid)
+        for number, (judge, given) in enumerate(shared.share(inputs(count, texts, seed), first, shares), 1):
+            wrong += judge(program, pathlib.Path(folder, "input"), *given)
     return number, wrong
 
 
@@ -200,10 +273,11 @@ def main():
     words = argparse.ArgumentParser(description=__doc__.split("\n", maxsplit=1)[0])
     words.add_argument("program", type=lambda name: pathlib.Path(name).resolve())
     words.add_argument("--inputs", type=int, default=12_000)
+    words.add_argument("--texts", type=int, default=4_000)
     words.add_argument("--seed", type=int, default=29)
     given = words.parse_args()
-    count, wrong = shared.over_processors(tried, given.program, given.inputs, given.seed)
-    return shared.status(count, wrong, f"{count} inputs")
+    count, wrong = shared.over_processors(tried, given.program, given.inputs, given.texts, given.seed)
+    return shared.status(count, wrong, f"{count} inputs, {given.texts} of them texts made")
 
 
 if __name__ == "__main__":

@@ -7,8 +7,7 @@ Each command has bounds for each shape of input: for requests, which no tree kee
 for what is held at one time, as a multiple of input and output together, which no reservation by a declared count keeps
 either. refuse.c, which is compiled by $CC or cc, counts.
 
-Shapes that are known to ask for more have bounds of their own, by name. Left out, since they cost far more: texts with
-a validity error, such as a key that is repeated, which are read into trees.
+Shapes that are known to ask for more have bounds of their own, by name.
 """
 import collections
 import os
@@ -50,6 +49,8 @@ DETERMINISTIC = ("sequence of integers", "array of integers", "texts", "one text
 # two lists for each map whose keys fall, and of both inputs where they are compared
 REQUESTS = {
     "maps of two pairs": 810_000,
+    # a list for each map
+    "maps, last one repeats a key": 130_000,
     # the items of each `<<..>>` and their bytes
     "last number of embedded items is too wide for its head": 300_000,
 }
@@ -69,6 +70,8 @@ REFUSED_ENDS = {
     "last text isn't UTF-8": b"\"\" h'ff']",
     "last simple value is none": b"simple(24)]",
     "last array is too wide for its head": b"[_0 " + b"1, " * 255 + b"1]]",
+    "last map repeats a key": b"{1: 1, 2(h'01'): 2}]",
+    "last bignum is none": b"2(1)]",
     "last map is too wide for its head": b"{_0 " + b"".join(b"%d: 0, " % i for i in range(255)) + b"255: 0}]",
 }
 
@@ -127,6 +130,8 @@ def in_text(n):
         "hexadecimal": b"h'" + b"61" * (n // 2) + b"'",
         "tags in an array": b"[" + b", ".join([b"1(0)"] * (n // 6)) + b"]",
         "map": b"{" + b", ".join(b"%d: 0" % (65536 + i) for i in range(n // 11)) + b"}",
+        "map, first key again": b"{" + b"".join(b"%d: 0, " % (65536 + i) for i in range(n // 11)) + b"65536: 0}",
+        "maps, last one repeats a key": b"{1: 1}, " * (n // 8) + b"{1: 1, 1: 2}",
         "comments": b"1" + b" /c/" * (n // 4),
         **{name: b"[" + b"1, " * (n // 3) + end for name, end in REFUSED_ENDS.items()},
         "last number of embedded items is too wide for its head": b"<<1>>, " * (n // 7) + b"<<300_0>>",
