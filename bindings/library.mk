@@ -1,5 +1,5 @@
 # The library for programs in C and other languages, from the archive that the proved crate cborn_c gives.
-VERSION := 0.3.0
+VERSION := 0.4.0
 SONAME := libcborn.so.0
 # the kit's folder, which has the three functions by which a library takes memory
 KIT = $(dir $(shell rt doc))

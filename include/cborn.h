@@ -36,7 +36,7 @@ extern "C" {
 #endif
 
 /* The version of this header: 65536 for each major one, 256 for each minor one, and the patch. */
-#define CBORN_VERSION 0x000300
+#define CBORN_VERSION 0x000400
 
 /* The format of an input or an output. As output both notations are the same. */
 enum {

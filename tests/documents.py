@@ -170,8 +170,12 @@ def other_versions(root):
         "crates/cborn/src/options.rt": f'.version("{version}")',
         "crates/cborn_c/src/lib.rt": f"    {number}\n",
         "include/cborn.h": f"#define CBORN_VERSION {number}\n",
+        "man/cborn.1": f'"cborn {version}"',
+        "tests/help.table": f"stdout text cborn {version}\\n",
         "bindings/rust/Cargo.toml": f'version = "{version}"',
+        "bindings/rust/Cargo.lock": f'version = "{version}"',
         "bindings/python/pyproject.toml": f'version = "{version}"',
+        "bindings/python/test_cborn.py": f'cborn.version(), "{version}"',
     }
     for name, text in told.items():
         if text not in (root / name).read_text():

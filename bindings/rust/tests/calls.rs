@@ -108,7 +108,12 @@ fn a_fault_explains_itself() {
 fn limits_are_from_1_to_1024() {
     assert!(Depth::new(0).is_none() && Depth::new(1025).is_none());
     assert!(Depth::new(1).unwrap().stack() < Depth::new(1024).unwrap().stack());
-    assert_eq!(version(), (0, 3, 0));
+}
+
+#[test]
+fn library_and_crate_are_of_one_version() {
+    let (major, minor, patch) = version();
+    assert_eq!(format!("{major}.{minor}.{patch}"), env!("CARGO_PKG_VERSION"));
 }
 
 #[test]

@@ -243,10 +243,10 @@ pub extern "C" fn cborn_explain(
 }
 
 /// The version of the library, 65,536 for each major one, 256 for each minor one, and the patch:
-/// 0.3.0.
+/// 0.4.0.
 #[unsafe(no_mangle)]
 pub extern "C" fn cborn_version() -> u32
-    ensures { result ≡ 768 }
+    ensures { result ≡ 1024 }
 {
-    0x000300
+    0x000400
 }
