@@ -63,7 +63,8 @@ pub fn is_own_spelling(limit: Limit, in_kind: Kind, out_kind: Kind, input: &[u8]
     in_kind == Kind::Wire && out_kind == Kind::Wire && scan(limit, input).is_none()
 }
 
-/// The items of an input as they are spelled, in a form of this kind.
+/// The items of an input as they are spelled, in a form of this kind. Bytes that stay as they are
+/// have their answer from `is_own_spelling`, and are not copied here.
 ///
 /// # Errors
 /// The fault of its content, `Show`, or `OutOfMemory`.
@@ -108,24 +109,14 @@ fn tell_bytes(
     Err(EngineFault::OutOfMemory)
 }
 
-/// The same by a pass. None promises nothing.
+/// The same by a pass, of bytes that are to become notation. None promises nothing.
 fn tell_bytes_by_pass(alloc: Global, limit: Limit, out_kind: Kind, input: &[u8]) -> Option<Vec<u8>>
     ensures { IfSome result (λ answer. IsShown kinds.Wire out_kind limit input.now answer.items) }
 {
     match out_kind {
-        Kind::Wire => copy_of(alloc, limit, input),
+        Kind::Wire => None,
         Kind::Notation | Kind::Notation2 => show_bytes(alloc, limit, input),
     }
-}
-
-/// A copy of bytes that are well-formed.
-fn copy_of(alloc: Global, limit: Limit, input: &[u8]) -> Option<Vec<u8>>
-    ensures { IfSome result (λ answer. IsShown kinds.Wire kinds.Wire limit input.now answer.items) }
-{
-    if !is_own_spelling(limit, Kind::Wire, Kind::Wire, input) {
-        return None;
-    }
-    Vec::from_slice(alloc, input).ok()
 }
 
 /// What `show_input` answers of a text: it is spelled, and these bytes are told. Where it spells
