@@ -77,6 +77,10 @@ class Maker:
     def bytes(self):
         return [self.random.randbytes(self.random.choice((0, 1, 1, 2, 9))) for _ in range(self.random.choice((0, 1, 1, 2, 4)))]
 
+    def items(self):
+        """Parts of a byte string that holds items of its own."""
+        return [self.item(self.random.choice((0, 1))) for _ in range(self.random.choice((1, 1, 3)))]
+
     def bignum(self):
         zeros = [bytes(self.random.choice((0, 1, 3)))]
         return self.head(reading.TAG, self.random.choice((2, 3))) + self.string(reading.BYTES, zeros + self.bytes())
@@ -89,7 +93,7 @@ class Maker:
         if drawn < 0.35:
             return self.head(self.random.choice((0, 0, 1)), self.random.choice((*NUMBERS, self.random.randrange(100))))
         if drawn < 0.5:
-            return self.string(reading.BYTES, self.bytes())
+            return self.string(reading.BYTES, self.items() if self.is_drawn(0.2) else self.bytes())
         if drawn < 0.7:
             return self.string(reading.TEXT, self.text())
         if drawn < 0.9:
