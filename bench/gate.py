@@ -79,20 +79,35 @@ def edit_in(folder, crate):
     """Returns the name of the must-fail edit that a copy of the crate was given, or that there is none."""
     own = pathlib.Path("crates", crate)
     for edit in sorted(own.glob("must-fail/*.edit")):
-        words = [line.partition(": ")[::2] for line in edit.read_text().splitlines()]
-        file = next((rest for word, rest in words if word == "file"), "")
-        new = [rest for word, rest in words if word == "new"]
-        if any(has(pathlib.Path(folder, file), text) and not has(own / file, text) for text in new):
+        file, text = edited(edit, own)
+        if text and text_of(pathlib.Path(folder, file)) == text:
             return edit.stem
     return "as it is"
 
 
-def has(file, text):
-    """Returns whether the text stands in the file."""
+def edited(edit, own):
+    """Returns the first file of the crate that a must-fail edit changes, and its text as the edit makes it."""
+    file, old, text = "", "", ""
+    for line in edit.read_text().splitlines():
+        word, _, rest = line.partition(":")
+        rest = rest.removeprefix(" ")
+        if word == "file" and file not in ("", rest):
+            break
+        if word == "file" and not file:
+            file, text = rest, text_of(own / rest)
+        elif word == "old":
+            old = rest
+        elif word == "new" and old:
+            text = text.replace(old, rest)
+    return file, text
+
+
+def text_of(file):
+    """Returns the text of a file, or '' where it can't be read."""
     try:
-        return text in file.read_text()
+        return file.read_text()
     except OSError:
-        return False
+        return ""
 
 
 class Run:

@@ -167,7 +167,7 @@ def other_versions(root):
         "CHANGELOG.md": f"## {version}\n",
         "README.md": f"cborn-{version}-linux",
         "docs/LIBRARY.md": f"cborn-{version}-linux",
-        "crates/cborn/src/options.rt": f'.version("{version}")',
+        "crates/cborn_options/src/options.rt": f'.version("{version}")',
         "crates/cborn_c/src/lib.rt": f"    {number}\n",
         "include/cborn.h": f"#define CBORN_VERSION {number}\n",
         "man/cborn.1": f'"cborn {version}"',

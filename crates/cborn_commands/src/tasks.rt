@@ -1,14 +1,15 @@
 //! The program's commands.
 ghost use Rattle.std.specs.Prelude.{◌≡◌, ◌≤◌, IfOk, IfErr, OnOk, None};
-ghost use Rattle.cborn.specs.Statuses.{IsRefusal};
+ghost use Rattle.cborn_commands.specs.Statuses.{IsRefusal};
 
+use crate::formats::kind_of;
 use crate::inputs::{LateFile, Noted};
 use crate::lines::{Answer, Trouble, tell_answer};
-use crate::options::{Action, Order, Purpose, Task};
 use crate::remarks::Remarks;
 use crate::statuses::DONE;
 use cborn_engine::{CompareFault, Counted, Kind, Source, check, compare, normalise, show_all};
 use cborn_model::{Bytewise, KeyOrder, LengthFirst, Limit};
+use cborn_options::{Action, Order, Purpose, Task};
 use std::alloc::Global;
 use std::fs;
 use std::io::{Read, Write};
@@ -79,7 +80,7 @@ fn act<'a, O: KeyOrder, F: Files, I: Read + Drop, W: Write>(
             from_b,
         } => {
             let files = (first, second);
-            let kinds = (from_a, from_b);
+            let kinds = (kind_of(from_a), kind_of(from_b));
             compare_files::<O, F, W>(rt, alloc, limit, files, kinds, out, remarks)
         }
     }
@@ -106,7 +107,7 @@ fn read_for<'a, O: KeyOrder, I: Read + Drop, W: Write>(
     ensures untouched { IfErr result (λ why. IsRefusal why → out.new ≡ out.old) }
     ensures flushed { OnOk result (out.new.unflushed ≡ 0) }
 {
-    let kind = purpose.from();
+    let kind = kind_of(purpose.from());
     let mut reader = Noted {
         inner: Counted::new(input),
         notes: remarks.notes(alloc, kind),
@@ -140,10 +141,11 @@ fn answer_for<'a, O: KeyOrder, R: Source, W: Write>(
 {
     match purpose {
         Purpose::Show { from, to } => {
-            show_all(alloc, limit, from, to, reader, out)?;
+            show_all(alloc, limit, kind_of(from), kind_of(to), reader, out)?;
             Ok(None)
         }
         Purpose::Normalise { from, to } => {
+            let (from, to) = (kind_of(from), kind_of(to));
             normalise::<O, _, _>(alloc, limit, from, to, reader, out)?;
             Ok(None)
         }

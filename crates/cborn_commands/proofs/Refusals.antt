@@ -2,7 +2,7 @@
 use Rattle.std.proofs.Common.{◌≡◌, ◌≢◌, ℕ, refl, subst, arith}
 use Rattle.cborn_engine.specs.declared.EngineFault.{EngineFault}
 use Rattle.cborn_engine.specs.declared.EngineFault.TheVariants as fault
-use Rattle.cborn.specs.Statuses.{status_of_fault}
+use Rattle.cborn_commands.specs.Statuses.{status_of_fault}
 
 other_status : (failed refused : ℕ) → failed ≡ 4 → refused ≡ 2 → failed ≢ refused
 other_status failed refused f r e = omega (arith, f, r, e)

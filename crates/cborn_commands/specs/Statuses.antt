@@ -3,10 +3,10 @@ use Rattle.std.specs.Prelude.{ℕ, ◌≡◌}
 use Rattle.cborn_engine.specs.declared.EngineFault.{EngineFault}
 use Rattle.cborn_engine.specs.declared.EngineFault.TheVariants as fault
 use Rattle.cborn_engine.specs.declared.CompareFault.TheVariants as compared
-use Rattle.cborn.specs.declared.lines.Answer.{Answer}
-use Rattle.cborn.specs.declared.lines.Answer.TheVariants as answer
-use Rattle.cborn.specs.declared.lines.Trouble.{Trouble}
-use Rattle.cborn.specs.declared.lines.Trouble.TheVariants as trouble
+use Rattle.cborn_commands.specs.declared.lines.Answer.{Answer}
+use Rattle.cborn_commands.specs.declared.lines.Answer.TheVariants as answer
+use Rattle.cborn_commands.specs.declared.lines.Trouble.{Trouble}
+use Rattle.cborn_commands.specs.declared.lines.Trouble.TheVariants as trouble
 
 -- 0: the inputs are the same, or the input is deterministic; 1: they aren't
 abbrev pub status_of_answer : Answer → ℕ

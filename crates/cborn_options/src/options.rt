@@ -1,63 +1,13 @@
-//! The command line.
+//! From the words of the command line to a task.
 
-use crate::commands::{Argument, COMMANDS, Form, Takes, Value};
+use crate::forms::{Argument, COMMANDS, Form, Takes, Value};
 use crate::help;
 use crate::misplaced::{Advice, advice_on};
-use cborn_engine::Kind;
+use crate::tasks::{Action, Format, Order, Purpose, Task};
 use cborn_model::Limit;
 use clap::error::ErrorKind;
 use clap::{Arg, ArgAction, ArgMatches, Command, Error};
 use std::alloc::{AllocError, Global};
-
-/// The order of a map's keys.
-#[derive(Clone, Copy)]
-pub enum Order {
-    Bytewise,
-    LengthFirst,
-}
-
-/// What the program is asked to do. A `file` that isn't named is standard input.
-#[derive(Clone, Copy)]
-pub struct Task<'a> {
-    pub action: Action<'a>,
-    pub order: Order,
-    pub limit: Limit,
-    /// Lines that say where and why are wanted behind a refusal or a difference.
-    pub explain: bool,
-}
-
-/// The command of a task, with what it alone has.
-#[derive(Clone, Copy)]
-pub enum Action<'a> {
-    Read {
-        file: Option<&'a str>,
-        purpose: Purpose,
-    },
-    Compare {
-        first: &'a str,
-        second: &'a str,
-        from_a: Kind,
-        from_b: Kind,
-    },
-}
-
-/// What one input is read for.
-#[derive(Clone, Copy)]
-pub enum Purpose {
-    Show { from: Kind, to: Kind },
-    Normalise { from: Kind, to: Kind },
-    Check,
-}
-
-impl Purpose {
-    /// The format of the input.
-    pub fn from(self) -> Kind {
-        match self {
-            Purpose::Show { from, .. } | Purpose::Normalise { from, .. } => from,
-            Purpose::Check => Kind::Wire,
-        }
-    }
-}
 
 /// Reads the command line, of which the first word is the program's name.
 ///
@@ -142,14 +92,14 @@ fn comparison_of<'a>(found: &ArgMatches<'a>) -> Option<Action<'a>> {
     Some(Action::Compare {
         first: found.get_str("FILE_A")?,
         second: found.get_str("FILE_B")?,
-        from_a: kind_of(found, "from-a"),
-        from_b: kind_of(found, "from-b"),
+        from_a: format_of(found, "from-a"),
+        from_b: format_of(found, "from-b"),
     })
 }
 
 fn purpose_of(name: &str, found: &ArgMatches<'_>) -> Option<Purpose> {
-    let from = kind_of(found, "from");
-    let to = kind_of(found, "to");
+    let from = format_of(found, "from");
+    let to = format_of(found, "to");
     match name {
         "show" => Some(Purpose::Show { from, to }),
         "normalise" => Some(Purpose::Normalise { from, to }),
@@ -166,11 +116,11 @@ fn order_of(found: &ArgMatches<'_>) -> Order {
 }
 
 /// The format that an option names. A command that hasn't got the option has bytes.
-fn kind_of(found: &ArgMatches<'_>, name: &str) -> Kind {
+fn format_of(found: &ArgMatches<'_>, name: &str) -> Format {
     match found.get_str(name) {
-        Some("notation") => Kind::Notation,
-        Some("notation-2") => Kind::Notation2,
-        _ => Kind::Wire,
+        Some("notation") => Format::Notation,
+        Some("notation-2") => Format::Notation2,
+        _ => Format::Wire,
     }
 }
 

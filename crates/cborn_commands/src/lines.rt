@@ -1,8 +1,8 @@
 //! The lines that the program prints.
 ghost use Rattle.std.specs.Prelude.{◌≡◌, ◌≤◌, IfOk, IfErr, OnOk};
-ghost use Rattle.cborn.specs.Statuses.{status_of_answer, status_of_trouble};
+ghost use Rattle.cborn_commands.specs.Statuses.{status_of_answer, status_of_trouble};
 ghost use Rattle.cborn_engine.specs.declared.EngineFault.TheVariants as fault;
-ghost use Rattle.cborn.specs.declared.lines.Trouble.TheVariants as trouble;
+ghost use Rattle.cborn_commands.specs.declared.lines.Trouble.TheVariants as trouble;
 
 use crate::statuses::{DIFFERENT, DONE, FAILED, REFUSED};
 use cborn_engine::{CompareFault, Counted, EngineFault};

@@ -1,6 +1,6 @@
 //! Options that are given to a command which hasn't got them, while another command has.
 
-use crate::commands::{CHECK, COMPARE, Form, SHOW};
+use crate::forms::{CHECK, COMPARE, Form, SHOW};
 
 const COMPARE_FROM: &str =
     "compare reads two files, and each has its own format: use '--from-a <KIND>' for FILE_A and '--from-b <KIND>' for FILE_B, in place of '--from'";

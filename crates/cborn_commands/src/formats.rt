@@ -1,0 +1,13 @@
+//! The formats of the command line, as the engine has them.
+
+use cborn_engine::Kind;
+use cborn_options::Format;
+
+/// What the engine calls a format.
+pub fn kind_of(format: Format) -> Kind {
+    match format {
+        Format::Wire => Kind::Wire,
+        Format::Notation => Kind::Notation,
+        Format::Notation2 => Kind::Notation2,
+    }
+}

@@ -1,0 +1,71 @@
+//! What is told where the command line gives no task.
+ghost use Rattle.std.specs.Prelude.{◌≡◌, ◌≤◌, ◌⊎◌, IfOk, IfErr};
+ghost use Rattle.cborn_commands.specs.Statuses.{status_of_trouble};
+
+use crate::lines::{Trouble, print, tell_trouble};
+use crate::statuses::{DONE, FAILED, REFUSED, USAGE};
+use cborn_engine::{Counted, EngineFault};
+use clap::Error;
+use clap::error::ErrorKind;
+use std::alloc::Global;
+use std::io;
+use std::io::Write;
+
+/// Prints why there is no task, and gives the status.
+pub fn tell_usage<W: Write, E: Write + Drop>(
+    alloc: Global,
+    why: &Error,
+    out: &mut Counted<W>,
+    err: E,
+) -> u8
+    ensures status { result ≤ 4 }
+    ensures refused { result ≡ REFUSED → out.new ≡ out.old }
+    ensures usage { result ≡ USAGE → out.new ≡ out.old }
+    ensures flushed { result ≤ 1 → out.new.unflushed ≡ 0 }
+{
+    let mut err = err;
+    match answer_usage(alloc, why, out, &mut err) {
+        Ok(status) => status,
+        Err(trouble) => tell_trouble(&mut err, trouble),
+    }
+}
+
+/// Prints why there is no task: a text on the command line, or what the program says of itself.
+fn answer_usage<'a, W: Write, E: Write>(
+    alloc: Global,
+    why: &Error,
+    out: &mut Counted<W>,
+    err: &mut E,
+) -> Result<u8, Trouble<'a>>
+    ensures status { IfOk result (λ status. (status ≡ DONE) ⊎ (status ≡ USAGE)) }
+    ensures untouched { IfOk result (λ status. status ≡ USAGE → out.new ≡ out.old) }
+    ensures flushed { IfOk result (λ status. status ≡ DONE → out.new.unflushed ≡ 0) }
+    ensures trouble { IfErr result (λ why. status_of_trouble why ≡ FAILED) }
+{
+    if why.kind() == ErrorKind::OutOfMemory {
+        return Err(Trouble::Engine(EngineFault::OutOfMemory));
+    }
+    if why.use_stderr() {
+        let _ = write!(err, "{why}");
+        return Ok(USAGE);
+    }
+    let text = match format!(in alloc; "{why}") {
+        Ok(text) => text,
+        Err(_) => return Err(Trouble::Engine(EngineFault::OutOfMemory)),
+    };
+    match print(out, &text, "") {
+        Ok(()) => Ok(DONE),
+        Err(_) => Err(Trouble::Engine(EngineFault::WriteFault)),
+    }
+}
+
+/// Prints why the command line can't be taken: a word of it isn't UTF-8, or memory was refused.
+pub fn tell_words<E: Write>(err: &mut E, why: io::Error) -> u8
+    ensures { (result ≡ USAGE) ⊎ (result ≡ FAILED) }
+{
+    if why.kind() == io::ErrorKind::InvalidData {
+        let _ = writeln!(err, "error: an argument is not UTF-8");
+        return USAGE;
+    }
+    tell_trouble(err, Trouble::Engine(EngineFault::OutOfMemory))
+}
