@@ -6,3 +6,4 @@ pub mod Shown
 pub mod Lexed
 pub mod RoundTrip
 pub mod Started
+pub mod Placed

@@ -4,6 +4,7 @@
 -- What it reaches has room for the next token (`Reached`); the rest ties this to places of a text, and to the vectors and numbers of the code.
 pub mod Kept
 pub mod Steps
+pub mod Spellings
 pub mod Agreeing
 pub mod FirstSlips
 pub mod Telling
@@ -11,7 +12,6 @@ pub mod Reading
 pub mod Reached
 pub mod Underway
 pub mod Innermost
-pub mod Snocs
 pub mod Bignums
 pub mod Leaner
 pub mod Wanting

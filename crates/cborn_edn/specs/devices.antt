@@ -10,3 +10,4 @@ pub mod Lean
 pub mod Texts
 pub mod Shapes
 pub mod Begun
+pub mod Put

@@ -1,10 +1,11 @@
 //! What is open around a place in the text.
 
-use crate::contents::{Chunks, Fields, Row, Sequence};
-use crate::lists::{discard, forget};
+use crate::contents::{Chunks, Row};
+use crate::discards::{discard, forget};
+use crate::spellings::Spelling;
 use crate::strings::Pieces;
 use cborn_lex::{Class, Mark};
-use cborn_model::{Node, Width, push_doubling};
+use cborn_model::push_doubling;
 use std::alloc::{AllocError, Global};
 use std::marker::Model;
 
@@ -12,7 +13,7 @@ use std::marker::Model;
 #[derive(Drop)]
 pub(crate) enum Bracket {
     /// The text itself.
-    Top(Sequence),
+    Top(Row),
     Array {
         place: u64,
         mark: Mark,
@@ -22,31 +23,25 @@ pub(crate) enum Bracket {
     Embedded {
         before: Option<Pieces>,
         place: u64,
-        items: Sequence,
+        items: Row,
     },
     /// `(_`
-    Chunked {
-        place: u64,
-        chunks: Chunks,
-    },
+    Chunked(Chunks),
     /// A map where a key is wanted or stands.
     Key {
         place: u64,
         mark: Mark,
-        fields: Fields,
+        fields: Row,
     },
     /// A map behind a key and its colon.
     Value {
         place: u64,
         mark: Mark,
-        fields: Fields,
-        key: Option<Node>,
+        fields: Row,
+        key: Option<Spelling>,
     },
-    /// A tag; no head where it has a slip.
-    Tagged {
-        place: u64,
-        head: Option<(Width, u64)>,
-    },
+    /// A tag's head; none where it has a slip.
+    Tagged(Option<Spelling>),
 }
 
 impl Bracket {
@@ -55,13 +50,12 @@ impl Bracket {
     ghost use Rattle.cborn_edn.specs.devices.Lean.{embeds, lean_bracket};
     ghost use Rattle.cborn_edn.specs.devices.Levels.{is_level, has_items, has_pairs};
     ghost use Rattle.cborn_edn.specs.devices.Draft as pure;
-    ghost use Rattle.cborn_edn.specs.devices.Ready.{MaySpell, HasRoom};
+    ghost use Rattle.cborn_edn.specs.devices.Ready.{HasRoom};
 
     /// Takes the item in, where the bracket may end behind it or a comma may follow. Whether that
     /// is so.
-    pub(crate) fn settle(&mut self, item: Option<Node>) -> Result<bool, AllocError>
-        requires spelled { MaySpell item }
-        requires room { HasRoom self.old }
+    pub(crate) fn settle(&mut self, item: Option<Spelling>) -> Result<bool, AllocError>
+        requires { HasRoom self.old }
         ensures settled { IfOk result (λ b. pure.settled self.old item ≡ (if b then Some self.new else None)) }
         ensures level { is_level self.new ≡ is_level self.old }
         ensures embeds { embeds self.new ≡ embeds self.old }
@@ -71,7 +65,7 @@ impl Bracket {
             Bracket::Array { row, .. } => row.add(item)?,
             Bracket::Embedded { items, .. } => items.add(item)?,
             Bracket::Value { fields, key, .. } => {
-                fields.add(key.take(), item)?;
+                fields.add_pair(key.take(), item)?;
                 let Bracket::Value {
                     place,
                     mark,
@@ -96,7 +90,7 @@ impl Bracket {
     }
 
     /// Makes the item the key of the next pair, where a map wants one. Whether that is so.
-    fn key(&mut self, item: Option<Node>) -> bool
+    fn key(&mut self, item: Option<Spelling>) -> bool
         ensures keyed { pure.keyed self.old item ≡ (if result then Some self.new else None) }
         ensures level { is_level self.new ≡ is_level self.old }
         ensures embeds { embeds self.new ≡ embeds self.old }
@@ -127,15 +121,9 @@ impl Bracket {
     #[inline]
     fn take(&mut self) -> Bracket
         ensures taken { result ≡ self.old }
-        ensures left { self.new ≡ Tagged 0 None }
+        ensures left { self.new ≡ Tagged None }
     {
-        std::mem::replace(
-            self,
-            Bracket::Tagged {
-                place: 0,
-                head: None,
-            },
-        )
+        std::mem::replace(self, Bracket::Tagged(None))
     }
 
     /// Whether it makes what stands inside one deeper.
@@ -143,7 +131,7 @@ impl Bracket {
         ensures { result ≡ is_level self.now }
     {
         match self {
-            Bracket::Top(_) | Bracket::Chunked { .. } => false,
+            Bracket::Top(_) | Bracket::Chunked(_) => false,
             _ => true,
         }
     }
@@ -158,22 +146,22 @@ impl Bracket {
         }
     }
 
-    /// Drops the nodes that stand in it, unless it is `<<`.
+    /// Drops the bytes that stand in it, unless it is `<<`.
     pub(crate) fn trim(&mut self)
         ensures trimmed { self.new ≡ lean_bracket false self.old }
         ensures level { is_level self.new ≡ is_level self.old }
         ensures embeds { embeds self.new ≡ embeds self.old }
     {
         match self {
-            Bracket::Top(items) => forget(&mut items.items),
-            Bracket::Array { row, .. } => forget(&mut row.nodes),
-            Bracket::Chunked { chunks, .. } => forget(&mut chunks.chunks),
-            Bracket::Key { fields, .. } => forget(&mut fields.pairs),
+            Bracket::Top(items) => forget(&mut items.bytes),
+            Bracket::Array { row, .. } => forget(&mut row.bytes),
+            Bracket::Chunked(chunks) => forget(&mut chunks.bytes),
+            Bracket::Key { fields, .. } => forget(&mut fields.bytes),
             Bracket::Value { fields, key, .. } => {
-                forget(&mut fields.pairs);
+                forget(&mut fields.bytes);
                 forget(key);
             }
-            Bracket::Embedded { .. } | Bracket::Tagged { .. } => {}
+            Bracket::Embedded { .. } | Bracket::Tagged(_) => {}
         }
     }
 
@@ -235,7 +223,7 @@ impl Brackets {
     ghost use Rattle.cborn_edn.specs.devices.Lean.{is_embedding, trim_brackets};
     ghost use Rattle.cborn_edn.specs.devices.Levels.{levels_in, filled};
     ghost use Rattle.cborn_edn.specs.devices.Draft as pure;
-    ghost use Rattle.cborn_edn.specs.devices.Ready.{MaySpell, HaveRoom};
+    ghost use Rattle.cborn_edn.specs.devices.Ready.{HaveRoom};
 
     /// None are open.
     pub(crate) fn new(alloc: Global) -> Brackets
@@ -292,9 +280,8 @@ impl Brackets {
     /// A comma behind an item: the innermost takes the item in, where a comma may follow. Whether
     /// that is so.
     #[tactic(auto, using(crate::proofs::Reader::Innermost::innermost))]
-    pub(crate) fn settle(&mut self, item: Option<Node>) -> Result<bool, AllocError>
-        requires spelled { MaySpell item }
-        requires room { HaveRoom self.old }
+    pub(crate) fn settle(&mut self, item: Option<Spelling>) -> Result<bool, AllocError>
+        requires { HaveRoom self.old }
         ensures { IfOk result (λ b. pure.settled_in self.old item ≡ (if b then Some self.new else None)) }
     {
         let Some(bracket) = self.brackets.last_mut() else {
@@ -306,7 +293,7 @@ impl Brackets {
     /// A colon behind an item: the item becomes the key of the next pair, where the innermost is a
     /// map that wants one. Whether that is so.
     #[tactic(auto, using(crate::proofs::Reader::Innermost::innermost))]
-    pub(crate) fn key(&mut self, item: Option<Node>) -> bool
+    pub(crate) fn key(&mut self, item: Option<Spelling>) -> bool
         ensures { pure.keyed_in self.old item ≡ (if result then Some self.new else None) }
     {
         let Some(bracket) = self.brackets.last_mut() else {
@@ -323,7 +310,7 @@ impl Brackets {
         self.embedded > 0
     }
 
-    /// Drops the nodes that stand in the innermost, where no `<<` is open.
+    /// Drops the bytes that stand in the innermost, where no `<<` is open.
     #[tactic(auto, using(crate::proofs::Reader::Innermost::innermost))]
     pub(crate) fn trim(&mut self)
         requires { is_embedding self.old ≡ false }
@@ -340,7 +327,7 @@ impl Brackets {
         ensures { result ≡ pure.are_chunks self.now }
     {
         match self.brackets.as_slice().last() {
-            Some(Bracket::Chunked { .. }) => true,
+            Some(Bracket::Chunked(_)) => true,
             _ => false,
         }
     }

@@ -5,15 +5,16 @@ ghost use Rattle.std.specs.Prelude.{◌≡◌, ℕ, true, Some, None, IfOk, if�
 ghost use Rattle.cborn_lex.specs.declared.classes.Class.TheVariants.{ArrayClose, EmbedClose, MapClose, ParenClose};
 ghost use Rattle.cborn_edn.specs.devices.Draft as pure;
 ghost use Rattle.cborn_edn.specs.declared.states.Phase.TheVariants.{Wants};
-ghost use Rattle.cborn_edn.specs.devices.Ready.{MaySpell, HaveRoom};
+ghost use Rattle.cborn_edn.specs.devices.Ready.{HaveRoom};
 
 use crate::brackets::Bracket;
 use crate::contents::Chunks;
-use crate::lists::discard;
+use crate::discards::discard;
+use crate::spellings::Spelling;
 use crate::states::{Phase, State};
 use crate::strings::Pieces;
 use cborn_lex::{Class, Mark};
-use cborn_model::{Form, Node, Width};
+use cborn_model::Major;
 use std::alloc::{AllocError, Global};
 
 impl State {
@@ -21,81 +22,73 @@ impl State {
     #[inline(never)]
     pub(crate) fn after(
         &mut self,
-        alloc: Global,
-        item: Option<Node>,
+        item: Option<Spelling>,
         start: u64,
         class: &Class,
     ) -> Result<bool, AllocError>
         requires taken { self.old.phase ≡ Wants }
-        requires spelled { MaySpell item }
         requires room { HaveRoom self.old.brackets }
         ensures { IfOk result (λ b. pure.after self.old.brackets self.old.slip item start class.now ≡ (if b then Some self.new else None)) }
     {
         match class {
             Class::Comma => self.brackets.settle(item),
             Class::Colon => Ok(self.brackets.key(item)),
-            Class::ParenClose => self.after_content(alloc, item),
-            _ => Ok(self.brackets.settle(item)? && self.ended(alloc, start, class)?),
+            Class::ParenClose => self.after_content(item),
+            _ => Ok(self.brackets.settle(item)? && self.ended(start, class)?),
         }
     }
 
     /// The end of a tag: the item is its content.
     #[inline(never)]
-    fn after_content(&mut self, alloc: Global, item: Option<Node>) -> Result<bool, AllocError>
+    fn after_content(&mut self, item: Option<Spelling>) -> Result<bool, AllocError>
         requires { self.old.phase ≡ Wants }
         ensures { IfOk result (λ b. (start : ℕ) → pure.after self.old.brackets self.old.slip item start ParenClose ≡ (if b then Some self.new else None)) }
     {
-        let Some(Bracket::Tagged { place, head }) = self.brackets.pop() else {
+        let Some(Bracket::Tagged(head)) = self.brackets.pop() else {
             return Ok(false);
         };
-        let node = tagged(alloc, place, head, item)?;
-        self.enter(Phase::Has(node));
+        self.enter(Phase::Has(tagged(head, item)?));
         Ok(true)
     }
 
     /// A bracket ends behind its contents.
     #[inline(never)]
-    pub(crate) fn ended(
-        &mut self,
-        alloc: Global,
-        start: u64,
-        class: &Class,
-    ) -> Result<bool, AllocError>
+    pub(crate) fn ended(&mut self, start: u64, class: &Class) -> Result<bool, AllocError>
         requires { self.old.phase ≡ Wants }
         ensures { IfOk result (λ b. pure.ended self.old.brackets self.old.slip start class.now ≡ (if b then Some self.new else None)) }
     {
         match class {
-            Class::ArrayClose => Ok(self.ended_array()),
-            Class::MapClose => Ok(self.ended_map()),
-            Class::EmbedClose(mark) => self.ended_embedded(alloc, start, *mark),
+            Class::ArrayClose => self.ended_array(),
+            Class::MapClose => self.ended_map(),
+            Class::EmbedClose(mark) => self.ended_embedded(start, *mark),
             _ => Ok(false),
         }
     }
 
     /// An array ends.
     #[inline(never)]
-    fn ended_array(&mut self) -> bool
+    fn ended_array(&mut self) -> Result<bool, AllocError>
         requires { self.old.phase ≡ Wants }
-        ensures { (start : ℕ) → pure.ended self.old.brackets self.old.slip start ArrayClose ≡ (if result then Some self.new else None) }
+        ensures { IfOk result (λ b. (start : ℕ) → pure.ended self.old.brackets self.old.slip start ArrayClose ≡ (if b then Some self.new else None)) }
     {
         match self.brackets.pop() {
             Some(Bracket::Array { place, mark, row }) => {
-                let (item, found) = row.into_item(place, mark);
+                let (item, found) = row.into_item(Major::Array, place, mark)?;
                 self.stand(item, found);
-                true
+                Ok(true)
             }
             other => {
                 discard(other);
-                false
+                Ok(false)
             }
         }
     }
 
     /// A map ends.
     #[inline(never)]
-    fn ended_map(&mut self) -> bool
+    fn ended_map(&mut self) -> Result<bool, AllocError>
         requires { self.old.phase ≡ Wants }
-        ensures { (start : ℕ) → pure.ended self.old.brackets self.old.slip start MapClose ≡ (if result then Some self.new else None) }
+        ensures { IfOk result (λ b. (start : ℕ) → pure.ended self.old.brackets self.old.slip start MapClose ≡ (if b then Some self.new else None)) }
     {
         match self.brackets.pop() {
             Some(
@@ -105,20 +98,20 @@ impl State {
                     fields,
                 },
             ) => {
-                let (item, found) = fields.into_item(place, mark);
+                let (item, found) = fields.into_item(Major::Map, place, mark)?;
                 self.stand(item, found);
-                true
+                Ok(true)
             }
             other => {
                 discard(other);
-                false
+                Ok(false)
             }
         }
     }
 
     /// An embedded sequence ends: its bytes are a piece of a string.
     #[inline(never)]
-    fn ended_embedded(&mut self, alloc: Global, start: u64, mark: Mark) -> Result<bool, AllocError>
+    fn ended_embedded(&mut self, start: u64, mark: Mark) -> Result<bool, AllocError>
         requires { self.old.phase ≡ Wants }
         ensures { IfOk result (λ b. pure.ended self.old.brackets self.old.slip start (EmbedClose mark) ≡ (if b then Some self.new else None)) }
     {
@@ -132,8 +125,7 @@ impl State {
         else {
             return Ok(false);
         };
-        let bytes = items.spelled(alloc)?;
-        let piece = Pieces::embedded(place, bytes, start, mark);
+        let piece = Pieces::embedded(place, items.bytes, start, mark);
         match before {
             Some(pieces) => self.join(pieces, piece)?,
             None => self.enter(Phase::Builds(piece)),
@@ -151,7 +143,6 @@ impl State {
         class: Class,
     ) -> Result<bool, AllocError>
         requires taken { self.old.phase ≡ Wants }
-        requires spelled { MaySpell (pure.string_item string) }
         requires room { HaveRoom self.old.brackets }
         ensures { IfOk result (λ b. pure.more self.old.brackets self.old.slip string start class ≡ (if b then Some self.new else None)) }
     {
@@ -178,16 +169,15 @@ impl State {
         class: &Class,
     ) -> Result<bool, AllocError>
         requires taken { self.old.phase ≡ Wants }
-        requires spelled { MaySpell (pure.string_item string) }
         requires room { HaveRoom self.old.brackets }
         ensures { IfOk result (λ b. pure.after_string self.old.brackets self.old.slip string start class.now ≡ (if b then Some self.new else None)) }
     {
         if self.brackets.are_chunks() {
             return self.after_chunk(string, class);
         }
-        let (item, found) = string.into_item(alloc);
+        let (item, found) = string.into_item(alloc)?;
         self.note(found);
-        self.after(alloc, item, start, class)
+        self.after(item, start, class)
     }
 
     /// The string was a chunk: a comma, or the end of the chunks.
@@ -197,17 +187,17 @@ impl State {
         requires chunks { pure.are_chunks self.old.brackets ≡ true }
         ensures { IfOk result (λ b. (start : ℕ) → pure.after_string self.old.brackets self.old.slip string start class.now ≡ (if b then Some self.new else None)) }
     {
-        let Some(Bracket::Chunked { place, chunks }) = self.brackets.pop() else {
+        let Some(Bracket::Chunked(chunks)) = self.brackets.pop() else {
             return Ok(false);
         };
         let (chunks, found) = chunks.with(string)?;
         self.note(found);
         match class {
             Class::Comma => {
-                self.open(Bracket::Chunked { place, chunks })?;
+                self.open(Bracket::Chunked(chunks))?;
                 self.enter(Phase::WantsChunk);
             }
-            Class::ParenClose => self.enter(Phase::Has(chunks.into_item(place))),
+            Class::ParenClose => self.enter(Phase::Has(chunks.into_item()?)),
             _ => return Ok(false),
         }
         Ok(true)
@@ -215,7 +205,7 @@ impl State {
 
     /// Behind the number of a simple value, whose item it is.
     #[inline(never)]
-    pub(crate) fn after_number(&mut self, item: Option<Node>, class: &Class) -> bool
+    pub(crate) fn after_number(&mut self, item: Option<Spelling>, class: &Class) -> bool
         requires { self.old.phase ≡ Wants }
         ensures { pure.after_number self.old.brackets self.old.slip item class.now ≡ (if result then Some self.new else None) }
     {
@@ -228,22 +218,11 @@ impl State {
 }
 
 /// The tag with its content.
-fn tagged(
-    alloc: Global,
-    place: u64,
-    head: Option<(Width, u64)>,
-    item: Option<Node>,
-) -> Result<Option<Node>, AllocError>
-    ensures { IfOk result (λ o. o ≡ pure.tag_node place head item) }
+fn tagged(head: Option<Spelling>, item: Option<Spelling>) -> Result<Option<Spelling>, AllocError>
+    ensures { IfOk result (λ o. o ≡ pure.tag_item head item) }
 {
     match (head, item) {
-        (Some((width, number)), Some(node)) => {
-            let content = Box::new(alloc, node)?;
-            Ok(Some(Node {
-                place,
-                form: Form::Tagged(width, number, content),
-            }))
-        }
+        (Some(head), Some(item)) => Ok(Some(head.with(item)?)),
         _ => Ok(None),
     }
 }

@@ -1,24 +1,26 @@
-//! What stands complete inside an open bracket: the nodes, unless there is a slip among them, and
-//! their number.
+//! What stands complete inside an open bracket: the bytes that it spells, unless there is a slip
+//! among them, and how much it is.
 
-ghost use Rattle.std.specs.Prelude.{◌≡◌, suc, ◌^◌, ◌<◌, [], ◌∷◌, ◌++◌, Some, IfOk, OnOk};
+ghost use Rattle.std.specs.Prelude.{◌≡◌, ◌≤◌, suc, ◌^◌, ◌<◌, ◌++◌, Some, IfOk, OnOk};
+ghost use Rattle.cborn_model.specs.Heads.{code};
 ghost use Rattle.cborn_edn.specs.devices.Draft as pure;
 ghost use Rattle.cborn_edn.specs.Meaning.{and_then, when, same_kind, size_slips};
-ghost use Rattle.cborn_edn.specs.devices.Ready.{MaySpell};
 
 use crate::EdnReason;
-use crate::lists::{ChunkList, NodeList, NodePairs, SpelledList, discard};
+use crate::discards::discard;
 use crate::numbers::size_for;
 use crate::slips::{Slip, earlier, slip_at, slip_unless};
-use crate::strings::{Pieces, StringKind, chunked};
+use crate::spellings::Spelling;
+use crate::strings::{Pieces, StringKind};
 use cborn_lex::Mark;
-use cborn_model::{ByteString, Chunk, Form, Node, Spelled};
+use cborn_model::{ByteString, Major};
 use std::alloc::{AllocError, Global};
 
-/// The items of an array.
+/// The items of a text, of an array, or of what is embedded in a string; or the pairs of a map.
 #[derive(Drop)]
 pub(crate) struct Row {
-    pub(crate) nodes: Option<NodeList>,
+    /// What they spell, one after another.
+    pub(crate) bytes: Option<ByteString>,
     pub(crate) count: u64,
 }
 
@@ -28,153 +30,75 @@ impl Row {
         ensures { result ≡ pure.no_row }
     {
         Row {
-            nodes: Some(NodeList::new(alloc)),
+            bytes: Some(ByteString::new(Vec::new(alloc))),
             count: 0,
         }
     }
 
     /// One more item, for which the count has room.
     #[inline(never)]
-    pub(crate) fn add(&mut self, item: Option<Node>) -> Result<(), AllocError>
+    pub(crate) fn add(&mut self, item: Option<Spelling>) -> Result<(), AllocError>
         requires { suc self.old.count < 2 ^ 64 }
         ensures { OnOk result (self.new ≡ pure.row_with self.old item) }
     {
         self.count += 1;
-        let Some(node) = item else {
-            discard(self.nodes.take());
-            return Ok(());
-        };
-        let Some(nodes) = &mut self.nodes else {
-            discard(node);
-            return Ok(());
-        };
-        nodes.add(node)
-    }
-
-    /// The array, and what is wrong with its indicator.
-    pub(crate) fn into_item(self, place: u64, mark: Mark) -> (Option<Node>, Option<Slip>)
-        ensures item { result.0 ≡ pure.array_node place mark self }
-        ensures slip { result.1 ≡ pure.first_slip (size_slips place mark self.count) }
-    {
-        let size = size_for(mark, self.count);
-        let slip = slip_at(place, &size);
-        let node = match (self.nodes, size) {
-            (Some(nodes), Ok(size)) => Some(Node {
-                place,
-                form: Form::Items(size, nodes.into_vec()),
-            }),
-            (nodes, _) => {
-                discard(nodes);
-                None
+        match (self.bytes.take(), item) {
+            (Some(bytes), Some(item)) => {
+                let mut bytes = bytes.into_vec();
+                item.push_to(&mut bytes)?;
+                self.bytes = Some(ByteString::new(bytes));
             }
-        };
-        (node, slip)
-    }
-}
-
-/// The items of a sequence: of a whole text, or of what is embedded in a string.
-#[derive(Drop)]
-pub(crate) struct Sequence {
-    pub(crate) items: Option<SpelledList>,
-    pub(crate) count: u64,
-}
-
-impl Sequence {
-    /// Nothing yet.
-    pub(crate) fn new(alloc: Global) -> Sequence
-        ensures { result ≡ pure.no_sequence }
-    {
-        Sequence {
-            items: Some(SpelledList::new(alloc)),
-            count: 0,
+            (bytes, item) => discard((bytes, item)),
         }
-    }
-
-    /// One more item, which spells bytes, and for which the count has room.
-    #[inline(never)]
-    pub(crate) fn add(&mut self, item: Option<Node>) -> Result<(), AllocError>
-        requires room { suc self.old.count < 2 ^ 64 }
-        requires spelled { MaySpell item }
-        ensures { OnOk result (self.new ≡ pure.sequence_with self.old item) }
-    {
-        self.count += 1;
-        let Some(node) = item else {
-            discard(self.items.take());
-            return Ok(());
-        };
-        let Some(items) = &mut self.items else {
-            discard(node);
-            return Ok(());
-        };
-        items.add(Spelled::new(node))
-    }
-
-    /// The bytes that the items spell.
-    pub(crate) fn spelled(&self, alloc: Global) -> Result<Option<ByteString>, AllocError>
-        ensures { IfOk result (λ b. b ≡ pure.sequence_bytes self.now) }
-    {
-        match &self.items {
-            Some(items) => {
-                let bytes = cborn_wire::spell_all(alloc, items.as_slice())?;
-                Ok(Some(ByteString::new(bytes)))
-            }
-            None => Ok(None),
-        }
-    }
-}
-
-/// The pairs of a map.
-#[derive(Drop)]
-pub(crate) struct Fields {
-    pub(crate) pairs: Option<NodePairs>,
-    pub(crate) count: u64,
-}
-
-impl Fields {
-    /// Nothing yet.
-    pub(crate) fn new(alloc: Global) -> Fields
-        ensures { result ≡ pure.no_fields }
-    {
-        Fields {
-            pairs: Some(NodePairs::new(alloc)),
-            count: 0,
-        }
+        Ok(())
     }
 
     /// One more pair, for which the count has room.
     #[inline(never)]
-    pub(crate) fn add(&mut self, key: Option<Node>, value: Option<Node>) -> Result<(), AllocError>
+    pub(crate) fn add_pair(
+        &mut self,
+        key: Option<Spelling>,
+        value: Option<Spelling>,
+    ) -> Result<(), AllocError>
         requires { suc self.old.count < 2 ^ 64 }
-        ensures { OnOk result (self.new ≡ pure.fields_with self.old key value) }
+        ensures { OnOk result (self.new ≡ pure.pairs_with self.old key value) }
     {
         self.count += 1;
-        match (&mut self.pairs, key, value) {
-            (Some(pairs), Some(key), Some(value)) => pairs.add(key, value),
-            (_, key, value) => {
-                discard((self.pairs.take(), key, value));
-                Ok(())
+        match (self.bytes.take(), key, value) {
+            (Some(bytes), Some(key), Some(value)) => {
+                let mut bytes = bytes.into_vec();
+                key.push_to(&mut bytes)?;
+                value.push_to(&mut bytes)?;
+                self.bytes = Some(ByteString::new(bytes));
             }
+            (bytes, key, value) => discard((bytes, key, value)),
         }
+        Ok(())
     }
 
-    /// The map, and what is wrong with its indicator.
-    pub(crate) fn into_item(self, place: u64, mark: Mark) -> (Option<Node>, Option<Slip>)
-        ensures item { result.0 ≡ pure.map_node place mark self }
-        ensures slip { result.1 ≡ pure.first_slip (size_slips place mark self.count) }
+    /// The array or the map, and what is wrong with its indicator.
+    pub(crate) fn into_item(
+        self,
+        major: Major,
+        place: u64,
+        mark: Mark,
+    ) -> Result<(Option<Spelling>, Option<Slip>), AllocError>
+        requires { code major ≤ 6 }
+        ensures item { IfOk result (λ p. p.0 ≡ pure.row_item major mark self) }
+        ensures slip { IfOk result (λ p. p.1 ≡ pure.first_slip (size_slips place mark self.count)) }
     {
         let size = size_for(mark, self.count);
         let slip = slip_at(place, &size);
-        let node = match (self.pairs, size) {
-            (Some(pairs), Ok(size)) => Some(Node {
-                place,
-                form: Form::Pairs(size, pairs.into_vec()),
-            }),
-            (pairs, _) => {
-                discard(pairs);
-                None
+        match (self.bytes, size) {
+            (Some(bytes), Ok(size)) => {
+                let item = Spelling::sized(major, size, self.count, bytes.into_vec())?;
+                Ok((Some(item), slip))
             }
-        };
-        (node, slip)
+            (bytes, _) => {
+                discard(bytes);
+                Ok((None, slip))
+            }
+        }
     }
 }
 
@@ -182,7 +106,8 @@ impl Fields {
 #[derive(Drop)]
 pub(crate) struct Chunks {
     pub(crate) kind: Option<StringKind>,
-    pub(crate) chunks: Option<ChunkList>,
+    /// What they spell, one after another.
+    pub(crate) bytes: Option<ByteString>,
 }
 
 impl Chunks {
@@ -192,7 +117,7 @@ impl Chunks {
     {
         Chunks {
             kind: None,
-            chunks: Some(ChunkList::new(alloc)),
+            bytes: Some(ByteString::new(Vec::new(alloc))),
         }
     }
 
@@ -204,45 +129,43 @@ impl Chunks {
         let same = same_kind(kind, string.kind);
         let mixed = slip_unless(same, string.place, EdnReason::MixedChunks);
         let (chunk, slip) = string.into_chunk();
-        let chunks = appended(self.chunks, chunk, same)?;
+        let bytes = appended(self.bytes, chunk, same)?;
         let all = Chunks {
             kind: Some(kind),
-            chunks,
+            bytes,
         };
         Ok((all, earlier(mixed, slip)))
     }
 
     /// The string.
-    pub(crate) fn into_item(self, place: u64) -> Option<Node>
-        ensures { result ≡ pure.chunked_item place self }
+    pub(crate) fn into_item(self) -> Result<Option<Spelling>, AllocError>
+        ensures { IfOk result (λ o. o ≡ pure.chunked_item self) }
     {
-        match (self.kind, self.chunks) {
-            (Some(kind), Some(chunks)) => Some(chunked(kind, place, chunks.into_vec())),
-            _ => None,
+        match (self.kind, self.bytes) {
+            (Some(kind), Some(bytes)) => {
+                let item = Spelling::endless(kind.major(), bytes.into_vec())?;
+                Ok(Some(item))
+            }
+            _ => Ok(None),
         }
     }
 }
 
-/// The chunks and one more, of the same kind.
+/// The bytes of the chunks and of one more, of the same kind.
 fn appended(
-    chunks: Option<ChunkList>,
-    chunk: Option<Chunk>,
+    bytes: Option<ByteString>,
+    chunk: Option<Spelling>,
     same: bool,
-) -> Result<Option<ChunkList>, AllocError>
-    ensures { IfOk result (λ o. o ≡ and_then chunks (λ l. and_then chunk (λ c. when same (Some (l ++ c ∷ []))))) }
+) -> Result<Option<ByteString>, AllocError>
+    ensures { IfOk result (λ o. o ≡ and_then bytes (λ x. and_then chunk (λ y. when same (Some (x ++ y))))) }
 {
-    match chunks {
-        Some(chunks) => match chunk {
-            Some(chunk) => {
-                if same {
-                    Ok(Some(chunks.with(chunk)?))
-                } else {
-                    Ok(None)
-                }
-            }
-            None => Ok(None),
-        },
-        None => Ok(None),
+    match (bytes, chunk) {
+        (Some(bytes), Some(chunk)) if same => {
+            let mut all = bytes.into_vec();
+            chunk.push_to(&mut all)?;
+            Ok(Some(ByteString::new(all)))
+        }
+        _ => Ok(None),
     }
 }
 

@@ -25,23 +25,26 @@
 //! notation. Start with `Notates` and follow the definitions that it names; [`laws`] has what is
 //! proved of them alone, above all that the fixed notation notates the nodes that it shows. In the
 //! code start with `readers` and `showing`: the reader takes one token at a time from the text
-//! (`states`), keeps in `brackets` what is open, and keeps no token. It reads for the first slip
-//! alone before it reads for nodes (`wanted`).
+//! (`states`), keeps in `brackets` what is open, and keeps no token and no node, but the bytes that
+//! complete items spell (`spellings`). It reads for the first slip alone before it reads for the
+//! bytes (`wanted`), of which `placing` makes the nodes.
 #![tactic(auto)]
 
 mod brackets;
 mod closings;
 mod contents;
+mod discards;
 mod faults;
 pub mod laws;
-mod lists;
 mod numbers;
 mod openings;
+mod placing;
 mod readers;
 mod recognisers;
 mod shapes;
 mod showing;
 mod slips;
+mod spellings;
 mod starts;
 mod states;
 mod strings;

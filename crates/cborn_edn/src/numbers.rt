@@ -3,23 +3,26 @@
 ghost use Rattle.std.specs.Prelude.{◌≡◌, true, ◌<◌, ◌≤◌, ◌^◌, ◌&&◌, ◌++◌, ℕ, length, Some, IfOk, OnOk, if◌then◌else◌};
 ghost use Rattle.std.specs.Result.{result_ok};
 ghost use Rattle.std.specs.Int.Digits.{digits_of};
-ghost use Rattle.cborn_model.specs.Heads.{least};
-ghost use Rattle.cborn_model.specs.Tree as tree;
+ghost use Rattle.cborn_model.specs.Heads.{least, WidthFits, SizeFits, Given, head};
+ghost use Rattle.cborn_model.specs.Spelled.{string};
+ghost use Rattle.cborn_model.specs.declared.heads.Major.TheVariants.{ByteString as ByteHead, Tag};
 ghost use Rattle.cborn_model.specs.declared.heads.Width.TheVariants.{Direct};
 ghost use Rattle.cborn_edn.specs.Syntax as syntax;
 ghost use Rattle.cborn_edn.specs.Meaning as pure;
-ghost use Rattle.cborn_edn.specs.devices.Draft.{slip_at, simple_slip, first_slip, tag_head};
+ghost use Rattle.cborn_edn.specs.devices.Draft.{slip_at, simple_slip, first_slip, tag_head, number_bytes, simple_bytes};
 
 use crate::EdnReason;
 use crate::slips::{Slip, earlier, slip_unless};
+use crate::spellings::Spelling;
 use cborn_lex::Mark;
-use cborn_model::{ByteString, Form, Node, Size, Width, is_simple_value, shortest};
+use cborn_model::{ByteString, Major, Size, Width, is_simple_value, shortest};
 use std::alloc::{AllocError, Global};
 
 /// The width of a head with the argument `n` under an indicator, where the head can't be
 /// indefinite.
 pub(crate) fn width_for(mark: Mark, n: u64) -> Result<Width, EdnReason>
     ensures width { result_ok result ≡ pure.width_for mark n }
+    ensures fits { IfOk result (λ w. WidthFits w n) }
     ensures slip { (p : ℕ) → slip_at p result ≡ first_slip (pure.width_slips p mark n) }
 {
     match mark {
@@ -33,6 +36,7 @@ pub(crate) fn width_for(mark: Mark, n: u64) -> Result<Width, EdnReason>
 /// How an array or a map of `n` entries under an indicator says where it ends.
 pub(crate) fn size_for(mark: Mark, n: u64) -> Result<Size, EdnReason>
     ensures size { result_ok result ≡ pure.size_for mark n }
+    ensures fits { IfOk result (λ s. SizeFits s n) }
     ensures slip { (p : ℕ) → slip_at p result ≡ first_slip (pure.size_slips p mark n) }
 {
     match mark {
@@ -68,16 +72,15 @@ fn argument_of(negative: bool, magnitude: u128) -> u128
     }
 }
 
-/// The node of an integer literal: `magnitude`, or `-magnitude`.
+/// What an integer literal spells: `magnitude`, or `-magnitude`.
 pub(crate) fn integer(
     alloc: Global,
-    place: u64,
     negative: bool,
     magnitude: u128,
     mark: Mark,
-) -> Result<Result<Node, EdnReason>, AllocError>
-    ensures means { IfOk result (λ r. result_ok r ≡ pure.means_number place negative magnitude mark) }
-    ensures slip { IfOk result (λ r. slip_at place r ≡ first_slip (pure.number_slips place negative magnitude mark)) }
+) -> Result<Result<Spelling, EdnReason>, AllocError>
+    ensures means { IfOk result (λ r. result_ok r ≡ number_bytes negative magnitude mark) }
+    ensures slip { IfOk result (λ r. (p : ℕ) → slip_at p r ≡ first_slip (pure.number_slips p negative magnitude mark)) }
 {
     let below = is_below(negative, magnitude);
     let argument = argument_of(negative, magnitude);
@@ -85,45 +88,33 @@ pub(crate) fn integer(
         if mark != Mark::Absent {
             return Ok(Err(EdnReason::IndicatorNotAllowed));
         }
-        return Ok(Ok(bignum(alloc, place, below, argument)?));
+        return Ok(Ok(bignum(alloc, below, argument)?));
     }
     let n = argument as u64;
+    let major = if below {
+        Major::Negative
+    } else {
+        Major::Unsigned
+    };
     match width_for(mark, n) {
-        Ok(width) => Ok(Ok(small_integer(place, below, width, n))),
+        Ok(width) => Ok(Ok(Spelling::given(major, width, n, Vec::new(alloc)))),
         Err(reason) => Ok(Err(reason)),
     }
-}
-
-/// An integer within 64 bits.
-fn small_integer(place: u64, below: bool, width: Width, n: u64) -> Node
-    ensures { result ≡ (if below then tree.Nint place width n else tree.Uint place width n) }
-{
-    let form = if below {
-        Form::Nint(width, n)
-    } else {
-        Form::Uint(width, n)
-    };
-    Node { place, form }
 }
 
 /// A tag over the shortest bytes of `n`, with shortest heads.
 #[cold]
 #[inline(never)]
-fn bignum(alloc: Global, place: u64, below: bool, n: u128) -> Result<Node, AllocError>
+fn bignum(alloc: Global, below: bool, n: u128) -> Result<Spelling, AllocError>
     requires { 2 ^ 64 ≤ n }
-    ensures { IfOk result (λ t. t ≡ tree.Tagged place Direct (if below then 3 else 2) (tree.Bytes place (least (length (digits_of 256 n))) (digits_of 256 n))) }
+    ensures { IfOk result (λ s. s ≡ head Tag (Given Direct (if below then 3 else 2)) ++ string ByteHead (least (length (digits_of 256 n))) (digits_of 256 n)) }
 {
     let mut bytes = Vec::new(alloc);
     push_shortest(&mut bytes, n)?;
     let width = shortest(bytes.len() as u64);
-    let string = Node {
-        place,
-        form: Form::Bytes(width, ByteString::new(bytes)),
-    };
+    let string = Spelling::string(Major::ByteString, width, ByteString::new(bytes));
     let number = if below { 3 } else { 2 };
-    let content = Box::new(alloc, string)?;
-    let form = Form::Tagged(Width::Direct, number, content);
-    Ok(Node { place, form })
+    Spelling::given(Major::Tag, Width::Direct, number, Vec::new(alloc)).with(string)
 }
 
 /// Appends the bytes of `n`, the highest first, without leading zeros.
@@ -137,8 +128,8 @@ fn push_shortest(bytes: &mut Vec<u8>, n: u128) -> Result<(), AllocError>
     Ok(())
 }
 
-/// The width and the number of a tag's head.
-pub(crate) fn tag_head(number: u128, mark: Mark) -> Result<(Width, u64), EdnReason>
+/// A tag's head.
+pub(crate) fn tag_head(alloc: Global, number: u128, mark: Mark) -> Result<Spelling, EdnReason>
     ensures head { result_ok result ≡ tag_head number mark }
     ensures slip { (p : ℕ) → slip_at p result ≡ first_slip (pure.tag_slips p mark number) }
 {
@@ -147,18 +138,19 @@ pub(crate) fn tag_head(number: u128, mark: Mark) -> Result<(Width, u64), EdnReas
     }
     let n = number as u64;
     let width = width_for(mark, n)?;
-    Ok((width, n))
+    Ok(Spelling::given(Major::Tag, width, n, Vec::new(alloc)))
 }
 
 /// The simple value of a number at `start`, whose bracket is at `place`, and what is wrong with it.
 pub(crate) fn simple(
+    alloc: Global,
     place: u64,
     start: u64,
     negative: bool,
     magnitude: u128,
     mark: Mark,
-) -> (Option<Node>, Option<Slip>)
-    ensures item { result.0 ≡ pure.when (pure.is_simple negative magnitude && pure.is_absent mark) (Some (tree.Simple place magnitude)) }
+) -> (Option<Spelling>, Option<Slip>)
+    ensures item { result.0 ≡ pure.when (pure.is_simple negative magnitude && pure.is_absent mark) (Some (simple_bytes magnitude)) }
     ensures slip { result.1 ≡ simple_slip place start negative magnitude mark }
 {
     let good = is_simple(negative, magnitude);
@@ -168,8 +160,7 @@ pub(crate) fn simple(
         slip_unless(bare, start, EdnReason::IndicatorNotAllowed),
     );
     if good && bare {
-        let form = Form::Simple(magnitude as u8);
-        (Some(Node { place, form }), slip)
+        (Some(Spelling::simple(alloc, magnitude as u8)), slip)
     } else {
         (None, slip)
     }

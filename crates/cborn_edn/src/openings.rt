@@ -5,16 +5,15 @@ ghost use Rattle.cborn_edn.specs.devices.Draft as pure;
 ghost use Rattle.cborn_edn.specs.declared.brackets.Bracket.TheVariants.{Array, Chunked, Embedded, Key, Tagged};
 ghost use Rattle.cborn_edn.specs.declared.states.Phase.TheVariants.{Wants, WantsChunk};
 ghost use Rattle.cborn_edn.specs.Meaning.{tag_slips};
-ghost use Rattle.cborn_model.specs.Tree.{Simple as SimpleNode};
 
 use crate::brackets::Bracket;
-use crate::contents::{Chunks, Fields, Row, Sequence};
+use crate::contents::{Chunks, Row};
 use crate::numbers::{integer, simple, tag_head};
 use crate::slips::slip_at;
+use crate::spellings::Spelling;
 use crate::states::{Phase, State};
 use crate::strings::Pieces;
 use cborn_lex::{Class, Mark};
-use cborn_model::{Form, Node};
 use std::alloc::{AllocError, Global};
 
 impl State {
@@ -32,23 +31,23 @@ impl State {
         match class {
             Class::ArrayOpen(mark) => self.open_array(alloc, start, mark)?,
             Class::MapOpen(mark) => self.open_map(alloc, start, mark)?,
-            Class::ChunkOpen => self.open_chunks(alloc, start)?,
-            Class::TagOpen { number, mark } => self.open_tag(start, number, mark)?,
+            Class::ChunkOpen => self.open_chunks(alloc)?,
+            Class::TagOpen { number, mark } => self.open_tag(alloc, start, number, mark)?,
             Class::SimpleOpen => self.enter(Phase::WantsNumber { place: start }),
-            Class::Word(n) => self.stand(Some(word(start, n)), None),
+            Class::Word(n) => self.stand(Some(Spelling::simple(alloc, n)), None),
             Class::Number {
                 negative,
                 magnitude,
                 mark,
             } => {
-                let judged = integer(alloc, start, negative, magnitude, mark)?;
+                let judged = integer(alloc, negative, magnitude, mark)?;
                 let found = slip_at(start, &judged);
                 self.stand(judged.ok(), found);
             }
             Class::Text { .. } | Class::Bytes { .. } | Class::EmbedOpen => {
                 return self.begin_chunk(alloc, start, class);
             }
-            _ => return self.ended(alloc, start, &class),
+            _ => return self.ended(start, &class),
         }
         Ok(true)
     }
@@ -67,9 +66,9 @@ impl State {
     #[inline(never)]
     fn open_map(&mut self, alloc: Global, place: u64, mark: Mark) -> Result<(), AllocError>
         requires { self.old.phase ≡ Wants }
-        ensures { OnOk result (self.new ≡ pure.keep (Key place mark pure.no_fields ∷ self.old.brackets) Wants self.old.slip) }
+        ensures { OnOk result (self.new ≡ pure.keep (Key place mark pure.no_row ∷ self.old.brackets) Wants self.old.slip) }
     {
-        let fields = Fields::new(alloc);
+        let fields = Row::new(alloc);
         self.open(Bracket::Key {
             place,
             mark,
@@ -79,26 +78,30 @@ impl State {
 
     /// A string in chunks begins.
     #[inline(never)]
-    fn open_chunks(&mut self, alloc: Global, place: u64) -> Result<(), AllocError>
+    fn open_chunks(&mut self, alloc: Global) -> Result<(), AllocError>
         requires { self.old.phase ≡ Wants }
-        ensures { OnOk result (self.new ≡ pure.keep (Chunked place pure.no_chunks ∷ self.old.brackets) WantsChunk self.old.slip) }
+        ensures { OnOk result (self.new ≡ pure.keep (Chunked pure.no_chunks ∷ self.old.brackets) WantsChunk self.old.slip) }
     {
-        let chunks = Chunks::new(alloc);
-        self.open(Bracket::Chunked { place, chunks })?;
+        self.open(Bracket::Chunked(Chunks::new(alloc)))?;
         self.enter(Phase::WantsChunk);
         Ok(())
     }
 
     /// A tag begins.
     #[inline(never)]
-    fn open_tag(&mut self, place: u64, number: u128, mark: Mark) -> Result<(), AllocError>
+    fn open_tag(
+        &mut self,
+        alloc: Global,
+        place: u64,
+        number: u128,
+        mark: Mark,
+    ) -> Result<(), AllocError>
         requires { self.old.phase ≡ Wants }
-        ensures { OnOk result (self.new ≡ pure.keep (Tagged place (pure.tag_head number mark) ∷ self.old.brackets) Wants (pure.earlier self.old.slip (pure.first_slip (tag_slips place mark number)))) }
+        ensures { OnOk result (self.new ≡ pure.keep (Tagged (pure.tag_head number mark) ∷ self.old.brackets) Wants (pure.earlier self.old.slip (pure.first_slip (tag_slips place mark number)))) }
     {
-        let head = tag_head(number, mark);
+        let head = tag_head(alloc, number, mark);
         self.note(slip_at(place, &head));
-        let head = head.ok();
-        self.open(Bracket::Tagged { place, head })
+        self.open(Bracket::Tagged(head.ok()))
     }
 
     /// A sequence begins inside a string, behind the pieces of the string so far.
@@ -110,9 +113,9 @@ impl State {
         place: u64,
     ) -> Result<(), AllocError>
         requires { self.old.phase ≡ Wants }
-        ensures { OnOk result (self.new ≡ pure.keep (Embedded before place pure.no_sequence ∷ self.old.brackets) Wants self.old.slip) }
+        ensures { OnOk result (self.new ≡ pure.keep (Embedded before place pure.no_row ∷ self.old.brackets) Wants self.old.slip) }
     {
-        let items = Sequence::new(alloc);
+        let items = Row::new(alloc);
         self.open(Bracket::Embedded {
             before,
             place,
@@ -148,7 +151,13 @@ impl State {
 
     /// The number of a simple value, whose bracket is at `place`.
     #[inline(never)]
-    pub(crate) fn begin_number(&mut self, place: u64, start: u64, class: &Class) -> bool
+    pub(crate) fn begin_number(
+        &mut self,
+        alloc: Global,
+        place: u64,
+        start: u64,
+        class: &Class,
+    ) -> bool
         requires { self.old.phase ≡ Wants }
         ensures { pure.begin_number self.old.brackets self.old.slip place start class.now ≡ (if result then Some self.new else None) }
     {
@@ -160,19 +169,9 @@ impl State {
         else {
             return false;
         };
-        let (item, found) = simple(place, start, *negative, *magnitude, *mark);
+        let (item, found) = simple(alloc, place, start, *negative, *magnitude, *mark);
         self.note(found);
         self.enter(Phase::HasNumber(item));
         true
-    }
-}
-
-/// The simple value of a word.
-fn word(place: u64, number: u8) -> Node
-    ensures { result ≡ SimpleNode place number }
-{
-    Node {
-        place,
-        form: Form::Simple(number),
     }
 }

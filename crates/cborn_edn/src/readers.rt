@@ -1,20 +1,22 @@
 //! Notation, read.
 
-ghost use Rattle.std.specs.Prelude.{◌≡◌, ◌≤◌, Option, Some, None, IfOk, IfErr};
+ghost use Rattle.std.specs.Prelude.{◌≡◌, ℕ, List, Option, Some, None, IfOk, IfErr};
 ghost use Rattle.cborn_model.specs.Tree.{Trees, trees};
+ghost use Rattle.cborn_model.specs.Spelled.{spelled_all};
 ghost use Rattle.cborn_edn.specs.Notates.{Notates, IsNoNotation};
 ghost use Rattle.cborn_edn.specs.devices.Draft.{IsFirstSlip};
 ghost use Rattle.cborn_edn.specs.devices.Lean.{Parsed};
 ghost use Rattle.cborn_edn.specs.devices.Ready.{IsReady, IsTold, Steps};
 
-use crate::lists::{SpelledList, discard};
+use crate::discards::discard;
+use crate::placing::placed;
 use crate::recognisers::{cut_short, first_fault, recognise, refused};
 use crate::slips::Slip;
 use crate::states::{State, finished};
 use crate::wanted::Wanted;
 use crate::{EdnFault, EdnReason};
 use cborn_lex::{Profile, Token, token_from};
-use cborn_model::{Limit, Spelled};
+use cborn_model::{ByteString, Limit, Spelled};
 use std::alloc::{AllocError, Global};
 
 /// The items of `text`, under that profile of the notation, none deeper than `limit`. The place of
@@ -38,7 +40,17 @@ pub fn read_notation(
     ensures refused { IfErr result (IsNoNotation profile limit text.now) }
 {
     recognise_items(alloc, limit, profile, text)?;
-    let state = parsed(alloc, limit, profile, text, Wanted::Nodes)?;
+    let bytes = spelled(alloc, limit, profile, text)?;
+    let items = placed(alloc, limit, profile, text, bytes.as_slice())?;
+    Ok(items)
+}
+
+/// The bytes that the items of the text spell.
+fn spelled(alloc: Global, limit: Limit, profile: Profile, text: &str) -> Result<Vec<u8>, EdnFault>
+    ensures spelled { IfOk result (λ bytes. (nodes : Trees) × Notates profile limit text.now nodes × (bytes.items ≡ spelled_all nodes)) }
+    ensures refused { IfErr result (IsNoNotation profile limit text.now) }
+{
+    let state = parsed(alloc, limit, profile, text, Wanted::Bytes)?;
     let ended = finished(alloc, state)?;
     match ended {
         Some(whole) => told(whole),
@@ -48,7 +60,7 @@ pub fn read_notation(
 
 /// Tells whether `text` notates items under that profile of the notation, none deeper than `limit`,
 /// without the items. Memory goes to one token, to a few words for each open bracket, to the pieces
-/// of one string, and to the nodes inside one outermost `<<..>>`.
+/// of one string, and to the bytes of what stands inside one outermost `<<..>>`.
 ///
 /// # Errors
 /// Those of `read_notation`, each of the same texts and at the same place.
@@ -65,8 +77,8 @@ pub fn recognise_items(
     let state = parsed(alloc, limit, profile, text, Wanted::Slips)?;
     let ended = finished(alloc, state)?;
     match ended {
-        Some((items, slip)) => {
-            discard(items);
+        Some((bytes, slip)) => {
+            discard(bytes);
             refuse(slip)
         }
         None => Err(cut_short(text)),
@@ -76,7 +88,7 @@ pub fn recognise_items(
 /// Refuses a slip.
 fn refuse(slip: Option<Slip>) -> Result<(), EdnFault>
     ensures none { IfOk result (λ _. slip ≡ None) }
-    ensures slip { IfErr result (λ fault. (items : Option Trees) → IsFirstSlip (items, slip) fault) }
+    ensures slip { IfErr result (λ fault. (bytes : Option (List ℕ)) → IsFirstSlip (bytes, slip) fault) }
 {
     match slip {
         Some(slip) => Err(refused(slip.place, slip.reason)),
@@ -84,17 +96,17 @@ fn refuse(slip: Option<Slip>) -> Result<(), EdnFault>
     }
 }
 
-/// The items, or the first slip.
-fn told(whole: (Option<SpelledList>, Option<Slip>)) -> Result<Vec<Spelled>, EdnFault>
+/// The bytes, or the first slip.
+fn told(whole: (Option<ByteString>, Option<Slip>)) -> Result<Vec<u8>, EdnFault>
     requires { IsTold whole }
-    ensures items { IfOk result (λ items. whole ≡ (Some (trees items.items), None)) }
+    ensures bytes { IfOk result (λ bytes. whole ≡ (Some bytes.items, None)) }
     ensures slip { IfErr result (IsFirstSlip whole) }
 {
-    let (items, slip) = whole;
+    let (bytes, slip) = whole;
     match slip {
         Some(slip) => Err(refused(slip.place, slip.reason)),
-        None => match items {
-            Some(items) => Ok(items.into_vec()),
+        None => match bytes {
+            Some(bytes) => Ok(bytes.into_vec()),
             None => unreachable!(),
         },
     }

@@ -4,7 +4,7 @@
 //! it stands. Which tokens begin a node or a chunk depends on the shape of what is open (`shapes`),
 //! so heads are counted token by token. What stands in `<<..>>` becomes bytes, and counts as none.
 
-ghost use Rattle.std.specs.Prelude.{◌≡◌, ℕ, suc, ◌+◌, ◌<◌, ◌^◌, IfSome, Some, slice_get};
+ghost use Rattle.std.specs.Prelude.{◌≡◌, ℕ, suc, ◌+◌, ◌<◌, ◌^◌, ◌++◌, replicate, IfSome, Some, IfOk, OnOk, slice_get};
 ghost use Rattle.cborn_model.specs.Tree.{Trees};
 ghost use Rattle.cborn_edn.specs.Notates.{Notates};
 ghost use Rattle.cborn_edn.specs.Starts.{starts_all};
@@ -12,8 +12,8 @@ ghost use Rattle.cborn_edn.specs.devices.Begun as pure;
 
 use crate::numbers::is_small;
 use crate::shapes::{Shape, Stand};
-use cborn_lex::{Class, Profile, token_from};
-use std::alloc::Global;
+use cborn_lex::{Class, LexFault, Profile, token_from};
+use std::alloc::{AllocError, Global};
 
 /// The place of a node or a chunk in `text`, under that profile of the notation: of the one with
 /// `index` others before it, where each node comes before what stands in it. It is the offset of its
@@ -48,6 +48,48 @@ pub fn start_at(alloc: Global, profile: Profile, text: &str, index: u64) -> Opti
             return None;
         };
     }
+}
+
+/// The places of all nodes and chunks in `text`, under that profile of the notation, each node
+/// before what stands in it. Of a text that notates nothing, nothing is said.
+pub(crate) fn all_starts(
+    alloc: Global,
+    profile: Profile,
+    text: &str,
+) -> Result<Vec<u64>, AllocError>
+    ensures { IfOk result (λ places. (limit : ℕ) (nodes : Trees) → Notates profile limit text.now nodes → places.items ≡ starts_all nodes) }
+{
+    let mut places = Vec::new(alloc);
+    let mut shape = Shape::new(alloc);
+    let mut embedded = 0;
+    let mut at = 0;
+    'tokens: loop {
+        let token = match token_from(alloc, profile, text, at) {
+            Ok(Some(token)) => token,
+            Ok(None) => return Ok(places),
+            Err(LexFault::Refused { .. }) => return Ok(places),
+            Err(LexFault::OutOfMemory) => return Err(AllocError),
+        };
+        let count = begun(embedded, shape.stand, &token.class);
+        push_times(&mut places, token.start, count)?;
+        at = token.stop;
+        embedded = embedded_after(embedded, &token.class);
+        let taken = shape.step(Profile::Two, &token.class)?;
+        drop(token);
+        if !taken {
+            return Ok(places);
+        }
+    }
+}
+
+/// Appends a place so many times.
+fn push_times(places: &mut Vec<u64>, place: u64, times: u64) -> Result<(), AllocError>
+    ensures { OnOk result (places.new.items ≡ places.old.items ++ replicate times place) }
+{
+    for _i in 0..times {
+        places.push(place)?;
+    }
+    Ok(())
 }
 
 /// How many nodes and chunks begin with a token of this class, inside so many open `<<`.

@@ -3,18 +3,18 @@
 ghost use Rattle.std.specs.Prelude.{◌≡◌, suc, ◌^◌, ◌<◌, [], ◌∷◌, Some, None, IfOk, OnOk, if◌then◌else◌};
 ghost use Rattle.cborn_edn.specs.devices.Draft as pure;
 ghost use Rattle.cborn_edn.specs.devices.Levels.{levels_in, reach};
-ghost use Rattle.cborn_edn.specs.devices.Ready.{IsReady, IsHeld, MayEnd};
+ghost use Rattle.cborn_edn.specs.devices.Ready.{IsReady, IsHeld};
 ghost use Rattle.cborn_edn.specs.declared.brackets.Bracket.TheVariants.{Top};
 ghost use Rattle.cborn_edn.specs.declared.states.Phase.TheVariants.{Wants, Has};
 
 use crate::brackets::{Bracket, Brackets};
-use crate::contents::Sequence;
-use crate::lists::SpelledList;
+use crate::contents::Row;
 use crate::shapes::depth_at;
 use crate::slips::{Slip, earlier};
+use crate::spellings::Spelling;
 use crate::strings::Pieces;
 use cborn_lex::{Class, Token};
-use cborn_model::Node;
+use cborn_model::ByteString;
 use std::alloc::{AllocError, Global};
 
 /// What stands right before the next token.
@@ -23,7 +23,7 @@ pub(crate) enum Phase {
     /// An opening bracket, a comma, a colon, or nothing: an item is wanted.
     Wants,
     /// An item that is no string; none where it has a slip.
-    Has(Option<Node>),
+    Has(Option<Spelling>),
     /// Pieces of a string, to which more may come.
     Builds(Pieces),
     /// `(_`, or a comma between chunks.
@@ -31,7 +31,7 @@ pub(crate) enum Phase {
     /// `simple(`
     WantsNumber { place: u64 },
     /// `simple(` and a number.
-    HasNumber(Option<Node>),
+    HasNumber(Option<Spelling>),
 }
 
 /// What the reader keeps.
@@ -46,10 +46,10 @@ pub(crate) struct State {
 impl State {
     /// Before the first token.
     pub(crate) fn new(alloc: Global) -> Result<State, AllocError>
-        ensures { IfOk result (λ s. s ≡ pure.keep (Top pure.no_sequence ∷ []) Wants None) }
+        ensures { IfOk result (λ s. s ≡ pure.keep (Top pure.no_row ∷ []) Wants None) }
     {
         let mut brackets = Brackets::new(alloc);
-        brackets.push(Bracket::Top(Sequence::new(alloc)))?;
+        brackets.push(Bracket::Top(Row::new(alloc)))?;
         Ok(State {
             brackets,
             phase: Phase::Wants,
@@ -92,10 +92,10 @@ impl State {
         let Token { start, class, .. } = token;
         match std::mem::replace(&mut self.phase, Phase::Wants) {
             Phase::Wants => self.begin(alloc, start, class),
-            Phase::Has(item) => self.after(alloc, item, start, &class),
+            Phase::Has(item) => self.after(item, start, &class),
             Phase::Builds(string) => self.more(alloc, string, start, class),
             Phase::WantsChunk => self.begin_chunk(alloc, start, class),
-            Phase::WantsNumber { place } => Ok(self.begin_number(place, start, &class)),
+            Phase::WantsNumber { place } => Ok(self.begin_number(alloc, place, start, &class)),
             Phase::HasNumber(item) => Ok(self.after_number(item, &class)),
         }
     }
@@ -134,7 +134,7 @@ impl State {
 
     /// An item stands complete; `found` is what is wrong with it.
     #[inline]
-    pub(crate) fn stand(&mut self, item: Option<Node>, found: Option<Slip>)
+    pub(crate) fn stand(&mut self, item: Option<Spelling>, found: Option<Slip>)
         requires { self.old.phase ≡ Wants }
         ensures { self.new ≡ pure.keep self.old.brackets (Has item) (pure.earlier self.old.slip found) }
     {
@@ -154,11 +154,11 @@ impl State {
     }
 }
 
-/// The items of the whole text and its first slip, or nothing where the text may not end here.
+/// The bytes of the whole text and its first slip, or nothing where the text may not end here.
 pub(crate) fn finished(
     alloc: Global,
     state: State,
-) -> Result<Option<(Option<SpelledList>, Option<Slip>)>, AllocError>
+) -> Result<Option<(Option<ByteString>, Option<Slip>)>, AllocError>
     requires { IsReady state }
     ensures { IfOk result (λ o. o ≡ pure.finished state) }
 {
@@ -181,16 +181,15 @@ fn finished_top(
     alloc: Global,
     phase: Phase,
     slip: Option<Slip>,
-    items: Sequence,
-) -> Result<Option<(Option<SpelledList>, Option<Slip>)>, AllocError>
-    requires spelled { MayEnd phase }
-    requires room { suc items.count < 2 ^ 64 }
+    items: Row,
+) -> Result<Option<(Option<ByteString>, Option<Slip>)>, AllocError>
+    requires { suc items.count < 2 ^ 64 }
     ensures { IfOk result (λ o. o ≡ pure.finished_top phase slip items) }
 {
     match phase {
         Phase::Wants => {
             if items.count == 0 {
-                Ok(Some((items.items, slip)))
+                Ok(Some((items.bytes, slip)))
             } else {
                 Ok(None)
             }
@@ -198,13 +197,13 @@ fn finished_top(
         Phase::Has(item) => {
             let mut items = items;
             items.add(item)?;
-            Ok(Some((items.items, slip)))
+            Ok(Some((items.bytes, slip)))
         }
         Phase::Builds(string) => {
-            let (item, found) = string.into_item(alloc);
+            let (item, found) = string.into_item(alloc)?;
             let mut items = items;
             items.add(item)?;
-            Ok(Some((items.items, earlier(slip, found))))
+            Ok(Some((items.bytes, earlier(slip, found))))
         }
         _ => Ok(None),
     }

@@ -1,15 +1,17 @@
 //! Strings of the notation, piece by piece.
 
-ghost use Rattle.std.specs.Prelude.{◌≡◌, false, [], length, Some, IfOk};
+ghost use Rattle.std.specs.Prelude.{◌≡◌, ◌≤◌, false, IfOk};
+ghost use Rattle.cborn_model.specs.Heads.{code};
 ghost use Rattle.cborn_edn.specs.devices.Draft as pure;
-ghost use Rattle.cborn_edn.specs.Meaning.{is_good, and_then, width_for, chunked_node};
+ghost use Rattle.cborn_edn.specs.Meaning.{is_good};
 ghost use Rattle.cborn_edn.specs.Counted.{IsShort};
 
 use crate::EdnReason;
 use crate::numbers::width_for;
 use crate::slips::{Slip, earlier, slip_at, slip_unless};
+use crate::spellings::Spelling;
 use cborn_lex::Mark;
-use cborn_model::{ByteString, Chunk, Form, Node, Width};
+use cborn_model::{ByteString, Major};
 use std::alloc::{AllocError, Global};
 
 /// Whether a string is of bytes or of text.
@@ -19,6 +21,19 @@ pub enum StringKind {
     Bytes,
     /// Of text.
     Text,
+}
+
+impl StringKind {
+    /// The major type.
+    pub(crate) fn major(self) -> Major
+        ensures major { result ≡ pure.major_of self }
+        ensures low { code result ≤ 6 }
+    {
+        match self {
+            StringKind::Bytes => Major::ByteString,
+            StringKind::Text => Major::TextString,
+        }
+    }
 }
 
 /// The pieces of a string so far, as one: the first gives the kind and the place, the last one the
@@ -171,30 +186,31 @@ impl Pieces {
     }
 
     /// The string as an item, and what is wrong with it as a whole.
-    pub(crate) fn into_item(self, alloc: Global) -> (Option<Node>, Option<Slip>)
-        ensures item { result.0 ≡ pure.string_item self }
-        ensures slip { result.1 ≡ pure.string_slip self.quote self }
+    pub(crate) fn into_item(
+        self,
+        alloc: Global,
+    ) -> Result<(Option<Spelling>, Option<Slip>), AllocError>
+        ensures item { IfOk result (λ p. p.0 ≡ pure.string_item self) }
+        ensures slip { IfOk result (λ p. p.1 ≡ pure.string_slip self.quote self) }
     {
         let slip = self.slip(self.quote);
         if !self.sound || slip.is_some() {
-            return (None, slip);
+            return Ok((None, slip));
         }
         let Pieces {
             kind,
-            place,
             bytes,
             mark,
             ..
         } = self;
-        let node = match bytes {
-            Some(bytes) => string_node(alloc, kind, place, mark, bytes),
-            None => None,
-        };
-        (node, slip)
+        match bytes {
+            Some(bytes) => Ok((marked(alloc, kind, mark, bytes)?, slip)),
+            None => Ok((None, slip)),
+        }
     }
 
     /// The string as a chunk, and what is wrong with it as a whole.
-    pub(crate) fn into_chunk(self) -> (Option<Chunk>, Option<Slip>)
+    pub(crate) fn into_chunk(self) -> (Option<Spelling>, Option<Slip>)
         ensures chunk { result.0 ≡ pure.string_chunk self }
         ensures slip { result.1 ≡ pure.string_slip false self }
     {
@@ -203,16 +219,15 @@ impl Pieces {
             return (None, slip);
         }
         let Pieces {
-            place,
+            kind,
             bytes,
             mark,
             ..
         } = self;
-        let chunk = match bytes {
-            Some(bytes) => chunk(place, mark, bytes),
-            None => None,
-        };
-        (chunk, slip)
+        match bytes {
+            Some(bytes) => (definite(kind, mark, bytes), slip),
+            None => (None, slip),
+        }
     }
 }
 
@@ -244,52 +259,25 @@ fn joined(
 }
 
 /// The string of these bytes, or the one without chunks.
-fn string_node(
+fn marked(
     alloc: Global,
     kind: StringKind,
-    place: u64,
     mark: Mark,
     bytes: ByteString,
-) -> Option<Node>
-    ensures { result ≡ pure.marked_node kind place mark bytes }
+) -> Result<Option<Spelling>, AllocError>
+    ensures { IfOk result (λ o. o ≡ pure.marked_bytes kind mark bytes) }
 {
     if mark == Mark::Endless {
-        return Some(no_chunks(alloc, kind, place));
+        let no_chunks = Spelling::endless(kind.major(), Vec::new(alloc))?;
+        return Ok(Some(no_chunks));
     }
-    let width = width_for(mark, bytes.as_slice().len() as u64).ok()?;
-    let form = match kind {
-        StringKind::Bytes => Form::Bytes(width, bytes),
-        StringKind::Text => Form::Text(width, bytes),
-    };
-    Some(Node { place, form })
+    Ok(definite(kind, mark, bytes))
 }
 
-/// An indefinite string without chunks.
-fn no_chunks(alloc: Global, kind: StringKind, place: u64) -> Node
-    ensures { result ≡ chunked_node kind place [] }
-{
-    chunked(kind, place, Vec::new(alloc))
-}
-
-/// An indefinite string.
-pub(crate) fn chunked(kind: StringKind, place: u64, chunks: Vec<Chunk>) -> Node
-    ensures { result ≡ chunked_node kind place chunks.items }
-{
-    let form = match kind {
-        StringKind::Bytes => Form::ByteChunks(chunks),
-        StringKind::Text => Form::TextChunks(chunks),
-    };
-    Node { place, form }
-}
-
-/// The chunk of these bytes.
-fn chunk(place: u64, mark: Mark, bytes: ByteString) -> Option<Chunk>
-    ensures { result ≡ and_then (width_for mark (length bytes)) (λ w. Some (record { place = place; width = w; bytes = bytes })) }
+/// The definite string of these bytes.
+fn definite(kind: StringKind, mark: Mark, bytes: ByteString) -> Option<Spelling>
+    ensures { result ≡ pure.definite_bytes kind mark bytes }
 {
     let width = width_for(mark, bytes.as_slice().len() as u64).ok()?;
-    Some(Chunk {
-        place,
-        width,
-        bytes,
-    })
+    Some(Spelling::string(kind.major(), width, bytes))
 }

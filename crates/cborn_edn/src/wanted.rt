@@ -1,20 +1,20 @@
 //! What is kept of a text that is read, by what is wanted of it.
 //!
-//! A slip depends on nodes only through the bytes of `<<..>>`: widths are held against numbers and
-//! counts, and kinds and marks stand in the pieces. So where no nodes are wanted, none is kept but
-//! those inside `<<`.
+//! A slip depends on the bytes of items only inside `<<..>>`: widths are held against numbers and
+//! counts, and kinds and marks stand in the pieces. So where slips alone are wanted, no item's bytes
+//! are kept but those inside `<<`.
 
 ghost use Rattle.std.specs.Prelude.{◌≡◌, false};
 ghost use Rattle.cborn_edn.specs.devices.Lean.{lean_phase, trim, trim_as};
 
-use crate::lists::forget;
+use crate::discards::forget;
 use crate::states::{Phase, State};
 
 /// What is wanted of a text.
 #[derive(Clone, Copy)]
 pub(crate) enum Wanted {
-    /// The nodes, or the first slip.
-    Nodes,
+    /// The bytes that it spells, or the first slip.
+    Bytes,
     /// The first slip alone.
     Slips,
 }
@@ -25,12 +25,12 @@ impl State {
         ensures { self.new ≡ trim_as wanted self.old }
     {
         match wanted {
-            Wanted::Nodes => {}
+            Wanted::Bytes => {}
             Wanted::Slips => self.trim(),
         }
     }
 
-    /// Drops the nodes of the innermost bracket and the item behind it, where no `<<` is open.
+    /// Drops the bytes of the innermost bracket and of the item behind it, where no `<<` is open.
     fn trim(&mut self)
         ensures { self.new ≡ trim self.old }
     {

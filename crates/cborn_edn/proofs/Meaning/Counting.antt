@@ -48,7 +48,7 @@ length_weigh : (ts : List Token) → length ts ≤ weigh ts
 length_weigh [] = omega arith
 length_weigh (t ∷ ts) = omega (arith, length_weigh ts, some_weight t.class)
 
-front : (a b : List Token) → AreModest (a ++ b) → AreModest a
+pub front : (a b : List Token) → AreModest (a ++ b) → AreModest a
 front [] b h = tt
 front (t ∷ a) b h = (h.0, front a b h.1)
 

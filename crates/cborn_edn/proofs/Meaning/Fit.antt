@@ -17,13 +17,14 @@ use Rattle.cborn_lex.specs.declared.classes.Mark.{Mark}
 use Rattle.cborn_lex.specs.declared.classes.Mark.TheVariants.{Absent, Endless, Wide}
 use Rattle.cborn_edn.specs.Syntax.{Item, number, word, tag, simple, string, chunked, array, map as map_item, Piece, text, bytes, embedded, Pieces, piece, also, Strings, strings, StringsBefore, no_string, after_strings, Row, row, RowBefore, no_item, after_row, Content, loose, tight, Pairs, pairs, PairsBefore, no_pair, after_pairs, Fields, loose_fields, tight_fields, Input, nothing, items, argument_of, is_small, depth_of_number, depth, depth_of_row, depth_of_row_before, depth_of_content, depth_of_pairs, depth_of_pairs_before, depth_of_fields, depth_of_input, is_below}
 use Rattle.cborn_edn.specs.Meaning.{and_then, when, width_for, size_for, is_absent, snoc, snoc_entry, integer, bignum, means_number, is_simple, kind, place, last_piece, mark_of, is_string, is_empty_quote, string_node, chunked_node, marked_string, means_string, means_chunk, kind_of_strings, kind_after, same_kind, means, joined, joined_piece, means_strings, means_strings_before, means_row, means_row_before, means_content, means_pairs, means_pairs_before, means_fields, Says}
-use Rattle.cborn_edn.specs.Counted.{Counted, CountedPiece, CountedPieces, CountedStrings, CountedStringsBefore, CountedRow, CountedRowBefore, CountedContent, CountedPairs, CountedPairsBefore, CountedFields, CountedInput}
+use Rattle.cborn_edn.specs.Counted.{CountedInput}
 use Rattle.cborn_edn.specs.declared.strings.StringKind.{StringKind}
 use Rattle.cborn_edn.specs.declared.strings.StringKind.TheVariants.{Bytes as OfBytes, Text as OfText}
 use Rattle.cborn_model.specs.Bytes.{AreBytes}
 use Rattle.cborn_model.specs.Spelled.{spelled_all}
 use Rattle.std.proofs.lemmas.Int.Digits.{all_below_base_digits_of}
 use Rattle.cborn_edn.proofs.Meaning.Agree.{made, some_is}
+use Rattle.cborn_edn.proofs.Meaning.Plain.{Plain, PlainPiece, PlainPieces, PlainStrings, PlainStringsBefore, PlainRow, PlainRowBefore, PlainContent, PlainPairs, PlainPairsBefore, PlainFields, PlainInput, plain_input}
 use Rattle.cborn_wire.proofs.Spelled.AllBytes.{bytes-append, spelled_all_bytes}
 
 -- What a tree says fits its widths, and is no deeper than the tree.
@@ -142,93 +143,92 @@ said_string ps d t are e =
     marked_sound (mark_of (last_piece ps)) ps a.first d t (are a.first a.was) (chosen (is_string ps a.first) (marked_string (mark_of (last_piece ps)) ps a.first) t a.then).then
 
 mutual
-  pub sound : (i : Item) (t : Tree) → Counted i → means i ≡ Some t → Sound (depth i) t
-  sound (number at n v m) t h e = number_sound at.start n v m t e
-  sound (word at n) t h e = subst (Sound 0) (some_is e) (record { fits = simple_value n (inl h); low = omega arith })
-  sound (tag at n m i end) t h e =
+  plain_sound : (i : Item) (t : Tree) → Plain i → means i ≡ Some t → Sound (depth i) t
+  plain_sound (number at n v m) t h e = number_sound at.start n v m t e
+  plain_sound (word at n) t h e = subst (Sound 0) (some_is e) (record { fits = simple_value n (inl h); low = omega arith })
+  plain_sound (tag at n m i end) t h e =
       let a = made (width_for m n) (λ w. and_then (means i) (λ u. Some (Tagged at.start w n u))) t e in
       let b = made (means i) (λ u. Some (Tagged at.start a.first n u)) t a.then in
-      let s = sound i b.first h b.was in
+      let s = plain_sound i b.first h b.was in
       subst (Sound (suc (depth i))) (some_is b.then) (record { fits = (width_holds m n a.first a.was, s.fits); low = omega (arith, s.low) })
-  sound (simple at b n v m end) t h e =
+  plain_sound (simple at b n v m end) t h e =
       let c = chosen (is_simple n v && is_absent m) (Some (Simple at.start v)) t e in
       subst (Sound (depth_of_number n v)) (some_is c.then) (record { fits = simple_fits n v (is_absent m) c.test; low = omega arith })
-  sound (string ps) t h e = said_string ps _ t (λ x f. joined_bytes ps x h.1 f) e
-  sound (chunked at ss end) t h e =
+  plain_sound (string ps) t h e = said_string ps _ t (λ x f. joined_bytes ps x h f) e
+  plain_sound (chunked at ss end) t h e =
       let a = made (means_strings ss) (λ cs. Some (chunked_node (kind_of_strings ss) at.start cs)) t e in
       subst (Sound (depth (chunked at ss end))) (some_is a.then) (chunked_sound (kind_of_strings ss) at.start a.first _ (chunks_sound ss a.first h a.was))
-  sound (array at m c end) t h e =
+  plain_sound (array at m c end) t h e =
       let a = made (means_content c) (λ ts. and_then (size_for m (count ts)) (λ s. Some (Items at.start s ts))) t e in
       let b = made (size_for m (count a.first)) (λ s. Some (Items at.start s a.first)) t a.then in
-      let s = sound_content c a.first h.1 a.was in
+      let s = sound_content c a.first h a.was in
       subst (Sound (depth (array at m c end))) (some_is b.then) (record { fits = (size_holds m _ b.first b.was, s.fits); low = omega (arith, s.low) })
-  sound (map_item at m f end) t h e =
+  plain_sound (map_item at m f end) t h e =
       let a = made (means_fields f) (λ es. and_then (size_for m (count_entries es)) (λ s. Some (PairNode at.start s es))) t e in
       let b = made (size_for m (count_entries a.first)) (λ s. Some (PairNode at.start s a.first)) t a.then in
-      let s = sound_fields f a.first h.1 a.was in
+      let s = sound_fields f a.first h a.was in
       subst (Sound (depth (map_item at m f end))) (some_is b.then) (record { fits = (size_holds m _ b.first b.was, s.fits); low = omega (arith, s.low) })
 
-  chunks_sound : (ss : Strings) (cs : List Chunk) → CountedStrings ss → means_strings ss ≡ Some cs → ChunksFit cs
+  chunks_sound : (ss : Strings) (cs : List Chunk) → PlainStrings ss → means_strings ss ≡ Some cs → ChunksFit cs
   chunks_sound (strings b ps) cs h e =
       let same = same_kind (kind_after b (kind ps)) (kind ps) in
       let m = made (means_strings_before b) (λ ds. and_then (joined ps) (λ x. when same (and_then (means_chunk ps x) (λ c. Some (ds ++ c ∷ []))))) cs e in
       let n = made (joined ps) (λ x. when same (and_then (means_chunk ps x) (λ c. Some (m.first ++ c ∷ [])))) cs m.then in
       let d = chosen same (and_then (means_chunk ps n.first) (λ c. Some (m.first ++ c ∷ []))) cs n.then in
       let l = made (means_chunk ps n.first) (λ c. Some (m.first ++ c ∷ [])) cs d.then in
-      subst ChunksFit (some_is l.then) (fits_chunk m.first l.first (chunks_before_sound b m.first h.0 m.was) (chunk_sound ps n.first l.first (joined_bytes ps n.first h.2 n.was) l.was))
+      subst ChunksFit (some_is l.then) (fits_chunk m.first l.first (chunks_before_sound b m.first h.0 m.was) (chunk_sound ps n.first l.first (joined_bytes ps n.first h.1 n.was) l.was))
 
-  chunks_before_sound : (b : StringsBefore) (cs : List Chunk) → CountedStringsBefore b → means_strings_before b ≡ Some cs → ChunksFit cs
+  chunks_before_sound : (b : StringsBefore) (cs : List Chunk) → PlainStringsBefore b → means_strings_before b ≡ Some cs → ChunksFit cs
   chunks_before_sound no_string cs h e = subst ChunksFit (some_is e) tt
   chunks_before_sound (after_strings ss c) cs h e = chunks_sound ss cs h e
 
-  joined_bytes : (ps : Pieces) (x : List ℕ) → CountedPieces ps → joined ps ≡ Some x → AreBytes x
+  joined_bytes : (ps : Pieces) (x : List ℕ) → PlainPieces ps → joined ps ≡ Some x → AreBytes x
   joined_bytes (piece p) x h e = piece_bytes p x h e
   joined_bytes (also ps p) x h e =
       let a = made (joined ps) (λ y. and_then (joined_piece p) (λ z. Some (y ++ z))) x e in
       let b = made (joined_piece p) (λ z. Some (a.first ++ z)) x a.then in
       subst AreBytes (some_is b.then) (bytes-append a.first b.first (joined_bytes ps a.first h.0 a.was) (piece_bytes p b.first h.1 b.was))
 
-  piece_bytes : (p : Piece) (x : List ℕ) → CountedPiece p → joined_piece p ≡ Some x → AreBytes x
+  piece_bytes : (p : Piece) (x : List ℕ) → PlainPiece p → joined_piece p ≡ Some x → AreBytes x
   piece_bytes (text at y m) x h e = subst AreBytes (some_is e) h
   piece_bytes (bytes at q y m) x h e = subst AreBytes (some_is e) h
   piece_bytes (embedded at c end m) x h e =
       let a = made (means_content c) (λ ts. Some (spelled_all ts)) x e in
       subst AreBytes (some_is a.then) (spelled_all_bytes a.first (sound_content c a.first h a.was).fits)
 
-  sound_row : (r : Row) (ts : Trees) → CountedRow r → means_row r ≡ Some ts → SoundAll (depth_of_row r) ts
+  sound_row : (r : Row) (ts : Trees) → PlainRow r → means_row r ≡ Some ts → SoundAll (depth_of_row r) ts
   sound_row (row b i) ts h e =
       let m = made (means_row_before b) (λ us. and_then (means i) (λ t. Some (snoc us t))) ts e in
       let n = made (means i) (λ t. Some (snoc m.first t)) ts m.then in
-      subst (SoundAll (depth_of_row (row b i))) (some_is n.then) (snoc_sound (depth_of_row_before b) (depth i) _ m.first n.first (omega arith) (omega arith) (sound_row_before b m.first h.0 m.was) (sound i n.first h.1 n.was))
+      subst (SoundAll (depth_of_row (row b i))) (some_is n.then) (snoc_sound (depth_of_row_before b) (depth i) _ m.first n.first (omega arith) (omega arith) (sound_row_before b m.first h.0 m.was) (plain_sound i n.first h.1 n.was))
 
-  sound_row_before : (b : RowBefore) (ts : Trees) → CountedRowBefore b → means_row_before b ≡ Some ts → SoundAll (depth_of_row_before b) ts
+  sound_row_before : (b : RowBefore) (ts : Trees) → PlainRowBefore b → means_row_before b ≡ Some ts → SoundAll (depth_of_row_before b) ts
   sound_row_before no_item ts h e = subst (SoundAll 0) (some_is e) (record { fits = tt; low = omega arith })
   sound_row_before (after_row r c) ts h e = sound_row r ts h e
 
-  sound_content : (c : Content) (ts : Trees) → CountedContent c → means_content c ≡ Some ts → SoundAll (depth_of_content c) ts
+  sound_content : (c : Content) (ts : Trees) → PlainContent c → means_content c ≡ Some ts → SoundAll (depth_of_content c) ts
   sound_content (loose b) ts h e = sound_row_before b ts h e
   sound_content (tight r) ts h e = sound_row r ts h e
 
-  sound_pairs : (ps : Pairs) (es : Entries) → CountedPairs ps → means_pairs ps ≡ Some es → SoundEntries (depth_of_pairs ps) es
+  sound_pairs : (ps : Pairs) (es : Entries) → PlainPairs ps → means_pairs ps ≡ Some es → SoundEntries (depth_of_pairs ps) es
   sound_pairs (pairs b k c v) es h e =
       let m = made (means_pairs_before b) (λ ds. and_then (means k) (λ t. and_then (means v) (λ u. Some (snoc_entry ds t u)))) es e in
       let n = made (means k) (λ t. and_then (means v) (λ u. Some (snoc_entry m.first t u))) es m.then in
       let l = made (means v) (λ u. Some (snoc_entry m.first n.first u)) es n.then in
-      subst (SoundEntries (depth_of_pairs (pairs b k c v))) (some_is l.then) (snoc_entry_sound (depth_of_pairs_before b) (depth k) (depth v) _ m.first n.first l.first (omega arith) (omega arith) (omega arith) (sound_pairs_before b m.first h.0 m.was) (sound k n.first h.1 n.was) (sound v l.first h.2 l.was))
+      subst (SoundEntries (depth_of_pairs (pairs b k c v))) (some_is l.then) (snoc_entry_sound (depth_of_pairs_before b) (depth k) (depth v) _ m.first n.first l.first (omega arith) (omega arith) (omega arith) (sound_pairs_before b m.first h.0 m.was) (plain_sound k n.first h.1 n.was) (plain_sound v l.first h.2 l.was))
 
-  sound_pairs_before : (b : PairsBefore) (es : Entries) → CountedPairsBefore b → means_pairs_before b ≡ Some es → SoundEntries (depth_of_pairs_before b) es
+  sound_pairs_before : (b : PairsBefore) (es : Entries) → PlainPairsBefore b → means_pairs_before b ≡ Some es → SoundEntries (depth_of_pairs_before b) es
   sound_pairs_before no_pair es h e = subst (SoundEntries 0) (some_is e) (record { fits = tt; low = omega arith })
   sound_pairs_before (after_pairs ps c) es h e = sound_pairs ps es h e
 
-  sound_fields : (f : Fields) (es : Entries) → CountedFields f → means_fields f ≡ Some es → SoundEntries (depth_of_fields f) es
+  sound_fields : (f : Fields) (es : Entries) → PlainFields f → means_fields f ≡ Some es → SoundEntries (depth_of_fields f) es
   sound_fields (loose_fields b) es h e = sound_pairs_before b es h e
   sound_fields (tight_fields ps) es h e = sound_pairs ps es h e
 
--- a string fits, however long
-pub pieces_sound : (ps : Pieces) (t : Tree) → CountedPieces ps → means (string ps) ≡ Some t → Sound 0 t
-pieces_sound ps t h e = said_string ps 0 t (λ x f. joined_bytes ps x h f) e
+pub plain_fits : (t : Input) (ts : Trees) → PlainInput t → Says t ts → FitsAll ts × (depth_all ts ≤ depth_of_input t)
+plain_fits nothing ts h e = subst (λ us. FitsAll us × (depth_all us ≤ 0)) (some_is e) (tt, omega arith)
+plain_fits (items r) ts h e = let s = sound_row r ts h e in (s.fits, s.low)
 
 -- LAW: what is said fits, and is no deeper than the tree
 pub said_fits : (t : Input) (ts : Trees) → CountedInput t → Says t ts → FitsAll ts × (depth_all ts ≤ depth_of_input t)
-said_fits nothing ts h e = subst (λ us. FitsAll us × (depth_all us ≤ 0)) (some_is e) (tt, omega arith)
-said_fits (items r) ts h e = let s = sound_row r ts h e in (s.fits, s.low)
+said_fits t ts h e = plain_fits t ts (plain_input t h) e

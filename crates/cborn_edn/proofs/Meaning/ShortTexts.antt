@@ -1,5 +1,5 @@
 -- A text of fewer than 2^56 bytes has one answer.
-use Rattle.std.proofs.Common.{◌≡◌, subst, ℕ, ◌^◌, ◌<◌, ◌≤◌, List, length, Option, Some, None, ◌⊎◌, inl, inr, arith}
+use Rattle.std.proofs.Common.{◌≡◌, subst, ℕ, ◌^◌, ◌<◌, ◌≤◌, List, length, Option, Some, None, ◌⊎◌, inl, inr}
 use Rattle.cborn_edn.specs.devices.Draft.{first_slip}
 use Rattle.cborn_model.specs.Bytes.{AreBytes}
 use Rattle.cborn_model.specs.Tree.{Trees, depth_all}
@@ -17,19 +17,15 @@ use Rattle.cborn_edn.specs.Parse.{Parse, HasTree, Jam}
 use Rattle.cborn_edn.specs.Meaning.{FirstSlip, input_slips}
 use Rattle.cborn_edn.specs.Notates.{Notates, Slips, Jams}
 use Rattle.cborn_edn.proofs.Meaning.Agree.{says}
+use Rattle.cborn_edn.proofs.Meaning.AnyLength.{any_fits}
 use Rattle.cborn_edn.proofs.Meaning.Counting.{counted_text}
 use Rattle.cborn_edn.proofs.Meaning.Earliest.{Tells, tells, nothing_among}
-use Rattle.cborn_edn.proofs.Meaning.Fit.{said_fits}
 use Rattle.cborn_edn.proofs.Meaning.NoSlip.{no_slip}
 use Rattle.cborn_edn.proofs.Grammar.OneTree.{one_tree, answered}
 
 -- LAW: the nodes fit their widths and are within the limit
 pub notated_fits : (profile : Profile) (limit : ℕ) (text : List ℕ) (nodes : Trees) → AreBytes text → length text < 2 ^ 56 → Notates profile limit text nodes → FitsAll nodes × (depth_all nodes ≤ limit)
-notated_fits profile limit text nodes are short h =
-    let a = h.1 in
-    let shallow = a.shallow in
-    let f = said_fits h.0 nodes (counted_text profile text a.tokens h.0 are short a.lex a.parse) h.2 in
-    (f.0, omega (arith, f.1))
+notated_fits profile limit text nodes are short h = any_fits profile limit text nodes are h
 
 -- LAW: never nodes and a slip, of whatever length the text is
 pub notated_or_slips : (profile : Profile) (limit most : ℕ) (text : List ℕ) (nodes : Trees) (p : ℕ) (r : EdnReason) → Notates profile limit text nodes → Slips profile most text p r → ⊥

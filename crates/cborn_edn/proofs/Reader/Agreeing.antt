@@ -1,10 +1,11 @@
--- What the reader keeps of a tree is what the tree means, and the first slip that it keeps is the first of the tree's.
+-- What the reader keeps of a tree is what the nodes spell that the tree means.
 use Rattle.std.proofs.Common.{◌≡◌, refl, sym, ap, ◌∙◌, ℕ, suc, List, [], ◌∷◌, ◌++◌, length, Bool, true, false, ◌&&◌, eqb, Option, Some, None, arith}
 use Rattle.std.proofs.lemmas.Bool.{ne_eqb}
 use Rattle.cborn_model.specs.declared.heads.Width.{Width}
 use Rattle.cborn_model.specs.declared.nodes.Chunk.{Chunk}
-use Rattle.cborn_model.specs.Tree.{Tree, Items as ItemsNode, Pairs as PairsNode, Tagged as TaggedNode, Trees, Entries, count, count_entries}
-use Rattle.cborn_model.specs.Spelled.{spelled_all}
+use Rattle.cborn_model.specs.Tree.{Tree, Items as ItemsNode, Pairs as PairsNode, Simple as SimpleNode, Trees, Entries, count, count_entries}
+use Rattle.cborn_model.specs.Spelled.{ending}
+use Rattle.cborn_model.specs.declared.heads.Major.TheVariants.{Array as ArrayHead, Map as MapHead}
 use Rattle.cborn_lex.specs.declared.classes.Mark.{Mark}
 use Rattle.cborn_lex.specs.declared.classes.Mark.TheVariants.{Absent, Endless, Wide}
 use Rattle.cborn_edn.specs.declared.slips.Slip.{Slip}
@@ -12,15 +13,15 @@ use Rattle.cborn_edn.specs.declared.faults.EdnReason.TheVariants.{IndicatorNotAl
 use Rattle.cborn_edn.specs.declared.strings.StringKind.{StringKind}
 use Rattle.cborn_edn.specs.declared.strings.StringKind.TheVariants.{Bytes as OfBytes, Text as OfText}
 use Rattle.cborn_edn.specs.declared.strings.Pieces.{Pieces as Kept}
-use Rattle.cborn_edn.specs.declared.contents.Sequence.{Sequence}
-use Rattle.cborn_edn.specs.declared.contents.Fields.{Fields as KeptFields}
+use Rattle.cborn_edn.specs.declared.contents.Row.{Row as KeptRow}
 use Rattle.cborn_edn.specs.declared.contents.Chunks.{Chunks}
 use Rattle.cborn_edn.specs.Syntax.{Span, Item, number, word, tag, simple, string, chunked, array, map, Piece, text, bytes, embedded, Pieces, piece, also, Strings, strings, StringsBefore, no_string, after_strings, Row, row, RowBefore, no_item, after_row, Content, loose, tight, Pairs, pairs, PairsBefore, no_pair, after_pairs, Fields, loose_fields, tight_fields}
-use Rattle.cborn_model.specs.Heads.{holds}
-use Rattle.cborn_edn.specs.Meaning.{unless, width_slips, and_then, when, width_for, size_for, is_absent, snoc, snoc_entry, same_kind, is_good, string_node, chunked_node, kind_of, mark_of, mark_place, kind, place, last_piece, is_bare, is_bare_before, fits_kind, is_of_kind, is_empty_quote, marked_string, means_string, means_chunk, kind_of_strings, kind_after, means, joined_piece, joined, means_strings, means_strings_before, means_row, means_row_before, means_content, means_pairs, means_pairs_before, means_fields, row_length, row_length_before, content_length, pairs_length, pairs_length_before, fields_length}
-use Rattle.cborn_edn.specs.devices.Draft.{earlier, first_slip, slip_unless, is_none, admits, joined_bytes, with_next, mark_slip, text_slip, marked_node, string_item, string_chunk, array_node, map_node, kind_or, chunked_item, tag_head, tag_node}
+use Rattle.cborn_model.specs.Heads.{holds, head, argument}
+use Rattle.cborn_edn.specs.Meaning.{unless, width_slips, and_then, when, width_for, size_for, is_absent, is_simple, same_kind, is_good, string_node, chunked_node, kind_of, mark_of, mark_place, kind, place, last_piece, is_bare, is_bare_before, fits_kind, is_of_kind, is_empty_quote, marked_string, means_string, means_chunk, kind_of_strings, kind_after, means, joined_piece, joined, means_strings, means_strings_before, means_row, means_row_before, means_content, means_pairs, means_pairs_before, means_fields, row_length, row_length_before, content_length, pairs_length, pairs_length_before, fields_length}
+use Rattle.cborn_edn.specs.devices.Draft.{earlier, first_slip, slip_unless, is_none, admits, joined_bytes, with_next, mark_slip, text_slip, string_slip, marked_bytes, definite_bytes, string_item, string_chunk, row_item, kind_or, chunked_bytes, chunked_item, tag_head, tag_item, simple_bytes}
 use Rattle.cborn_edn.proofs.Meaning.Agree.{counts_content, counts_fields}
-use Rattle.cborn_edn.proofs.Reader.Kept.{row_of, kept, kept_piece, kept_pieces, kept_strings, kept_strings_before, kept_row, kept_row_before, kept_content, kept_pairs, kept_pairs_before, kept_fields}
+use Rattle.cborn_edn.proofs.Reader.Spellings.{item_spelled, all_spelled, entries_spelled, chunk_spelled, chunks_spelled, row_spelled, pairs_spelled, tag_spelled, items_spelled, map_spelled, number_spelled, definite_spelled, made_spelled, chunked_spelled, more_spelled}
+use Rattle.cborn_edn.proofs.Reader.Kept.{kept, kept_piece, kept_pieces, kept_strings, kept_strings_before, kept_row, kept_row_before, kept_content, kept_pairs, kept_pairs_before, kept_fields}
 
 -- Strings.
 
@@ -63,6 +64,42 @@ sound-more true true a f = refl
 sound-more true false true f = refl
 sound-more true false false f = refl
 sound-more false o a f = refl
+
+-- the node of pieces, and their chunk
+abbrev marked_node : StringKind → ℕ → Mark → List ℕ → Option Tree
+marked_node k p Endless x = Some (chunked_node k p [])
+marked_node k p Absent x = and_then (width_for Absent (length x)) (λ w. Some (string_node k p w x))
+marked_node k p (Wide v) x = and_then (width_for (Wide v) (length x)) (λ w. Some (string_node k p w x))
+
+marked_spelled : (k : StringKind) (p : ℕ) (m : Mark) (x : List ℕ) → marked_bytes k m x ≡ item_spelled (marked_node k p m x)
+marked_spelled k p Endless x = ap Some (chunked_spelled k p [])
+marked_spelled k p Absent x = definite_spelled k p Absent x
+marked_spelled k p (Wide v) x = definite_spelled k p (Wide v) x
+
+abbrev said_node : Kept → Option Tree
+said_node d = when (d.sound && is_none (string_slip d.quote d)) (and_then d.bytes (marked_node d.kind d.place d.mark))
+
+node_spelled : (d : Kept) → string_item d ≡ item_spelled (said_node d)
+node_spelled d = go (d.sound && is_none (string_slip d.quote d)) d.bytes
+  where
+    go : (b : Bool) (o : Option (List ℕ)) → when b (and_then o (marked_bytes d.kind d.mark)) ≡ item_spelled (when b (and_then o (marked_node d.kind d.place d.mark)))
+    go false o = refl
+    go true None = refl
+    go true (Some x) = marked_spelled d.kind d.place d.mark x
+
+abbrev made_chunk : ℕ → Mark → List ℕ → Option Chunk
+made_chunk p m x = and_then (width_for m (length x)) (λ w. Some (record { place = p; width = w; bytes = x }))
+
+abbrev said_chunk : Kept → Option Chunk
+said_chunk d = when (d.sound && is_none (string_slip false d)) (and_then d.bytes (made_chunk d.place d.mark))
+
+said_chunk_spelled : (d : Kept) → string_chunk d ≡ chunk_spelled d.kind (said_chunk d)
+said_chunk_spelled d = go (d.sound && is_none (string_slip false d)) d.bytes
+  where
+    go : (b : Bool) (o : Option (List ℕ)) → when b (and_then o (definite_bytes d.kind d.mark)) ≡ chunk_spelled d.kind (when b (and_then o (made_chunk d.place d.mark)))
+    go false o = refl
+    go true None = refl
+    go true (Some x) = made_spelled d.kind d.place d.mark x
 
 -- the mark and the text of a string, whose bytes there are
 marked_same : (k : StringKind) (p mp : ℕ) (m : Mark) (x : List ℕ) (quote b o : Bool) (marked : Option Tree)
@@ -111,13 +148,16 @@ marked_width ps x Absent e = refl
 marked_width ps x Endless e = absurd (e refl)
 marked_width ps x (Wide w) e = refl
 
-string_same : (d : Kept) (ps : Pieces) → Same d ps → string_item d ≡ and_then (joined ps) (means_string ps)
-string_same d ps s = rw (s.kind_is, s.place_is, s.bytes_is, s.mark_is, s.mark_place_is, s.sound_is, s.quote_is) (go (joined ps))
+node_same : (d : Kept) (ps : Pieces) → Same d ps → said_node d ≡ and_then (joined ps) (means_string ps)
+node_same d ps s = rw (s.kind_is, s.place_is, s.bytes_is, s.mark_is, s.mark_place_is, s.sound_is, s.quote_is) (go (joined ps))
   where
     go : (o : Option (List ℕ)) → when ((is_bare_before ps && is_of_kind (kind ps) ps) && is_none (earlier (mark_slip (is_empty_quote ps) (mark_place (last_piece ps)) (mark_of (last_piece ps)) o) (text_slip (kind ps) (place ps) o))) (and_then o (marked_node (kind ps) (place ps) (mark_of (last_piece ps)))) ≡ and_then o (means_string ps)
     go None = when-none _
     go (Some x) =
         marked_same (kind ps) (place ps) (mark_place (last_piece ps)) (mark_of (last_piece ps)) x (is_empty_quote ps) (is_bare_before ps) (is_of_kind (kind ps) ps) (marked_string (mark_of (last_piece ps)) ps x) (marked_ends ps x (mark_of (last_piece ps))) (marked_width ps x (mark_of (last_piece ps)))
+
+string_same : (d : Kept) (ps : Pieces) → Same d ps → string_item d ≡ item_spelled (and_then (joined ps) (means_string ps))
+string_same d ps s = node_spelled d ∙ ap item_spelled (node_same d ps s)
 
 chunk_parts : {A : Type 0} (k : StringKind) (p mp : ℕ) (m : Mark) (x : List ℕ) (b o : Bool) (f : Width → Option A)
     → when ((b && o) && is_none (earlier (mark_slip false mp m (Some x)) (text_slip k p (Some x)))) (and_then (width_for m (length x)) f) ≡ when (b && (o && is_good k x)) (and_then (width_for m (length x)) f)
@@ -139,8 +179,8 @@ chunk_parts k p mp m x true true f = go (is_good k x) m
         wide true = refl
         wide false = refl
 
-chunk_same : (d : Kept) (ps : Pieces) → Same d ps → string_chunk d ≡ and_then (joined ps) (means_chunk ps)
-chunk_same d ps s = rw (s.kind_is, s.place_is, s.bytes_is, s.mark_is, s.mark_place_is, s.sound_is) (go (joined ps))
+said_chunk_same : (d : Kept) (ps : Pieces) → Same d ps → said_chunk d ≡ and_then (joined ps) (means_chunk ps)
+said_chunk_same d ps s = rw (s.kind_is, s.place_is, s.bytes_is, s.mark_is, s.mark_place_is, s.sound_is) (go (joined ps))
   where
     made : List ℕ → Width → Option Chunk
     made x w = Some (record { place = place ps; width = w; bytes = x })
@@ -150,50 +190,39 @@ chunk_same d ps s = rw (s.kind_is, s.place_is, s.bytes_is, s.mark_is, s.mark_pla
     go (Some x) =
         chunk_parts (kind ps) (place ps) (mark_place (last_piece ps)) (mark_of (last_piece ps)) x (is_bare_before ps) (is_of_kind (kind ps) ps) (λ w. Some (record { place = place ps; width = w; bytes = x }))
 
+chunk_same : (d : Kept) (ps : Pieces) → Same d ps → string_chunk d ≡ chunk_spelled (kind ps) (and_then (joined ps) (means_chunk ps))
+chunk_same d ps s = said_chunk_spelled d ∙ ap (chunk_spelled d.kind) (said_chunk_same d ps s) ∙ ap (λ k. chunk_spelled k (and_then (joined ps) (means_chunk ps))) s.kind_is
+
 -- Contents.
 
-pub record SameRow (r : Sequence) (o : Option Trees) (n : ℕ) : Type 0 where
-  pub items_is : r.items ≡ o
+pub record SameRow (r : KeptRow) (o : Option (List ℕ)) (n : ℕ) : Type 0 where
+  pub bytes_are : r.bytes ≡ o
   pub count_is : r.count ≡ n
 
-pub record SameFields (f : KeptFields) (o : Option Entries) (n : ℕ) : Type 0 where
-  pub pairs_is : f.pairs ≡ o
-  pub fields_count_is : f.count ≡ n
-
-tag_same : (p n : ℕ) (m : Mark) (i : Option Tree) → tag_node p (tag_head n m) i ≡ and_then (width_for m n) (λ w. and_then i (λ t. Some (TaggedNode p w n t)))
-tag_same p n m i = go (width_for m n)
+array_same : (p : ℕ) (m : Mark) (r : KeptRow) (c : Content) → SameRow r (all_spelled (means_content c)) (content_length c) → row_item ArrayHead m r ≡ item_spelled (and_then (means_content c) (λ ts. and_then (size_for m (count ts)) (λ s. Some (ItemsNode p s ts))))
+array_same p m r c h = rw (h.bytes_are, h.count_is) (go (means_content c) refl)
   where
-    go : (o : Option Width) → tag_node p (and_then o (λ w. Some (w, n))) i ≡ and_then o (λ w. and_then i (λ t. Some (TaggedNode p w n t)))
+    go : (o : Option Trees) → means_content c ≡ o → and_then (all_spelled o) (λ x. and_then (size_for m (content_length c)) (λ s. Some (head ArrayHead (argument s (content_length c)) ++ (x ++ ending s)))) ≡ item_spelled (and_then o (λ ts. and_then (size_for m (count ts)) (λ s. Some (ItemsNode p s ts))))
+    go None e = refl
+    go (Some ts) e = items_spelled p (content_length c) ts (size_for m (content_length c)) (counts_content c ts e) ∙ ap (λ n. item_spelled (and_then (size_for m n) (λ s. Some (ItemsNode p s ts)))) (sym (counts_content c ts e))
+
+map_same : (p : ℕ) (m : Mark) (r : KeptRow) (f : Fields) → SameRow r (entries_spelled (means_fields f)) (fields_length f) → row_item MapHead m r ≡ item_spelled (and_then (means_fields f) (λ es. and_then (size_for m (count_entries es)) (λ s. Some (PairsNode p s es))))
+map_same p m r f h = rw (h.bytes_are, h.count_is) (go (means_fields f) refl)
+  where
+    go : (o : Option Entries) → means_fields f ≡ o → and_then (entries_spelled o) (λ x. and_then (size_for m (fields_length f)) (λ s. Some (head MapHead (argument s (fields_length f)) ++ (x ++ ending s)))) ≡ item_spelled (and_then o (λ es. and_then (size_for m (count_entries es)) (λ s. Some (PairsNode p s es))))
+    go None e = refl
+    go (Some es) e = map_spelled p (fields_length f) es (size_for m (fields_length f)) (counts_fields f es e) ∙ ap (λ n. item_spelled (and_then (size_for m n) (λ s. Some (PairsNode p s es)))) (sym (counts_fields f es e))
+
+chunked_same : (p : ℕ) (cs : Chunks) (k : StringKind) (o : Option (List Chunk)) → cs.kind ≡ Some k → cs.bytes ≡ chunks_spelled k o → chunked_item cs ≡ item_spelled (and_then o (λ l. Some (chunked_node k p l)))
+chunked_same p cs k o e f = rw (e, f) (go o)
+  where
+    go : (o : Option (List Chunk)) → and_then (chunks_spelled k o) (λ x. Some (chunked_bytes k x)) ≡ item_spelled (and_then o (λ l. Some (chunked_node k p l)))
     go None = refl
-    go (Some w) = refl
+    go (Some l) = ap Some (chunked_spelled k p l)
 
-array_same : (p : ℕ) (m : Mark) (r : Sequence) (c : Content) → SameRow r (means_content c) (content_length c) → array_node p m (row_of r) ≡ and_then (means_content c) (λ ts. and_then (size_for m (count ts)) (λ s. Some (ItemsNode p s ts)))
-array_same p m r c h = rw (h.items_is, h.count_is) (go (means_content c) refl)
-  where
-    go : (o : Option Trees) → means_content c ≡ o → and_then o (λ ts. and_then (size_for m (content_length c)) (λ s. Some (ItemsNode p s ts))) ≡ and_then o (λ ts. and_then (size_for m (count ts)) (λ s. Some (ItemsNode p s ts)))
-    go None e = refl
-    go (Some ts) e = ap (λ n. and_then (size_for m n) (λ s. Some (ItemsNode p s ts))) (sym (counts_content c ts e))
-
-map_same : (p : ℕ) (m : Mark) (r : KeptFields) (f : Fields) → SameFields r (means_fields f) (fields_length f) → map_node p m r ≡ and_then (means_fields f) (λ es. and_then (size_for m (count_entries es)) (λ s. Some (PairsNode p s es)))
-map_same p m r f h = rw (h.pairs_is, h.fields_count_is) (go (means_fields f) refl)
-  where
-    go : (o : Option Entries) → means_fields f ≡ o → and_then o (λ es. and_then (size_for m (fields_length f)) (λ s. Some (PairsNode p s es))) ≡ and_then o (λ es. and_then (size_for m (count_entries es)) (λ s. Some (PairsNode p s es)))
-    go None e = refl
-    go (Some es) e = ap (λ n. and_then (size_for m n) (λ s. Some (PairsNode p s es))) (sym (counts_fields f es e))
-
-chunks_swap : (b : Option (List Chunk)) (j : Option (List ℕ)) (f : List ℕ → Option Chunk) (s : Bool) → and_then b (λ l. and_then (and_then j f) (λ c. when s (Some (l ++ c ∷ [])))) ≡ and_then b (λ l. and_then j (λ x. when s (and_then (f x) (λ c. Some (l ++ c ∷ [])))))
-chunks_swap None j f s = refl
-chunks_swap (Some l) None f s = refl
-chunks_swap (Some l) (Some x) f s = go (f x) s
-  where
-    go : (o : Option Chunk) (s : Bool) → and_then o (λ c. when s (Some (l ++ c ∷ []))) ≡ when s (and_then o (λ c. Some (l ++ c ∷ [])))
-    go None true = refl
-    go None false = refl
-    go (Some c) true = refl
-    go (Some c) false = refl
-
-chunked_same : (p : ℕ) (cs : Chunks) (k : StringKind) (o : Option (List Chunk)) → cs.kind ≡ Some k → cs.chunks ≡ o → chunked_item p cs ≡ and_then o (λ l. Some (chunked_node k p l))
-chunked_same p cs k o e f = rw (e, f) refl
+simple_same : (p v : ℕ) (b : Bool) → when b (Some (simple_bytes v)) ≡ item_spelled (when b (Some (SimpleNode p v)))
+simple_same p v true = refl
+simple_same p v false = refl
 
 also_same : (d e : Kept) (ps : Pieces) (p : Piece) → Same d ps → Same e (piece p) → Same (with_next d e) (also ps p)
 also_same d e ps p a b =
@@ -211,11 +240,11 @@ also_same d e ps p a b =
     }
 
 mutual
-  pub agree : (i : Item) → kept i ≡ means i
-  agree (number at n v m) = refl
+  pub agree : (i : Item) → kept i ≡ item_spelled (means i)
+  agree (number at n v m) = number_spelled at.start n v m
   agree (word at n) = refl
-  agree (tag at n m i end) = tag_same at.start n m (kept i) ∙ ap (λ o. and_then (width_for m n) (λ w. and_then o (λ t. Some (TaggedNode at.start w n t)))) (agree i)
-  agree (simple at b n v m end) = refl
+  agree (tag at n m i end) = ap (tag_item (tag_head n m)) (agree i) ∙ tag_spelled at.start n m (means i)
+  agree (simple at b n v m end) = simple_same at.start v (is_simple n v && is_absent m)
   agree (string ps) = string_same (kept_pieces ps) ps (agree_pieces ps)
   agree (chunked at ss end) = chunked_same at.start (kept_strings ss) (kind_of_strings ss) (means_strings ss) (kind_strings ss) (agree_strings ss)
   agree (array at m c end) = array_same at.start m (kept_content c) c (agree_content c)
@@ -224,7 +253,7 @@ mutual
   pub agree_piece : (p : Piece) → Same (kept_piece p) (piece p)
   agree_piece (text at x m) = record { kind_is = refl; place_is = refl; bytes_is = refl; mark_is = refl; mark_place_is = refl; sound_is = refl; quote_is = empty_text x at m }
   agree_piece (bytes at q x m) = record { kind_is = refl; place_is = refl; bytes_is = refl; mark_is = refl; mark_place_is = refl; sound_is = refl; quote_is = empty_bytes q x at m }
-  agree_piece (embedded at c end m) = record { kind_is = refl; place_is = refl; bytes_is = ap (λ o. and_then o (λ ts. Some (spelled_all ts))) (agree_content c).items_is; mark_is = refl; mark_place_is = refl; sound_is = refl; quote_is = refl }
+  agree_piece (embedded at c end m) = record { kind_is = refl; place_is = refl; bytes_is = (agree_content c).bytes_are; mark_is = refl; mark_place_is = refl; sound_is = refl; quote_is = refl }
 
   pub agree_pieces : (ps : Pieces) → Same (kept_pieces ps) ps
   agree_pieces (piece p) = agree_piece p
@@ -237,44 +266,46 @@ mutual
   kind_before no_string k = refl
   kind_before (after_strings ss c) k = ap (λ o. kind_or o k) (kind_strings ss)
 
-  agree_strings : (ss : Strings) → (kept_strings ss).chunks ≡ means_strings ss
+  agree_strings : (ss : Strings) → (kept_strings ss).bytes ≡ chunks_spelled (kind_of_strings ss) (means_strings ss)
   agree_strings (strings b ps) =
       let d = kept_pieces ps in
       let cs = kept_strings_before b in
-      ap (λ o. and_then o (λ l. and_then (string_chunk d) (λ c. when (same_kind (kind_or cs.kind d.kind) d.kind) (Some (l ++ c ∷ []))))) (agree_strings_before b)
-      ∙ ap (λ o. and_then (means_strings_before b) (λ l. and_then o (λ c. when (same_kind (kind_or cs.kind d.kind) d.kind) (Some (l ++ c ∷ []))))) (chunk_same d ps (agree_pieces ps))
-      ∙ ap (λ j. and_then (means_strings_before b) (λ l. and_then (and_then (joined ps) (means_chunk ps)) (λ c. when (same_kind (kind_or cs.kind j) j) (Some (l ++ c ∷ []))))) (agree_pieces ps).kind_is
-      ∙ ap (λ j. and_then (means_strings_before b) (λ l. and_then (and_then (joined ps) (means_chunk ps)) (λ c. when (same_kind j (kind ps)) (Some (l ++ c ∷ []))))) (kind_before b (kind ps))
-      ∙ chunks_swap (means_strings_before b) (joined ps) (means_chunk ps) (same_kind (kind_after b (kind ps)) (kind ps))
+      let k = kind_after b (kind ps) in
+      let before = chunks_spelled k (means_strings_before b) in
+      ap (λ o. and_then o (λ x. and_then (string_chunk d) (λ y. when (same_kind (kind_or cs.kind d.kind) d.kind) (Some (x ++ y))))) (agree_strings_before b (kind ps))
+      ∙ ap (λ o. and_then before (λ x. and_then o (λ y. when (same_kind (kind_or cs.kind d.kind) d.kind) (Some (x ++ y))))) (chunk_same d ps (agree_pieces ps))
+      ∙ ap (λ j. and_then before (λ x. and_then (chunk_spelled (kind ps) (and_then (joined ps) (means_chunk ps))) (λ y. when (same_kind (kind_or cs.kind j) j) (Some (x ++ y))))) (agree_pieces ps).kind_is
+      ∙ ap (λ j. and_then before (λ x. and_then (chunk_spelled (kind ps) (and_then (joined ps) (means_chunk ps))) (λ y. when (same_kind j (kind ps)) (Some (x ++ y))))) (kind_before b (kind ps))
+      ∙ more_spelled k (kind ps) (means_strings_before b) (joined ps) (means_chunk ps)
 
-  agree_strings_before : (b : StringsBefore) → (kept_strings_before b).chunks ≡ means_strings_before b
-  agree_strings_before no_string = refl
-  agree_strings_before (after_strings ss c) = agree_strings ss
+  agree_strings_before : (b : StringsBefore) (k : StringKind) → (kept_strings_before b).bytes ≡ chunks_spelled (kind_after b k) (means_strings_before b)
+  agree_strings_before no_string k = refl
+  agree_strings_before (after_strings ss c) k = agree_strings ss
 
-  pub agree_row : (r : Row) → SameRow (kept_row r) (means_row r) (row_length r)
+  pub agree_row : (r : Row) → SameRow (kept_row r) (all_spelled (means_row r)) (row_length r)
   agree_row (row b i) = record {
-    items_is = ap (λ o. and_then o (λ ts. and_then (kept i) (λ t. Some (snoc ts t)))) (agree_row_before b).items_is ∙ ap (λ o. and_then (means_row_before b) (λ ts. and_then o (λ t. Some (snoc ts t)))) (agree i);
+    bytes_are = ap (λ o. and_then o (λ x. and_then (kept i) (λ y. Some (x ++ y)))) (agree_row_before b).bytes_are ∙ ap (λ o. and_then (all_spelled (means_row_before b)) (λ x. and_then o (λ y. Some (x ++ y)))) (agree i) ∙ row_spelled (means_row_before b) (means i);
     count_is = ap suc (agree_row_before b).count_is;
   }
 
-  pub agree_row_before : (b : RowBefore) → SameRow (kept_row_before b) (means_row_before b) (row_length_before b)
-  agree_row_before no_item = record { items_is = refl; count_is = refl }
+  pub agree_row_before : (b : RowBefore) → SameRow (kept_row_before b) (all_spelled (means_row_before b)) (row_length_before b)
+  agree_row_before no_item = record { bytes_are = refl; count_is = refl }
   agree_row_before (after_row r c) = agree_row r
 
-  pub agree_content : (c : Content) → SameRow (kept_content c) (means_content c) (content_length c)
+  pub agree_content : (c : Content) → SameRow (kept_content c) (all_spelled (means_content c)) (content_length c)
   agree_content (loose b) = agree_row_before b
   agree_content (tight r) = agree_row r
 
-  agree_pairs : (ps : Pairs) → SameFields (kept_pairs ps) (means_pairs ps) (pairs_length ps)
+  agree_pairs : (ps : Pairs) → SameRow (kept_pairs ps) (entries_spelled (means_pairs ps)) (pairs_length ps)
   agree_pairs (pairs b k c v) = record {
-    pairs_is = ap (λ o. and_then o (λ es. and_then (kept k) (λ t. and_then (kept v) (λ u. Some (snoc_entry es t u))))) (agree_pairs_before b).pairs_is ∙ ap (λ o. and_then (means_pairs_before b) (λ es. and_then o (λ t. and_then (kept v) (λ u. Some (snoc_entry es t u))))) (agree k) ∙ ap (λ o. and_then (means_pairs_before b) (λ es. and_then (means k) (λ t. and_then o (λ u. Some (snoc_entry es t u))))) (agree v);
-    fields_count_is = ap suc (agree_pairs_before b).fields_count_is;
+    bytes_are = ap (λ o. and_then o (λ x. and_then (kept k) (λ y. and_then (kept v) (λ z. Some (x ++ (y ++ z)))))) (agree_pairs_before b).bytes_are ∙ ap (λ o. and_then (entries_spelled (means_pairs_before b)) (λ x. and_then o (λ y. and_then (kept v) (λ z. Some (x ++ (y ++ z)))))) (agree k) ∙ ap (λ o. and_then (entries_spelled (means_pairs_before b)) (λ x. and_then (item_spelled (means k)) (λ y. and_then o (λ z. Some (x ++ (y ++ z)))))) (agree v) ∙ pairs_spelled (means_pairs_before b) (means k) (means v);
+    count_is = ap suc (agree_pairs_before b).count_is;
   }
 
-  agree_pairs_before : (b : PairsBefore) → SameFields (kept_pairs_before b) (means_pairs_before b) (pairs_length_before b)
-  agree_pairs_before no_pair = record { pairs_is = refl; fields_count_is = refl }
+  agree_pairs_before : (b : PairsBefore) → SameRow (kept_pairs_before b) (entries_spelled (means_pairs_before b)) (pairs_length_before b)
+  agree_pairs_before no_pair = record { bytes_are = refl; count_is = refl }
   agree_pairs_before (after_pairs ps c) = agree_pairs ps
 
-  pub agree_fields : (f : Fields) → SameFields (kept_fields f) (means_fields f) (fields_length f)
+  pub agree_fields : (f : Fields) → SameRow (kept_fields f) (entries_spelled (means_fields f)) (fields_length f)
   agree_fields (loose_fields b) = agree_pairs_before b
   agree_fields (tight_fields ps) = agree_pairs ps

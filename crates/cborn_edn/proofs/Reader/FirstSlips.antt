@@ -95,7 +95,7 @@ mutual
       ∙ ap (earlier s) (ap (earlier (first_slip (inner_slips ps))) (sym (string_list (is_empty_quote ps) ps (joined ps))) ∙ sym (first-append (inner_slips ps) (string_slips (is_empty_quote ps) ps (joined ps))))
   firsts s (chunked at ss end) = first_strings s ss
   firsts s (array at m c end) = behind_list s (slip_in_content s c) (content_slips c) (size_slips at.start m (content_length c)) (first_slip (size_slips at.start m (kept_content c).count)) (first_content s c) (ap (λ n. first_slip (size_slips at.start m n)) (agree_content c).count_is)
-  firsts s (map at m f end) = behind_list s (slip_in_fields s f) (fields_slips f) (size_slips at.start m (fields_length f)) (first_slip (size_slips at.start m (kept_fields f).count)) (first_fields s f) (ap (λ n. first_slip (size_slips at.start m n)) (agree_fields f).fields_count_is)
+  firsts s (map at m f end) = behind_list s (slip_in_fields s f) (fields_slips f) (size_slips at.start m (fields_length f)) (first_slip (size_slips at.start m (kept_fields f).count)) (first_fields s f) (ap (λ n. first_slip (size_slips at.start m n)) (agree_fields f).count_is)
 
   first_piece : (s : Slips) (p : Piece) → slip_in_piece s p ≡ earlier s (first_slip (piece_slips p))
   first_piece s (text at x m) = sym (earlier-none s)

@@ -1,40 +1,35 @@
 -- What the reader keeps of the machine's state, and that each token makes the same of both.
-use Rattle.std.proofs.Common.{List, [], ◌∷◌, ◌&&◌, Option, Some, None}
-use Rattle.cborn_model.specs.Tree.{Tree, Simple as SimpleNode}
+use Rattle.std.proofs.Common.{ℕ, List, [], ◌∷◌, ◌&&◌, Option, Some, None}
+use Rattle.cborn_model.specs.declared.heads.Major.TheVariants.{Array as ArrayHead, Map as MapHead}
 use Rattle.cborn_edn.specs.declared.slips.Slip.{Slip}
 use Rattle.cborn_edn.specs.declared.strings.Pieces.{Pieces as Kept}
 use Rattle.cborn_edn.specs.declared.contents.Row.{Row as KeptRow}
-use Rattle.cborn_edn.specs.declared.contents.Sequence.{Sequence}
-use Rattle.cborn_edn.specs.declared.contents.Fields.{Fields as KeptFields}
 use Rattle.cborn_edn.specs.declared.contents.Chunks.{Chunks}
 use Rattle.cborn_edn.specs.declared.brackets.Bracket.{Bracket}
 use Rattle.cborn_edn.specs.declared.brackets.Bracket.TheVariants.{Top, Array, Embedded, Chunked, Key, Value, Tagged}
 use Rattle.cborn_edn.specs.declared.states.Phase.TheVariants.{Wants, Has, Builds, WantsChunk, WantsNumber, HasNumber}
 use Rattle.cborn_edn.specs.declared.states.State.{State as KeptState}
 use Rattle.cborn_edn.specs.Syntax.{Item, number, word, tag, simple, string, chunked, array, map, Piece, text, bytes, embedded, Pieces, piece, also, Strings, strings, StringsBefore, no_string, after_strings, Row, row, RowBefore, no_item, after_row, Content, loose, tight, Pairs, pairs, PairsBefore, no_pair, after_pairs, Fields, loose_fields, tight_fields}
-use Rattle.cborn_edn.specs.Meaning.{when, means_number, is_simple, is_absent, number_slips, tag_slips, size_slips}
-use Rattle.cborn_edn.specs.devices.Draft.{earlier, first_slip, text_piece, byte_piece, embedded_piece, slip_before, with_next, string_slip, string_item, array_node, no_sequence, sequence_with, sequence_bytes, no_fields, fields_with, map_node, no_chunks, chunks_with, chunk_slip, chunked_item, tag_head, tag_node, simple_slip, keep}
+use Rattle.cborn_edn.specs.Meaning.{when, is_simple, is_absent, number_slips, tag_slips, size_slips}
+use Rattle.cborn_edn.specs.devices.Draft.{earlier, first_slip, text_piece, byte_piece, embedded_piece, slip_before, with_next, string_slip, string_item, number_bytes, simple_bytes, no_row, row_with, pairs_with, row_item, no_chunks, chunks_with, chunk_slip, chunked_item, tag_head, tag_item, simple_slip, keep}
 use Rattle.cborn_edn.proofs.Grammar.Machine.{Stack, in_row, in_key, in_value, in_tag, Nest, at_top, in_array, in_embed, Home, as_item, as_chunk, State, wants, has, builds, wants_chunk, wants_number, has_number}
-
-abbrev pub row_of : Sequence → KeptRow
-row_of r = record { nodes = r.items; count = r.count }
 
 -- the values
 abbrev mutual
-  pub kept : Item → Option Tree
-  kept (number at n v m) = means_number at.start n v m
-  kept (word at n) = Some (SimpleNode at.start n)
-  kept (tag at n m i end) = tag_node at.start (tag_head n m) (kept i)
-  kept (simple at b n v m end) = when (is_simple n v && is_absent m) (Some (SimpleNode at.start v))
+  pub kept : Item → Option (List ℕ)
+  kept (number at n v m) = number_bytes n v m
+  kept (word at n) = Some (simple_bytes n)
+  kept (tag at n m i end) = tag_item (tag_head n m) (kept i)
+  kept (simple at b n v m end) = when (is_simple n v && is_absent m) (Some (simple_bytes v))
   kept (string ps) = string_item (kept_pieces ps)
-  kept (chunked at ss end) = chunked_item at.start (kept_strings ss)
-  kept (array at m c end) = array_node at.start m (row_of (kept_content c))
-  kept (map at m f end) = map_node at.start m (kept_fields f)
+  kept (chunked at ss end) = chunked_item (kept_strings ss)
+  kept (array at m c end) = row_item ArrayHead m (kept_content c)
+  kept (map at m f end) = row_item MapHead m (kept_fields f)
 
   pub kept_piece : Piece → Kept
   kept_piece (text at x m) = text_piece at.start x m
   kept_piece (bytes at q x m) = byte_piece at.start q x m
-  kept_piece (embedded at c end m) = embedded_piece at.start (sequence_bytes (kept_content c)) end.start m
+  kept_piece (embedded at c end m) = embedded_piece at.start (kept_content c).bytes end.start m
 
   pub kept_pieces : Pieces → Kept
   kept_pieces (piece p) = kept_piece p
@@ -47,25 +42,25 @@ abbrev mutual
   kept_strings_before no_string = no_chunks
   kept_strings_before (after_strings ss c) = kept_strings ss
 
-  pub kept_row : Row → Sequence
-  kept_row (row b i) = sequence_with (kept_row_before b) (kept i)
+  pub kept_row : Row → KeptRow
+  kept_row (row b i) = row_with (kept_row_before b) (kept i)
 
-  pub kept_row_before : RowBefore → Sequence
-  kept_row_before no_item = no_sequence
+  pub kept_row_before : RowBefore → KeptRow
+  kept_row_before no_item = no_row
   kept_row_before (after_row r c) = kept_row r
 
-  pub kept_content : Content → Sequence
+  pub kept_content : Content → KeptRow
   kept_content (loose b) = kept_row_before b
   kept_content (tight r) = kept_row r
 
-  pub kept_pairs : Pairs → KeptFields
-  kept_pairs (pairs b k c v) = fields_with (kept_pairs_before b) (kept k) (kept v)
+  pub kept_pairs : Pairs → KeptRow
+  kept_pairs (pairs b k c v) = pairs_with (kept_pairs_before b) (kept k) (kept v)
 
-  pub kept_pairs_before : PairsBefore → KeptFields
-  kept_pairs_before no_pair = no_fields
+  pub kept_pairs_before : PairsBefore → KeptRow
+  kept_pairs_before no_pair = no_row
   kept_pairs_before (after_pairs ps c) = kept_pairs ps
 
-  pub kept_fields : Fields → KeptFields
+  pub kept_fields : Fields → KeptRow
   kept_fields (loose_fields b) = kept_pairs_before b
   kept_fields (tight_fields ps) = kept_pairs ps
 
@@ -131,15 +126,15 @@ slip_before_some s (Some ps) = slip_in_pieces s ps
 abbrev mutual
   pub frames_of : Stack → List Bracket
   frames_of (in_row at_top b) = Top (kept_row_before b) ∷ []
-  frames_of (in_row (in_array st s m) b) = Array s.start m (row_of (kept_row_before b)) ∷ frames_of st
+  frames_of (in_row (in_array st s m) b) = Array s.start m (kept_row_before b) ∷ frames_of st
   frames_of (in_row (in_embed h o s) b) = Embedded (kept_before o) s.start (kept_row_before b) ∷ frames_home h
   frames_of (in_key st s m b) = Key s.start m (kept_pairs_before b) ∷ frames_of st
   frames_of (in_value st s m b k c) = Value s.start m (kept_pairs_before b) (kept k) ∷ frames_of st
-  frames_of (in_tag st s n m) = Tagged s.start (tag_head n m) ∷ frames_of st
+  frames_of (in_tag st s n m) = Tagged (tag_head n m) ∷ frames_of st
 
   pub frames_home : Home → List Bracket
   frames_home (as_item st) = frames_of st
-  frames_home (as_chunk st s b) = Chunked s.start (kept_strings_before b) ∷ frames_of st
+  frames_home (as_chunk st s b) = Chunked (kept_strings_before b) ∷ frames_of st
 
 abbrev mutual
   pub slip_stack : Stack → Option Slip
@@ -161,7 +156,7 @@ abbrev pub kept_state : State → KeptState
 kept_state (wants st) = keep (frames_of st) Wants (slip_stack st)
 kept_state (has st i) = keep (frames_of st) (Has (kept i)) (slip_in (slip_stack st) i)
 kept_state (builds h ps) = keep (frames_home h) (Builds (kept_pieces ps)) (slip_in_pieces (slip_home h) ps)
-kept_state (wants_chunk st s b) = keep (Chunked s.start (kept_strings_before b) ∷ frames_of st) WantsChunk (slip_in_strings_before (slip_stack st) b)
+kept_state (wants_chunk st s b) = keep (Chunked (kept_strings_before b) ∷ frames_of st) WantsChunk (slip_in_strings_before (slip_stack st) b)
 kept_state (wants_number st s) = keep (frames_of st) (WantsNumber s.start) (slip_stack st)
 kept_state (has_number st s b n v m) = keep (frames_of st) (HasNumber (kept (simple s b n v m b))) (slip_in (slip_stack st) (simple s b n v m b))
 

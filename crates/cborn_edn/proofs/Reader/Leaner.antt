@@ -1,6 +1,5 @@
 -- What is kept where only slips are wanted goes through the same steps as all of it, and has the same slip at the end.
 use Rattle.std.proofs.Common.{◌≡◌, refl, ℕ, List, [], ◌∷◌, ◌||◌, ◌==◌, if◌then◌else◌, Bool, true, false, Option, Some, None}
-use Rattle.cborn_model.specs.Tree.{Tree, Trees}
 use Rattle.cborn_lex.specs.declared.classes.Class.{Class}
 use Rattle.cborn_lex.specs.declared.classes.Class.TheVariants.{ArrayOpen, MapOpen, ArrayClose, MapClose, ParenClose, Comma, Colon, EmbedOpen, EmbedClose, ChunkOpen, Number, TagOpen, Word, SimpleOpen, Text, Bytes}
 use Rattle.cborn_lex.specs.declared.classes.Token.{Token}
@@ -15,7 +14,7 @@ use Rattle.cborn_edn.specs.declared.states.State.{State}
 use Rattle.cborn_edn.specs.Meaning.{when}
 use Rattle.cborn_edn.specs.devices.Draft.{close, ended, begin, after_in, after, after_chunk, after_string, more, begin_chunk, begin_number, after_number, step_in, draft_step, is_behind_comma, finished, finished_in, earlier, string_slip, string_item}
 use Rattle.cborn_edn.specs.devices.Levels.{is_level, levels_in, comma_before, filled}
-use Rattle.cborn_edn.specs.devices.Ready.{MaySpell, HaveRoom, MayEnd, IsReady, IsHeld}
+use Rattle.cborn_edn.specs.devices.Ready.{HaveRoom, IsReady, IsHeld}
 use Rattle.cborn_edn.specs.devices.Lean.{embeds, is_embedding, lean_bracket, lean_brackets, lean_phase, lean, trim_brackets, trim}
 
 abbrev pub trimmed : Option State → Option State
@@ -75,7 +74,7 @@ begin_lean fs s p MapClose = ended_lean fs s p MapClose
 begin_lean fs s p (EmbedClose m) = ended_lean fs s p (EmbedClose m)
 begin_lean fs s p _ = refl
 
-after_in_lean : (b : Bool) (fs : List Bracket) (s : Option Slip) (i : Option Tree) (f : Bracket) (p : ℕ) (c : Class) → is_embedding fs ≡ b → trimmed (after_in (lean_brackets fs) s (when (embeds f || b) i) (lean_bracket b f) p c) ≡ leaned (after_in fs s i f p c)
+after_in_lean : (b : Bool) (fs : List Bracket) (s : Option Slip) (i : Option (List ℕ)) (f : Bracket) (p : ℕ) (c : Class) → is_embedding fs ≡ b → trimmed (after_in (lean_brackets fs) s (when (embeds f || b) i) (lean_bracket b f) p c) ≡ leaned (after_in fs s i f p c)
 after_in_lean true fs s i (Top r) p Comma e = rw (embedding_lean fs, e) refl
 after_in_lean false fs s i (Top r) p Comma e = rw (embedding_lean fs, e) refl
 after_in_lean true fs s i (Array q m r) p Comma e = rw (embedding_lean fs, e) refl
@@ -85,23 +84,23 @@ after_in_lean false fs s i (Array q m r) p ArrayClose e = rw (trim_lean fs, embe
 after_in_lean b fs s i (Embedded o q r) p Comma e = refl
 after_in_lean b fs s i (Embedded None q r) p (EmbedClose m) e = rw (trim_lean fs) refl
 after_in_lean b fs s i (Embedded (Some o) q r) p (EmbedClose m) e = rw (trim_lean fs) refl
-after_in_lean b fs s i (Chunked q cs) p Comma e = refl
+after_in_lean b fs s i (Chunked cs) p Comma e = refl
 after_in_lean true fs s i (Key q m f) p Colon e = rw (embedding_lean fs, e) refl
 after_in_lean false fs s i (Key q m f) p Colon e = rw (embedding_lean fs, e) refl
 after_in_lean true fs s i (Value q m f k) p Comma e = rw (embedding_lean fs, e) refl
 after_in_lean false fs s i (Value q m f k) p Comma e = rw (embedding_lean fs, e) refl
 after_in_lean true fs s i (Value q m f k) p MapClose e = rw (trim_lean fs, embedding_lean fs, e) refl
 after_in_lean false fs s i (Value q m f k) p MapClose e = rw (trim_lean fs, embedding_lean fs, e) refl
-after_in_lean true fs s i (Tagged q h) p ParenClose e = rw (trim_lean fs, embedding_lean fs, e) refl
-after_in_lean false fs s i (Tagged q h) p ParenClose e = rw (trim_lean fs, embedding_lean fs, e) refl
+after_in_lean true fs s i (Tagged h) p ParenClose e = rw (trim_lean fs, embedding_lean fs, e) refl
+after_in_lean false fs s i (Tagged h) p ParenClose e = rw (trim_lean fs, embedding_lean fs, e) refl
 after_in_lean _ _ _ _ _ _ _ _ = refl
 
-after_lean : (fs : List Bracket) (s : Option Slip) (i : Option Tree) (p : ℕ) (c : Class) → trimmed (after (lean_brackets fs) s (when (is_embedding fs) i) p c) ≡ leaned (after fs s i p c)
+after_lean : (fs : List Bracket) (s : Option Slip) (i : Option (List ℕ)) (p : ℕ) (c : Class) → trimmed (after (lean_brackets fs) s (when (is_embedding fs) i) p c) ≡ leaned (after fs s i p c)
 after_lean [] s i p c = refl
 after_lean (f ∷ fs) s i p c = after_in_lean (is_embedding fs) fs s i f p c refl
 
 -- the item of a string is dropped behind its bracket
-string_lean : (b : Bool) (fs : List Bracket) (s : Option Slip) (i : Option Tree) (f : Bracket) (p : ℕ) (c : Class) → is_embedding fs ≡ b → trimmed (after_in (lean_brackets fs) s i (lean_bracket b f) p c) ≡ leaned (after_in fs s i f p c)
+string_lean : (b : Bool) (fs : List Bracket) (s : Option Slip) (i : Option (List ℕ)) (f : Bracket) (p : ℕ) (c : Class) → is_embedding fs ≡ b → trimmed (after_in (lean_brackets fs) s i (lean_bracket b f) p c) ≡ leaned (after_in fs s i f p c)
 string_lean true fs s i (Top r) p Comma e = rw (embedding_lean fs, e) refl
 string_lean false fs s i (Top r) p Comma e = rw (embedding_lean fs, e) refl
 string_lean true fs s i (Array q m r) p Comma e = rw (embedding_lean fs, e) refl
@@ -111,33 +110,33 @@ string_lean false fs s i (Array q m r) p ArrayClose e = rw (trim_lean fs, embedd
 string_lean b fs s i (Embedded o q r) p Comma e = refl
 string_lean b fs s i (Embedded None q r) p (EmbedClose m) e = rw (trim_lean fs) refl
 string_lean b fs s i (Embedded (Some o) q r) p (EmbedClose m) e = rw (trim_lean fs) refl
-string_lean b fs s i (Chunked q cs) p Comma e = refl
+string_lean b fs s i (Chunked cs) p Comma e = refl
 string_lean true fs s i (Key q m f) p Colon e = rw (embedding_lean fs, e) refl
 string_lean false fs s i (Key q m f) p Colon e = rw (embedding_lean fs, e) refl
 string_lean true fs s i (Value q m f k) p Comma e = rw (embedding_lean fs, e) refl
 string_lean false fs s i (Value q m f k) p Comma e = rw (embedding_lean fs, e) refl
 string_lean true fs s i (Value q m f k) p MapClose e = rw (trim_lean fs, embedding_lean fs, e) refl
 string_lean false fs s i (Value q m f k) p MapClose e = rw (trim_lean fs, embedding_lean fs, e) refl
-string_lean true fs s i (Tagged q h) p ParenClose e = rw (trim_lean fs, embedding_lean fs, e) refl
-string_lean false fs s i (Tagged q h) p ParenClose e = rw (trim_lean fs, embedding_lean fs, e) refl
+string_lean true fs s i (Tagged h) p ParenClose e = rw (trim_lean fs, embedding_lean fs, e) refl
+string_lean false fs s i (Tagged h) p ParenClose e = rw (trim_lean fs, embedding_lean fs, e) refl
 string_lean _ _ _ _ _ _ _ _ = refl
 
-after_chunk_lean : (b : Bool) (fs : List Bracket) (s : Option Slip) (q : ℕ) (cs : Chunks) (d : Pieces) (c : Class) → is_embedding fs ≡ b → trimmed (after_chunk (lean_brackets fs) s q (record { kind = cs.kind; chunks = when b cs.chunks }) d c) ≡ leaned (after_chunk fs s q cs d c)
-after_chunk_lean true fs s q cs d Comma e = rw (embedding_lean fs, e) refl
-after_chunk_lean false fs s q cs d Comma e = rw (embedding_lean fs, e) refl
-after_chunk_lean true fs s q cs d ParenClose e = rw (trim_lean fs, embedding_lean fs, e) refl
-after_chunk_lean false fs s q cs d ParenClose e = rw (trim_lean fs, embedding_lean fs, e) refl
-after_chunk_lean _ _ _ _ _ _ _ _ = refl
+after_chunk_lean : (b : Bool) (fs : List Bracket) (s : Option Slip) (cs : Chunks) (d : Pieces) (c : Class) → is_embedding fs ≡ b → trimmed (after_chunk (lean_brackets fs) s (record { kind = cs.kind; bytes = when b cs.bytes }) d c) ≡ leaned (after_chunk fs s cs d c)
+after_chunk_lean true fs s cs d Comma e = rw (embedding_lean fs, e) refl
+after_chunk_lean false fs s cs d Comma e = rw (embedding_lean fs, e) refl
+after_chunk_lean true fs s cs d ParenClose e = rw (trim_lean fs, embedding_lean fs, e) refl
+after_chunk_lean false fs s cs d ParenClose e = rw (trim_lean fs, embedding_lean fs, e) refl
+after_chunk_lean _ _ _ _ _ _ _ = refl
 
 after_string_lean : (fs : List Bracket) (s : Option Slip) (d : Pieces) (p : ℕ) (c : Class) → trimmed (after_string (lean_brackets fs) s d p c) ≡ leaned (after_string fs s d p c)
 after_string_lean [] s d p c = refl
-after_string_lean (Chunked q cs ∷ fs) s d p c = after_chunk_lean (is_embedding fs) fs s q cs d c refl
+after_string_lean (Chunked cs ∷ fs) s d p c = after_chunk_lean (is_embedding fs) fs s cs d c refl
 after_string_lean (Top r ∷ fs) s d p c = string_lean (is_embedding fs) fs (earlier s (string_slip d.quote d)) (string_item d) (Top r) p c refl
 after_string_lean (Array q m r ∷ fs) s d p c = string_lean (is_embedding fs) fs (earlier s (string_slip d.quote d)) (string_item d) (Array q m r) p c refl
 after_string_lean (Embedded o q r ∷ fs) s d p c = string_lean (is_embedding fs) fs (earlier s (string_slip d.quote d)) (string_item d) (Embedded o q r) p c refl
 after_string_lean (Key q m f ∷ fs) s d p c = string_lean (is_embedding fs) fs (earlier s (string_slip d.quote d)) (string_item d) (Key q m f) p c refl
 after_string_lean (Value q m f k ∷ fs) s d p c = string_lean (is_embedding fs) fs (earlier s (string_slip d.quote d)) (string_item d) (Value q m f k) p c refl
-after_string_lean (Tagged q h ∷ fs) s d p c = string_lean (is_embedding fs) fs (earlier s (string_slip d.quote d)) (string_item d) (Tagged q h) p c refl
+after_string_lean (Tagged h ∷ fs) s d p c = string_lean (is_embedding fs) fs (earlier s (string_slip d.quote d)) (string_item d) (Tagged h) p c refl
 
 more_lean : (fs : List Bracket) (s : Option Slip) (d : Pieces) (p : ℕ) (c : Class) → trimmed (more (lean_brackets fs) s d p c) ≡ leaned (more fs s d p c)
 more_lean fs s d p (Text x m) = rw (trim_lean fs) refl
@@ -154,7 +153,7 @@ begin_number_lean : (fs : List Bracket) (s : Option Slip) (q p : ℕ) (c : Class
 begin_number_lean fs s q p (Number n v m) = rw (trim_lean fs, embedding_lean fs) refl
 begin_number_lean _ _ _ _ _ = refl
 
-after_number_lean : (b : Bool) (fs : List Bracket) (s : Option Slip) (i : Option Tree) (c : Class) → is_embedding fs ≡ b → trimmed (after_number (lean_brackets fs) s (when b i) c) ≡ leaned (after_number fs s i c)
+after_number_lean : (b : Bool) (fs : List Bracket) (s : Option Slip) (i : Option (List ℕ)) (c : Class) → is_embedding fs ≡ b → trimmed (after_number (lean_brackets fs) s (when b i) c) ≡ leaned (after_number fs s i c)
 after_number_lean true fs s i ParenClose e = rw (trim_lean fs, embedding_lean fs, e) refl
 after_number_lean false fs s i ParenClose e = rw (trim_lean fs, embedding_lean fs, e) refl
 after_number_lean _ _ _ _ _ _ = refl
@@ -197,11 +196,11 @@ comma_lean d c = go d.phase
     go (Has i) = refl
     go _ = refl
 
-abbrev pub slip_at_end : Option (Option Trees × Option Slip) → Option (Option Slip)
+abbrev pub slip_at_end : Option (Option (List ℕ) × Option Slip) → Option (Option Slip)
 slip_at_end None = None
 slip_at_end (Some w) = Some w.1
 
-end_if : (b : Bool) (x y : Option Trees) (s : Option Slip) → slip_at_end (if b then Some (x, s) else None) ≡ slip_at_end (if b then Some (y, s) else None)
+end_if : (b : Bool) (x y : Option (List ℕ)) (s : Option Slip) → slip_at_end (if b then Some (x, s) else None) ≡ slip_at_end (if b then Some (y, s) else None)
 end_if true x y s = refl
 end_if false x y s = refl
 
@@ -210,7 +209,7 @@ end_lean d = go d.brackets d.phase
   where
     go : (fs : List Bracket) (ph : Phase) → slip_at_end (finished_in (lean_phase (is_embedding fs) ph) d.slip (lean_brackets fs)) ≡ slip_at_end (finished_in ph d.slip fs)
     go [] ph = refl
-    go (Top r ∷ fs) Wants = end_if (r.count == 0) (when (is_embedding fs) r.items) r.items d.slip
+    go (Top r ∷ fs) Wants = end_if (r.count == 0) (when (is_embedding fs) r.bytes) r.bytes d.slip
     go (Top r ∷ fs) (Has i) = refl
     go (Top r ∷ fs) _ = refl
     go (_ ∷ fs) ph = refl
@@ -223,24 +222,12 @@ room_lean (Top r ∷ fs) h = h
 room_lean (Array q m r ∷ fs) h = h
 room_lean (Embedded o q r ∷ fs) h = h
 room_lean (Value q m f k ∷ fs) h = h
-room_lean (Chunked q cs ∷ fs) h = h
+room_lean (Chunked cs ∷ fs) h = h
 room_lean (Key q m f ∷ fs) h = h
-room_lean (Tagged q n ∷ fs) h = h
-
-may_spell : (b : Bool) (i : Option Tree) → MaySpell i → MaySpell (when b i)
-may_spell true i h = h
-may_spell false i h = tt
-
-may_end : (b : Bool) (ph : Phase) → MayEnd ph → MayEnd (lean_phase b ph)
-may_end b (Has i) h = may_spell b i h
-may_end b (Builds d) h = h
-may_end b (HasNumber i) h = tt
-may_end b Wants h = tt
-may_end b WantsChunk h = tt
-may_end b (WantsNumber q) h = tt
+room_lean (Tagged g ∷ fs) h = h
 
 pub ready_lean : (d : State) → IsReady d → IsReady (lean d)
-ready_lean d h = (may_end (is_embedding d.brackets) d.phase h.0, room_lean d.brackets h.1)
+ready_lean d h = room_lean d.brackets h
 
 held : (b : Bool) (ph : Phase) → IsHeld (lean_phase b ph) → IsHeld ph
 held b (Builds d) h = h

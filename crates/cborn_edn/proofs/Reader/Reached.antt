@@ -1,7 +1,7 @@
 -- What holds of each state that the reader reaches: what stands in it has lengths and counts below 2^64, so that the next token has room.
-use Rattle.std.proofs.Common.{◌≡◌, refl, sym, ap, ◌∙◌, subst, ℕ, suc, ◌+◌, ◌^◌, ◌<◌, ◌≤◌, List, [], ◌∷◌, ◌++◌, length, Option, Some, None, length-append, arith}
+use Rattle.std.proofs.Common.{◌≡◌, refl, sym, ap, ◌∙◌, subst, ℕ, suc, ◌+◌, ◌^◌, ◌<◌, List, [], ◌∷◌, ◌++◌, length, Option, Some, None, length-append, arith}
 use Rattle.std.specs.Prelude.{max}
-use Rattle.cborn_model.specs.Tree.{Tree, Trees}
+use Rattle.cborn_model.specs.Spelled.{spelled_all}
 use Rattle.cborn_lex.specs.declared.classes.Class.{Class}
 use Rattle.cborn_lex.specs.declared.classes.Class.TheVariants.{ArrayOpen, MapOpen, ArrayClose, MapClose, ParenClose, Comma, Colon, EmbedOpen, EmbedClose, ChunkOpen, Number, TagOpen, Word, SimpleOpen, Text, Bytes}
 use Rattle.cborn_lex.specs.declared.classes.Mark.{Mark}
@@ -9,22 +9,22 @@ use Rattle.cborn_lex.specs.declared.classes.Token.{Token}
 use Rattle.cborn_lex.proofs.WholeTexts.Weights.{IsModest}
 use Rattle.cborn_edn.specs.declared.slips.Slip.{Slip}
 use Rattle.cborn_edn.specs.declared.states.State.{State as KeptState}
-use Rattle.cborn_edn.specs.Syntax.{Span, span, token, Item, string, Piece, embedded, Pieces, StringsBefore, row, RowBefore, no_item, Content, loose, tight, pairs, loose_fields, tight_fields, Input, tokens_of, tokens_of_pieces, tokens_of_row_before, tokens_of_pairs_before, depth}
+use Rattle.cborn_edn.specs.Syntax.{Span, span, token, Item, string, Piece, embedded, Pieces, StringsBefore, row, RowBefore, no_item, Content, loose, tight, pairs, loose_fields, tight_fields, Input, tokens_of, tokens_of_pieces, tokens_of_row_before, tokens_of_pairs_before}
 use Rattle.cborn_edn.specs.Meaning.{means_input, input_slips, joined, content_length}
 use Rattle.cborn_edn.specs.Counted.{IsShort, Counted, CountedPieces, CountedStringsBefore, CountedRowBefore, CountedContent, CountedPairsBefore, CountedInput, CountedPiece}
-use Rattle.cborn_edn.specs.devices.Ready.{MaySpell, HaveRoom, MayEnd, IsReady, IsHeld, IsTold}
+use Rattle.cborn_edn.specs.devices.Ready.{HaveRoom, IsReady, IsHeld, IsTold}
 use Rattle.cborn_edn.specs.devices.Draft.{draft_step, finished, first_state, first_slip, earlier}
 use Rattle.cborn_edn.proofs.Grammar.Machine.{Stack, in_row, in_key, in_value, in_tag, Nest, at_top, in_array, in_embed, Home, as_item, as_chunk, State, wants, has, builds, wants_chunk, wants_number, has_number, start, with_piece, ends, ends_loose, begin, after, after_string, more_string, begin_chunk, begin_number, after_number, step_by, step}
 use Rattle.cborn_edn.proofs.Grammar.Takes.{finish}
-use Rattle.cborn_edn.specs.devices.Levels.{levels_in, reach}
+use Rattle.cborn_edn.specs.devices.Levels.{reach}
 use Rattle.cborn_edn.proofs.Grammar.Held.{held_stack, held_nest, held_home, held, open_levels, deep, commas_held, comma_at, After, Grows}
 use Rattle.cborn_edn.proofs.Grammar.Grows.{grows}
-use Rattle.cborn_edn.proofs.Reader.Kept.{kept, kept_row_before, frames_of, frames_home, kept_state, kept_option}
+use Rattle.cborn_edn.proofs.Reader.Kept.{kept_row_before, frames_of, frames_home, kept_state, kept_option}
 use Rattle.cborn_edn.proofs.Reader.Steps.{kept_step}
-use Rattle.cborn_edn.proofs.Reader.Agreeing.{agree, agree_pieces, agree_row_before, agree_fields}
-use Rattle.cborn_edn.proofs.Reader.Telling.{reach_same, Finishes, finishes}
+use Rattle.cborn_edn.proofs.Reader.Agreeing.{agree_pieces, agree_row_before, agree_fields}
+use Rattle.cborn_edn.proofs.Reader.Spellings.{all_spelled}
+use Rattle.cborn_edn.proofs.Reader.Telling.{Finishes, finishes}
 use Rattle.cborn_edn.proofs.Meaning.Agree.{says}
-use Rattle.cborn_edn.proofs.Meaning.Fit.{sound, pieces_sound}
 use Rattle.cborn_edn.proofs.Meaning.Counting.{content_few, fields_few, number_counted}
 
 abbrev CountedPiecesBefore : Option Pieces → Type 0
@@ -173,29 +173,13 @@ no_first (s ∷ l) e = absurd (go (first_slip l) e)
     go None e = cc
     go (Some t) e = cc
 
--- no slip, so nodes
-end_told : (t : Input) (o : Option Trees) (s : Option Slip) → CountedInput t → means_input t ≡ o → first_slip (input_slips t) ≡ s → IsTold (o, s)
-end_told t None None h e f = let r = says t h (no_first (input_slips t) f) in absurd (let same : None ≡ Some r.0 = sym e ∙ r.1 in cc)
+-- no slip, so bytes
+end_told : (t : Input) (o : Option (List ℕ)) (s : Option Slip) → CountedInput t → all_spelled (means_input t) ≡ o → first_slip (input_slips t) ≡ s → IsTold (o, s)
+end_told t None None h e f = let r = says t h (no_first (input_slips t) f) in absurd (let same : None ≡ Some (spelled_all r.0) = sym e ∙ ap all_spelled r.1 in cc)
 end_told t None (Some s) h e f = tt
-end_told t (Some ts) s h e f = tt
+end_told t (Some x) s h e f = tt
 
 -- The next token has room.
-
-spelled : (i : Item) (o : Option Tree) → Counted i → depth i ≤ 1024 → kept i ≡ o → MaySpell o
-spelled i None h l e = tt
-spelled i (Some t) h l e = let s = sound i t h (sym (agree i) ∙ e) in (s.fits, omega (arith, s.low))
-
-string_spelled : (ps : Pieces) (o : Option Tree) → CountedPieces ps → kept (string ps) ≡ o → MaySpell o
-string_spelled ps None h e = tt
-string_spelled ps (Some t) h e = let s = pieces_sound ps t h (sym (agree (string ps)) ∙ e) in (s.fits, omega (arith, s.low))
-
-may_end : (s : State) → CountedState s → deep s ≤ 1024 → MayEnd (kept_state s).phase
-may_end (wants st) h l = tt
-may_end (has st i) h l = spelled i (kept i) h.1 (omega arith) refl
-may_end (builds g ps) h l = string_spelled ps (kept (string ps)) h.1 refl
-may_end (wants_chunk st s b) h l = tt
-may_end (wants_number st s) h l = tt
-may_end (has_number st s b n v m) h l = tt
 
 row_room : (n : Nest) (b : RowBefore) → length (held_nest n ++ tokens_of_row_before b) < 2 ^ 64 → suc (kept_row_before b).count < 2 ^ 64
 row_room n b l = omega (arith, (agree_row_before b).count_is, content_few (loose b), length-append (held_nest n) (tokens_of_row_before b))
@@ -207,7 +191,7 @@ stack_room (in_row (in_embed h o s) b) l = row_room (in_embed h o s) b l
 stack_room (in_key st s m b) l = tt
 stack_room (in_value st s m b k c) l =
     let inner = tokens_of_pairs_before b ++ (tokens_of k ++ (token c Colon ∷ [])) in
-    omega (arith, (agree_fields (loose_fields b)).fields_count_is, fields_few (loose_fields b), length-append (held_stack st) (token s (MapOpen m) ∷ inner), length-append (tokens_of_pairs_before b) (tokens_of k ++ (token c Colon ∷ [])))
+    omega (arith, (agree_fields (loose_fields b)).count_is, fields_few (loose_fields b), length-append (held_stack st) (token s (MapOpen m) ∷ inner), length-append (tokens_of_pairs_before b) (tokens_of k ++ (token c Colon ∷ [])))
 stack_room (in_tag st s n m) l = tt
 
 home_room : (g : Home) → length (held_home g) < 2 ^ 64 → HaveRoom (frames_home g)
@@ -224,15 +208,14 @@ have_room (has_number st s b n v m) l = stack_room st (omega (arith, length-appe
 
 -- What the reader reaches by these tokens.
 
-pub record Reached (limit : ℕ) (ts : List Token) (d : KeptState) : Type 0 where
+pub record Reached (ts : List Token) (d : KeptState) : Type 0 where
   pub state : State
   pub same : kept_state state ≡ d
   pub took : held state ≡ ts
-  pub low : deep state ≤ limit
   pub counted : CountedState state
 
-pub first_reached : (limit : ℕ) → Reached limit [] first_state
-first_reached limit = record { state = start; same = refl; took = refl; low = omega arith; counted = (tt, tt) }
+pub first_reached : Reached [] first_state
+first_reached = record { state = start; same = refl; took = refl; counted = (tt, tt) }
 
 short_from : (s : State) → IsHeld (kept_state s).phase → ShortState s
 short_from (wants st) h = tt
@@ -242,30 +225,27 @@ short_from (wants_chunk st s b) h = tt
 short_from (wants_number st s) h = tt
 short_from (has_number st s b n v m) h = tt
 
-module _ (limit : ℕ) (ts : List Token) (d : KeptState) (r : Reached limit ts d) where
+module _ (ts : List Token) (d : KeptState) (r : Reached ts d) where
   short_state : IsHeld d.phase → ShortState r.state
   short_state h = short_from r.state (subst (λ (x : KeptState). IsHeld x.phase) (sym r.same) h)
 
-  pub next_reached : (t : Token) (e : KeptState) → length ts < 2 ^ 64 → IsModest t.class → IsHeld d.phase → draft_step d t ≡ Some e → reach (levels_in d.brackets) t.class ≤ limit → Reached limit (ts ++ (t ∷ [])) e
-  next_reached t e few modest whole steps low = go (step r.state t) refl (grows r.state t.class (span t)) (counted_step r.state t.class (span t) (omega (arith, ap length r.took)) modest r.counted (short_state whole))
+  pub next_reached : (t : Token) (e : KeptState) → length ts < 2 ^ 64 → IsModest t.class → IsHeld d.phase → draft_step d t ≡ Some e → Reached (ts ++ (t ∷ [])) e
+  next_reached t e few modest whole steps = go (step r.state t) refl (grows r.state t.class (span t)) (counted_step r.state t.class (span t) (omega (arith, ap length r.took)) modest r.counted (short_state whole))
     where
       onto : (o : Option State) → step r.state t ≡ o → kept_option o ≡ Some e
       onto o f = ap kept_option (sym f) ∙ (sym (kept_step r.state t) ∙ (ap (λ x. draft_step x t) r.same ∙ steps))
 
-      go : (o : Option State) → step r.state t ≡ o → After o (Grows (held r.state) (max (deep r.state) (reach (open_levels r.state) t.class)) (commas_held r.state + comma_at r.state t.class) (token (span t) t.class)) → After o CountedState → Reached limit (ts ++ (t ∷ [])) e
+      go : (o : Option State) → step r.state t ≡ o → After o (Grows (held r.state) (max (deep r.state) (reach (open_levels r.state) t.class)) (commas_held r.state + comma_at r.state t.class) (token (span t) t.class)) → After o CountedState → Reached (ts ++ (t ∷ [])) e
       go None f g h = absurd (let same : None ≡ Some e = onto None f in cc)
       go (Some u) f g h =
           let same : Some (kept_state u) ≡ Some e = onto (Some u) f in
-          let reaches = reach_same r.state t.class in
-          let moved : reach (levels_in d.brackets) t.class ≡ reach (levels_in (kept_state r.state).brackets) t.class = ap (λ (x : KeptState). reach (levels_in x.brackets) t.class) (sym r.same) in
-          record { state = u; same = cc; took = g.held ∙ ap (λ l. l ++ (t ∷ [])) r.took; low = omega (arith, g.deep, r.low); counted = h }
+          record { state = u; same = cc; took = g.held ∙ ap (λ l. l ++ (t ∷ [])) r.took; counted = h }
 
-  pub ready : limit ≤ 1024 → length ts < 2 ^ 64 → IsReady d
-  ready small few =
-      let low = r.low in
-      subst IsReady r.same (may_end r.state r.counted (omega arith), have_room r.state (omega (arith, ap length r.took)))
+  pub ready : length ts < 2 ^ 64 → IsReady d
+  ready few =
+      subst IsReady r.same (have_room r.state (omega (arith, ap length r.took)))
 
-  pub told : (o : Option Trees) (s : Option Slip) → IsHeld d.phase → finished d ≡ Some (o, s) → IsTold (o, s)
+  pub told : (o : Option (List ℕ)) (s : Option Slip) → IsHeld d.phase → finished d ≡ Some (o, s) → IsTold (o, s)
   told o s whole ends = go (finish r.state) (finishes r.state) (counted_end r.state r.counted (short_state whole))
     where
       at : finished (kept_state r.state) ≡ Some (o, s)
@@ -274,6 +254,6 @@ module _ (limit : ℕ) (ts : List Token) (d : KeptState) (r : Reached limit ts d
       go : (i : Option Input) → Finishes r.state i → CountedEnd i → IsTold (o, s)
       go None f h = absurd (let same : None ≡ Some (o, s) = sym f ∙ at in cc)
       go (Some t) f h =
-          let same : Some (means_input t, first_slip (input_slips t)) ≡ Some (o, s) = sym f ∙ at in
-          let pair : (means_input t, first_slip (input_slips t)) ≡ (o, s) = cc in
-          end_told t o s h (ap (λ (p : Option Trees × Option Slip). p.0) pair) (ap (λ (p : Option Trees × Option Slip). p.1) pair)
+          let same : Some (all_spelled (means_input t), first_slip (input_slips t)) ≡ Some (o, s) = sym f ∙ at in
+          let pair : (all_spelled (means_input t), first_slip (input_slips t)) ≡ (o, s) = cc in
+          end_told t o s h (ap (λ (p : Option (List ℕ) × Option Slip). p.0) pair) (ap (λ (p : Option (List ℕ) × Option Slip). p.1) pair)

@@ -1,6 +1,7 @@
 -- The reader of tokens is the parser.
 use Rattle.std.proofs.Common.{◌≡◌, refl, sym, ap, ◌∙◌, subst, ℕ, ◌≤◌, List, [], ◌∷◌, length, Bool, true, false, ◌&&◌, cond, leb, Option, Some, None, inl, inr}
 use Rattle.cborn_model.specs.Tree.{Trees}
+use Rattle.cborn_model.specs.Spelled.{spelled_all}
 use Rattle.cborn_lex.specs.Lex.{Lex}
 use Rattle.cborn_lex.specs.declared.classes.Profile.{Profile}
 use Rattle.cborn_lex.specs.declared.classes.Token.{Token}
@@ -22,6 +23,7 @@ use Rattle.cborn_edn.proofs.Grammar.Held.{open_levels, comma_at}
 use Rattle.cborn_edn.proofs.Grammar.Parser.{Answer, Whole, Jams as JamsAt, forbids, at_end, checked, parse, Meets, parses}
 use Rattle.cborn_edn.proofs.Reader.Kept.{kept_state, kept_option}
 use Rattle.cborn_edn.proofs.Reader.Steps.{kept_step}
+use Rattle.cborn_edn.proofs.Reader.Spellings.{all_spelled, was_spelled}
 use Rattle.cborn_edn.proofs.Reader.Telling.{reach_same, comma_same, Finishes, finishes}
 use Rattle.cborn_edn.proofs.Meaning.Earliest.{Tells, tells}
 
@@ -117,39 +119,40 @@ module _ (profile : Profile) (limit : ℕ) (text : List ℕ) (tokens : List Toke
         where
           choose : (o : Option Input) → finish u ≡ o → Finishes u o → IsNoNotation profile limit text (Refused (length text) UnexpectedEnd)
           choose None f k = jam_at (length text) UnexpectedEnd (on ∙ ap (at_end (length text)) f)
-          choose (Some t) f k = absurd (clash (means_input t, first_slip (input_slips t)) (sym k ∙ ap finished same ∙ e))
+          choose (Some t) f k = absurd (clash (all_spelled (means_input t), first_slip (input_slips t)) (sym k ∙ ap finished same ∙ e))
 
-  record Ended (items : Option Trees) (slip : Option Slip) : Type 0 where
+  record Ended (bytes : Option (List ℕ)) (slip : Option Slip) : Type 0 where
     tree : Input
     parse : Parse profile tokens tree
     shallow : depth_of_input tree ≤ limit
-    says : means_input tree ≡ items
+    says : all_spelled (means_input tree) ≡ bytes
     slips : first_slip (input_slips tree) ≡ slip
 
-  whole : (st : KeptState) (items : Option Trees) (slip : Option Slip) → IsParsed st → finished st ≡ Some (items, slip) → Ended items slip
-  whole st items slip h e = go (ended st h)
+  whole : (st : KeptState) (bytes : Option (List ℕ)) (slip : Option Slip) → IsParsed st → finished st ≡ Some (bytes, slip) → Ended bytes slip
+  whole st bytes slip h e = go (ended st h)
     where
-      go : Tied (length text) (Done st) (parse profile limit (length text) tokens start) → Ended items slip
+      go : Tied (length text) (Done st) (parse profile limit (length text) tokens start) → Ended bytes slip
       go (u, same, on) = choose (finish u) refl (finishes u)
         where
-          choose : (o : Option Input) → finish u ≡ o → Finishes u o → Ended items slip
-          choose None f k = absurd (clash (items, slip) (sym (sym k ∙ ap finished same ∙ e)))
+          choose : (o : Option Input) → finish u ≡ o → Finishes u o → Ended bytes slip
+          choose None f k = absurd (clash (bytes, slip) (sym (sym k ∙ ap finished same ∙ e)))
           choose (Some t) f k =
               let m : Meets profile limit (length text) tokens (Whole t) = met (Whole t) (on ∙ ap (at_end (length text)) f) in
-              let q = parts (means_input t) items (first_slip (input_slips t)) slip (sym k ∙ ap finished same ∙ e) in
+              let q = parts (all_spelled (means_input t)) bytes (first_slip (input_slips t)) slip (sym k ∙ ap finished same ∙ e) in
               record { tree = t; parse = m.0; shallow = m.1; says = q.0; slips = q.1 }
 
-  pub notated : (st : KeptState) (nodes : Trees) (slip : Option Slip) → IsParsed st → finished st ≡ Some (Some nodes, slip) → Notates profile limit text nodes
-  notated st nodes slip g e =
-      let w = whole st (Some nodes) slip g e in
-      (w.tree, record { tokens = tokens; lex = lex; parse = w.parse; shallow = w.shallow }, w.says)
+  pub notated : (st : KeptState) (x : List ℕ) (slip : Option Slip) → IsParsed st → finished st ≡ Some (Some x, slip) → (nodes : Trees) × Notates profile limit text nodes × (x ≡ spelled_all nodes)
+  notated st x slip g e =
+      let w = whole st (Some x) slip g e in
+      let said = was_spelled (means_input w.tree) x w.says in
+      (said.0, (w.tree, record { tokens = tokens; lex = lex; parse = w.parse; shallow = w.shallow }, said.1), said.2)
 
-  pub slip_told : (st : KeptState) (items : Option Trees) (slip : Slip) → IsParsed st → finished st ≡ Some (items, Some slip) → IsNoNotation profile limit text (Refused slip.place slip.reason)
-  slip_told st items slip g e =
-      let w = whole st items (Some slip) g e in
+  pub slip_told : (st : KeptState) (bytes : Option (List ℕ)) (slip : Slip) → IsParsed st → finished st ≡ Some (bytes, Some slip) → IsNoNotation profile limit text (Refused slip.place slip.reason)
+  slip_told st bytes slip g e =
+      let w = whole st bytes (Some slip) g e in
       inr (w.tree, record { tokens = tokens; lex = lex; parse = w.parse; shallow = w.shallow }, subst (Tells (input_slips w.tree)) w.slips (tells (input_slips w.tree)))
 
-  pub whole_told : (st : KeptState) (w : Option Trees × Option Slip) (e : EdnFault) → IsParsed st → finished st ≡ Some w → IsFirstSlip w e → IsNoNotation profile limit text e
+  pub whole_told : (st : KeptState) (w : Option (List ℕ) × Option Slip) (e : EdnFault) → IsParsed st → finished st ≡ Some w → IsFirstSlip w e → IsNoNotation profile limit text e
   whole_told st w (LexPart f) h g i = absurd i
   whole_told st w (Refused p r) h g i = slip_told st w.0 (record { place = p; reason = r }) h (g ∙ ap (λ s. Some (w.0, s)) i)
   whole_told st w OutOfMemory h g i = absurd i

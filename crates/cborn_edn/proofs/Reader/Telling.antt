@@ -14,6 +14,7 @@ use Rattle.cborn_edn.proofs.Grammar.Takes.{finish}
 use Rattle.cborn_edn.proofs.Grammar.Held.{levels, levels_home, open_levels, comma_at}
 use Rattle.cborn_edn.proofs.Grammar.Parser.{forbids}
 use Rattle.cborn_edn.proofs.Reader.Kept.{kept_row_before, frames_of, frames_home, kept_state}
+use Rattle.cborn_edn.proofs.Reader.Spellings.{all_spelled}
 use Rattle.cborn_edn.proofs.Reader.Agreeing.{agree_row}
 use Rattle.cborn_edn.proofs.Reader.FirstSlips.{first_row}
 
@@ -70,7 +71,7 @@ comma_same ProfileTwo s c = refl
 -- the end of the tokens
 abbrev pub Finishes : State → Option Input → Type 0
 Finishes s None = finished (kept_state s) ≡ None
-Finishes s (Some t) = finished (kept_state s) ≡ Some (means_input t, first_slip (input_slips t))
+Finishes s (Some t) = finished (kept_state s) ≡ Some (all_spelled (means_input t), first_slip (input_slips t))
 
 pair_same : {A B : Type 0} (a c : A) (b d : B) → a ≡ c → b ≡ d → let x : Option (A × B) = Some (a, b) in x ≡ Some (c, d)
 pair_same a c b d e f = rw (e, f) refl
@@ -78,8 +79,8 @@ pair_same a c b d e f = rw (e, f) refl
 pub finishes : (s : State) → Finishes s (finish s)
 finishes (wants (in_row at_top no_item)) = refl
 finishes (wants (in_row at_top (after_row (row b i) c))) = rw (ne_eqb (suc (kept_row_before b).count) 0 (λ e. omega arith)) refl
-finishes (has (in_row at_top b) i) = pair_same _ _ _ _ (agree_row (row b i)).items_is (first_row None (row b i))
-finishes (builds (as_item (in_row at_top b)) ps) = pair_same _ _ _ _ (agree_row (row b (string ps))).items_is (first_row None (row b (string ps)))
+finishes (has (in_row at_top b) i) = pair_same _ _ _ _ (agree_row (row b i)).bytes_are (first_row None (row b i))
+finishes (builds (as_item (in_row at_top b)) ps) = pair_same _ _ _ _ (agree_row (row b (string ps))).bytes_are (first_row None (row b (string ps)))
 finishes (wants (in_row (in_embed h None s) b)) = refl
 finishes (has (in_row (in_embed h None s) b) i) = refl
 finishes (builds (as_item (in_row (in_embed h None s) b)) ps) = refl

@@ -1,9 +1,8 @@
 -- A text that is read up to some place.
-use Rattle.std.proofs.Common.{◌≡◌, refl, sym, ap, ◌∙◌, subst, ℕ, ◌^◌, ◌<◌, ◌≤◌, List, [], ◌∷◌, ◌++◌, length, Option, Some, None, append_assoc, arith, ◌⊎◌, inl, inr}
+use Rattle.std.proofs.Common.{◌≡◌, refl, sym, ap, ◌∙◌, subst, ℕ, ◌^◌, ◌<◌, List, [], ◌∷◌, ◌++◌, length, Option, Some, None, append_assoc, arith, ◌⊎◌, inl, inr}
 use Rattle.std.specs.Prelude.{Result, Ok, Err, IfErr}
 use Rattle.std.specs.Result.{IsErr, IsErrAnd}
 use Rattle.cborn_model.specs.Bytes.{AreBytes}
-use Rattle.cborn_model.specs.Tree.{Trees}
 use Rattle.cborn_lex.specs.Lex.{Lex, Between, IsStopAt, IsStopFrom}
 use Rattle.cborn_lex.specs.declared.classes.Profile.{Profile}
 use Rattle.cborn_lex.specs.declared.classes.Token.{Token}
@@ -31,11 +30,11 @@ passed_on (Err e) x P p h = subst P (sym h.1) p
 pub record Underway (profile : Profile) (limit : ℕ) (text : List ℕ) (at : ℕ) (d : State) : Type 0 where
   pub tokens : List Token
   pub between : Between profile text 0 at tokens
-  pub reached : Reached limit tokens d
+  pub reached : Reached tokens d
   pub runs : (more : List Token) → draft_run profile limit (tokens ++ more) first_state ≡ draft_run profile limit more d
 
 pub begins : (profile : Profile) (limit : ℕ) (text : List ℕ) → Underway profile limit text 0 first_state
-begins profile limit text = record { tokens = []; between = nothing profile text 0; reached = first_reached limit; runs = λ more. refl }
+begins profile limit text = record { tokens = []; between = nothing profile text 0; reached = first_reached; runs = λ more. refl }
 
 -- what is told of a text without tokens
 pub lexical_told : (profile : Profile) (limit : ℕ) (text : List ℕ) (e : LexFault) → IsStopAt profile text e → IsNoNotation profile limit text (lexical e)
@@ -46,11 +45,11 @@ module _ (profile : Profile) (limit : ℕ) (text : List ℕ) (at : ℕ) (d : Sta
   short : at < 2 ^ 64 → length u.tokens < 2 ^ 64
   short small = let l = few profile text 0 at u.tokens u.between in omega arith
 
-  pub is_ready : limit ≤ 1024 → at < 2 ^ 64 → IsReady d
-  is_ready low small = ready limit u.tokens d u.reached low (short small)
+  pub is_ready : at < 2 ^ 64 → IsReady d
+  is_ready small = ready u.tokens d u.reached (short small)
 
-  pub is_told : IsHeld d.phase → (items : Option Trees) (slip : Option Slip) → finished d ≡ Some (items, slip) → IsTold (items, slip)
-  is_told held items slip e = told limit u.tokens d u.reached items slip held e
+  pub is_told : IsHeld d.phase → (bytes : Option (List ℕ)) (slip : Option Slip) → finished d ≡ Some (bytes, slip) → IsTold (bytes, slip)
+  is_told held bytes slip e = told u.tokens d u.reached bytes slip held e
 
   -- behind one more token
   pub goes_on : (stop : ℕ) (t : Token) (e : State) (o : Option EdnReason) → at < 2 ^ 64 → AreBytes text → IsHeld d.phase → Between profile text at stop (t ∷ []) → Steps profile limit d t e o → o ≡ None → Underway profile limit text stop e
@@ -59,7 +58,7 @@ module _ (profile : Profile) (limit : ℕ) (text : List ℕ) (at : ℕ) (d : Sta
       record {
         tokens = u.tokens ++ (t ∷ []);
         between = joins profile text 0 at stop u.tokens (t ∷ []) u.between next;
-        reached = next_reached limit u.tokens d u.reached t e (short small) (between_modest profile text at stop (t ∷ []) are next).0 held h.0 h.1;
+        reached = next_reached u.tokens d u.reached t e (short small) (between_modest profile text at stop (t ∷ []) are next).0 held h.0;
         runs = λ more. ap (λ ts. draft_run profile limit ts first_state) (append_assoc u.tokens (t ∷ []) more) ∙ (u.runs (t ∷ more) ∙ h.2 more);
       }
 

@@ -10,7 +10,7 @@ use Rattle.cborn_lex.specs.declared.faults.LexFault.{LexFault}
 use Rattle.cborn_edn.specs.declared.slips.Slip.{Slip}
 use Rattle.cborn_edn.specs.declared.states.State.{State}
 use Rattle.cborn_edn.specs.declared.wanted.Wanted.{Wanted}
-use Rattle.cborn_edn.specs.declared.wanted.Wanted.TheVariants.{Nodes, Slips}
+use Rattle.cborn_edn.specs.declared.wanted.Wanted.TheVariants.{Bytes, Slips}
 use Rattle.cborn_edn.specs.declared.faults.EdnReason.{EdnReason}
 use Rattle.cborn_edn.specs.declared.faults.EdnReason.TheVariants.{UnexpectedToken, UnexpectedEnd, TooDeep}
 use Rattle.cborn_edn.specs.declared.faults.EdnFault.{EdnFault}
@@ -94,34 +94,34 @@ pub record Going (wanted : Wanted) (profile : Profile) (limit : ℕ) (text : Lis
   pub same : trim_as wanted d ≡ lean_as wanted all
 
 pub begins : (wanted : Wanted) (profile : Profile) (limit : ℕ) (text : List ℕ) → Going wanted profile limit text 0 first_state
-begins Nodes profile limit text = record { all = first_state; underway = whole.begins profile limit text; same = refl }
+begins Bytes profile limit text = record { all = first_state; underway = whole.begins profile limit text; same = refl }
 begins Slips profile limit text = record { all = first_state; underway = whole.begins profile limit text; same = refl }
 
 ready_as : (wanted : Wanted) (d : State) → IsReady d → IsReady (lean_as wanted d)
-ready_as Nodes d h = h
+ready_as Bytes d h = h
 ready_as Slips d h = ready_lean d h
 
 held_as : (wanted : Wanted) (d : State) → IsHeld (lean_as wanted d).phase → IsHeld d.phase
-held_as Nodes d h = h
+held_as Bytes d h = h
 held_as Slips d h = held_lean d h
 
 jam_as : (wanted : Wanted) (profile : Profile) (limit : ℕ) (t : Token) (d e : State) (r : EdnReason) → Steps profile limit (lean_as wanted d) t e (Some r) → Steps profile limit d t e (Some r)
-jam_as Nodes profile limit t d e r h = h
+jam_as Bytes profile limit t d e r h = h
 jam_as Slips profile limit t d e r h = jam_lean profile limit t d r h
 
 abbrev TakenAs : Wanted → Profile → ℕ → Token → State → State → Type 0
 TakenAs wanted profile limit t d v = (u : State) × Steps profile limit d t u None × (trim_as wanted v ≡ lean_as wanted u)
 
 taken_as : (wanted : Wanted) (profile : Profile) (limit : ℕ) (t : Token) (d v : State) → Steps profile limit (lean_as wanted d) t v None → TakenAs wanted profile limit t d v
-taken_as Nodes profile limit t d v h = (v, h, refl)
+taken_as Bytes profile limit t d v h = (v, h, refl)
 taken_as Slips profile limit t d v h = step_taken profile limit t d v h
 
 module _ (wanted : Wanted) (profile : Profile) (limit : ℕ) (text : List ℕ) (at : ℕ) (before d : State) (u : Going wanted profile limit text at before) (now : d ≡ trim_as wanted before) where
   here : d ≡ lean_as wanted u.all
   here = now ∙ u.same
 
-  pub is_ready : limit ≤ 1024 → at < 2 ^ 64 → IsReady d
-  is_ready low small = subst IsReady (sym here) (ready_as wanted u.all (whole.is_ready profile limit text at u.all u.underway low small))
+  pub is_ready : at < 2 ^ 64 → IsReady d
+  is_ready small = subst IsReady (sym here) (ready_as wanted u.all (whole.is_ready profile limit text at u.all u.underway small))
 
   is_held : IsHeld d.phase → IsHeld u.all.phase
   is_held h = held_as wanted u.all (subst (λ e. IsHeld e.phase) here h)
@@ -153,10 +153,10 @@ module _ (wanted : Wanted) (profile : Profile) (limit : ℕ) (text : List ℕ) (
 
 -- The end of a text of which all is wanted.
 
-pub ran : (profile : Profile) (limit : ℕ) (text : List ℕ) (d : State) (p : Parsed Nodes profile limit text d) → draft_run profile limit p.0 first_state ≡ Done d
+pub ran : (profile : Profile) (limit : ℕ) (text : List ℕ) (d : State) (p : Parsed Bytes profile limit text d) → draft_run profile limit p.0 first_state ≡ Done d
 ran profile limit text d p = p.3 ∙ ap Done (sym p.4)
 
-pub told_all : (profile : Profile) (limit : ℕ) (text : List ℕ) (d : State) (p : Parsed Nodes profile limit text d) (w : Option Trees × Option Slip) → finished d ≡ Some w → IsTold w
+pub told_all : (profile : Profile) (limit : ℕ) (text : List ℕ) (d : State) (p : Parsed Bytes profile limit text d) (w : Option (List ℕ) × Option Slip) → finished d ≡ Some w → IsTold w
 told_all profile limit text d p w e = p.5 w.0 w.1 (ap finished (sym p.4) ∙ e)
 
 -- The end of a text of which slips alone are wanted.
@@ -166,37 +166,37 @@ module _ (profile : Profile) (limit : ℕ) (text : List ℕ) (d : State) (p : Pa
   same_end = ap (λ e. slip_at_end (finished e)) p.4 ∙ end_lean p.1
 
   abbrev EndsWith : Option Slip → Type 0
-  EndsWith slip = (items : Option Trees) × (finished p.1 ≡ Some (items, slip))
+  EndsWith slip = (bytes : Option (List ℕ)) × (finished p.1 ≡ Some (bytes, slip))
 
-  all_end : (items : Option Trees) (slip : Option Slip) → finished d ≡ Some (items, slip) → EndsWith slip
-  all_end items slip e = go (finished p.1) refl
+  all_end : (bytes : Option (List ℕ)) (slip : Option Slip) → finished d ≡ Some (bytes, slip) → EndsWith slip
+  all_end bytes slip e = go (finished p.1) refl
     where
-      go : (o : Option (Option Trees × Option Slip)) → finished p.1 ≡ o → EndsWith slip
+      go : (o : Option (Option (List ℕ) × Option Slip)) → finished p.1 ≡ o → EndsWith slip
       go None f = absurd (some_none slip (sym (ap slip_at_end e) ∙ same_end ∙ ap slip_at_end f))
-      go (Some (nodes, s)) f = (nodes, f ∙ ap (λ x. Some (nodes, x)) (sym (some_same slip s (sym (ap slip_at_end e) ∙ same_end ∙ ap slip_at_end f))))
+      go (Some (bytes, s)) f = (bytes, f ∙ ap (λ x. Some (bytes, x)) (sym (some_same slip s (sym (ap slip_at_end e) ∙ same_end ∙ ap slip_at_end f))))
 
-  slip_is : (items : Option Trees) (slip : Slip) → finished d ≡ Some (items, Some slip) → IsNoNotation profile limit text (Refused slip.place slip.reason)
-  slip_is items slip e =
-      let end = all_end items (Some slip) e in
+  slip_is : (bytes : Option (List ℕ)) (slip : Slip) → finished d ≡ Some (bytes, Some slip) → IsNoNotation profile limit text (Refused slip.place slip.reason)
+  slip_is bytes slip e =
+      let end = all_end bytes (Some slip) e in
       slip_told profile limit text p.0 p.2 p.1 end.0 slip p.3 end.1
 
-  pub slip_refused : (items : Option Trees) (slip : Option Slip) → finished d ≡ Some (items, slip) → (fault : EdnFault) → IsFirstSlip (items, slip) fault → IsNoNotation profile limit text fault
-  slip_refused items slip e (LexPart f) h = absurd h
-  slip_refused items slip e (Refused q r) h = slip_is items (record { place = q; reason = r }) (e ∙ ap (λ s. Some (items, s)) h)
-  slip_refused items slip e OutOfMemory h = absurd h
+  pub slip_refused : (bytes : Option (List ℕ)) (slip : Option Slip) → finished d ≡ Some (bytes, slip) → (fault : EdnFault) → IsFirstSlip (bytes, slip) fault → IsNoNotation profile limit text fault
+  slip_refused bytes slip e (LexPart f) h = absurd h
+  slip_refused bytes slip e (Refused q r) h = slip_is bytes (record { place = q; reason = r }) (e ∙ ap (λ s. Some (bytes, s)) h)
+  slip_refused bytes slip e OutOfMemory h = absurd h
 
-  pub items_are : (items : Option Trees) → finished d ≡ Some (items, None) → (nodes : Trees) × Notates profile limit text nodes
-  items_are items e =
-      let end = all_end items None e in
+  pub items_are : (bytes : Option (List ℕ)) → finished d ≡ Some (bytes, None) → (nodes : Trees) × Notates profile limit text nodes
+  items_are bytes e =
+      let end = all_end bytes None e in
       go end.0 end.1 (p.5 end.0 None end.1)
     where
-      go : (o : Option Trees) → finished p.1 ≡ Some (o, None) → IsTold (o, None) → (nodes : Trees) × Notates profile limit text nodes
+      go : (o : Option (List ℕ)) → finished p.1 ≡ Some (o, None) → IsTold (o, None) → (nodes : Trees) × Notates profile limit text nodes
       go None f told = absurd told
-      go (Some nodes) f told = (nodes, notated profile limit text p.0 p.2 p.1 nodes None p.3 f)
+      go (Some x) f told = let said = notated profile limit text p.0 p.2 p.1 x None p.3 f in (said.0, said.1)
 
   pub nothing_ends : finished d ≡ None → IsNoNotation profile limit text (Refused (length text) UnexpectedEnd)
   nothing_ends e = go (finished p.1) refl
     where
-      go : (o : Option (Option Trees × Option Slip)) → finished p.1 ≡ o → IsNoNotation profile limit text (Refused (length text) UnexpectedEnd)
+      go : (o : Option (Option (List ℕ) × Option Slip)) → finished p.1 ≡ o → IsNoNotation profile limit text (Refused (length text) UnexpectedEnd)
       go None f = no_end profile limit text p.0 p.2 p.1 p.3 f
       go (Some w) f = absurd (some_none w.1 (sym (ap slip_at_end f) ∙ sym same_end ∙ ap slip_at_end e))

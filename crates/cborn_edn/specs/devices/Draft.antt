@@ -1,9 +1,12 @@
--- A device of the proofs: what the reader keeps of what it has read, and what each token makes of it. No definition cites it.
+-- A device of the proofs: what the reader keeps of what it has read, and what each token makes of it. Of an item it keeps the bytes that it spells. No definition cites it.
 use Rattle.std.specs.Prelude.{◌≡◌, ℕ, suc, List, [], ◌∷◌, ◌++◌, length, ◌==◌, ◌&&◌, ◌||◌, Bool, true, false, nat_lt, nat_le, if◌then◌else◌, Option, Some, None, Result, Ok, Err}
-use Rattle.cborn_model.specs.declared.heads.Width.{Width}
-use Rattle.cborn_model.specs.declared.nodes.Chunk.{Chunk}
-use Rattle.cborn_model.specs.Tree.{Tree, Items as ItemsNode, Pairs as PairsNode, Tagged as TaggedNode, Simple as SimpleNode, Trees, no_item as no_node, no_entry}
-use Rattle.cborn_model.specs.Spelled.{spelled_all}
+use Rattle.std.specs.Int.Digits.{digits_of}
+use Rattle.cborn_model.specs.declared.heads.Width.TheVariants.{Direct}
+use Rattle.cborn_model.specs.declared.heads.Size.TheVariants.{Endless as Unending}
+use Rattle.cborn_model.specs.declared.heads.Major.{Major}
+use Rattle.cborn_model.specs.declared.heads.Major.TheVariants.{Unsigned, Negative, ByteString, TextString, Array as ArrayHead, Map as MapHead, Tag as TagHead, Other}
+use Rattle.cborn_model.specs.Heads.{least, Given, Unbounded, head, argument}
+use Rattle.cborn_model.specs.Spelled.{ending, string as string_spelled}
 use Rattle.cborn_lex.specs.declared.classes.Mark.{Mark}
 use Rattle.cborn_lex.specs.declared.classes.Mark.TheVariants.{Absent, Endless, Wide}
 use Rattle.cborn_lex.specs.declared.classes.Class.{Class}
@@ -22,8 +25,6 @@ use Rattle.cborn_edn.specs.declared.strings.StringKind.{StringKind}
 use Rattle.cborn_edn.specs.declared.strings.StringKind.TheVariants.{Bytes as OfBytes, Text as OfText}
 use Rattle.cborn_edn.specs.declared.strings.Pieces.{Pieces}
 use Rattle.cborn_edn.specs.declared.contents.Row.{Row}
-use Rattle.cborn_edn.specs.declared.contents.Sequence.{Sequence}
-use Rattle.cborn_edn.specs.declared.contents.Fields.{Fields}
 use Rattle.cborn_edn.specs.declared.contents.Chunks.{Chunks}
 use Rattle.cborn_edn.specs.declared.brackets.Bracket.{Bracket}
 use Rattle.cborn_edn.specs.declared.brackets.Bracket.TheVariants.{Top, Array, Embedded, Chunked, Key, Value, Tagged}
@@ -31,7 +32,8 @@ use Rattle.cborn_edn.specs.declared.states.Phase.{Phase}
 use Rattle.cborn_edn.specs.declared.states.Phase.TheVariants.{Wants, Has, Builds, WantsChunk, WantsNumber, HasNumber}
 use Rattle.cborn_edn.specs.declared.states.State.{State}
 use Rattle.cborn_edn.specs.devices.Levels.{levels_in, reach, filled}
-use Rattle.cborn_edn.specs.Meaning.{number_of, and_then, when, width_for, size_for, is_absent, snoc, snoc_entry, means_number, is_simple, same_kind, is_good, string_node, chunked_node, width_slips, size_slips, number_slips, tag_slips}
+use Rattle.cborn_edn.specs.Syntax.{is_below, argument_of, is_small}
+use Rattle.cborn_edn.specs.Meaning.{number_of, and_then, when, width_for, size_for, is_absent, is_simple, same_kind, is_good, width_slips, size_slips, number_slips, tag_slips}
 
 abbrev pub no_later : Slip → Slip → Bool
 no_later a b = nat_lt a.place b.place || (a.place == b.place && nat_le (number_of a.reason) (number_of b.reason))
@@ -100,67 +102,84 @@ abbrev pub is_none : {A : Type 0} → Option A → Bool
 is_none None = true
 is_none (Some x) = false
 
-abbrev pub marked_node : StringKind → ℕ → Mark → List ℕ → Option Tree
-marked_node k p Endless x = Some (chunked_node k p [])
-marked_node k p Absent x = and_then (width_for Absent (length x)) (λ w. Some (string_node k p w x))
-marked_node k p (Wide v) x = and_then (width_for (Wide v) (length x)) (λ w. Some (string_node k p w x))
+abbrev pub major_of : StringKind → Major
+major_of OfBytes = ByteString
+major_of OfText = TextString
 
-abbrev pub string_item : Pieces → Option Tree
-string_item d = when (d.sound && is_none (string_slip d.quote d)) (and_then d.bytes (marked_node d.kind d.place d.mark))
+-- an indefinite string of chunks that spell these bytes
+abbrev pub chunked_bytes : StringKind → List ℕ → List ℕ
+chunked_bytes k x = head (major_of k) Unbounded ++ (x ++ ending Unending)
 
-abbrev pub string_chunk : Pieces → Option Chunk
-string_chunk d = when (d.sound && is_none (string_slip false d)) (and_then d.bytes (λ x. and_then (width_for d.mark (length x)) (λ w. Some (record { place = d.place; width = w; bytes = x }))))
+abbrev pub definite_bytes : StringKind → Mark → List ℕ → Option (List ℕ)
+definite_bytes k m x = and_then (width_for m (length x)) (λ w. Some (string_spelled (major_of k) w x))
+
+abbrev pub marked_bytes : StringKind → Mark → List ℕ → Option (List ℕ)
+marked_bytes k Endless x = Some (chunked_bytes k [])
+marked_bytes k Absent x = definite_bytes k Absent x
+marked_bytes k (Wide v) x = definite_bytes k (Wide v) x
+
+abbrev pub string_item : Pieces → Option (List ℕ)
+string_item d = when (d.sound && is_none (string_slip d.quote d)) (and_then d.bytes (marked_bytes d.kind d.mark))
+
+abbrev pub string_chunk : Pieces → Option (List ℕ)
+string_chunk d = when (d.sound && is_none (string_slip false d)) (and_then d.bytes (definite_bytes d.kind d.mark))
+
+-- Numbers.
+
+abbrev pub sign : Bool → ℕ → Major
+sign n v = if is_below n v then Negative else Unsigned
+
+-- a tag over the shortest bytes
+abbrev pub bignum_bytes : Bool → ℕ → Option (List ℕ)
+bignum_bytes n v =
+    let x = digits_of 256 (argument_of n v) in
+    and_then (width_for Absent (length x)) (λ w. Some (head TagHead (Given Direct (if is_below n v then 3 else 2)) ++ string_spelled ByteString w x))
+
+abbrev pub number_bytes : Bool → ℕ → Mark → Option (List ℕ)
+number_bytes n v m =
+    if is_small n v then and_then (width_for m (argument_of n v)) (λ w. Some (head (sign n v) (Given w (argument_of n v))))
+    else when (is_absent m) (bignum_bytes n v)
+
+abbrev pub simple_bytes : ℕ → List ℕ
+simple_bytes n = head Other (Given (least n) n)
 
 -- What stands inside brackets.
 
 abbrev pub no_row : Row
-no_row = record { nodes = Some no_node; count = 0 }
+no_row = record { bytes = Some []; count = 0 }
 
-abbrev pub row_with : Row → Option Tree → Row
-row_with r i = record { nodes = and_then r.nodes (λ ts. and_then i (λ t. Some (snoc ts t))); count = suc r.count }
+abbrev pub row_with : Row → Option (List ℕ) → Row
+row_with r i = record { bytes = and_then r.bytes (λ x. and_then i (λ y. Some (x ++ y))); count = suc r.count }
 
-abbrev pub array_node : ℕ → Mark → Row → Option Tree
-array_node p m r = and_then r.nodes (λ ts. and_then (size_for m r.count) (λ s. Some (ItemsNode p s ts)))
+-- one more pair
+abbrev pub pairs_with : Row → Option (List ℕ) → Option (List ℕ) → Row
+pairs_with r k v = record { bytes = and_then r.bytes (λ x. and_then k (λ y. and_then v (λ z. Some (x ++ (y ++ z))))); count = suc r.count }
 
-abbrev pub no_sequence : Sequence
-no_sequence = record { items = Some no_node; count = 0 }
-
-abbrev pub sequence_with : Sequence → Option Tree → Sequence
-sequence_with r i = record { items = and_then r.items (λ ts. and_then i (λ t. Some (snoc ts t))); count = suc r.count }
-
-abbrev pub sequence_bytes : Sequence → Option (List ℕ)
-sequence_bytes r = and_then r.items (λ ts. Some (spelled_all ts))
-
-abbrev pub no_fields : Fields
-no_fields = record { pairs = Some no_entry; count = 0 }
-
-abbrev pub fields_with : Fields → Option Tree → Option Tree → Fields
-fields_with f k v = record { pairs = and_then f.pairs (λ es. and_then k (λ t. and_then v (λ u. Some (snoc_entry es t u)))); count = suc f.count }
-
-abbrev pub map_node : ℕ → Mark → Fields → Option Tree
-map_node p m f = and_then f.pairs (λ es. and_then (size_for m f.count) (λ s. Some (PairsNode p s es)))
+-- the array or the map
+abbrev pub row_item : Major → Mark → Row → Option (List ℕ)
+row_item h m r = and_then r.bytes (λ x. and_then (size_for m r.count) (λ s. Some (head h (argument s r.count) ++ (x ++ ending s))))
 
 abbrev pub no_chunks : Chunks
-no_chunks = record { kind = None; chunks = Some [] }
+no_chunks = record { kind = None; bytes = Some [] }
 
 abbrev pub kind_or : Option StringKind → StringKind → StringKind
 kind_or None k = k
 kind_or (Some j) k = j
 
 abbrev pub chunks_with : Chunks → Pieces → Chunks
-chunks_with cs d = record { kind = Some (kind_or cs.kind d.kind); chunks = and_then cs.chunks (λ l. and_then (string_chunk d) (λ c. when (same_kind (kind_or cs.kind d.kind) d.kind) (Some (l ++ c ∷ [])))) }
+chunks_with cs d = record { kind = Some (kind_or cs.kind d.kind); bytes = and_then cs.bytes (λ x. and_then (string_chunk d) (λ y. when (same_kind (kind_or cs.kind d.kind) d.kind) (Some (x ++ y)))) }
 
 abbrev pub chunk_slip : Chunks → Pieces → Option Slip
 chunk_slip cs d = earlier (slip_unless (same_kind (kind_or cs.kind d.kind) d.kind) d.place MixedChunks) (string_slip false d)
 
-abbrev pub chunked_item : ℕ → Chunks → Option Tree
-chunked_item p cs = and_then cs.kind (λ k. and_then cs.chunks (λ l. Some (chunked_node k p l)))
+abbrev pub chunked_item : Chunks → Option (List ℕ)
+chunked_item cs = and_then cs.kind (λ k. and_then cs.bytes (λ x. Some (chunked_bytes k x)))
 
-abbrev pub tag_head : ℕ → Mark → Option (Width × ℕ)
-tag_head n m = and_then (width_for m n) (λ w. Some (w, n))
+abbrev pub tag_head : ℕ → Mark → Option (List ℕ)
+tag_head n m = and_then (width_for m n) (λ w. Some (head TagHead (Given w n)))
 
-abbrev pub tag_node : ℕ → Option (Width × ℕ) → Option Tree → Option Tree
-tag_node p h i = and_then h (λ x. and_then i (λ t. Some (TaggedNode p x.0 x.1 t)))
+abbrev pub tag_item : Option (List ℕ) → Option (List ℕ) → Option (List ℕ)
+tag_item h i = and_then h (λ x. and_then i (λ y. Some (x ++ y)))
 
 -- A token.
 
@@ -173,9 +192,9 @@ built fs s (Some b) d = keep fs (Builds (with_next b d)) (earlier s (slip_before
 
 -- the bracket ends
 abbrev pub close : List Bracket → Option Slip → Bracket → ℕ → Class → Option State
-close fs s (Array q m r) p ArrayClose = Some (keep fs (Has (array_node q m r)) (earlier s (first_slip (size_slips q m r.count))))
-close fs s (Key q m f) p MapClose = Some (keep fs (Has (map_node q m f)) (earlier s (first_slip (size_slips q m f.count))))
-close fs s (Embedded b q i) p (EmbedClose m) = Some (built fs s b (embedded_piece q (sequence_bytes i) p m))
+close fs s (Array q m r) p ArrayClose = Some (keep fs (Has (row_item ArrayHead m r)) (earlier s (first_slip (size_slips q m r.count))))
+close fs s (Key q m f) p MapClose = Some (keep fs (Has (row_item MapHead m f)) (earlier s (first_slip (size_slips q m f.count))))
+close fs s (Embedded b q i) p (EmbedClose m) = Some (built fs s b (embedded_piece q i.bytes p m))
 close _ _ _ _ _ = None
 
 abbrev pub ended : List Bracket → Option Slip → ℕ → Class → Option State
@@ -184,13 +203,13 @@ ended (f ∷ fs) s p c = close fs s f p c
 
 abbrev pub begin : List Bracket → Option Slip → ℕ → Class → Option State
 begin fs s p (ArrayOpen m) = Some (keep (Array p m no_row ∷ fs) Wants s)
-begin fs s p (MapOpen m) = Some (keep (Key p m no_fields ∷ fs) Wants s)
-begin fs s p EmbedOpen = Some (keep (Embedded None p no_sequence ∷ fs) Wants s)
-begin fs s p ChunkOpen = Some (keep (Chunked p no_chunks ∷ fs) WantsChunk s)
+begin fs s p (MapOpen m) = Some (keep (Key p m no_row ∷ fs) Wants s)
+begin fs s p EmbedOpen = Some (keep (Embedded None p no_row ∷ fs) Wants s)
+begin fs s p ChunkOpen = Some (keep (Chunked no_chunks ∷ fs) WantsChunk s)
 begin fs s p SimpleOpen = Some (keep fs (WantsNumber p) s)
-begin fs s p (Number n v m) = Some (keep fs (Has (means_number p n v m)) (earlier s (first_slip (number_slips p n v m))))
-begin fs s p (TagOpen n m) = Some (keep (Tagged p (tag_head n m) ∷ fs) Wants (earlier s (first_slip (tag_slips p m n))))
-begin fs s p (Word n) = Some (keep fs (Has (Some (SimpleNode p n))) s)
+begin fs s p (Number n v m) = Some (keep fs (Has (number_bytes n v m)) (earlier s (first_slip (number_slips p n v m))))
+begin fs s p (TagOpen n m) = Some (keep (Tagged (tag_head n m) ∷ fs) Wants (earlier s (first_slip (tag_slips p m n))))
+begin fs s p (Word n) = Some (keep fs (Has (Some (simple_bytes n))) s)
 begin fs s p (Text x m) = Some (keep fs (Builds (text_piece p x m)) s)
 begin fs s p (Bytes q x m) = Some (keep fs (Builds (byte_piece p q x m)) s)
 begin fs s p ArrayClose = ended fs s p ArrayClose
@@ -201,15 +220,15 @@ begin fs s p Comma = None
 begin fs s p Colon = None
 
 -- the bracket with the item in it, where it may end or a comma may follow
-abbrev pub settled : Bracket → Option Tree → Option Bracket
-settled (Top r) i = Some (Top (sequence_with r i))
+abbrev pub settled : Bracket → Option (List ℕ) → Option Bracket
+settled (Top r) i = Some (Top (row_with r i))
 settled (Array q m r) i = Some (Array q m (row_with r i))
-settled (Embedded b q r) i = Some (Embedded b q (sequence_with r i))
-settled (Value q m f k) i = Some (Key q m (fields_with f k i))
+settled (Embedded b q r) i = Some (Embedded b q (row_with r i))
+settled (Value q m f k) i = Some (Key q m (pairs_with f k i))
 settled _ i = None
 
 -- the map with the item as a key
-abbrev pub keyed : Bracket → Option Tree → Option Bracket
+abbrev pub keyed : Bracket → Option (List ℕ) → Option Bracket
 keyed (Key q m f) i = Some (Value q m f i)
 keyed _ i = None
 
@@ -218,16 +237,16 @@ abbrev pub with_innermost : List Bracket → Option Bracket → Option (List Bra
 with_innermost fs None = None
 with_innermost fs (Some f) = Some (f ∷ fs)
 
-abbrev pub settled_in : List Bracket → Option Tree → Option (List Bracket)
+abbrev pub settled_in : List Bracket → Option (List ℕ) → Option (List Bracket)
 settled_in [] i = None
 settled_in (f ∷ fs) i = with_innermost fs (settled f i)
 
-abbrev pub keyed_in : List Bracket → Option Tree → Option (List Bracket)
+abbrev pub keyed_in : List Bracket → Option (List ℕ) → Option (List Bracket)
 keyed_in [] i = None
 keyed_in (f ∷ fs) i = with_innermost fs (keyed f i)
 
 abbrev pub is_chunked : Bracket → Bool
-is_chunked (Chunked q cs) = true
+is_chunked (Chunked cs) = true
 is_chunked _ = false
 
 abbrev pub are_chunks : List Bracket → Bool
@@ -242,37 +261,37 @@ abbrev pub reclosed : List Bracket → Option Slip → Option Bracket → ℕ �
 reclosed fs s None p c = None
 reclosed fs s (Some f) p c = close fs s f p c
 
-abbrev pub after_key : List Bracket → Option Slip → Option Tree → Bracket → Option State
+abbrev pub after_key : List Bracket → Option Slip → Option (List ℕ) → Bracket → Option State
 after_key fs s i (Key q m f) = Some (keep (Value q m f i ∷ fs) Wants s)
 after_key _ _ _ _ = None
 
-abbrev pub after_content : List Bracket → Option Slip → Option Tree → Bracket → Option State
-after_content fs s i (Tagged q h) = Some (keep fs (Has (tag_node q h i)) s)
+abbrev pub after_content : List Bracket → Option Slip → Option (List ℕ) → Bracket → Option State
+after_content fs s i (Tagged h) = Some (keep fs (Has (tag_item h i)) s)
 after_content _ _ _ _ = None
 
-abbrev pub after_in : List Bracket → Option Slip → Option Tree → Bracket → ℕ → Class → Option State
+abbrev pub after_in : List Bracket → Option Slip → Option (List ℕ) → Bracket → ℕ → Class → Option State
 after_in fs s i f p Comma = reopened fs s (settled f i)
 after_in fs s i f p Colon = after_key fs s i f
 after_in fs s i f p ParenClose = after_content fs s i f
 after_in fs s i f p c = reclosed fs s (settled f i) p c
 
-abbrev pub after : List Bracket → Option Slip → Option Tree → ℕ → Class → Option State
+abbrev pub after : List Bracket → Option Slip → Option (List ℕ) → ℕ → Class → Option State
 after [] s i p c = None
 after (f ∷ fs) s i p c = after_in fs s i f p c
 
-abbrev pub after_chunk : List Bracket → Option Slip → ℕ → Chunks → Pieces → Class → Option State
-after_chunk fs s q cs d Comma = Some (keep (Chunked q (chunks_with cs d) ∷ fs) WantsChunk (earlier s (chunk_slip cs d)))
-after_chunk fs s q cs d ParenClose = Some (keep fs (Has (chunked_item q (chunks_with cs d))) (earlier s (chunk_slip cs d)))
-after_chunk _ _ _ _ _ _ = None
+abbrev pub after_chunk : List Bracket → Option Slip → Chunks → Pieces → Class → Option State
+after_chunk fs s cs d Comma = Some (keep (Chunked (chunks_with cs d) ∷ fs) WantsChunk (earlier s (chunk_slip cs d)))
+after_chunk fs s cs d ParenClose = Some (keep fs (Has (chunked_item (chunks_with cs d))) (earlier s (chunk_slip cs d)))
+after_chunk _ _ _ _ _ = None
 
 abbrev pub after_string_in : List Bracket → Option Slip → Pieces → Bracket → ℕ → Class → Option State
-after_string_in fs s d (Chunked q cs) p c = after_chunk fs s q cs d c
+after_string_in fs s d (Chunked cs) p c = after_chunk fs s cs d c
 after_string_in fs s d (Top r) p c = after_in fs (earlier s (string_slip d.quote d)) (string_item d) (Top r) p c
 after_string_in fs s d (Array q m r) p c = after_in fs (earlier s (string_slip d.quote d)) (string_item d) (Array q m r) p c
 after_string_in fs s d (Embedded b q r) p c = after_in fs (earlier s (string_slip d.quote d)) (string_item d) (Embedded b q r) p c
 after_string_in fs s d (Key q m f) p c = after_in fs (earlier s (string_slip d.quote d)) (string_item d) (Key q m f) p c
 after_string_in fs s d (Value q m f k) p c = after_in fs (earlier s (string_slip d.quote d)) (string_item d) (Value q m f k) p c
-after_string_in fs s d (Tagged q h) p c = after_in fs (earlier s (string_slip d.quote d)) (string_item d) (Tagged q h) p c
+after_string_in fs s d (Tagged h) p c = after_in fs (earlier s (string_slip d.quote d)) (string_item d) (Tagged h) p c
 
 abbrev pub after_string : List Bracket → Option Slip → Pieces → ℕ → Class → Option State
 after_string [] s d p c = None
@@ -281,23 +300,23 @@ after_string (f ∷ fs) s d p c = after_string_in fs s d f p c
 abbrev pub more : List Bracket → Option Slip → Pieces → ℕ → Class → Option State
 more fs s d p (Text x m) = Some (built fs s (Some d) (text_piece p x m))
 more fs s d p (Bytes q x m) = Some (built fs s (Some d) (byte_piece p q x m))
-more fs s d p EmbedOpen = Some (keep (Embedded (Some d) p no_sequence ∷ fs) Wants s)
+more fs s d p EmbedOpen = Some (keep (Embedded (Some d) p no_row ∷ fs) Wants s)
 more fs s d p c = after_string fs s d p c
 
 abbrev pub begin_chunk : List Bracket → Option Slip → ℕ → Class → Option State
 begin_chunk fs s p (Text x m) = Some (keep fs (Builds (text_piece p x m)) s)
 begin_chunk fs s p (Bytes q x m) = Some (keep fs (Builds (byte_piece p q x m)) s)
-begin_chunk fs s p EmbedOpen = Some (keep (Embedded None p no_sequence ∷ fs) Wants s)
+begin_chunk fs s p EmbedOpen = Some (keep (Embedded None p no_row ∷ fs) Wants s)
 begin_chunk _ _ _ _ = None
 
 abbrev pub simple_slip : ℕ → ℕ → Bool → ℕ → Mark → Option Slip
 simple_slip q p n v m = earlier (slip_unless (is_simple n v) q BadSimple) (slip_unless (is_absent m) p IndicatorNotAllowed)
 
 abbrev pub begin_number : List Bracket → Option Slip → ℕ → ℕ → Class → Option State
-begin_number fs s q p (Number n v m) = Some (keep fs (HasNumber (when (is_simple n v && is_absent m) (Some (SimpleNode q v)))) (earlier s (simple_slip q p n v m)))
+begin_number fs s q p (Number n v m) = Some (keep fs (HasNumber (when (is_simple n v && is_absent m) (Some (simple_bytes v)))) (earlier s (simple_slip q p n v m)))
 begin_number _ _ _ _ _ = None
 
-abbrev pub after_number : List Bracket → Option Slip → Option Tree → Class → Option State
+abbrev pub after_number : List Bracket → Option Slip → Option (List ℕ) → Class → Option State
 after_number fs s i ParenClose = Some (keep fs (Has i) s)
 after_number _ _ _ _ = None
 
@@ -312,19 +331,19 @@ step_in fs s (HasNumber i) p c = after_number fs s i c
 abbrev pub draft_step : State → Token → Option State
 draft_step d t = step_in d.brackets d.slip d.phase t.start t.class
 
--- the items of the whole text and its first slip
-abbrev pub finished_top : Phase → Option Slip → Sequence → Option (Option Trees × Option Slip)
-finished_top Wants s r = if r.count == 0 then Some (r.items, s) else None
-finished_top (Has i) s r = Some ((sequence_with r i).items, s)
-finished_top (Builds d) s r = Some ((sequence_with r (string_item d)).items, earlier s (string_slip d.quote d))
+-- the bytes of the whole text and its first slip
+abbrev pub finished_top : Phase → Option Slip → Row → Option (Option (List ℕ) × Option Slip)
+finished_top Wants s r = if r.count == 0 then Some (r.bytes, s) else None
+finished_top (Has i) s r = Some ((row_with r i).bytes, s)
+finished_top (Builds d) s r = Some ((row_with r (string_item d)).bytes, earlier s (string_slip d.quote d))
 finished_top _ s r = None
 
-abbrev pub finished_in : Phase → Option Slip → List Bracket → Option (Option Trees × Option Slip)
+abbrev pub finished_in : Phase → Option Slip → List Bracket → Option (Option (List ℕ) × Option Slip)
 finished_in ph s [] = None
 finished_in ph s (Top r ∷ fs) = finished_top ph s r
 finished_in ph s (_ ∷ fs) = None
 
-abbrev pub finished : State → Option (Option Trees × Option Slip)
+abbrev pub finished : State → Option (Option (List ℕ) × Option Slip)
 finished d = finished_in d.phase d.slip d.brackets
 
 -- whether a bracket stands behind a comma
@@ -351,7 +370,7 @@ draft_run p limit (t ∷ ts) d =
 
 -- before the first token
 abbrev pub first_state : State
-first_state = keep (Top no_sequence ∷ []) Wants None
+first_state = keep (Top no_row ∷ []) Wants None
 
 abbrev pub IsStuck : Run → EdnFault → Type 0
 IsStuck run (LexPart f) = ⊥
@@ -362,7 +381,7 @@ abbrev pub lexical : LexFault → EdnFault
 lexical (LexRefused p r) = LexPart (LexRefused p r)
 lexical LexOutOfMemory = OutOfMemory
 
-abbrev pub IsFirstSlip : Option Trees × Option Slip → EdnFault → Type 0
+abbrev pub IsFirstSlip : Option (List ℕ) × Option Slip → EdnFault → Type 0
 IsFirstSlip w (LexPart f) = ⊥
 IsFirstSlip w (Refused p r) = w.1 ≡ Some (record { place = p; reason = r })
 IsFirstSlip w OutOfMemory = ⊥

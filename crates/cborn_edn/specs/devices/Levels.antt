@@ -9,7 +9,7 @@ use Rattle.cborn_edn.specs.Syntax.{depth_of_number}
 -- how many arrays, maps, tags and embedded sequences are open
 abbrev pub is_level : Bracket → Bool
 is_level (Top r) = false
-is_level (Chunked q cs) = false
+is_level (Chunked cs) = false
 is_level _ = true
 
 abbrev pub levels_in : List Bracket → ℕ

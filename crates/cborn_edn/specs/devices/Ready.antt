@@ -1,7 +1,5 @@
 -- A device of the proofs: what a token asks of the state that it meets. No definition cites it.
 use Rattle.std.specs.Prelude.{◌≡◌, ℕ, suc, ◌^◌, ◌<◌, ◌≤◌, List, [], ◌∷◌, Option, Some, None}
-use Rattle.cborn_model.specs.Tree.{Tree, Trees}
-use Rattle.cborn_model.specs.Spelled.{IsSpelled}
 use Rattle.cborn_lex.specs.declared.classes.Profile.{Profile}
 use Rattle.cborn_lex.specs.declared.classes.Token.{Token}
 use Rattle.cborn_edn.specs.declared.faults.EdnReason.{EdnReason}
@@ -9,16 +7,11 @@ use Rattle.cborn_edn.specs.declared.slips.Slip.{Slip}
 use Rattle.cborn_edn.specs.declared.brackets.Bracket.{Bracket}
 use Rattle.cborn_edn.specs.declared.brackets.Bracket.TheVariants.{Top, Array, Embedded, Value}
 use Rattle.cborn_edn.specs.declared.states.Phase.{Phase}
-use Rattle.cborn_edn.specs.declared.states.Phase.TheVariants.{Has, Builds}
+use Rattle.cborn_edn.specs.declared.states.Phase.TheVariants.{Builds}
 use Rattle.cborn_edn.specs.declared.states.State.{State}
 use Rattle.cborn_edn.specs.Counted.{IsShort}
-use Rattle.cborn_edn.specs.devices.Draft.{string_item, draft_step, draft_run, Stuck}
+use Rattle.cborn_edn.specs.devices.Draft.{draft_step, draft_run, Stuck}
 use Rattle.cborn_edn.specs.devices.Levels.{levels_in, reach}
-
--- an item that a sequence can keep, if there is one
-abbrev pub MaySpell : Option Tree → Type 0
-MaySpell None = Unit {0}
-MaySpell (Some t) = IsSpelled t
 
 -- its count can rise
 abbrev pub HasRoom : Bracket → Type 0
@@ -32,25 +25,19 @@ abbrev pub HaveRoom : List Bracket → Type 0
 HaveRoom [] = Unit {0}
 HaveRoom (f ∷ fs) = HasRoom f
 
--- the item that stands complete, if it is one, can be kept
-abbrev pub MayEnd : Phase → Type 0
-MayEnd (Has i) = MaySpell i
-MayEnd (Builds d) = MaySpell (string_item d)
-MayEnd _ = Unit {0}
-
 abbrev pub IsReady : State → Type 0
-IsReady s = MayEnd s.phase × HaveRoom s.brackets
+IsReady s = HaveRoom s.brackets
 
 -- pieces that memory holds have a length
 abbrev pub IsHeld : Phase → Type 0
 IsHeld (Builds d) = IsShort d.bytes
 IsHeld _ = Unit {0}
 
--- items, or a slip
-abbrev pub IsTold : Option Trees × Option Slip → Type 0
+-- bytes, or a slip
+abbrev pub IsTold : Option (List ℕ) × Option Slip → Type 0
 IsTold (None, None) = ⊥
 IsTold (None, Some s) = Unit {0}
-IsTold (Some ts, s) = Unit {0}
+IsTold (Some x, s) = Unit {0}
 
 -- what the token t makes of the state d: the state e within the limit, from which each run goes on, or the reason why each run ends there
 abbrev pub Steps : Profile → ℕ → State → Token → State → Option EdnReason → Type 0

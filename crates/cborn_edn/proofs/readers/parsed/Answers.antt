@@ -12,7 +12,7 @@ pub tokens-init : goal.tokens-init
 tokens-init c = (subst (Going c.args.wanted c.args.profile c.args.limit c.args.text.now 0) (sym c.in_ok-state.ensures) (begins c.args.wanted c.args.profile c.args.limit c.args.text.now), omega arith)
 
 pub returns-in_default-clause-ready : goal.returns-in_default-clause-ready
-returns-in_default-clause-ready c = is_ready c.args.wanted c.args.profile c.args.limit c.args.text.now c.tokens.at c.tokens.state c.keep_wanted.new.self c.tokens.invariant.0 c.keep_wanted.ensures (omega arith) (omega arith)
+returns-in_default-clause-ready c = is_ready c.args.wanted c.args.profile c.args.limit c.args.text.now c.tokens.at c.tokens.state c.keep_wanted.new.self c.tokens.invariant.0 c.keep_wanted.ensures (omega arith)
 
 pub returns-in_default-clause-parsed : goal.returns-in_default-clause-parsed
 returns-in_default-clause-parsed c =
@@ -24,7 +24,7 @@ returns-in_err-token-clause-refused c =
     passed_on c.from_residual-in_err-token.result (lexical c.in_err-token.field-0.0) (IsNoNotation c.args.profile c.args.limit c.args.text.now) (stopped c.args.wanted c.args.profile c.args.limit c.args.text.now c.tokens.at c.tokens.state c.keep_wanted.new.self c.tokens.invariant.0 c.keep_wanted.ensures c.in_err-token.field-0.0 c.in_err-token.ensures.refused) c.from_residual-in_err-token.ensures
 
 pub step-requires : goal.step-requires
-step-requires c = is_ready c.args.wanted c.args.profile c.args.limit c.args.text.now c.tokens.at c.tokens.state c.keep_wanted.new.self c.tokens.invariant.0 c.keep_wanted.ensures (omega arith) (omega arith)
+step-requires c = is_ready c.args.wanted c.args.profile c.args.limit c.args.text.now c.tokens.at c.tokens.state c.keep_wanted.new.self c.tokens.invariant.0 c.keep_wanted.ensures (omega arith)
 
 pub first_fault-requires : goal.first_fault-requires
 first_fault-requires c =

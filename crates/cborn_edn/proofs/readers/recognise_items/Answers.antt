@@ -15,12 +15,12 @@ returns-in_err-recognise-clause-refused c =
 pub returns-in-Some-clause-refused : goal.returns-in-Some-clause-refused
 returns-in-Some-clause-refused c =
     let p = c.in_ok-state.ensures.parsed in
-    if_err c.refuse.result _ _ (λ e h. slip_refused c.args.profile c.args.limit c.args.text.now c.in_ok-state.state p c.in-Some.items c.in-Some.slip (sym c.in_ok-ended.ensures ∙ c.in-Some.is) e (h c.in-Some.items)) c.refuse.ensures.slip
+    if_err c.refuse.result _ _ (λ e h. slip_refused c.args.profile c.args.limit c.args.text.now c.in_ok-state.state p c.in-Some.bytes c.in-Some.slip (sym c.in_ok-ended.ensures ∙ c.in-Some.is) e (h c.in-Some.bytes)) c.refuse.ensures.slip
 
 pub returns-in-Some-clause-items : goal.returns-in-Some-clause-items
 returns-in-Some-clause-items c =
     let p = c.in_ok-state.ensures.parsed in
-    if_ok c.refuse.result _ _ (λ v h. items_are c.args.profile c.args.limit c.args.text.now c.in_ok-state.state p c.in-Some.items (sym c.in_ok-ended.ensures ∙ c.in-Some.is ∙ ap (λ s. Some (c.in-Some.items, s)) h)) c.refuse.ensures.none
+    if_ok c.refuse.result _ _ (λ v h. items_are c.args.profile c.args.limit c.args.text.now c.in_ok-state.state p c.in-Some.bytes (sym c.in_ok-ended.ensures ∙ c.in-Some.is ∙ ap (λ s. Some (c.in-Some.bytes, s)) h)) c.refuse.ensures.none
 
 pub returns-in-None-clause-refused : goal.returns-in-None-clause-refused
 returns-in-None-clause-refused c = rw c.cut_short.ensures (nothing_ends c.args.profile c.args.limit c.args.text.now c.in_ok-state.state c.in_ok-state.ensures.parsed (sym c.in_ok-ended.ensures ∙ c.in-None.is))

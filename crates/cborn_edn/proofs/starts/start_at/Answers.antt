@@ -11,7 +11,7 @@ pub embedded_after-embedded-requires : goal.embedded_after-embedded-requires
 embedded_after-embedded-requires c =
     let t = c.in-Ok-Some.token in
     let next = subst (IsNext c.args.profile c.args.text.now c.tokens.at) c.in-Ok-Some.field-0-is c.in-Ok-Some.ensures.ok in
-    omega (arith, c.tokens.invariant.0.few, few c.args.profile c.args.text.now c.tokens.at t.stop (t ∷ []) next)
+    omega (arith, c.tokens.invariant.0.taken.few, few c.args.profile c.args.text.now c.tokens.at t.stop (t ∷ []) next)
 
 pub returns-then-left-count : goal.returns-then-left-count
 returns-then-left-count c =
