@@ -17,13 +17,14 @@ use Rattle.cborn_lex.specs.declared.classes.Profile.TheVariants.{Two}
 use Rattle.cborn_det.specs.Appending.{Appends}
 use Rattle.cborn_wire.proofs.Spelled.TreeLists.{tree_list, trees-tree_list}
 use Rattle.cborn_lex.specs.declared.classes.Mark.{Mark}
+use Rattle.cborn_lex.specs.declared.classes.Token.{Token}
 use Rattle.cborn_lex.specs.declared.classes.Mark.TheVariants.{Absent, Endless, Wide}
 use Rattle.cborn_lex.specs.declared.classes.Class.TheVariants.{ArrayOpen, MapOpen, ArrayClose, MapClose, ParenClose, Comma, Colon, Number, TagOpen, Word, SimpleOpen}
 use Rattle.cborn_lex.specs.Lex.{Between}
 use Rattle.cborn_lex.proofs.WholeTexts.Progress.{nothing, joins, whole_text}
 use Rattle.cborn_edn.proofs.Meaning.Agree.{count-snoc, count-snoc_entry}
 use Rattle.cborn_edn.proofs.Grammar.Trailing.{parse_of}
-use Rattle.cborn_edn.specs.Syntax.{Span, depth_of_number, tokens_of_content, depth_of_content, tokens_of_fields, depth_of_fields, tokens_of_pairs, number, word, tag, simple, array, map, tokens_of, row, no_item, after_row, Content, loose, tight, tokens_of_row, pairs, no_pair, after_pairs, Fields, loose_fields, tight_fields, nothing as nothing_there, items, is_small, is_below, argument_of}
+use Rattle.cborn_edn.specs.Syntax.{Span, depth_of_number, tokens_of_content, depth_of_content, tokens_of_fields, depth_of_fields, tokens_of_pairs, number, word, tag, simple, array, map, tokens_of, row, no_item, after_row, Content, loose, tight, tokens_of_row, tokens_of_row_before, tokens_of_pairs_before, pairs, no_pair, after_pairs, Fields, loose_fields, tight_fields, nothing as nothing_there, items, is_small, is_below, argument_of}
 use Rattle.cborn_edn.specs.devices.Commas.{commas_of_content, commas_of_fields, AllowsCount}
 use Rattle.std.specs.Prelude.{nat_lt}
 use Rattle.cborn_edn.specs.Meaning.{integer, bignum, means_content, means_fields, and_then, when, means, snoc, snoc_entry, width_for, size_for}
@@ -130,6 +131,19 @@ module _ (profile : Profile) (text : List ℕ) where
         counted = count-snoc b.nodes node ∙ omega (arith, b.counted);
         written = t.written.2 ∙ ap (λ l. l ++ spelled node) b.written ∙ append_assoc old (spelled_all b.nodes) (spelled node) ∙ ap (λ l. old ++ l) (sym (spelled-snoc b.nodes node));
       }
+
+  -- white space and comments behind a comma
+  pub before_gap : (n m l room k : ℕ) (old new : List ℕ) → BeforeTaken profile text n m room k old new → Between profile text m l [] → BeforeTaken profile text n l room k old new
+  before_gap n m l room k old new b g = record {
+    row = b.row;
+    lexed = subst (λ (ts : List Token). Between profile text n l ts) (append-nil (tokens_of_row_before b.row)) (joins profile text n m l (tokens_of_row_before b.row) [] b.lexed g);
+    allowed = b.allowed;
+    shallow = b.shallow;
+    nodes = b.nodes;
+    says = b.says;
+    counted = b.counted;
+    written = b.written;
+  }
 
   pub row_comma : (n m l room k : ℕ) (old new : List ℕ) → RowTaken profile text n m room k old new → TokenAt profile text m l Comma → BeforeTaken profile text n l room k old new
   row_comma n m l room k old new r t = record {
@@ -267,6 +281,18 @@ module _ (profile : Profile) (text : List ℕ) where
         counted = count-snoc_entry p.nodes x y ∙ omega (arith, p.counted);
         written = t.written.2 ∙ ap (λ l. l ++ spelled y) (s.written.2 ∙ ap (λ l. l ++ spelled x) p.written ∙ append_assoc old (spelled_entries p.nodes) (spelled x)) ∙ append_assoc old (spelled_entries p.nodes ++ spelled x) (spelled y) ∙ ap (λ l. old ++ l) (sym (spelled-snoc_entry p.nodes x y));
       }
+
+  pub pairs_gap : (n m l room k : ℕ) (old new : List ℕ) → PairsBeforeTaken profile text n m room k old new → Between profile text m l [] → PairsBeforeTaken profile text n l room k old new
+  pairs_gap n m l room k old new b g = record {
+    pairs = b.pairs;
+    lexed = subst (λ (ts : List Token). Between profile text n l ts) (append-nil (tokens_of_pairs_before b.pairs)) (joins profile text n m l (tokens_of_pairs_before b.pairs) [] b.lexed g);
+    allowed = b.allowed;
+    shallow = b.shallow;
+    nodes = b.nodes;
+    says = b.says;
+    counted = b.counted;
+    written = b.written;
+  }
 
   pub pairs_comma : (n m l room k : ℕ) (old new : List ℕ) → PairsTaken profile text n m room k old new → TokenAt profile text m l Comma → PairsBeforeTaken profile text n l room k old new
   pairs_comma n m l room k old new r t = record {

@@ -1,10 +1,11 @@
 //! What opens and closes arrays, maps, strings and embedded items.
 
-ghost use Rattle.std.specs.Prelude.{◌≡◌, ◌≤◌, ◌<◌, length, IfSome, OnSome, IsTrue, IsUtf8};
+ghost use Rattle.std.specs.Prelude.{◌≡◌, ◌≤◌, ◌<◌, [], length, IfSome, OnSome, IsTrue, IsUtf8};
 ghost use Rattle.cborn_model.specs.Heads.{WidthFits, code};
 ghost use Rattle.cborn_lex.specs.declared.classes.Class.{Class};
 ghost use Rattle.cborn_lex.specs.declared.classes.Class.TheVariants as classes;
 ghost use Rattle.cborn_lex.specs.Forms.{start_of, single};
+ghost use Rattle.cborn_lex.specs.Lex.{Between};
 ghost use Rattle.cborn_edn.specs.declared.strings.StringKind.TheVariants as kinds;
 ghost use Rattle.cborn_spell.specs.Descent.{TokenAt, Ends, Opens, Closes, ClosesFixed, ClosesString, ClosesChunks, SetsHead, major_of};
 
@@ -185,27 +186,36 @@ fn ending_behind_comma(c: u8, source: &Source, at: usize) -> Option<usize>
     }
 }
 
-/// Whether a closing bracket stands behind a comma, where one may. Nothing is promised: it is read
-/// again.
+/// Where to go on behind a comma. None where a closing bracket stands, in the second profile; it is
+/// read again.
 #[inline(always)]
-pub(crate) fn is_last(source: &Source, at: usize) -> bool
+pub(crate) fn further(source: &Source, at: usize) -> Option<usize>
     requires { at ≤ length source.now.text.now }
+    ensures within { IfSome result (λ place. place ≤ length source.now.text.now) }
+    ensures gap { IfSome result (λ place. Between source.now.profile source.now.text.now at place []) }
 {
     match source.profile {
-        Profile::One => false,
-        Profile::Two => is_closing(source, at),
+        Profile::One => Some(at),
+        Profile::Two => unclosed(source, at),
     }
 }
 
-/// Whether a closing bracket is next.
-fn is_closing(source: &Source, at: usize) -> bool
+/// The same in the second profile.
+fn unclosed(source: &Source, at: usize) -> Option<usize>
     requires { at ≤ length source.now.text.now }
+    ensures within { IfSome result (λ place. place ≤ length source.now.text.now) }
+    ensures gap { IfSome result (λ place. Between source.now.profile source.now.text.now at place []) }
 {
-    match skip(source, at) {
-        Some(place) => place < source.text.len()
-            && matches!(source.text.as_bytes()[place], b']' | b'}' | b'>'),
-        None => false,
+    let place = skip(source, at)?;
+    if is_closing(source.text, place) {
+        return None;
     }
+    Some(place)
+}
+
+/// Whether a closing bracket stands at the place.
+fn is_closing(text: &str, at: usize) -> bool {
+    at < text.len() && matches!(text.as_bytes()[at], b']' | b'}' | b'>')
 }
 
 /// The end of `>>`, and its indicator.

@@ -1,7 +1,8 @@
-//! What probably stands at a place. Nothing is promised of it: what was guessed is read again by
-//! who takes it.
+//! What probably stands at a place. Nothing is promised of what it is: what was guessed is read again
+//! by who takes it.
 
-ghost use Rattle.std.specs.Prelude.{◌≤◌, ◌<◌, length, IfSome};
+ghost use Rattle.std.specs.Prelude.{◌≤◌, ◌<◌, [], length, IfSome};
+ghost use Rattle.cborn_lex.specs.Lex.{Between};
 
 use crate::scans::skip;
 use crate::sources::Source;
@@ -11,29 +12,41 @@ use crate::sources::Source;
 pub(crate) fn joins(source: &Source, at: usize) -> bool
     requires { at ≤ length source.now.text.now }
 {
+    next_piece(source, at).is_some()
+}
+
+/// Where it may stand, behind white space and comments.
+#[inline(always)]
+pub(crate) fn next_piece(source: &Source, at: usize) -> Option<usize>
+    requires { at ≤ length source.now.text.now }
+    ensures within { IfSome result (λ place. place ≤ length source.now.text.now) }
+    ensures gap { IfSome result (λ place. Between source.now.profile source.now.text.now at place []) }
+{
     if at < source.text.len()
         && matches!(source.text.as_bytes()[at], b',' | b']' | b'}' | b':' | b')')
     {
-        return false;
+        return None;
     }
-    is_piece(source, at)
+    piece_behind(source, at)
 }
 
-/// Whether a piece of a string begins behind white space and comments.
+/// The same, where no character comes first behind which an item ends.
 #[inline(never)]
-fn is_piece(source: &Source, at: usize) -> bool
+fn piece_behind(source: &Source, at: usize) -> Option<usize>
     requires { at ≤ length source.now.text.now }
+    ensures within { IfSome result (λ place. place ≤ length source.now.text.now) }
+    ensures gap { IfSome result (λ place. Between source.now.profile source.now.text.now at place []) }
 {
-    match skip(source, at) {
-        Some(place) => {
-            place < source.text.len()
-                && matches!(
-                    source.text.as_bytes()[place],
-                    b'"' | b'\'' | b'<' | b'h' | b'b'
-                )
-        }
-        None => false,
+    let place = skip(source, at)?;
+    if begins_piece(source.text, place) {
+        return Some(place);
     }
+    None
+}
+
+/// Whether the character at the place is one that a piece begins with.
+fn begins_piece(text: &str, at: usize) -> bool {
+    at < text.len() && matches!(text.as_bytes()[at], b'"' | b'\'' | b'<' | b'h' | b'b')
 }
 
 /// Whether a byte string stands at the place that goes on in another piece.

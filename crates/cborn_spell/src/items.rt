@@ -8,7 +8,7 @@ use crate::leaves::put_simple;
 use crate::numerals::{below_zero, decimal};
 use crate::pieces::{put_chunked, put_embedded_item, put_pieces_item};
 use crate::rows::{put_array, put_map};
-use crate::scans::{behind, skip};
+use crate::scans::{behind, is_gap, skip};
 use crate::sources::Source;
 use crate::strings::{plain_len, put_plain};
 use crate::tokens::{put_leaf, put_tag_head};
@@ -17,7 +17,7 @@ use cborn_det::put_head;
 use cborn_model::Major;
 
 /// Appends what the item from `at` on spells, which is no deeper than `room`, and answers where it
-/// ends.
+/// ends. It only calls: what is in line here takes no frame in a nest.
 #[cycle(descent)]
 #[inline(always)]
 pub(crate) fn put_item(source: &Source, room: u64, at: usize, out: &mut Vec<u8>) -> Option<usize>
@@ -26,14 +26,16 @@ pub(crate) fn put_item(source: &Source, room: u64, at: usize, out: &mut Vec<u8>)
     ensures within { IfSome result (λ end. end ≤ length source.now.text.now) }
     ensures taken { IfSome result (λ end. ItemTaken source.now.profile source.now.text.now at end room out.old.items out.new.items) }
 {
+    if !is_gap(source.text, at) {
+        return put_here(source, room, at, out);
+    }
     let place = skip(source, at)?;
     put_here(source, room, place, out)
 }
 
-/// As `put_item`, where no white space and no comment comes first. It only calls, so that it takes
-/// no room in a nest.
+/// The same, where no white space and no comment comes first.
 #[cycle(descent)]
-#[inline(never)]
+#[inline(always)]
 fn put_here(source: &Source, room: u64, at: usize, out: &mut Vec<u8>) -> Option<usize>
     requires room { room ≤ 1024 }
     requires at { at ≤ length source.now.text.now }
@@ -44,48 +46,66 @@ fn put_here(source: &Source, room: u64, at: usize, out: &mut Vec<u8>) -> Option<
         return None;
     }
     match source.text.as_bytes()[at] {
+        b'0'..=b'9' => put_from_digit(source, room, at, out),
+        b'"' => put_from_quote(source, room, at, out),
+        b'-' => put_from_minus(source, room, at, out),
         b'[' => put_array(source, room, at, out),
         b'{' => put_map(source, room, at, out),
         b'<' => put_embedded_item(source, room, at, out),
-        _ => put_common(source, room, at, out),
+        _ => put_other(source, room, at, out),
     }
 }
 
-/// As `put_here`, of a number or a string.
+/// As `put_here`, of what begins with a digit: most often an integer.
 #[cycle(descent)]
 #[inline(never)]
-fn put_common(source: &Source, room: u64, at: usize, out: &mut Vec<u8>) -> Option<usize>
+fn put_from_digit(source: &Source, room: u64, at: usize, out: &mut Vec<u8>) -> Option<usize>
     requires room { room ≤ 1024 }
     requires at { at < length source.now.text.now }
     ensures within { IfSome result (λ end. end ≤ length source.now.text.now) }
     ensures taken { IfSome result (λ end. ItemTaken source.now.profile source.now.text.now at end room out.old.items out.new.items) }
 {
-    match source.text.as_bytes()[at] {
-        b'0'..=b'9' => {
-            if let Some((n, end)) = decimal(source.text, at) {
-                put_head(Major::Unsigned, n, out)?;
-                return Some(end);
-            }
-        }
-        b'"' => {
-            if let Some(len) = plain_len(source.text, at) {
-                if !joins(source, at + len + 2) {
-                    return put_plain(source.text, at, len, out);
-                }
-            }
-        }
-        b'-' => {
-            if let Some((n, end)) = below_zero(source.text, at) {
-                put_head(Major::Negative, n - 1, out)?;
-                return Some(end);
-            }
-        }
-        _ => {}
+    if let Some((n, end)) = decimal(source.text, at) {
+        put_head(Major::Unsigned, n, out)?;
+        return Some(end);
     }
     put_other(source, room, at, out)
 }
 
-/// As `put_common`, of a form that is less common.
+/// The same of a minus.
+#[cycle(descent)]
+#[inline(never)]
+fn put_from_minus(source: &Source, room: u64, at: usize, out: &mut Vec<u8>) -> Option<usize>
+    requires room { room ≤ 1024 }
+    requires at { at < length source.now.text.now }
+    ensures within { IfSome result (λ end. end ≤ length source.now.text.now) }
+    ensures taken { IfSome result (λ end. ItemTaken source.now.profile source.now.text.now at end room out.old.items out.new.items) }
+{
+    if let Some((n, end)) = below_zero(source.text, at) {
+        put_head(Major::Negative, n - 1, out)?;
+        return Some(end);
+    }
+    put_other(source, room, at, out)
+}
+
+/// The same of a double quote: most often a text string without escapes.
+#[cycle(descent)]
+#[inline(never)]
+fn put_from_quote(source: &Source, room: u64, at: usize, out: &mut Vec<u8>) -> Option<usize>
+    requires room { room ≤ 1024 }
+    requires at { at < length source.now.text.now }
+    ensures within { IfSome result (λ end. end ≤ length source.now.text.now) }
+    ensures taken { IfSome result (λ end. ItemTaken source.now.profile source.now.text.now at end room out.old.items out.new.items) }
+{
+    if let Some(len) = plain_len(source.text, at) {
+        if !joins(source, at + len + 2) {
+            return put_plain(source.text, at, len, out);
+        }
+    }
+    put_other(source, room, at, out)
+}
+
+/// As `put_here`, of a form that is less common.
 #[cycle(descent)]
 #[inline(never)]
 fn put_other(source: &Source, room: u64, at: usize, out: &mut Vec<u8>) -> Option<usize>

@@ -1,11 +1,12 @@
 //! Decimal integers within 64 bits, with nothing attached.
 
-ghost use Rattle.std.specs.Prelude.{◌≡◌, ◌≤◌, ◌<◌, ◌^◌, true, false, ◌==◌, length, drop, IfSome};
+ghost use Rattle.std.specs.Prelude.{◌≡◌, ◌≤◌, ◌<◌, ◌^◌, true, false, length, IfSome};
 ghost use Rattle.cborn_lex.specs.declared.classes.Profile.{Profile};
 ghost use Rattle.cborn_lex.specs.declared.classes.Class.TheVariants as classes;
 ghost use Rattle.cborn_lex.specs.declared.classes.Mark.TheVariants as marks;
-ghost use Rattle.cborn_lex.specs.Tokens.{begins};
 ghost use Rattle.cborn_spell.specs.Descent.{TokenAt, IsPlain, goes_on};
+
+use crate::scans::stands;
 
 /// The integer at the place, where a digit stands, and its end.
 #[inline(always)]
@@ -19,16 +20,18 @@ pub(crate) fn decimal(text: &str, at: usize) -> Option<(u64, usize)>
     Some((n, at + len))
 }
 
-/// The magnitude, which isn't 0, of the integer at the place, where a minus stands, and its end.
+/// The magnitude, which isn't 0, of the integer below zero at the place, and its end.
 #[inline(always)]
 pub(crate) fn below_zero(text: &str, at: usize) -> Option<(u64, usize)>
-    requires inside { at < length text.now }
-    requires minus { begins (λ d. d == 45) (drop at text.now) ≡ true }
+    requires { at ≤ length text.now }
     ensures within { IfSome result (λ r. r.1 ≤ length text.now) }
     ensures some { IfSome result (λ r. 0 < r.0) }
     ensures small { IfSome result (λ r. r.0 < 2 ^ 64) }
     ensures token { IfSome result (λ r. (profile : Profile) → TokenAt profile text.now at r.1 (classes.Number true r.0 marks.Absent)) }
 {
+    if !stands(b'-', text, at) {
+        return None;
+    }
     let (n, len) = digits(&text.as_bytes()[at + 1..])?;
     if n == 0 {
         return None;
@@ -68,5 +71,9 @@ fn digits(tail: &[u8]) -> Option<(u64, usize)>
 fn goes_on(c: u8) -> bool
     ensures { result ≡ goes_on c }
 {
-    c.is_ascii_alphanumeric() || c == b'.' || c == b'_' || c == b'('
+    if c < b'.' {
+        c == b'('
+    } else {
+        c.is_ascii_alphanumeric() || c == b'.' || c == b'_'
+    }
 }

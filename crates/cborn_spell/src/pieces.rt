@@ -6,7 +6,7 @@ ghost use Rattle.cborn_edn.specs.declared.strings.StringKind.TheVariants as kind
 ghost use Rattle.cborn_spell.specs.Descent.{TokenAt, ItemTaken, RowTaken, PieceTaken, PiecesTaken, StringTaken, ChunksTaken};
 
 use crate::brackets::{close_chunks, close_string, embed_end, embed_ending};
-use crate::guesses::{is_void, joins};
+use crate::guesses::{is_void, next_piece};
 use crate::leaves::{fits_kind, is_bare, is_same};
 use crate::rows::put_row;
 use crate::scans::{behind, skip, stands};
@@ -127,13 +127,13 @@ fn put_further(
     let mut place = at;
     let mut last_mark = mark;
     'pieces: for _ in 0..source.text.len() {
-        if !joins(source, place) {
+        let Some(front) = next_piece(source, place) else {
             break;
-        }
+        };
         if !is_bare(last_mark) {
             return None;
         }
-        let (next, other, next_mark) = put_piece(source, room, place, out)?;
+        let (next, other, next_mark) = put_piece(source, room, front, out)?;
         if !fits_kind(kind, other) {
             return None;
         }

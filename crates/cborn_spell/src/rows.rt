@@ -3,7 +3,7 @@
 ghost use Rattle.std.specs.Prelude.{◌≤◌, length, IfSome};
 ghost use Rattle.cborn_spell.specs.Descent.{ItemTaken, RowTaken, PairsTaken};
 
-use crate::brackets::{close, ending, is_last, open};
+use crate::brackets::{close, ending, further, open};
 use crate::items::put_item;
 use crate::marks::opening;
 use crate::scans::behind;
@@ -54,12 +54,10 @@ pub(crate) fn put_row(
     'items: for count in 0..source.text.len() {
         let end = put_item(source, room, place, out)?;
         match behind(b',', source, end) {
-            Some(next) => {
-                if is_last(source, next) {
-                    return Some((end, count as u64 + 1));
-                }
-                place = next;
-            }
+            Some(next) => match further(source, next) {
+                Some(front) => place = front,
+                None => return Some((end, count as u64 + 1)),
+            },
             None => return Some((end, count as u64 + 1)),
         }
     }
@@ -106,12 +104,10 @@ fn put_pairs(source: &Source, room: u64, at: usize, out: &mut Vec<u8>) -> Option
         let middle = behind(b':', source, key_end)?;
         let end = put_item(source, room, middle, out)?;
         match behind(b',', source, end) {
-            Some(next) => {
-                if is_last(source, next) {
-                    return Some((end, count as u64 + 1));
-                }
-                place = next;
-            }
+            Some(next) => match further(source, next) {
+                Some(front) => place = front,
+                None => return Some((end, count as u64 + 1)),
+            },
             None => return Some((end, count as u64 + 1)),
         }
     }

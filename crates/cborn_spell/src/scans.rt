@@ -20,14 +20,24 @@ pub(crate) fn skip(source: &Source, at: usize) -> Option<usize>
     ensures within { IfSome result (λ end. end ≤ length source.now.text.now) }
     ensures gap { IfSome result (λ end. Between source.now.profile source.now.text.now at end []) }
 {
-    let bytes = source.text.as_bytes();
-    if at < bytes.len() && bytes[at] > b'/' {
-        return Some(at);
+    if is_gap(source.text, at) {
+        return skip_gaps(source.profile, source.text.as_bytes(), at);
     }
-    skip_gaps(source.profile, bytes, at)
+    Some(at)
 }
 
-/// The same, where one may stand.
+/// Whether white space or a comment may begin at the place. Nothing is promised: no character has to
+/// be skipped.
+#[inline(always)]
+pub(crate) fn is_gap(text: &str, at: usize) -> bool {
+    at < text.len()
+        && matches!(
+            text.as_bytes()[at],
+            b' ' | b'\t' | b'\n' | b'\r' | b'/' | b'#'
+        )
+}
+
+/// As `skip`, where one may stand.
 fn skip_gaps(profile: Profile, bytes: &[u8], at: usize) -> Option<usize>
     requires { at ≤ length bytes.now }
     ensures within { IfSome result (λ end. end ≤ length bytes.now) }
@@ -135,6 +145,12 @@ pub(crate) fn behind(c: u8, source: &Source, at: usize) -> Option<usize>
     ensures within { IfSome result (λ end. end ≤ length source.now.text.now) }
     ensures token { IfSome result (λ end. (k : Class) → start_of c ≡ single k → TokenAt source.now.profile source.now.text.now at end k) }
 {
+    if stands(c, source.text, at) {
+        return Some(at + 1);
+    }
+    if !is_gap(source.text, at) {
+        return None;
+    }
     let place = skip(source, at)?;
     if stands(c, source.text, place) {
         Some(place + 1)

@@ -6,9 +6,9 @@ ghost use Rattle.cborn_lex.specs.declared.classes.Profile.{Profile};
 ghost use Rattle.cborn_edn.specs.declared.strings.StringKind.TheVariants as kinds;
 ghost use Rattle.cborn_spell.specs.Descent.{IsPlainText, ItemTaken, PieceTaken};
 
-use crate::leaves::is_text;
 use crate::letters::{plain_run, put_letters};
 use crate::marks::indicator;
+use crate::scans::stands;
 use cborn_det::put_head;
 use cborn_lex::Mark;
 use cborn_model::Major;
@@ -23,24 +23,23 @@ pub(crate) fn put_plain(text: &str, at: usize, len: usize, out: &mut Vec<u8>) ->
     ensures within { IfSome result (λ end. end ≤ length text.now) }
     ensures taken { IfSome result (λ end. (profile : Profile) (room : ℕ) → ItemTaken profile text.now at end room out.old.items out.new.items) }
 {
-    let content = &text.as_bytes()[at + 1..at + 1 + len];
-    if !is_text(content) {
-        return None;
-    }
+    let content = text.get(at + 1..at + 1 + len)?;
     put_head(Major::TextString, len as u64, out)?;
-    out.extend_from_slice(content).ok()?;
+    out.extend_from_slice(content.as_bytes()).ok()?;
     Some(at + len + 2)
 }
 
-/// The length of the content at the front that has no escapes, up to its closing quote, behind
-/// which no indicator stands.
+/// The length of the content, between two quotes, that has no escapes, and behind which no indicator
+/// stands.
 #[inline(always)]
 pub(crate) fn plain_len(text: &str, at: usize) -> Option<usize>
-    requires inside { at < length text.now }
-    requires quote { begins (λ d. d == 34) (drop at text.now) ≡ true }
+    requires { at ≤ length text.now }
     ensures fits { IfSome result (λ len. at + len + 2 ≤ length text.now) }
     ensures plain { IfSome result (λ len. IsPlainText (drop at text.now) len) }
 {
+    if !stands(b'"', text, at) {
+        return None;
+    }
     let tail = &text.as_bytes()[at + 1..];
     let len = plain_run(tail);
     if len == tail.len() || tail[len] != b'"' || is_marked(&tail[len + 1..]) {

@@ -4,23 +4,23 @@ use Rattle.cborn_lex.specs.declared.classes.Class.TheVariants.{ArrayOpen, MapOpe
 use Rattle.cborn_edn.specs.declared.strings.StringKind.{StringKind}
 use Rattle.cborn_edn.specs.declared.strings.StringKind.TheVariants.{Bytes as OfBytes, Text as OfText}
 use Rattle.cborn_spell.specs.Descent.{StringTaken}
-use Rattle.cborn_spell.proofs.Taking.{gap_item, before_none, row_more, row_comma, pairs_none, pairs_more, pairs_comma, array_done, no_array_done, map_done, no_map_done, tag_done, number_done, plain_number, below_number, word_done}
+use Rattle.cborn_spell.proofs.Taking.{gap_item, before_none, row_more, row_comma, before_gap, pairs_none, pairs_more, pairs_comma, pairs_gap, array_done, no_array_done, map_done, no_map_done, tag_done, number_done, plain_number, below_number, word_done}
 use Rattle.cborn_spell.proofs.Joining.{gap_piece, embedded_done, no_embedded_done, one_piece, more_pieces, string_done, string_item, one_chunk, more_chunks, chunked_done}
 use Rattle.std.proofs.lemmas.Option.{IfSome_then}
 use Rattle.cborn_spell.proofs.+descent.Goals as goal
 
 pub items::put_item-returns-clause-taken : goal.items::put_item-returns-clause-taken
 items::put_item-returns-clause-taken t c =
-    IfSome_then c.put_here.result c.put_here.ensures.taken
-    (λ end s. gap_item c.args.source.now.profile c.args.source.now.text.now c.args.at c.in_ok-place.place end c.args.room c.args.out.now.items c.put_here.new.out.items c.in_ok-place.ensures.gap s)
+    IfSome_then c.put_here-2.result c.put_here-2.ensures.taken
+    (λ end s. gap_item c.args.source.now.profile c.args.source.now.text.now c.args.at c.in_ok-place.place end c.args.room c.args.out.now.items c.put_here-2.new.out.items c.in_ok-place.ensures.gap s)
 
-pub items::put_common-returns-in-Some-decimal-clause-taken : goal.items::put_common-returns-in-Some-decimal-clause-taken
-items::put_common-returns-in-Some-decimal-clause-taken t c =
-    number_done c.args.source.now.profile c.args.source.now.text.now c.args.at c.in-Some-decimal.end c.args.room false c.in-Some-decimal.n Absent c.args.out.now.items c.put_head-in-Some-decimal.new.out.items (c.in-Some-decimal.ensures.token c.args.source.now.profile) (inl (plain_number c.in-Some-decimal.n c.args.out.now.items c.put_head-in-Some-decimal.new.out.items c.in-Some-decimal.ensures.small c.in_ok-put_head-in-48-to-57.ensures))
+pub items::put_from_digit-returns-in-Some-clause-taken : goal.items::put_from_digit-returns-in-Some-clause-taken
+items::put_from_digit-returns-in-Some-clause-taken t c =
+    number_done c.args.source.now.profile c.args.source.now.text.now c.args.at c.in-Some.end c.args.room false c.in-Some.n Absent c.args.out.now.items c.put_head.new.out.items (c.in-Some.ensures.token c.args.source.now.profile) (inl (plain_number c.in-Some.n c.args.out.now.items c.put_head.new.out.items c.in-Some.ensures.small c.in_ok-put_head.ensures))
 
-pub items::put_common-returns-in-Some-below_zero-clause-taken : goal.items::put_common-returns-in-Some-below_zero-clause-taken
-items::put_common-returns-in-Some-below_zero-clause-taken t c =
-    number_done c.args.source.now.profile c.args.source.now.text.now c.args.at c.in-Some-below_zero.end c.args.room true c.in-Some-below_zero.n Absent c.args.out.now.items c.put_head.new.out.items (c.in-Some-below_zero.ensures.token c.args.source.now.profile) (inl (below_number c.in-Some-below_zero.n c.args.out.now.items c.put_head.new.out.items c.in-Some-below_zero.ensures.some c.in-Some-below_zero.ensures.small c.in_ok-put_head-in-45.ensures))
+pub items::put_from_minus-returns-in-Some-clause-taken : goal.items::put_from_minus-returns-in-Some-clause-taken
+items::put_from_minus-returns-in-Some-clause-taken t c =
+    number_done c.args.source.now.profile c.args.source.now.text.now c.args.at c.in-Some.end c.args.room true c.in-Some.n Absent c.args.out.now.items c.put_head.new.out.items (c.in-Some.ensures.token c.args.source.now.profile) (inl (below_number c.in-Some.n c.args.out.now.items c.put_head.new.out.items c.in-Some.ensures.some c.in-Some.ensures.small c.in_ok-put_head.ensures))
 
 pub items::put_other-returns-in-Some-clause-taken : goal.items::put_other-returns-in-Some-clause-taken
 items::put_other-returns-in-Some-clause-taken t c =
@@ -52,10 +52,10 @@ rows::put_row-returns-in-None-clause-taken t c =
 pub rows::put_row-items-preserved : goal.rows::put_row-items-preserved
 rows::put_row-items-preserved t c =
     let row = row_more c.args.source.now.profile c.args.source.now.text.now c.args.at c.items.place c.in_ok-end.end c.args.room c.items.count c.args.out.now.items c.items.out.items c.put_item.new.out.items c.items.invariant.1 c.in_ok-end.ensures.taken in
-    (c.in-Some.ensures.within, row_comma c.args.source.now.profile c.args.source.now.text.now c.args.at c.in_ok-end.end c.in-Some.next c.args.room (c.items.count + 1) c.args.out.now.items c.put_item.new.out.items row (c.in-Some.ensures.token Comma refl))
+    (c.in-Some-further.ensures.within, before_gap c.args.source.now.profile c.args.source.now.text.now c.args.at c.in-Some.next c.in-Some-further.front c.args.room (c.items.count + 1) c.args.out.now.items c.put_item.new.out.items (row_comma c.args.source.now.profile c.args.source.now.text.now c.args.at c.in_ok-end.end c.in-Some.next c.args.room (c.items.count + 1) c.args.out.now.items c.put_item.new.out.items row (c.in-Some.ensures.token Comma refl)) c.in-Some-further.ensures.gap)
 
-pub rows::put_row-returns-then-is_last-clause-taken : goal.rows::put_row-returns-then-is_last-clause-taken
-rows::put_row-returns-then-is_last-clause-taken t c =
+pub rows::put_row-returns-in-None-further-clause-taken : goal.rows::put_row-returns-in-None-further-clause-taken
+rows::put_row-returns-in-None-further-clause-taken t c =
     row_more c.args.source.now.profile c.args.source.now.text.now c.args.at c.items.place c.in_ok-end.end c.args.room c.items.count c.args.out.now.items c.items.out.items c.put_item.new.out.items c.items.invariant.1 c.in_ok-end.ensures.taken
 
 pub rows::put_map-returns-in-Some-clause-taken : goal.rows::put_map-returns-in-Some-clause-taken
@@ -80,10 +80,10 @@ pub rows::put_pairs-pairs-preserved : goal.rows::put_pairs-pairs-preserved
 rows::put_pairs-pairs-preserved t c =
     let some = pairs_more c.args.source.now.profile c.args.source.now.text.now c.args.at c.pairs.place c.in_ok-key_end.key_end c.in_ok-middle.middle c.in_ok-end.end c.args.room c.pairs.count c.args.out.now.items c.pairs.out.items c.put_item.new.out.items c.put_item-in-pairs.new.out.items
     c.pairs.invariant.1 c.in_ok-key_end.ensures.taken (c.in_ok-middle.ensures.token Colon refl) c.in_ok-end.ensures.taken in
-    (c.in-Some.ensures.within, pairs_comma c.args.source.now.profile c.args.source.now.text.now c.args.at c.in_ok-end.end c.in-Some.next c.args.room (c.pairs.count + 1) c.args.out.now.items c.put_item-in-pairs.new.out.items some (c.in-Some.ensures.token Comma refl))
+    (c.in-Some-further.ensures.within, pairs_gap c.args.source.now.profile c.args.source.now.text.now c.args.at c.in-Some.next c.in-Some-further.front c.args.room (c.pairs.count + 1) c.args.out.now.items c.put_item-in-pairs.new.out.items (pairs_comma c.args.source.now.profile c.args.source.now.text.now c.args.at c.in_ok-end.end c.in-Some.next c.args.room (c.pairs.count + 1) c.args.out.now.items c.put_item-in-pairs.new.out.items some (c.in-Some.ensures.token Comma refl)) c.in-Some-further.ensures.gap)
 
-pub rows::put_pairs-returns-then-is_last-clause-taken : goal.rows::put_pairs-returns-then-is_last-clause-taken
-rows::put_pairs-returns-then-is_last-clause-taken t c =
+pub rows::put_pairs-returns-in-None-further-clause-taken : goal.rows::put_pairs-returns-in-None-further-clause-taken
+rows::put_pairs-returns-in-None-further-clause-taken t c =
     pairs_more c.args.source.now.profile c.args.source.now.text.now c.args.at c.pairs.place c.in_ok-key_end.key_end c.in_ok-middle.middle c.in_ok-end.end c.args.room c.pairs.count c.args.out.now.items c.pairs.out.items c.put_item.new.out.items c.put_item-in-pairs.new.out.items
     c.pairs.invariant.1 c.in_ok-key_end.ensures.taken (c.in_ok-middle.ensures.token Colon refl) c.in_ok-end.ensures.taken
 
@@ -118,7 +118,7 @@ pieces::put_further-pieces-init t c = (search rules, λ n start p. p)
 pub pieces::put_further-pieces-preserved : goal.pieces::put_further-pieces-preserved
 pieces::put_further-pieces-preserved t c = (
   c.in_ok-next.ensures.within,
-  λ n start p. more_pieces c.args.source.now.profile c.args.source.now.text.now n c.pieces.place c.in_ok-next.next c.args.room c.args.kind c.in_ok-next.other c.pieces.last_mark c.in_ok-next.next_mark start c.pieces.out.items c.put_piece.new.out.items (c.pieces.invariant.1 n start p) (sym c.is_bare.ensures ∙ c.if-not-is_bare.false) c.in_ok-next.ensures.taken (sym c.fits_kind.ensures ∙ c.if-not-fits_kind.false),
+  λ n start p. more_pieces c.args.source.now.profile c.args.source.now.text.now n c.pieces.place c.in_ok-next.next c.args.room c.args.kind c.in_ok-next.other c.pieces.last_mark c.in_ok-next.next_mark start c.pieces.out.items c.put_piece.new.out.items (c.pieces.invariant.1 n start p) (sym c.is_bare.ensures ∙ c.if-not-is_bare.false) (gap_piece c.args.source.now.profile c.args.source.now.text.now c.pieces.place c.in-Some.front c.in_ok-next.next c.args.room c.in_ok-next.other c.in_ok-next.next_mark c.pieces.out.items c.put_piece.new.out.items c.in-Some.ensures.gap c.in_ok-next.ensures.taken) (sym c.fits_kind.ensures ∙ c.if-not-fits_kind.false),
 )
 
 pub pieces::put_piece-returns-then-stands-2-clause-taken : goal.pieces::put_piece-returns-then-stands-2-clause-taken

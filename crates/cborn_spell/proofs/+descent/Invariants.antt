@@ -8,8 +8,14 @@ decreases-items::put_item l = 16 * l.room + 11
 abbrev pub decreases-items::put_here : goal.decreases-items::put_here
 decreases-items::put_here l = 16 * l.room + 10
 
-abbrev pub decreases-items::put_common : goal.decreases-items::put_common
-decreases-items::put_common l = 16 * l.room + 8
+abbrev pub decreases-items::put_from_digit : goal.decreases-items::put_from_digit
+decreases-items::put_from_digit l = 16 * l.room + 8
+
+abbrev pub decreases-items::put_from_minus : goal.decreases-items::put_from_minus
+decreases-items::put_from_minus l = 16 * l.room + 8
+
+abbrev pub decreases-items::put_from_quote : goal.decreases-items::put_from_quote
+decreases-items::put_from_quote l = 16 * l.room + 8
 
 abbrev pub decreases-items::put_other : goal.decreases-items::put_other
 decreases-items::put_other l = 16 * l.room + 7

@@ -12,4 +12,4 @@ returns-clause-plain c =
     let whole : tail ≡ drop 1 (drop c.args.at c.args.text.now) = take_rest x (c.args.at + 1) ∙ ap (drop (c.args.at + 1)) c.as_bytes.ensures.value ∙ sym (drop-drop 1 c.args.at c.args.text.now) in
     let bare : begins (λ d. eqb d 95) (drop (len + 1) tail) ≡ false = subst (λ (l : List ℕ). begins (λ d. eqb d 95) l ≡ false) (take_rest tail (len + 1)) (sym c.is_marked.ensures ∙ c.if-is_marked.false) in
     let inside : len < length tail = omega (arith, c.plain_run-len.ensures.within, c.if-len-tail.false) in
-    plain_from (drop c.args.at c.args.text.now) tail len c.requires.quote whole inside c.plain_run-len.ensures.plain c.if-tail-len-ne34.false bare
+    plain_from (drop c.args.at c.args.text.now) tail len (sym c.stands.ensures.is ∙ c.if-not-stands.false) whole inside c.plain_run-len.ensures.plain c.if-tail-len-ne34.false bare
