@@ -219,6 +219,7 @@ fn is_closing(text: &str, at: usize) -> bool {
 }
 
 /// The end of `>>`, and its indicator.
+#[inline(never)]
 pub(crate) fn embed_end(source: &Source, at: usize) -> Option<(usize, Mark)>
     requires { at ≤ length source.now.text.now }
     ensures within { IfSome result (λ r. r.0 ≤ length source.now.text.now) }
@@ -232,6 +233,7 @@ pub(crate) fn embed_end(source: &Source, at: usize) -> Option<(usize, Mark)>
 }
 
 /// The same, behind one comma in the second profile.
+#[inline(never)]
 pub(crate) fn embed_ending(source: &Source, at: usize) -> Option<(usize, Mark)>
     requires { at ≤ length source.now.text.now }
     ensures within { IfSome result (λ r. r.0 ≤ length source.now.text.now) }
