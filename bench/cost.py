@@ -77,6 +77,9 @@ def texts(n):
         "text of maps, repeated key last": b"[" + b"{1:1}," * (n // 6) + b"{1:1,1:2}]",
         "text of maps, float last": b"[" + b"{1:1}," * (n // 6) + b"1e1]",
         "embedded items, float last": b"<<" + b"1," * (n // 2) + b"2.5>>",
+        "embedded array, narrow width behind": b"<<[" + b"1," * (n // 2) + b"1]>>, 300_0",
+        "embedded items, narrow width last": b"<<" + b"1," * (n // 2) + b"300_0>>",
+        "embedded maps, narrow width of the string": b"<<" + b"{1:1}," * (n // 6) + b"1>>_0",
         "text, wide heads": b"[" + b"1_3," * (n // 4) + b"1]",
     }
 

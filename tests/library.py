@@ -294,6 +294,14 @@ def embedded(levels):
     return item
 
 
+def chunked(levels):
+    """What `(_ ''<<` and `>>)` stand for, so many times in one another."""
+    item = b""
+    for _ in range(levels):
+        item = b"\x5f" + head(2, len(item)) + item + b"\xff"
+    return item
+
+
 def nests_of(depth):
     """Nests of this depth: of arrays, of maps, of maps in keys, of tags and so on; and an array that is as long."""
 
@@ -307,6 +315,9 @@ def nests_of(depth):
     arrays, arrays_text = b"\x81" * (depth - 1) + b"\x80", around("[", "", "]")
     strings = embedded(depth)
     strings_text = f"h'{strings[len(head(2, len(embedded(depth - 1)))):].hex()}'"
+    # the contents of a byte string stay as they are
+    chunk = chunked(depth - 1)
+    chunks, whole = chunked(depth), head(2, len(chunk)) + chunk
     return [
         spelled("arrays", around(b"\x81", b"\x00", b""), around("[", "0", "]")),
         spelled("maps", around(b"\xa1\x00", b"\x00", b""), around("{0: ", "0", "}")),
@@ -320,6 +331,8 @@ def nests_of(depth):
         Nest("array-notation", "notation", arrays_text.encode(), arrays, arrays, arrays_text, arrays_text, None),
         Nest("map-notation", "notation", around("{1:0, 0:", "0", "}").encode(), turned, sorted_pairs, turned_text, sorted_text, None),
         Nest("embedded-notation", "notation", around("<<", "", ">>").encode(), strings, strings, strings_text, strings_text, None),
+        Nest("joined-notation", "notation", around("''<<", "", ">>").encode(), strings, strings, strings_text, strings_text, None),
+        Nest("chunked-notation", "notation", around("(_ ''<<", "", ">>)").encode(), chunks, whole, f"(_ h'{chunk.hex()}')", f"h'{chunk.hex()}'", None),
     ]
 
 
