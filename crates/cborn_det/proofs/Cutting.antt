@@ -6,6 +6,7 @@ use Rattle.std.specs.Prelude.{Option, None, Some, ⊤}
 use Rattle.cborn_model.specs.Orders.{Rising}
 use Rattle.cborn_det.specs.Det.{Entry, keys, joined}
 use Rattle.cborn_det.specs.devices.Writing.{IsWritten, lengths_of}
+use Rattle.cborn_det.specs.shared.KeyBefore.{EndsIn, Below}
 
 -- what was written says which entries there are
 pub one_written : (es fs : List Entry) (cs : List (ℕ × ℕ)) (b : List ℕ) → IsWritten es cs b → IsWritten fs cs b → es ≡ fs
@@ -48,21 +49,11 @@ cut_more es front lengths i b all k v rest l w a p q r =
     let same : front ++ es ≡ (front ++ (k, v) ∷ []) ++ t.1 = ap (λ z. front ++ z) t.2 ∙ (λ j. front ++ ((sym key j, sym val j) ∷ t.1)) ∙ sym (append_assoc front ((k, v) ∷ []) t.1) in
     (t.1, (t.5, others), subst (λ z. IsWritten z lengths all) same a)
 
--- the key before, where there is one, is the last of these
-abbrev pub EndsIn : Option (Bor (List ℕ)) → List (List ℕ) → Type 0
-EndsIn None ks = ks ≡ []
-EndsIn (Some k) ks = (js : List (List ℕ)) × (ks ≡ js ++ k.now ∷ [])
-
 -- one more key, above the last
 pub rising_push : (order : List ℕ → List ℕ → Ordering) (js : List (List ℕ)) (k l : List ℕ) → Rising order (js ++ k ∷ []) → order k l ≡ Less → Rising order ((js ++ k ∷ []) ++ l ∷ [])
 rising_push order [] k l r h = (h, tt)
 rising_push order (i ∷ []) k l r h = (r.0, (h, tt))
 rising_push order (i ∷ j ∷ js) k l r h = (r.0, rising_push order (j ∷ js) k l r.1 h)
-
--- the key before, where there is one, is below this
-abbrev pub Below : (List ℕ → List ℕ → Ordering) → Option (Bor (List ℕ)) → List ℕ → Type 0
-Below order None k = ⊤
-Below order (Some b) k = order b.now k ≡ Less
 
 pub is_less : (o : Ordering) → is_lt o ≡ true → o ≡ Less
 is_less Less h = refl

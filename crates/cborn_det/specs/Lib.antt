@@ -1,3 +1,4 @@
 pub mod Det
 pub mod Appending
+pub mod shared
 pub mod devices

@@ -6,4 +6,5 @@ pub mod Shown
 pub mod Counted
 pub mod ReadingBack
 pub mod Starts
+pub mod shared
 pub mod devices

@@ -1,13 +1,10 @@
 pub mod TreesCode
-pub mod Commas
 pub mod Draft
 pub mod Lowest
-pub mod Between
 pub mod Escaping
 pub mod Levels
 pub mod Ready
 pub mod Lean
-pub mod Texts
 pub mod Shapes
 pub mod Begun
 pub mod Put

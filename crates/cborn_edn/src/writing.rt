@@ -5,7 +5,7 @@ ghost use Rattle.std.specs.List.{flat_map};
 ghost use Rattle.cborn_model.specs.Tree.{trees, entries};
 ghost use Rattle.cborn_edn.specs.declared.strings.StringKind.TheVariants.{Bytes as OfBytes, Text as OfText};
 ghost use Rattle.cborn_edn.specs.Shown as pure;
-ghost use Rattle.cborn_edn.specs.devices.Between.{between};
+ghost use Rattle.cborn_edn.specs.shared.Between.{between};
 ghost use Rattle.cborn_edn.specs.Shown.{mark_for, mark_for_size};
 ghost use Rattle.cborn_edn.specs.devices.Escaping.{is_escaped};
 

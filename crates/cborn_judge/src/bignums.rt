@@ -5,7 +5,7 @@ ghost use Rattle.cborn_model.specs.Bytes.{AreBytes};
 ghost use Rattle.cborn_model.specs.ItemView.{item_value};
 ghost use Rattle.cborn_model.specs.Meaning.{IsNumber};
 ghost use Rattle.cborn_model.specs.Spelled.{Fits};
-ghost use Rattle.cborn_judge.specs.devices.Judged.{IsBignumItem, IsMagnitudeOf};
+ghost use Rattle.cborn_judge.specs.shared.Judged.{IsBignumItem, IsMagnitudeOf};
 
 use crate::strings::join;
 use cborn_det::number_of;

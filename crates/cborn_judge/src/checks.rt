@@ -9,7 +9,7 @@ ghost use Rattle.cborn_model.specs.declared.heads.Width.{Width};
 ghost use Rattle.cborn_model.specs.Valid.{IsProper, AreProper, HasProperPairs};
 ghost use Rattle.cborn_model.specs.Value.{Values, Couples, array, dict, values_of, pairs_of};
 ghost use Rattle.cborn_judge.specs.Departures.{FindsDefect};
-ghost use Rattle.cborn_judge.specs.devices.Checked.{DefectIn, DefectInAll, DescentAt, MapDefect, TagDefect};
+ghost use Rattle.cborn_judge.specs.shared.Checked.{DefectIn, DefectInAll, DescentAt, MapDefect, TagDefect};
 ghost use Rattle.cborn_judge.specs.Defects.{IsCheck, IsDeterministic};
 ghost use Rattle.cborn_judge.specs.Flaws.{IsRefusal};
 

@@ -9,7 +9,7 @@ ghost use Rattle.cborn_model.specs.Spelled.{Fits, FitsAll, FitsEntries};
 ghost use Rattle.cborn_model.specs.Tree as tree;
 ghost use Rattle.cborn_model.specs.Tree.{Tree, trees, entries};
 ghost use Rattle.cborn_judge.specs.Flaws.{IsRefusal, IsRefusalOfAll};
-ghost use Rattle.cborn_judge.specs.devices.Judged.{IsJudged, IsJudgedPair, IsFirstWith, PairFits};
+ghost use Rattle.cborn_judge.specs.shared.Judged.{IsJudged, IsJudgedPair, IsFirstWith, PairFits};
 ghost use Rattle.cborn_judge.specs.devices.Keeping.{KeepsKey};
 
 use crate::bignums::{judge_bignum, small_integer};

@@ -2,10 +2,10 @@
 
 ghost use Rattle.std.specs.Prelude.{◌≡◌, ◌<◌, IfOk, All, length};
 ghost use Rattle.cborn_model.specs.Tree.{entries};
-ghost use Rattle.cborn_judge.specs.devices.Judged.{FindsFlaw, RepeatFlaw};
+ghost use Rattle.cborn_judge.specs.shared.Judged.{FindsFlaw, RepeatFlaw};
 ghost use Rattle.cborn_judge.specs.devices.Keeping.{AreKept};
 ghost use Rattle.cborn_judge.specs.devices.Places.{key_bytes, key_position, key_places, RepeatAt};
-ghost use Rattle.cborn_judge.specs.devices.Repeats.{PositionsRise};
+ghost use Rattle.cborn_judge.specs.shared.Repeats.{PositionsRise};
 
 use crate::faults::{Flaw, InvalidReason};
 use crate::keys::Keys;

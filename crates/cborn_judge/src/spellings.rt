@@ -5,7 +5,7 @@ ghost use Rattle.std.specs.Prelude.{◌≡◌, ◌⊎◌, ◌↔◌, IfOk, IsTru
 ghost use Rattle.std.proofs.Common.{Ordering};
 ghost use Rattle.cborn_model.specs.Meaning.{IsByteString};
 ghost use Rattle.cborn_judge.specs.Departures.{FindsDefect, LongAt, LooseBytesAt, NotAboveAt};
-ghost use Rattle.cborn_judge.specs.devices.Checked.{SizeAt, TagDefect};
+ghost use Rattle.cborn_judge.specs.shared.Checked.{SizeAt, TagDefect};
 ghost use Rattle.cborn_judge.specs.Defects.{ChunksDefect, IsLoose};
 
 use crate::defects::{Defect, DefectReason};

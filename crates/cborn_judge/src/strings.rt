@@ -6,7 +6,7 @@ ghost use Rattle.cborn_model.specs.Bytes.{AreBytes};
 ghost use Rattle.cborn_model.specs.Meaning.{joined_chunks};
 ghost use Rattle.cborn_model.specs.Spelled.{ChunksFit};
 ghost use Rattle.cborn_model.specs.Tree as tree;
-ghost use Rattle.cborn_judge.specs.devices.Judged.{IsJudged};
+ghost use Rattle.cborn_judge.specs.shared.Judged.{IsJudged};
 
 use crate::faults::{Flaw, InvalidReason};
 use crate::judgments::Judged;

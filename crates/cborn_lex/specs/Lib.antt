@@ -3,4 +3,5 @@ pub mod Numbers
 pub mod Strings
 pub mod Forms
 pub mod Lex
+pub mod shared
 pub mod devices

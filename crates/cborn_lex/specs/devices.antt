@@ -1,4 +1,2 @@
-pub mod Letters
 pub mod Pieces
 pub mod View
-pub mod Scan

@@ -6,7 +6,7 @@ ghost use Rattle.cborn_lex.specs.declared.classes.Class.TheVariants.{Bytes};
 ghost use Rattle.cborn_lex.specs.Tokens.{is_white, marked};
 ghost use Rattle.cborn_lex.specs.Strings.{IsHex, base64_text, to_standard, IsBase64};
 ghost use Rattle.cborn_lex.specs.Forms.{IsPrefixed, hexadecimal, base64};
-ghost use Rattle.cborn_lex.specs.devices.Scan.{strip};
+ghost use Rattle.cborn_lex.specs.shared.Scan.{strip};
 ghost use Rattle.cborn_lex.specs.devices.View.{front_view};
 
 use crate::classes::{Class, Mark};

@@ -4,7 +4,7 @@ ghost use Rattle.std.specs.Prelude.{◌≡◌, ℕ, ◌<◌, ◌≤◌, ◌++◌
 ghost use Rattle.cborn_lex.specs.Tokens.{marked};
 ghost use Rattle.cborn_lex.specs.Strings.{is_content, is_unclosed, is_escape, escape_code, is_low, IsText};
 ghost use Rattle.cborn_lex.specs.Forms.{IsRun, IsQuoted};
-ghost use Rattle.cborn_lex.specs.devices.Scan.{is_raw, code_at, low_code, unit_from, escape_of, string_class};
+ghost use Rattle.cborn_lex.specs.shared.Scan.{is_raw, code_at, low_code, unit_from, escape_of, string_class};
 ghost use Rattle.cborn_lex.specs.devices.View.{front_view};
 
 use crate::classes::{Class, Mark};

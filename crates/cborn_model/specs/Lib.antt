@@ -12,4 +12,5 @@ pub mod Valid
 pub mod Meaning
 pub mod Orders
 pub mod First
+pub mod shared
 pub mod devices

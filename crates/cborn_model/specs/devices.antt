@@ -1,6 +1,4 @@
-pub mod TreeCode
 pub mod TreeFalls
 pub mod ValueCode
 pub mod ItemFalls
 pub mod Pairs
-pub mod OrderLaws

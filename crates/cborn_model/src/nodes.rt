@@ -55,7 +55,7 @@ pub enum Form {
 
 impl Model for Node {
     ghost use Rattle.cborn_model.specs.Tree.{Tree, depth};
-    ghost use Rattle.cborn_model.specs.devices.TreeCode.{tree_code};
+    ghost use Rattle.cborn_model.specs.shared.TreeCode.{tree_code};
 
     ghost Value = { Tree };
 

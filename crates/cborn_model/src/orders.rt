@@ -3,7 +3,7 @@
 ghost use Rattle.std.specs.Prelude.{◌≡◌, ℕ, List};
 ghost use Rattle.std.proofs.Common.{Ordering};
 ghost use Rattle.cborn_model.specs.Orders.{IsKeyOrder, bytewise, length_first};
-ghost use Rattle.cborn_model.specs.devices.OrderLaws.{bytewise_order, length_first_order};
+ghost use Rattle.cborn_model.specs.shared.OrderLaws.{bytewise_order, length_first_order};
 
 use std::cmp::Ordering;
 

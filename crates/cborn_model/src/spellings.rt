@@ -16,7 +16,7 @@ pub struct Spelled {
 
 impl Model for Spelled {
     ghost use Rattle.cborn_model.specs.Tree.{Tree};
-    ghost use Rattle.cborn_model.specs.devices.TreeCode.{tree_code};
+    ghost use Rattle.cborn_model.specs.shared.TreeCode.{tree_code};
 
     ghost Value = { Tree };
 

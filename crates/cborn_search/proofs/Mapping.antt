@@ -9,7 +9,7 @@ use Rattle.cborn_model.specs.Heads.{Given, Unbounded, head, WidthFits}
 use Rattle.cborn_model.specs.Orders.{bytewise}
 use Rattle.cborn_model.specs.Tree.{Tree, Pairs, entries}
 use Rattle.cborn_judge.specs.Flaws.{Flaw}
-use Rattle.cborn_judge.specs.devices.Judged.{FlawAmong, RepeatFlaw}
+use Rattle.cborn_judge.specs.shared.Judged.{FlawAmong, RepeatFlaw}
 use Rattle.cborn_judge.specs.declared.faults.InvalidReason.{InvalidReason}
 use Rattle.cborn_judge.proofs.Loops.Firsts.{Either}
 use Rattle.cborn_judge.proofs.FirstFlaw.Pairing.{after, before, last_key, last_value}

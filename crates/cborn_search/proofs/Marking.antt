@@ -6,10 +6,10 @@ use Rattle.std.proofs.Math.Seq.{drop-append_seam}
 use Rattle.std.proofs.lemmas.List.{take_all, drop-append-le, take-append-le}
 use Rattle.cborn_model.specs.Tree.{entries}
 use Rattle.cborn_model.specs.Orders.{bytewise}
-use Rattle.cborn_model.specs.devices.OrderLaws.{bytewise_order}
+use Rattle.cborn_model.specs.shared.OrderLaws.{bytewise_order}
 use Rattle.cborn_judge.specs.Flaws.{HasRepeat, flaw_rank}
-use Rattle.cborn_judge.specs.devices.Judged.{RepeatFlaw}
-use Rattle.cborn_judge.specs.devices.Repeats.{IsOneOf, IsAgain, IsTied, PositionsRise}
+use Rattle.cborn_judge.specs.shared.Judged.{RepeatFlaw}
+use Rattle.cborn_judge.specs.shared.Repeats.{IsOneOf, IsAgain, IsTied, PositionsRise}
 use Rattle.cborn_judge.specs.declared.faults.InvalidReason.{InvalidReason}
 use Rattle.cborn_judge.specs.declared.faults.InvalidReason.TheVariants.{NotUtf8, DuplicateKey}
 use Rattle.cborn_judge.proofs.Loops.Firsts.{Either}

@@ -17,7 +17,7 @@ use Rattle.cborn_wire.specs.HeadReading.{major_at, IsHeadOf, seen_argument, Argu
 use Rattle.cborn_wire.proofs.Machine.SoundItems.{fits_chunks-snoc, placed_chunks-snoc, chunk_bytes-snoc}
 use Rattle.cborn_transcode.proofs.Heading.{head_split}
 use Rattle.cborn_transcode.proofs.Opening.{behind}
-use Rattle.cborn_transcode.specs.devices.Walking.{Leaves}
+use Rattle.cborn_transcode.specs.shared.Walking.{Leaves}
 use Rattle.cborn_search.specs.Reading.{StringRead, IsSimpleArgument, ChunkRead, ChunksRead, NodeRead, NodesRead}
 
 -- ---- leaves

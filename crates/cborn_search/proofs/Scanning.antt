@@ -13,7 +13,7 @@ use Rattle.cborn_model.specs.Tree.{Tree, Text, TextChunks, Items, Tagged, trees}
 use Rattle.cborn_wire.specs.declared.heads.Argument.{Argument}
 use Rattle.cborn_wire.specs.HeadReading.{seen_argument}
 use Rattle.cborn_judge.specs.Flaws.{FlawAt, Flaw, flaw_rank}
-use Rattle.cborn_judge.specs.devices.Judged.{FlawIn, ChunkFlaw}
+use Rattle.cborn_judge.specs.shared.Judged.{FlawIn, ChunkFlaw}
 use Rattle.cborn_judge.specs.declared.faults.InvalidReason.{InvalidReason}
 use Rattle.cborn_judge.specs.declared.faults.InvalidReason.TheVariants.{NotUtf8, BadBignum}
 use Rattle.cborn_judge.proofs.Loops.Firsts.{Either, found_both, found_alike}

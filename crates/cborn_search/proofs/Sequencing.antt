@@ -13,7 +13,7 @@ use Rattle.cborn_judge.specs.declared.faults.InvalidReason.{InvalidReason}
 use Rattle.cborn_judge.specs.declared.faults.InvalidReason.TheVariants.{NotUtf8}
 use Rattle.cborn_wire.proofs.Spelled.AsPlaced.{same_all-from}
 use Rattle.cborn_wire.proofs.Spelled.OneReading.{one_spelling}
-use Rattle.cborn_judge.specs.devices.Judged.{FlawIn}
+use Rattle.cborn_judge.specs.shared.Judged.{FlawIn}
 use Rattle.cborn_judge.proofs.Meaning.Judging.{meaning}
 use Rattle.cborn_judge.proofs.FirstFlaw.Sequences.{mean_more}
 use Rattle.cborn_search.specs.Flawed.{Told, FindsTold, HasFlaw, Scanned, HaveFlaw, ScannedAll}

@@ -7,8 +7,8 @@ use Rattle.cborn_model.specs.Tree.{Tree, trees, entries}
 use Rattle.cborn_model.specs.declared.nodes.Chunk.{Chunk}
 use Rattle.cborn_judge.specs.Flaws.{flaw_rank, Flaw}
 use Rattle.cborn_judge.specs.Earliest.{IsEarliest, Finds}
-use Rattle.cborn_judge.specs.devices.Judged.{FlawIn, FlawAmong, ChunkFlaw}
-use Rattle.cborn_judge.specs.devices.Repeats.{AreKeys}
+use Rattle.cborn_judge.specs.shared.Judged.{FlawIn, FlawAmong, ChunkFlaw}
+use Rattle.cborn_judge.specs.shared.Repeats.{AreKeys}
 use Rattle.cborn_judge.specs.declared.faults.InvalidReason.{InvalidReason}
 use Rattle.cborn_judge.specs.declared.faults.InvalidReason.TheVariants.{NotUtf8}
 use Rattle.cborn_search.specs.Reading.{Pair, ChunkRead, ChunksRead, NodeRead, NodesRead, PairsRead}

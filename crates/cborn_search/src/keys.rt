@@ -3,7 +3,7 @@
 ghost use Rattle.std.specs.Prelude.{◌≡◌, ◌≤◌, ◌-◌, ◌∷◌, ◌++◌, ℕ, List, [], length, take, IfSome, OnSome, IsPermutation};
 ghost use Rattle.cborn_model.specs.Orders.{bytewise};
 ghost use Rattle.cborn_model.specs.Tree.{entries};
-ghost use Rattle.cborn_judge.specs.devices.Judged.{RepeatFlaw};
+ghost use Rattle.cborn_judge.specs.shared.Judged.{RepeatFlaw};
 ghost use Rattle.cborn_transcode.specs.Transcoding.{IsTranscoded};
 ghost use Rattle.cborn_search.specs.Flawed.{Sought, FindsTold, SeenKey, AreSought};
 ghost use Rattle.cborn_search.specs.devices.Marks.{mark_bytes, AreMarked, TakesKey, InPlace, ComesAfter, TieAfter, TieFlaw};

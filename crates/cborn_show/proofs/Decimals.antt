@@ -6,7 +6,7 @@ use borrow.Rule.Slice.PartMut.{put_mid}
 use Rattle.std.proofs.lemmas.Slice.{take-put_mid}
 use Rattle.std.proofs.Math.Seq.{take-append-add}
 use Rattle.std.proofs.lemmas.Fmt.{length-decimal-le}
-use Rattle.cborn_edn.specs.devices.Between.{between}
+use Rattle.cborn_edn.specs.shared.Between.{between}
 use Rattle.cborn_show.specs.Passed.{signed}
 
 pub block_cut : (start end : ℕ) (old text z behind block ext new : List ℕ) → start + length text ≡ 32 → behind ≡ text ++ z → block ≡ take 32 (take (64 - start) behind) → ext ≡ old ++ block → end ≡ length old + (32 - start) → new ≡ take end ext → new ≡ old ++ text

@@ -11,7 +11,7 @@ use Rattle.cborn_model.specs.Heads.{Given, head, WidthFits}
 use Rattle.cborn_model.specs.Spelled.{chunk_bytes}
 use Rattle.cborn_edn.specs.declared.strings.StringKind.{StringKind}
 use Rattle.cborn_edn.specs.Shown.{shown_string, shown_more_chunks, shown_chunks, mark_for, indicator}
-use Rattle.cborn_edn.specs.devices.Texts.{AreTexts}
+use Rattle.cborn_edn.specs.shared.Texts.{AreTexts}
 use Rattle.cborn_wire.specs.declared.heads.Head.{Head}
 use Rattle.cborn_wire.specs.declared.heads.Argument.{Argument}
 use Rattle.cborn_wire.specs.declared.heads.Argument.TheVariants as arguments

@@ -11,9 +11,9 @@ use Rattle.cborn_model.specs.Heads.{Given, Unbounded, head, WidthFits, following
 use Rattle.cborn_model.specs.Spelled.{spelled, spelled_all, spelled_entries, Fits, FitsEntries, chunk_bytes, ending}
 use Rattle.cborn_model.specs.Tree.{Tree, Uint, Nint, Bytes, Text, ByteChunks, TextChunks, Items, Pairs, Tagged, Simple, trees, entries, depth, depth_all, depth_entries, count, count_entries}
 use Rattle.cborn_model.proofs.Listed.Trees.{count-trees, count_entries-entries}
-use Rattle.cborn_edn.specs.devices.Between.{between, separated}
+use Rattle.cborn_edn.specs.shared.Between.{between, separated}
 use Rattle.cborn_edn.specs.Shown.{mark_for, indicator, opened, shown}
-use Rattle.cborn_edn.specs.devices.Texts.{IsShowable, EachShowable, ArePairsShowable}
+use Rattle.cborn_edn.specs.shared.Texts.{IsShowable, EachShowable, ArePairsShowable}
 use Rattle.cborn_edn.proofs.Shown.Characters.{fits_last}
 use Rattle.cborn_edn.proofs.Shown.Separated.{separated-push, all-separated, entries-separated, shown_items, shown_pairs}
 use Rattle.cborn_wire.specs.declared.heads.Argument.{Argument}

@@ -12,7 +12,7 @@ use Rattle.cborn_model.specs.Spelled.{chunk_bytes, spelled, spelled_all, Wellfor
 use Rattle.cborn_model.specs.Placed.{PlacedAll}
 use Rattle.cborn_edn.specs.Shown.{Shown, shown, shown_lines}
 use Rattle.cborn_edn.specs.ReadingBack.{unplaced_chunks, unplaced, unplaced_all, unplaced_entries}
-use Rattle.cborn_edn.specs.devices.Between.{separated}
+use Rattle.cborn_edn.specs.shared.Between.{separated}
 use Rattle.cborn_edn.proofs.Shown.Separated.{lines-separated}
 use Rattle.cborn_edn.proofs.Shown.Characters.{lines_text}
 use Rattle.cborn_edn.proofs.Shown.SameText.{same_notation}

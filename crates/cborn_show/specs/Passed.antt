@@ -16,9 +16,9 @@ use Rattle.cborn_model.specs.Tree.{Tree, trees, entries, depth, depth_all, depth
 use Rattle.hex.specs.Hex.{encode_lower}
 use Rattle.cborn_edn.specs.declared.strings.StringKind.{StringKind}
 use Rattle.cborn_edn.specs.declared.strings.StringKind.TheVariants.{Bytes as OfBytes, Text as OfText}
-use Rattle.cborn_edn.specs.devices.Between.{between, separated}
+use Rattle.cborn_edn.specs.shared.Between.{between, separated}
 use Rattle.cborn_edn.specs.Shown.{Shown, shown, shown_string, shown_more_chunks, shown_chunks, shown_simple, escaped}
-use Rattle.cborn_edn.specs.devices.Texts.{AreTexts, IsShowable, EachShowable, ArePairsShowable}
+use Rattle.cborn_edn.specs.shared.Texts.{AreTexts, IsShowable, EachShowable, ArePairsShowable}
 use Rattle.cborn_wire.specs.declared.heads.Argument.{Argument}
 use Rattle.cborn_wire.specs.declared.heads.Argument.TheVariants as arguments
 

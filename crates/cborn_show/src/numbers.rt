@@ -1,7 +1,7 @@
 //! Numbers in decimal.
 
 ghost use Rattle.std.specs.Prelude.{◌≡◌, ◌≤◌, ◌+◌, ◌++◌, ℕ, List, suc, length, drop, OnSome, codes, decimal};
-ghost use Rattle.cborn_edn.specs.devices.Between.{between};
+ghost use Rattle.cborn_edn.specs.shared.Between.{between};
 ghost use Rattle.cborn_edn.specs.Shown.{mark_for, indicator};
 
 use crate::digits::write_number;

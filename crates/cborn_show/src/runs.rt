@@ -2,7 +2,7 @@
 //! appended together.
 
 ghost use Rattle.std.specs.Prelude.{◌≡◌, ◌<◌, ◌≤◌, ◌+◌, ◌-◌, ◌++◌, ◌∷◌, [], ℕ, List, suc, length, take, drop, if◌then◌else◌, codes, IfSome};
-ghost use Rattle.cborn_edn.specs.devices.Between.{between};
+ghost use Rattle.cborn_edn.specs.shared.Between.{between};
 ghost use Rattle.cborn_show.specs.declared.runs.TheConstants.{GATHERED, LONGEST};
 ghost use Rattle.cborn_show.specs.Passed.{NextShown, NodesShown, integer_major, signed};
 

@@ -2,7 +2,7 @@
 use Rattle.std.proofs.Common.{◌≡◌, sym, subst, ℕ, ◌+◌, arith}
 use Rattle.cborn_lex.specs.declared.classes.Profile.{Profile}
 use Rattle.cborn_lex.specs.declared.classes.Profile.TheVariants.{One, Two}
-use Rattle.cborn_edn.specs.devices.Commas.{AllowsCount}
+use Rattle.cborn_edn.specs.shared.Commas.{AllowsCount}
 
 pub allows_none : (p : Profile) → AllowsCount p 0
 allows_none One = omega arith

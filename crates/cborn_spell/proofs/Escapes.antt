@@ -6,7 +6,7 @@ use Rattle.std.proofs.lemmas.List.{drop_more}
 use Rattle.std.proofs.Math.Seq.{take-add}
 use Rattle.std.specs.Char.{is_digit}
 use Rattle.cborn_lex.specs.Strings.{is_content, four, are_hex, code, is_high, is_low}
-use Rattle.cborn_lex.specs.devices.Letters.{unit, pair}
+use Rattle.cborn_lex.specs.shared.Letters.{unit, pair}
 use Rattle.cborn_lex.proofs.Contents.Ends.{content_then}
 use Rattle.cborn_spell.specs.Descent.{is_plain, HasUnit, LetterTaken}
 use Rattle.cborn_spell.proofs.Quoting.{raw_content}

@@ -15,9 +15,9 @@ use Rattle.cborn_lex.specs.declared.classes.Mark.TheVariants.{Absent, Endless, W
 use Rattle.cborn_lex.specs.declared.classes.Class.TheVariants.{Text, Bytes}
 use Rattle.cborn_lex.specs.Tokens.{Read, begins, marked, mark_of}
 use Rattle.cborn_lex.specs.Strings.{is_content, IsText}
-use Rattle.cborn_lex.specs.devices.Letters.{Letter, raw, written, meant, is_letter}
+use Rattle.cborn_lex.specs.shared.Letters.{Letter, raw, written, meant, is_letter}
 use Rattle.cborn_lex.proofs.Contents.Lettered.{is_text}
-use Rattle.cborn_lex.specs.devices.Scan.{is_raw}
+use Rattle.cborn_lex.specs.shared.Scan.{is_raw}
 use Rattle.cborn_lex.specs.Forms.{Reads, IsIndicator}
 use Rattle.cborn_lex.proofs.OneFront.Quotes.{content_cons}
 use Rattle.cborn_lex.proofs.WholeTexts.Progress.{nothing, then_token}

@@ -11,7 +11,7 @@ use Rattle.std.proofs.Math.Seq.{take-add, take-append-add}
 use Rattle.std.specs.List.{list_all, flat_map, prefix_len}
 use Rattle.std.specs.Simd.Lanes.{zip2, mask_l, top}
 use Rattle.cborn_lex.specs.Strings.{is_content, is_escape, escape_code}
-use Rattle.cborn_lex.specs.devices.Letters.{Letter, escaped, written, meant, is_letter}
+use Rattle.cborn_lex.specs.shared.Letters.{Letter, escaped, written, meant, is_letter}
 use Rattle.cborn_lex.proofs.Contents.Lettered.{is_text}
 use Rattle.cborn_lex.proofs.Contents.Ends.{content_then}
 use Rattle.cborn_lex.specs.Tokens.{begins}

@@ -13,8 +13,8 @@ use Rattle.cborn_lex.specs.Tokens.{Read, begins, is_word}
 use Rattle.cborn_lex.specs.Forms.{start_of, letter as letter_start}
 use Rattle.cborn_lex.specs.Numbers.{number, word_front}
 use Rattle.cborn_lex.specs.Strings.{is_content, IsText, are_hex, code}
-use Rattle.cborn_lex.specs.devices.Letters.{Letter, is_letter, meant, written as letter}
-use Rattle.cborn_lex.specs.devices.Scan.{is_raw}
+use Rattle.cborn_lex.specs.shared.Letters.{Letter, is_letter, meant, written as letter}
+use Rattle.cborn_lex.specs.shared.Scan.{is_raw}
 use Rattle.cborn_model.specs.declared.heads.Major.{Major}
 use Rattle.cborn_model.specs.declared.heads.Major.TheVariants.{ByteString, TextString}
 use Rattle.cborn_model.specs.Heads.{head_bytes, least, IsHead, IsLeastHead}
@@ -28,7 +28,7 @@ use Rattle.cborn_lex.specs.declared.classes.Class.TheVariants.{Comma, Word}
 use Rattle.cborn_lex.specs.declared.classes.Class.{Class}
 use Rattle.cborn_lex.specs.Lex.{Between}
 use Rattle.cborn_edn.specs.Syntax.{Piece, tokens_of_piece, depth_of_piece, Pieces, tokens_of_pieces, depth_of_pieces, Strings, tokens_of_strings, depth_of_strings, is_small, is_below, argument_of, Item, tokens_of, depth, Row, RowBefore, tokens_of_row, tokens_of_row_before, depth_of_row, depth_of_row_before, Pairs, PairsBefore, tokens_of_pairs, tokens_of_pairs_before, depth_of_pairs, depth_of_pairs_before}
-use Rattle.cborn_edn.specs.devices.Commas.{commas_of_piece, commas_of_pieces, commas_of_strings, commas, commas_of_row, commas_of_row_before, commas_of_pairs, commas_of_pairs_before, AllowsCount}
+use Rattle.cborn_edn.specs.shared.Commas.{commas_of_piece, commas_of_pieces, commas_of_strings, commas, commas_of_row, commas_of_row_before, commas_of_pairs, commas_of_pairs_before, AllowsCount}
 use Rattle.cborn_edn.specs.Meaning.{width_for, is_simple, is_absent, same_kind, kind_of, mark_of, kind, last_piece, is_bare_before, is_of_kind, is_string, kind_of_strings, joined_piece, joined, means, means_strings, means_row, means_row_before, means_pairs, means_pairs_before}
 use Rattle.cborn_edn.specs.declared.strings.StringKind.{StringKind}
 use Rattle.cborn_edn.specs.declared.strings.StringKind.TheVariants.{Bytes as OfBytes, Text as OfText}

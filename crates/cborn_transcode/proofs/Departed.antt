@@ -17,7 +17,7 @@ use Rattle.cborn_wire.specs.declared.heads.Argument.TheVariants as arguments
 use Rattle.cborn_wire.specs.declared.heads.Head.{Head}
 use Rattle.cborn_wire.specs.HeadReading.{major_at, IsHeadOf, seen_argument}
 use Rattle.cborn_judge.specs.Departures.{FindsDefect}
-use Rattle.cborn_judge.specs.devices.Checked.{DefectIn, DefectAmong}
+use Rattle.cborn_judge.specs.shared.Checked.{DefectIn, DefectAmong}
 use Rattle.cborn_judge.specs.Defects.{defect_rank, IsLong, HasLongChunk, DefectAt}
 use Rattle.cborn_judge.specs.Flaws.{Within}
 use Rattle.cborn_judge.specs.declared.defects.DefectReason.{DefectReason}

@@ -11,7 +11,7 @@ use Rattle.cborn_model.specs.Tree.{Tree, Items, Trees, no_item, more, trees, cou
 use Rattle.cborn_model.specs.Value.{Value, Values, no_values, value}
 use Rattle.cborn_model.proofs.Numbers.OneHead.{append_same}
 use Rattle.cborn_judge.specs.Departures.{FindsDefect}
-use Rattle.cborn_judge.specs.devices.Checked.{DefectIn, DefectInAll}
+use Rattle.cborn_judge.specs.shared.Checked.{DefectIn, DefectInAll}
 use Rattle.cborn_judge.specs.Defects.{DefectAt, SequenceDefect}
 use Rattle.cborn_judge.specs.Flaws.{Within}
 use Rattle.cborn_judge.specs.declared.defects.Defect.{Defect}
@@ -26,7 +26,7 @@ use Rattle.cborn_model.specs.Orders.{IsKeyOrder}
 use Rattle.cborn_transcode.specs.Departing.{IsFirstDefectOfItems}
 use Rattle.cborn_transcode.specs.Transcoding.{ItemTranscoded}
 use Rattle.cborn_transcode.specs.devices.Departing.{Stands, AllStand, Clears, Stops, StopsBehind, Decides, Leads, LeadsOn}
-use Rattle.cborn_transcode.specs.devices.Walking.{ItemWalked}
+use Rattle.cborn_transcode.specs.shared.Walking.{ItemWalked}
 use Rattle.cborn_transcode.proofs.Opening.{behind, opened, one_front, put_there}
 use Rattle.cborn_transcode.proofs.Placing.{means-from}
 

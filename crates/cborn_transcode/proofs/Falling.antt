@@ -18,9 +18,9 @@ use Rattle.cborn_model.proofs.Numbers.OneHead.{append_same}
 use Rattle.cborn_model.proofs.SameItems.Sameness.{same_itself}
 use Rattle.cborn_det.specs.Det.{Det}
 use Rattle.cborn_det.proofs.Canon.{one_of_same}
-use Rattle.cborn_det.proofs.Cutting.{Below}
+use Rattle.cborn_det.specs.shared.KeyBefore.{Below}
 use Rattle.cborn_judge.specs.Departures.{FindsDefect}
-use Rattle.cborn_judge.specs.devices.Checked.{DefectIn, DefectAmong, MapDefect}
+use Rattle.cborn_judge.specs.shared.Checked.{DefectIn, DefectAmong, MapDefect}
 use Rattle.cborn_judge.specs.Defects.{defect_rank, NotAbove, Descends, DefectAt}
 use Rattle.cborn_judge.specs.Flaws.{Within}
 use Rattle.cborn_judge.specs.declared.defects.Defect.{Defect}
@@ -30,7 +30,7 @@ use Rattle.cborn_judge.proofs.FirstDefect.Departing.{alike}
 use Rattle.cborn_judge.proofs.Meaning.Meanings.{means_once, meaning_valid, some_bytes}
 use Rattle.cborn_judge.proofs.Meaning.Placing.{defect_within}
 use Rattle.cborn_transcode.specs.devices.Departing.{Stands, PairsStand, Stops, StopsBehind, IsBelowKey, Falls, DefectOn, LeadsPairs, IsFallen, IsAbove, IsNotAbove}
-use Rattle.cborn_transcode.specs.devices.Walking.{ItemWalked}
+use Rattle.cborn_transcode.specs.shared.Walking.{ItemWalked}
 use Rattle.cborn_transcode.proofs.Departed.{low_entries}
 use Rattle.cborn_transcode.proofs.Departing.{width_of, number_of, coded, item_clears}
 use Rattle.cborn_transcode.proofs.Opening.{behind, opened, stands}

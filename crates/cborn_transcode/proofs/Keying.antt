@@ -3,12 +3,13 @@ use Rattle.std.proofs.Common.{◌≡◌, ℕ, ◌+◌, ◌<◌, ◌≤◌, List,
 use Rattle.std.proofs.lemmas.List.{take_more, map-append, append_assoc, take-append-drop, length-take-le, reverse-append}
 use Rattle.cborn_model.specs.Orders.{Rising}
 use Rattle.cborn_det.specs.Det.{Entry, keys, joined}
-use Rattle.cborn_det.proofs.Cutting.{EndsIn, Below, rise_more}
+use Rattle.cborn_det.proofs.Cutting.{rise_more}
+use Rattle.cborn_det.specs.shared.KeyBefore.{EndsIn, Below}
 use Rattle.cborn_transcode.specs.declared.entries.Span.{Span}
 use Rattle.std.proofs.lemmas.List.Sorted.{IsPermutation-map, IsPermutation-reverse, IsPermutation-trans}
 use Rattle.cborn_transcode.specs.declared.places.PairPlace.{PairPlace}
 use Rattle.cborn_transcode.specs.Transcoding.{spanned, all_spanned, AreSpans}
-use Rattle.cborn_transcode.specs.devices.Walking.{span_of, spans_of}
+use Rattle.cborn_transcode.specs.shared.Walking.{span_of, spans_of}
 
 pub spanned_more : (b : List ℕ) (ss : List Span) (i : ℕ) (d : Span) → i < length ss → all_spanned b (take (i + 1) ss) ≡ all_spanned b (take i ss) ++ spanned b (get_or ss i d) ∷ []
 spanned_more b ss i d l = ap (all_spanned b) (take_more ss i d l) ∙ map-append (spanned b) (take i ss) (get_or ss i d ∷ [])

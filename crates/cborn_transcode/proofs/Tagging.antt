@@ -11,7 +11,7 @@ use Rattle.cborn_model.specs.Tree.{Tree, Bytes, ByteChunks, Tagged}
 use Rattle.cborn_model.specs.Value.{Value, bytes}
 use Rattle.cborn_det.specs.Det.{Det}
 use Rattle.cborn_judge.specs.Departures.{FindsDefect}
-use Rattle.cborn_judge.specs.devices.Checked.{DefectIn, TagDefect}
+use Rattle.cborn_judge.specs.shared.Checked.{DefectIn, TagDefect}
 use Rattle.cborn_judge.specs.Defects.{defect_rank}
 use Rattle.cborn_judge.specs.declared.defects.Defect.{Defect}
 use Rattle.cborn_judge.specs.declared.defects.DefectReason.{DefectReason}
@@ -22,7 +22,7 @@ use Rattle.cborn_judge.proofs.Meaning.Meanings.{means_once}
 use Rattle.cborn_judge.proofs.Meaning.Placing.{defect_within}
 use Rattle.cborn_transcode.specs.Transcoding.{ItemTranscoded}
 use Rattle.cborn_transcode.specs.devices.Departing.{Stands, Stops, StopsBehind, TellsLoose}
-use Rattle.cborn_transcode.specs.devices.Walking.{LeastHeadRead}
+use Rattle.cborn_transcode.specs.shared.Walking.{LeastHeadRead}
 use Rattle.cborn_transcode.proofs.Departing.{width_of, number_of, coded}
 use Rattle.cborn_transcode.proofs.Opening.{behind, opened, one_argument}
 

@@ -12,10 +12,10 @@ use Rattle.cborn_wire.specs.declared.heads.Head.{Head}
 use Rattle.cborn_wire.specs.declared.heads.HeadRead.TheVariants.{Full}
 use Rattle.cborn_wire.specs.declared.heads.Argument.TheVariants as arguments
 use Rattle.cborn_wire.specs.HeadReading.{IsHeadOf}
-use Rattle.cborn_wire.specs.devices.InitialBytes.{Next, info_at}
-use Rattle.cborn_wire.specs.devices.Machine.{width_bytes, number}
+use Rattle.cborn_wire.specs.shared.InitialBytes.{Next, info_at}
+use Rattle.cborn_wire.specs.shared.Machine.{width_bytes, number}
 use Rattle.cborn_wire.proofs.HeadReading.HeadFronts.{direct_front, wide_fronts, wide_head}
-use Rattle.cborn_transcode.specs.devices.Walking.{IsIntegerForm, top_of, ItemWalked}
+use Rattle.cborn_transcode.specs.shared.Walking.{IsIntegerForm, top_of, ItemWalked}
 use Rattle.cborn_transcode.proofs.Walking.{least_read, walked_from, uint_walked, nint_walked}
 
 -- a head of a width, as it is read

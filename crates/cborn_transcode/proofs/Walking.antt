@@ -14,14 +14,15 @@ use Rattle.cborn_model.specs.Orders.{IsKeyOrder, Rising}
 use Rattle.cborn_model.proofs.Numbers.OneHead.{append_same}
 use Rattle.cborn_judge.proofs.Meaning.Meanings.{Short}
 use Rattle.cborn_det.specs.Det.{bignum_tag, Entry, joined, keys}
-use Rattle.cborn_det.proofs.Cutting.{EndsIn, Below, rise_more}
+use Rattle.cborn_det.proofs.Cutting.{rise_more}
+use Rattle.cborn_det.specs.shared.KeyBefore.{EndsIn, Below}
 use Rattle.cborn_wire.specs.declared.heads.Head.{Head}
 use Rattle.cborn_wire.specs.declared.heads.Argument.{Argument}
 use Rattle.cborn_wire.specs.declared.heads.Argument.TheVariants as arguments
 use Rattle.cborn_wire.specs.HeadReading.{major_at, IsHeadOf, seen_argument, ArgumentFits}
 use Rattle.cborn_transcode.specs.declared.entries.Span.{Span}
 use Rattle.cborn_transcode.specs.Transcoding.{all_spanned, StringTaken, BignumTaken, ItemTranscoded, ItemsTranscoded, MapTranscoded, IsTranscoded}
-use Rattle.cborn_transcode.specs.devices.Walking.{Leaves, IsLast, LeastHeadRead, ContentWalked, BignumWalked, ItemWalked, ItemsWalked, PairsFound, PairsWalked, WalkedBehind}
+use Rattle.cborn_transcode.specs.shared.Walking.{Leaves, IsLast, LeastHeadRead, ContentWalked, BignumWalked, ItemWalked, ItemsWalked, PairsFound, PairsWalked, WalkedBehind}
 use Rattle.cborn_wire.proofs.Spelled.AllBytes.{bytes-left, bytes-right}
 use Rattle.cborn_transcode.proofs.Heading.{head_split, big_integer}
 use Rattle.cborn_transcode.proofs.Closing.{uint_done, nint_done, bytes_done, text_done, bignum_done, tagged_done}

@@ -1,3 +1,4 @@
 pub mod Departing
 pub mod Transcoding
+pub mod shared
 pub mod devices

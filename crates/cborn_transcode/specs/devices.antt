@@ -1,3 +1,2 @@
 pub mod Departing
 pub mod Placing
-pub mod Walking

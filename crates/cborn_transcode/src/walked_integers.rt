@@ -2,7 +2,7 @@
 
 ghost use Rattle.std.specs.Prelude.{◌≡◌, ◌≤◌, ◌<◌, ℕ, List, length, drop};
 ghost use Rattle.std.specs.declared.cmp.Ordering.{Ordering};
-ghost use Rattle.cborn_transcode.specs.devices.Walking.{IsIntegerForm, top_of, ItemWalked};
+ghost use Rattle.cborn_transcode.specs.shared.Walking.{IsIntegerForm, top_of, ItemWalked};
 
 /// The length of the integer at the front, if its head is the shortest and nine bytes or more are
 /// left; else 0.

@@ -4,4 +4,5 @@ pub mod Places
 pub mod Feeding
 pub mod Reading
 pub mod HeadReading
+pub mod shared
 pub mod devices

@@ -4,7 +4,7 @@
 
 ghost use Rattle.std.specs.Prelude.{◌≡◌, IsSome, vec_len};
 ghost use Rattle.cborn_model.specs.Tree.{no_item};
-ghost use Rattle.cborn_wire.specs.devices.Machine.{finished};
+ghost use Rattle.cborn_wire.specs.shared.Machine.{finished};
 ghost use Rattle.cborn_wire.specs.devices.StackView.{opened, open_len, around, Gives, PutLeaves};
 
 use crate::WireFault;

@@ -5,8 +5,8 @@ ghost use Rattle.std.specs.Prelude.{◌≡◌, ◌≤◌, ◌<◌, ◌++◌, ◌
 ghost use Rattle.std.specs.Int.{w64, from_be_bytes};
 ghost use Rattle.cborn_model.specs.Bytes.{AreBytes};
 ghost use Rattle.cborn_model.specs.Heads.{code, major_at, WidthFits, IsHead, head_bytes};
-ghost use Rattle.cborn_wire.specs.devices.InitialBytes.{Next, Unended, info_at, is_reserved, is_unended, is_always_bounded, is_break, is_other, is_float, is_container};
-ghost use Rattle.cborn_wire.specs.devices.Machine.{width_bytes, number, is_full};
+ghost use Rattle.cborn_wire.specs.shared.InitialBytes.{Next, Unended, info_at, is_reserved, is_unended, is_always_bounded, is_break, is_other, is_float, is_container};
+ghost use Rattle.cborn_wire.specs.shared.Machine.{width_bytes, number, is_full};
 ghost use Rattle.cborn_wire.specs.HeadReading.{ReadsHead, reason_alone, seen_argument, seen_size};
 ghost use Rattle.cborn_wire.specs.devices.StackView.{seen_slot, element_slot};
 ghost use Rattle.cborn_model.specs.declared.heads.Width.{Width};

@@ -3,7 +3,7 @@
 ghost use Rattle.std.specs.Prelude.{◌≡◌, ◌∷◌, ◌+◌, ◌<◌, ◌≤◌, [], length};
 ghost use Rattle.cborn_wire.specs.HeadReading.{seen_argument};
 ghost use Rattle.cborn_wire.specs.devices.StackView.{seen_slot, plain};
-ghost use Rattle.cborn_wire.specs.devices.Scanning.{levels, with_item, finish, leave, begin_items, begin_pairs, slot_of};
+ghost use Rattle.cborn_wire.specs.shared.Scanning.{levels, with_item, finish, leave, begin_items, begin_pairs, slot_of};
 
 use crate::Argument;
 use crate::frames::StringKind;

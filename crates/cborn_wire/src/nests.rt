@@ -4,7 +4,7 @@ ghost use Rattle.std.specs.Prelude.{◌≡◌, ◌∷◌, ◌+◌, ◌<◌, ◌�
 ghost use Rattle.cborn_model.specs.Tree.{no_item, no_entry};
 ghost use Rattle.cborn_model.specs.declared.heads.Major.TheVariants as heads;
 ghost use Rattle.cborn_wire.specs.Slots.{major_of, AreBegun};
-ghost use Rattle.cborn_wire.specs.devices.Machine.{nothing, content_of, gathering, width_bytes, items_at, pairs_at, string_done, ended, after_head, run, Live};
+ghost use Rattle.cborn_wire.specs.shared.Machine.{nothing, content_of, gathering, width_bytes, items_at, pairs_at, string_done, ended, after_head, run, Live};
 ghost use Rattle.cborn_wire.specs.HeadReading.{major_at, seen_argument, ArgumentFits};
 ghost use Rattle.cborn_wire.specs.devices.StackView.{seen_kind, seen_frame, opened, seen_partial, IsShort, Gives, Takes};
 

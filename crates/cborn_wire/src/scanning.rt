@@ -6,10 +6,10 @@ ghost use Rattle.cborn_model.specs.Spelled.{Wellformed};
 ghost use Rattle.cborn_model.specs.Placed.{PlacedAll};
 ghost use Rattle.cborn_wire.specs.Slots.{Begun, AreBegun, IsNoChunk};
 ghost use Rattle.cborn_wire.specs.Faults.{Fault};
-ghost use Rattle.cborn_wire.specs.devices.InitialBytes.{info_at, head_reason};
+ghost use Rattle.cborn_wire.specs.shared.InitialBytes.{info_at, head_reason};
 ghost use Rattle.cborn_wire.specs.HeadReading.{major_at, seen_argument};
 ghost use Rattle.cborn_wire.specs.devices.StackView.{seen_slot, plain};
-ghost use Rattle.cborn_wire.specs.devices.Scanning.{levels, levels_of, take_head, content_of, slot_at, AreSmall, Steps};
+ghost use Rattle.cborn_wire.specs.shared.Scanning.{levels, levels_of, take_head, content_of, slot_at, AreSmall, Steps};
 ghost use Rattle.cborn_wire.specs.declared.scanning.Step.TheVariants.{Taken};
 
 use crate::frames::StringKind;

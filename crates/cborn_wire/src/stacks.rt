@@ -44,7 +44,7 @@ impl Model for Stack {
 impl Stack {
     ghost use Rattle.std.specs.Prelude.{◌≡◌, ◌+◌, ◌<◌, ◌≤◌, ◌^◌, ◌++◌, [], length, None, true, false};
     ghost use Rattle.std.specs.Option.{option_to_list};
-    ghost use Rattle.cborn_wire.specs.devices.Machine.{start, nothing};
+    ghost use Rattle.cborn_wire.specs.shared.Machine.{start, nothing};
     ghost use Rattle.cborn_wire.specs.devices.StackView.{seen, opened, seen_partial, IsMade, StandsFirst, Advances, Runs};
 
     /// Nothing read, of bytes that stand at `at`, in which at most `limit` arrays, maps and tags

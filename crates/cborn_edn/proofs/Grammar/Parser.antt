@@ -5,7 +5,7 @@ use Rattle.std.proofs.lemmas.Bool.{leb-true, leb-false}
 use Rattle.cborn_lex.specs.declared.classes.Token.{Token}
 use Rattle.cborn_lex.specs.declared.classes.Profile.{Profile}
 use Rattle.cborn_lex.specs.declared.classes.Profile.TheVariants.{One as ProfileOne, Two as ProfileTwo}
-use Rattle.cborn_edn.specs.devices.Commas.{AllowsCount}
+use Rattle.cborn_edn.specs.shared.Commas.{AllowsCount}
 use Rattle.cborn_edn.specs.Syntax.{token, span, Input, depth_of_input}
 use Rattle.cborn_edn.proofs.Grammar.Machine.{State, start, step}
 use Rattle.cborn_edn.specs.declared.faults.EdnReason.{EdnReason}

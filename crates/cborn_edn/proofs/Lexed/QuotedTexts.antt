@@ -11,7 +11,7 @@ use Rattle.cborn_lex.specs.declared.classes.Mark.TheVariants.{Endless}
 use Rattle.cborn_lex.specs.declared.classes.Class.TheVariants.{Bytes, Text}
 use Rattle.cborn_lex.specs.Tokens.{marked}
 use Rattle.cborn_lex.specs.Strings.{is_content, IsText, nothing}
-use Rattle.cborn_lex.specs.devices.Letters.{Letter, raw, escaped as behind_slash, unit, written, is_letter, meant}
+use Rattle.cborn_lex.specs.shared.Letters.{Letter, raw, escaped as behind_slash, unit, written, is_letter, meant}
 use Rattle.cborn_lex.proofs.Contents.Lettered as lettered
 use Rattle.cborn_lex.proofs.Contents.Ends.{content_then}
 use Rattle.cborn_edn.specs.Syntax.{token}

@@ -14,7 +14,7 @@ use Rattle.cborn_model.specs.declared.heads.Major.TheVariants.{ByteString, TextS
 use Rattle.cborn_model.specs.Heads.{holds, following, least, is_simple_value, WidthFits, SizeFits}
 use Rattle.cborn_model.proofs.Numbers.Simples.{simple_below}
 use Rattle.cborn_model.specs.Spelled.{ChunksFit, Fits, FitsAll, FitsEntries, spelled, spelled_all, spelled_entries, chunk_bytes}
-use Rattle.cborn_wire.specs.devices.Machine.{append_trees}
+use Rattle.cborn_wire.specs.shared.Machine.{append_trees}
 use Rattle.cborn_wire.proofs.Machine.TakesItems.{append_trees-nil, append_entries, append_entries-nil}
 use Rattle.cborn_lex.specs.declared.classes.Mark.{Mark}
 use Rattle.cborn_lex.specs.declared.classes.Mark.TheVariants.{Absent, Endless, Wide}
@@ -24,7 +24,7 @@ use Rattle.cborn_edn.specs.declared.strings.StringKind.{StringKind}
 use Rattle.cborn_edn.specs.declared.strings.StringKind.TheVariants.{Bytes as OfBytes, Text as OfText}
 use Rattle.cborn_edn.specs.ReadingBack.{nowhere, one_piece, chunk_pieces, chunk_row, chunk_item, simple_item, notated, notated_content, notated_row, notated_fields, notated_pairs, notated_input, unplaced_chunks, unplaced, unplaced_all, unplaced_entries}
 use Rattle.cborn_edn.specs.Shown.{mark_for, mark_for_size}
-use Rattle.cborn_edn.specs.devices.Texts.{AreTexts, IsShowable, EachShowable, ArePairsShowable}
+use Rattle.cborn_edn.specs.shared.Texts.{AreTexts, IsShowable, EachShowable, ArePairsShowable}
 
 pub holds_true : (w : Width) (n : ℕ) → WidthFits w n → holds w n ≡ true
 holds_true Direct n h = lt-ltb n 24 h

@@ -7,7 +7,7 @@ use Rattle.cborn_model.specs.declared.nodes.Chunk.{Chunk}
 use Rattle.cborn_model.specs.Tree.{Tree, Text as TextNode, TextChunks, Items, Pairs as PairNode, Tagged, Trees, no_item as no_node, more, Entries, no_entry, entry, trees, entries}
 use Rattle.cborn_edn.specs.devices.Lowest.{lower, bad_bytes, bad_chunk, bad_text, bad_item, bad_pair}
 use Rattle.cborn_edn.specs.Shown.{AreShowable, IsBadChunk, IsBadText, IsBadAmong, IsBadInPairs, LowestBadText}
-use Rattle.cborn_edn.specs.devices.Texts.{AreTexts, IsShowable, EachShowable, ArePairsShowable}
+use Rattle.cborn_edn.specs.shared.Texts.{AreTexts, IsShowable, EachShowable, ArePairsShowable}
 
 lower-none : (a : Option ℕ) → lower a None ≡ a
 lower-none None = refl

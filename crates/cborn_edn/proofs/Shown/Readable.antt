@@ -17,7 +17,7 @@ use Rattle.cborn_model.specs.Tree.{Tree, Text as TextNode, TextChunks, Items, Pa
 use Rattle.cborn_model.specs.Spelled.{Fits, FitsAll, FitsEntries}
 use Rattle.cborn_edn.specs.declared.strings.StringKind.TheVariants.{Text as OfText}
 use Rattle.cborn_edn.specs.Shown.{AreShowable, Shown, mark_for, mark_for_size, escaped, indicator, opened, shown_string, shown_more_chunks, shown, shown_all, shown_more, shown_entries, shown_more_entries, shown_lines, shown_more_lines}
-use Rattle.cborn_edn.specs.devices.Texts.{AreTexts, IsShowable, EachShowable, ArePairsShowable}
+use Rattle.cborn_edn.specs.shared.Texts.{AreTexts, IsShowable, EachShowable, ArePairsShowable}
 use Rattle.cborn_edn.proofs.RoundTrip.Back.{below}
 use Rattle.cborn_edn.proofs.Shown.Lowests.{are_showable, each_showable}
 use Rattle.cborn_edn.proofs.Shown.Characters.{lines_text, low_ascii, indicator_low, opened_low, escaped_low, plain}

@@ -6,7 +6,7 @@ use Rattle.cborn_model.specs.Tree.{Tree, Items, Pairs, trees, entries}
 use Rattle.cborn_model.specs.declared.heads.Size.{Size}
 use Rattle.cborn_model.proofs.Listed.Trees.{count-trees, count_entries-entries}
 use Rattle.cborn_edn.specs.declared.strings.StringKind.{StringKind}
-use Rattle.cborn_edn.specs.devices.Between.{between, others, separated}
+use Rattle.cborn_edn.specs.shared.Between.{between, others, separated}
 use Rattle.cborn_edn.specs.Shown.{mark_for_size, opened, shown, shown_all, shown_more, shown_entries, shown_more_entries, shown_lines, shown_more_lines, shown_string}
 
 module _ {A : Type 0} (sep : List ℕ) (f : A → List ℕ) where

@@ -9,12 +9,11 @@ use Rattle.cborn_model.specs.Heads.{Argument, Given, Unbounded}
 use Rattle.cborn_model.specs.Tree.{Uint, Nint, Simple, Trees, no_item, no_entry}
 use Rattle.cborn_wire.specs.declared.faults.WireReason.TheVariants.{BadSimple}
 use Rattle.cborn_wire.specs.Slots.{StringKind, OfBytes, OfText, Begun, slot, IsNoChunk, AreBegun}
-use Rattle.cborn_wire.specs.devices.InitialBytes.{Next, Unended, is_unended, is_of_kind, is_break, is_other, head_reason}
-use Rattle.cborn_wire.specs.devices.Machine as machine
-use Rattle.cborn_wire.specs.devices.Machine.{State, Failed, content_at, finished, after_head, run}
-use Rattle.cborn_wire.specs.devices.Scanning.{content_of}
+use Rattle.cborn_wire.specs.shared.InitialBytes.{Next, Unended, is_unended, is_of_kind, is_break, is_other, head_reason, info_for}
+use Rattle.cborn_wire.specs.shared.Machine as machine
+use Rattle.cborn_wire.specs.shared.Machine.{State, Failed, content_at, finished, after_head, run}
+use Rattle.cborn_wire.specs.shared.Scanning.{content_of}
 use Rattle.cborn_wire.proofs.Machine.Pieces.{content_whole}
-use Rattle.cborn_wire.proofs.Machine.TakesHeads.{info_for}
 use Rattle.cborn_wire.proofs.Machine.SoundSteps.{is_clear, free_of, other_kind}
 use Rattle.cborn_explain.specs.declared.nestings.Nesting.TheVariants.{Array, Map}
 use Rattle.cborn_explain.specs.declared.walks.Level.{Level}

@@ -3,8 +3,9 @@ use Rattle.std.proofs.Common.{◌≡◌, refl, sym, ap, ◌∙◌, ℕ, zero, su
 use Rattle.std.proofs.lemmas.List.{length-take-le, take-append-drop, take_at}
 use Rattle.cborn_model.specs.Spelled.{spelled_all}
 use Rattle.cborn_wire.specs.Slots.{Begun, begun_items, begun_pairs, begun_value, begun_tag, begun_chunks, beginning, beginnings}
-use Rattle.cborn_wire.specs.devices.Machine.{front}
-use Rattle.cborn_wire.proofs.Machine.SoundItems.{BegunPlaced, Ground, ground_less}
+use Rattle.cborn_wire.specs.shared.Machine.{front}
+use Rattle.cborn_wire.proofs.Machine.SoundItems.{ground_less}
+use Rattle.cborn_wire.specs.shared.Ground.{BegunPlaced, Ground}
 use Rattle.cborn_explain.specs.declared.paths.Step.{Step}
 use Rattle.cborn_explain.specs.declared.walks.Level.{Level}
 use Rattle.cborn_explain.specs.declared.walks.Open.{Open}

@@ -13,13 +13,12 @@ use Rattle.cborn_wire.specs.declared.heads.HeadRead.TheVariants.{Full, Short, Ba
 use Rattle.cborn_wire.specs.Faults.{needs_item}
 use Rattle.cborn_wire.specs.Slots.{Slot, element_or_end, Begun, slot, open_depth, AreBegun}
 use Rattle.cborn_wire.specs.HeadReading.{major_at, seen_argument, reason_alone, IsHeadOf, IsFrontOfHead, ReadsHead}
-use Rattle.cborn_wire.specs.devices.InitialBytes.{Info, Now, Next, Reserved, Unended, info_at, is_bad_chunk, is_break, is_container, is_other, is_one, head_reason}
-use Rattle.cborn_wire.specs.devices.Machine.{nothing, gathering, State, Live, Failed, begin_head, unless, run}
-use Rattle.cborn_wire.specs.devices.Scanning as scanning
-use Rattle.cborn_wire.specs.devices.Scanning.{content_of, IsAmid, HasFailed}
+use Rattle.cborn_wire.specs.shared.InitialBytes.{Info, Now, Next, Reserved, Unended, info_at, is_bad_chunk, is_break, is_container, is_other, is_one, head_reason, info_for}
+use Rattle.cborn_wire.specs.shared.Machine.{nothing, gathering, State, Live, Failed, begin_head, unless, run}
+use Rattle.cborn_wire.specs.shared.Scanning as scanning
+use Rattle.cborn_wire.specs.shared.Scanning.{content_of, IsAmid, HasFailed}
 use Rattle.cborn_wire.proofs.HeadReading.InitialBytes.{same_alone}
 use Rattle.cborn_wire.proofs.Machine.Pieces.{major_of_head, info_of_head}
-use Rattle.cborn_wire.proofs.Machine.TakesHeads.{info_for}
 use Rattle.cborn_wire.proofs.Machine.SoundSteps.{is_clear}
 use Rattle.cborn_wire.proofs.Scans.ScanItems.{reason_levels, slot_levels}
 use Rattle.cborn_wire.proofs.Scans.ScanSteps.{reason_here, step_refused, step_bad, step_cut, step_short}

@@ -10,14 +10,13 @@ use Rattle.cborn_wire.specs.declared.heads.Head.{Head}
 use Rattle.cborn_wire.specs.Slots.{Begun, beginnings, slot, AreBegun}
 use Rattle.cborn_wire.specs.HeadReading.{major_at, seen_argument, IsHeadOf}
 use Rattle.cborn_wire.specs.Places.{all_from}
-use Rattle.cborn_wire.specs.devices.InitialBytes.{head_reason}
-use Rattle.cborn_wire.specs.devices.Machine.{nothing, gathering, State, Live, Failed, start, front, after_head, run}
-use Rattle.cborn_wire.specs.devices.Scanning as scanning
-use Rattle.cborn_wire.specs.devices.Scanning.{content_of, IsScanned}
+use Rattle.cborn_wire.specs.shared.InitialBytes.{head_reason, info_for}
+use Rattle.cborn_wire.specs.shared.Machine.{nothing, gathering, State, Live, Failed, start, front, after_head, run}
+use Rattle.cborn_wire.specs.shared.Scanning as scanning
+use Rattle.cborn_wire.specs.shared.Scanning.{content_of, IsScanned}
 use Rattle.cborn_wire.proofs.HeadReading.HeadSteps as steps
 use Rattle.cborn_wire.proofs.HeadReading.HeadSteps.{head_fits}
 use Rattle.cborn_wire.proofs.Machine.Running.{run-append}
-use Rattle.cborn_wire.proofs.Machine.TakesHeads.{info_for}
 use Rattle.cborn_wire.proofs.Machine.TakesOpen.{open_from, takes_open}
 use Rattle.cborn_wire.proofs.Machine.SoundItems.{SoundLive, Sound}
 use Rattle.cborn_wire.proofs.Machine.SoundRuns.{sound}

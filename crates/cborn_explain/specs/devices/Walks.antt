@@ -12,10 +12,10 @@ use Rattle.cborn_wire.specs.declared.heads.HeadRead.TheVariants.{Full, Short, Ba
 use Rattle.cborn_wire.specs.HeadReading.{major_at, seen_argument, IsHeadOf, ReadsHead}
 use Rattle.cborn_wire.specs.Faults.{needs_item}
 use Rattle.cborn_wire.specs.Slots.{StringKind, OfBytes, OfText, Slot, item, value, element_or_end, key_or_end, chunk, Begun, begun_items, begun_pairs, begun_value, begun_tag, begun_chunks}
-use Rattle.cborn_wire.specs.devices.InitialBytes.{Info, is_bad_chunk, is_break, is_container}
-use Rattle.cborn_wire.specs.devices.Machine.{nothing, gathering, State, Live, Failed, start, run, front}
-use Rattle.cborn_wire.specs.devices.Scanning.{content_of}
-use Rattle.cborn_wire.proofs.Machine.SoundItems.{Ground}
+use Rattle.cborn_wire.specs.shared.InitialBytes.{Info, is_bad_chunk, is_break, is_container}
+use Rattle.cborn_wire.specs.shared.Machine.{nothing, gathering, State, Live, Failed, start, run, front}
+use Rattle.cborn_wire.specs.shared.Scanning.{content_of}
+use Rattle.cborn_wire.specs.shared.Ground.{Ground}
 use Rattle.cborn_explain.specs.Paths.{is_key}
 use Rattle.cborn_explain.specs.declared.paths.Step.{Step}
 use Rattle.cborn_explain.specs.declared.paths.Step.TheVariants as paths

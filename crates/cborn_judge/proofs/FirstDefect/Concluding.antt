@@ -9,7 +9,7 @@ use Rattle.cborn_model.specs.Valid.{IsProper}
 use Rattle.cborn_model.specs.Value.{Value}
 use Rattle.cborn_det.specs.Det.{Det}
 use Rattle.cborn_judge.specs.Departures.{FindsDefect}
-use Rattle.cborn_judge.specs.devices.Checked.{DefectIn}
+use Rattle.cborn_judge.specs.shared.Checked.{DefectIn}
 use Rattle.cborn_judge.specs.Defects.{Defect, IsCheck, IsDeterministic}
 use Rattle.cborn_judge.specs.declared.defects.Defect as defect
 use Rattle.cborn_judge.proofs.Encoded.Checking.{check_sound, check_whole}

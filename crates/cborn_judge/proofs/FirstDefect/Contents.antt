@@ -10,7 +10,7 @@ use Rattle.cborn_model.specs.declared.items.Item.{Item}
 use Rattle.cborn_model.specs.declared.items.Item.TheVariants as item
 use Rattle.cborn_model.specs.declared.items.ItemBox.{ItemBox}
 use Rattle.cborn_judge.specs.Departures.{FindsDefect}
-use Rattle.cborn_judge.specs.devices.Checked.{DefectIn, TagDefect}
+use Rattle.cborn_judge.specs.shared.Checked.{DefectIn, TagDefect}
 use Rattle.cborn_judge.specs.declared.defects.Defect as defect
 use Rattle.cborn_judge.proofs.FirstDefect.Departing.{alike}
 

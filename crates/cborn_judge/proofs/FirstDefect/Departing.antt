@@ -9,7 +9,7 @@ use Rattle.cborn_model.specs.declared.heads.Size.{Size}
 use Rattle.cborn_model.specs.declared.heads.Width.{Width}
 use Rattle.cborn_model.specs.declared.nodes.Chunk.{Chunk}
 use Rattle.cborn_judge.specs.Departures.{FindsDefect, LongAt, LooseBytesAt}
-use Rattle.cborn_judge.specs.devices.Checked.{IsEarliestDefect, SizeAt, LooseAt, DefectIn, DefectInAll, MapDefect, TagDefect}
+use Rattle.cborn_judge.specs.shared.Checked.{IsEarliestDefect, SizeAt, LooseAt, DefectIn, DefectInAll, MapDefect, TagDefect}
 use Rattle.cborn_judge.specs.Defects.{defect_rank, IsLong, HasLongChunk, IsLoose, ChunksDefect, DefectAt}
 use Rattle.cborn_judge.specs.Flaws.{Within}
 use Rattle.cborn_judge.specs.declared.defects.Defect as defect

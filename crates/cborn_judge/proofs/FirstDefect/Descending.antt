@@ -15,9 +15,9 @@ use Rattle.cborn_model.specs.declared.items.Item.{Item}
 use Rattle.cborn_det.specs.Det.{Det}
 use Rattle.cborn_det.proofs.Canon.{one_of_same}
 use Rattle.cborn_judge.specs.Departures.{FindsDefect, NotAboveAt}
-use Rattle.cborn_judge.specs.devices.Checked.{IsEarliestDefect, DefectIn, DefectInAll, DefectAmong, DescentAt}
+use Rattle.cborn_judge.specs.shared.Checked.{IsEarliestDefect, DefectIn, DefectInAll, DefectAmong, DescentAt}
 use Rattle.cborn_judge.specs.Defects.{NotAbove, Descends, HasDescent}
-use Rattle.cborn_judge.specs.devices.Judged.{MeansItem}
+use Rattle.cborn_judge.specs.shared.Judged.{MeansItem}
 use Rattle.cborn_judge.specs.declared.defects.Defect as defect
 use Rattle.cborn_judge.specs.declared.defects.DefectReason.{DefectReason}
 use Rattle.cborn_judge.proofs.FirstDefect.Departing.{both_found, alike}

@@ -12,7 +12,7 @@ use Rattle.cborn_model.specs.declared.items.Item.{Item}
 use Rattle.cborn_model.specs.declared.heads.Size.{Size}
 use Rattle.cborn_model.proofs.Listed.Values.{pair_count-pairs_of}
 use Rattle.cborn_judge.specs.Flaws.{Within, WithinEntries, FlawAt, Flaw, IsFirstFlaw, flaw_rank}
-use Rattle.cborn_judge.specs.devices.Judged.{FindsFlaw, IsEarliestFlaw, FlawAmong, MeansItem, PairFlaw, RepeatFlaw, IsFirstWith, IsJudged}
+use Rattle.cborn_judge.specs.shared.Judged.{FindsFlaw, IsEarliestFlaw, FlawAmong, MeansItem, PairFlaw, RepeatFlaw, IsFirstWith, IsJudged}
 use Rattle.cborn_judge.specs.declared.judgments.Judged.{Judged}
 use Rattle.cborn_judge.specs.declared.judgments.Judged.TheVariants as judged
 use Rattle.cborn_judge.specs.devices.Keeping.{code_bytes, code_position, AreKept, IsNextKey, KeepsKey}

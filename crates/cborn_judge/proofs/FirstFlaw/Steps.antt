@@ -4,8 +4,8 @@ use Rattle.std.specs.Prelude.{◌↔◌}
 use Rattle.cborn_judge.specs.Flaws.{Within, HasRepeat, FlawAt, Flaw}
 use Rattle.cborn_judge.specs.declared.faults.InvalidReason.{InvalidReason}
 use Rattle.cborn_judge.specs.declared.faults.InvalidReason.TheVariants.{DuplicateKey}
-use Rattle.cborn_judge.specs.devices.Judged.{FlawIn, FlawAmong, RepeatFlaw}
-use Rattle.cborn_judge.specs.devices.Repeats.{AreKeys}
+use Rattle.cborn_judge.specs.shared.Judged.{FlawIn, FlawAmong, RepeatFlaw}
+use Rattle.cborn_judge.specs.shared.Repeats.{AreKeys}
 use Rattle.cborn_judge.specs.devices.Places.{Key, key_bytes, key_position, RepeatAt}
 use Rattle.cborn_judge.proofs.SameKeys.Repeating.{repeat_again, again_repeat}
 use Rattle.cborn_model.specs.declared.heads.Size.{Size}

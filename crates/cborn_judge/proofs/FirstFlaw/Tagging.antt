@@ -6,7 +6,7 @@ use Rattle.cborn_model.specs.Meaning.{IsByteString}
 use Rattle.cborn_model.specs.Tree.{Tree, Tagged}
 use Rattle.cborn_model.specs.declared.heads.Width.{Width}
 use Rattle.cborn_judge.specs.Flaws.{FlawAt, Flaw, IsFirstFlaw, flaw_rank}
-use Rattle.cborn_judge.specs.devices.Judged.{IsFirstWith, IsJudged}
+use Rattle.cborn_judge.specs.shared.Judged.{IsFirstWith, IsJudged}
 use Rattle.cborn_judge.specs.declared.judgments.Judged.{Judged}
 use Rattle.cborn_judge.specs.declared.judgments.Judged.TheVariants as judged
 use Rattle.cborn_judge.specs.declared.faults.Flaw as flaw

@@ -7,7 +7,7 @@ use Rattle.cborn_model.specs.declared.nodes.Chunk.{Chunk}
 use Rattle.cborn_model.specs.Meaning.{joined_chunks, ChunksAreText}
 use Rattle.cborn_model.specs.Tree.{TextChunks}
 use Rattle.cborn_judge.specs.Flaws.{HasBadChunk, FlawAt, IsFirstFlaw, flaw_rank}
-use Rattle.cborn_judge.specs.devices.Judged.{ChunkFlaw, IsEarliestFlaw, FindsFlaw}
+use Rattle.cborn_judge.specs.shared.Judged.{ChunkFlaw, IsEarliestFlaw, FindsFlaw}
 use Rattle.cborn_judge.specs.declared.faults.Flaw as flaw
 use Rattle.cborn_judge.specs.declared.faults.InvalidReason.{InvalidReason}
 use Rattle.cborn_judge.specs.declared.faults.InvalidReason.TheVariants.{NotUtf8}

@@ -12,7 +12,7 @@ use Rattle.cborn_model.specs.declared.items.Item.{Item}
 use Rattle.cborn_model.specs.declared.heads.Size.{Size}
 use Rattle.cborn_model.proofs.Listed.Values.{value_count-values_of}
 use Rattle.cborn_judge.specs.Flaws.{Within, WithinAll, Flaw, IsFirstFlaw, flaw_rank}
-use Rattle.cborn_judge.specs.devices.Judged.{IsEarliestFlaw, FlawIn, MeansItem}
+use Rattle.cborn_judge.specs.shared.Judged.{IsEarliestFlaw, FlawIn, MeansItem}
 use Rattle.cborn_judge.specs.declared.faults.Flaw as flaw
 use Rattle.cborn_judge.specs.declared.faults.InvalidReason.{InvalidReason}
 use Rattle.cborn_judge.proofs.Loops.Firsts.{Either, found_alike, Settles, settled_fine, settled_flawed}

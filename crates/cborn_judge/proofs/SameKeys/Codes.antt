@@ -7,7 +7,7 @@ use Rattle.std.proofs.lemmas.List.Elements.{All-from_recursion}
 use Rattle.std.proofs.lemmas.List.{map-append, drop_more, drop_all}
 use Rattle.std.proofs.lemmas.List.Concat.{flat_map-append}
 use Rattle.cborn_model.specs.Orders.{bytewise, Rising}
-use Rattle.cborn_model.specs.devices.OrderLaws.{bytewise_order}
+use Rattle.cborn_model.specs.shared.OrderLaws.{bytewise_order}
 use Rattle.cborn_model.specs.Tree.{Tree, Entries, no_entry, entry, entries, count_entries, place}
 use Rattle.cborn_model.specs.View.{tree_of}
 use Rattle.cborn_model.specs.declared.nodes.Form.{Form}
@@ -20,7 +20,7 @@ use Rattle.cborn_judge.specs.devices.Places.{Key, key_bytes, key_position}
 use Rattle.cborn_judge.specs.Flaws.{HasRepeat}
 use Rattle.cborn_judge.proofs.SameKeys.Repeating.{repeat_again}
 use Rattle.cborn_judge.specs.declared.keys.Keys.{Keys}
-use Rattle.cborn_judge.specs.devices.Repeats.{IsOneOf, IsAgain, AreKeys}
+use Rattle.cborn_judge.specs.shared.Repeats.{IsOneOf, IsAgain, AreKeys}
 
 -- ---- one more
 

@@ -3,10 +3,10 @@ use Rattle.std.proofs.Common.{◌≡◌, ℕ, suc, zero, ◌+◌, ◌-◌, ◌<�
 use Rattle.std.specs.Prelude.{◌↔◌, slice_index}
 use Rattle.std.specs.List.Sorted.{IsSortedBy}
 use Rattle.std.proofs.lemmas.List.{get_or_read, take_all}
-use Rattle.cborn_judge.specs.devices.Repeats.{PositionsRise, IsAgain, IsTied}
+use Rattle.cborn_judge.specs.shared.Repeats.{PositionsRise, IsAgain, IsTied}
 use Rattle.cborn_judge.specs.devices.Places.{Key, key_bytes, key_position, RepeatAt}
 use Rattle.cborn_judge.specs.Flaws.{flaw_rank}
-use Rattle.cborn_judge.specs.devices.Judged.{FindsFlaw, IsEarliestFlaw}
+use Rattle.cborn_judge.specs.shared.Judged.{FindsFlaw, IsEarliestFlaw}
 use Rattle.cborn_judge.specs.declared.faults.Flaw as flaw
 use Rattle.cborn_judge.specs.declared.faults.InvalidReason.{InvalidReason}
 use Rattle.cborn_judge.specs.declared.faults.InvalidReason.TheVariants.{DuplicateKey}

@@ -1,6 +1,6 @@
 -- The keys of a map, as a loop over its pairs collects them.
 use Rattle.std.proofs.Common.{◌≡◌, ℕ, suc, ◌+◌, inl, inr, List, [], ◌∷◌, ◌++◌, length, refl, ap, arith}
-use Rattle.cborn_judge.specs.devices.Repeats.{AreKeys}
+use Rattle.cborn_judge.specs.shared.Repeats.{AreKeys}
 use Rattle.cborn_model.specs.Value.{Value}
 use Rattle.cborn_model.specs.Valid.{IsProper}
 use Rattle.cborn_model.specs.Orders.{bytewise}

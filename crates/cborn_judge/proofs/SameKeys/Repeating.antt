@@ -8,9 +8,9 @@ use Rattle.std.proofs.lemmas.List.Sorted.{IsPermutation-sym}
 use Rattle.std.proofs.lemmas.Map.Keys.{IsDistinct-IsPermutation, ge_from_not_lt}
 use Rattle.std.proofs.lemmas.Bool.{eqb-true, eq-eqb, cases_eq}
 use Rattle.cborn_judge.specs.Flaws.{IsRepeated, HasRepeat}
-use Rattle.cborn_judge.specs.devices.Repeats.{IsOneOf, PositionsRise, IsAgain, IsTied, AreKeys}
+use Rattle.cborn_judge.specs.shared.Repeats.{IsOneOf, PositionsRise, IsAgain, IsTied, AreKeys}
 use Rattle.cborn_model.proofs.SameItems.Rearranging.{All_moved, weaker, at_member}
-use Rattle.cborn_model.specs.devices.OrderLaws.{bytewise_order}
+use Rattle.cborn_model.specs.shared.OrderLaws.{bytewise_order}
 use Rattle.cborn_det.proofs.Canon.{same_of_one, one_of_same}
 use Rattle.cborn_judge.proofs.Meaning.Meanings.{means_once}
 use Rattle.cborn_model.specs.Value.{Value, Same}

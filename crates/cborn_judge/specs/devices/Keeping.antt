@@ -4,7 +4,7 @@ use Rattle.cborn_model.specs.Orders.{bytewise, Rising}
 use Rattle.cborn_model.specs.Tree.{Tree, entries, place}
 use Rattle.cborn_model.specs.Value.{Value}
 use Rattle.cborn_det.specs.Det.{Det}
-use Rattle.cborn_judge.specs.devices.Repeats.{AreKeys}
+use Rattle.cborn_judge.specs.shared.Repeats.{AreKeys}
 use Rattle.cborn_judge.specs.devices.Places.{Key}
 use Rattle.cborn_judge.specs.declared.keys.Keys.{Keys}
 

@@ -7,7 +7,7 @@ use Rattle.std.specs.Char.{is_digit}
 use Rattle.hex.specs.Hex.{decode_of}
 use Rattle.hex.specs.declared.error.FromHexError.{FromHexError}
 use Rattle.cborn_lex.specs.Tokens.{is_not, is_white}
-use Rattle.cborn_lex.specs.devices.Scan.{onto, strip, behind}
+use Rattle.cborn_lex.specs.shared.Scan.{onto, strip, behind}
 use Rattle.cborn_lex.specs.Strings.{HasDigits, nothing, digit, space, comment, IsHex}
 
 at_char : (c k : ℕ) → is_digit k 16 ≡ false → eqb c k ≡ true → is_digit c 16 ≡ false

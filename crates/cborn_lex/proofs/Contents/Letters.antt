@@ -5,9 +5,9 @@ use Rattle.std.proofs.lemmas.Str.{encode_ascii}
 use Rattle.std.specs.Prelude.{encode_utf8}
 use Rattle.std.specs.List.{list_all, flat_map}
 use Rattle.cborn_lex.specs.Strings.{is_escape, escape_code, are_hex, code, is_high, is_low, IsText}
-use Rattle.cborn_lex.specs.devices.Letters.{Letter, raw, escaped, unit, pair, written, meant, is_letter}
+use Rattle.cborn_lex.specs.shared.Letters.{Letter, raw, escaped, unit, pair, written, meant, is_letter}
 use Rattle.cborn_lex.proofs.Contents.Lettered.{has_letters, is_text}
-use Rattle.cborn_lex.specs.devices.Scan.{is_raw, code_at, low_code, paired, unit_from, escape_of}
+use Rattle.cborn_lex.specs.shared.Scan.{is_raw, code_at, low_code, paired, unit_from, escape_of}
 use Rattle.cborn_lex.proofs.Contents.Texts.{low_at, unit_at, escape_at, LetterAt, MatchAt, letter_at_is, NoLetters, no_letters, no_more, longer}
 use Rattle.std.proofs.lemmas.List.{take-append-drop, drop_all, drop_more, drop-drop, length-drop}
 use Rattle.std.proofs.lemmas.List.Folds.{list_all-append}

@@ -24,7 +24,7 @@ use Rattle.cborn_lex.specs.Tokens.{Front, Blank, Read, Bad, mark_of, marked, is_
 use Rattle.cborn_lex.specs.Numbers.{integer, within, signed, number_front, word_front}
 use Rattle.cborn_lex.specs.Strings.{escape_code, are_hex, code, is_high, is_low, IsText, HasDigits, nothing, digit as one_digit, space, comment, IsHex, to_standard, filled, IsBase64, is_content, is_unclosed}
 use Rattle.cborn_lex.proofs.Contents.Lettered.{has_letters}
-use Rattle.cborn_lex.specs.devices.Letters.{Letter, raw, escaped, unit, pair, written, meant, is_letter}
+use Rattle.cborn_lex.specs.shared.Letters.{Letter, raw, escaped, unit, pair, written, meant, is_letter}
 use Rattle.cborn_lex.specs.Forms.{IsString, Prefix, hexadecimal, base64, unknown, prefix_of, IsPrefixed, IsAfterWord, ReadsNumber, double, simple, Start, white, slash, hash, less, greater, paren, letter, minus, digit, other, single, opening, start_of, paren_front, ReadsFrom, Reads}
 use Rattle.cborn_lex.specs.Lex.{Lex, Between}
 use Rattle.cborn_lex.specs.devices.Pieces.{Lexeme, gap, token, spelled, AreRead, tokens}

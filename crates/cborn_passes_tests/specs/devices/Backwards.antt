@@ -1,7 +1,7 @@
 -- A device of the tests: an order of keys that is neither of the two that RFC 8949 names. No public contract cites it.
 use Rattle.std.proofs.Common.{ℕ, List, Ordering, sym}
 use Rattle.cborn_model.specs.Orders.{IsKeyOrder, bytewise}
-use Rattle.cborn_model.specs.devices.OrderLaws.{bytewise_order}
+use Rattle.cborn_model.specs.shared.OrderLaws.{bytewise_order}
 
 -- lexicographic on bytes, from the highest down
 abbrev pub backwards : List ℕ → List ℕ → Ordering

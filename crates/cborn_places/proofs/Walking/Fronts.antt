@@ -8,9 +8,8 @@ use Rattle.cborn_model.specs.Heads.{Argument, Given, Unbounded, code, head}
 use Rattle.cborn_model.proofs.Numbers.OneHead.{one_head}
 use Rattle.cborn_wire.specs.declared.heads.Head.{Head}
 use Rattle.cborn_wire.specs.HeadReading.{major_at, seen_argument, ArgumentFits, IsHeadOf}
-use Rattle.cborn_wire.specs.devices.InitialBytes.{Unended, info_at}
-use Rattle.cborn_wire.specs.devices.Scanning.{content_of}
-use Rattle.cborn_wire.proofs.Machine.TakesHeads.{info_for}
+use Rattle.cborn_wire.specs.shared.InitialBytes.{Unended, info_at, info_for}
+use Rattle.cborn_wire.specs.shared.Scanning.{content_of}
 use Rattle.cborn_wire.proofs.Machine.Pieces.{major_of_head, info_of_head}
 use Rattle.cborn_places.specs.devices.Pieces.{Piece, piece_bytes, IsPiece, is_end}
 

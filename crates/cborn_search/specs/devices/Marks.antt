@@ -4,8 +4,8 @@ use Rattle.std.specs.List.{AllZip}
 use Rattle.std.specs.declared.cmp.Ordering.TheVariants.{Less}
 use Rattle.cborn_model.specs.Orders.{bytewise}
 use Rattle.cborn_model.specs.Tree.{Tree, entries}
-use Rattle.cborn_judge.specs.devices.Judged.{FlawAmong, RepeatFlaw}
-use Rattle.cborn_judge.specs.devices.Repeats.{IsTied}
+use Rattle.cborn_judge.specs.shared.Judged.{FlawAmong, RepeatFlaw}
+use Rattle.cborn_judge.specs.shared.Repeats.{IsTied}
 use Rattle.cborn_judge.specs.declared.faults.InvalidReason.{InvalidReason}
 use Rattle.cborn_judge.specs.declared.faults.InvalidReason.TheVariants.{DuplicateKey}
 use Rattle.cborn_search.specs.Reading.{Pair, PairsRead}

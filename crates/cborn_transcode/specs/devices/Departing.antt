@@ -13,14 +13,14 @@ use Rattle.cborn_model.specs.Value.{Value, Values, Couples}
 use Rattle.cborn_det.specs.Det.{Det}
 use Rattle.cborn_judge.specs.Departures.{FindsDefect}
 use Rattle.cborn_judge.specs.Defects.{Descends, IsLoose}
-use Rattle.cborn_judge.specs.devices.Checked.{DefectIn, DefectInAll, DefectAmong, MapDefect}
+use Rattle.cborn_judge.specs.shared.Checked.{DefectIn, DefectInAll, DefectAmong, MapDefect}
 use Rattle.cborn_judge.specs.declared.defects.Defect.{Defect}
 use Rattle.cborn_judge.specs.declared.defects.DefectReason.{DefectReason}
 use Rattle.cborn_judge.specs.declared.defects.DefectReason.TheVariants as reasons
 use Rattle.cborn_transcode.specs.declared.departures.Walked.{Walked}
 use Rattle.cborn_transcode.specs.declared.departures.Walked.TheVariants.{Behind, LongHead, EndlessLength, LooseBignum, KeyOrder, Unknown}
 use Rattle.cborn_transcode.specs.Transcoding.{ItemTranscoded}
-use Rattle.cborn_transcode.specs.devices.Walking.{Leaves, ItemWalked, WalkedBehind}
+use Rattle.cborn_transcode.specs.shared.Walking.{Leaves, ItemWalked, WalkedBehind}
 
 -- the node stands at the front of the input, and means an item
 pub record Stands (total : ℕ) (t : Tree) (input rest : List ℕ) : Type 0 where

@@ -7,7 +7,7 @@ use Rattle.cborn_transcode.specs.declared.places.PairPlace.{PairPlace}
 use Rattle.cborn_transcode.specs.declared.places.Placed.{Placed}
 use Rattle.cborn_transcode.specs.declared.places.Placed.TheVariants as put
 use Rattle.cborn_transcode.specs.Transcoding.{all_spanned}
-use Rattle.cborn_transcode.specs.devices.Walking.{spans_of}
+use Rattle.cborn_transcode.specs.shared.Walking.{spans_of}
 
 -- the pairs at the places are written, so arranged that their keys rise; or something is, behind what stood there
 abbrev pub PlacesPut : (List ℕ → List ℕ → Ordering) → List ℕ → List PairPlace → List ℕ → List ℕ → Placed → Type 0

@@ -10,7 +10,7 @@ use Rattle.cborn_wire.specs.Slots.{Begun, beginnings}
 use Rattle.cborn_wire.specs.Faults.{IsWellformed, Fault}
 use Rattle.cborn_wire.specs.Places.{all_from}
 use Rattle.cborn_wire.specs.Feeding.{AreComplete}
-use Rattle.cborn_wire.specs.devices.Machine.{append_trees, snoc, IsLive, Partial, nothing, State, Live, Failed, start, ready_in, part_bytes, run}
+use Rattle.cborn_wire.specs.shared.Machine.{append_trees, snoc, IsLive, Partial, nothing, State, Live, Failed, start, ready_in, part_bytes, run}
 use Rattle.cborn_wire.proofs.Machine.Running.{failed_run}
 use Rattle.cborn_wire.proofs.Spelled.AsPlaced.{spelled_all-from}
 use Rattle.cborn_wire.proofs.Machine.WholeFront.{front_run}

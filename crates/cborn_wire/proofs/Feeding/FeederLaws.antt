@@ -12,7 +12,7 @@ use Rattle.cborn_wire.specs.declared.faults.WireReason.TheVariants.{Truncated}
 use Rattle.cborn_wire.specs.Slots.{Begun}
 use Rattle.cborn_wire.specs.Faults.{IsWellformed, Refused, Fault}
 use Rattle.cborn_wire.specs.Feeding.{AreComplete, Feeding, IsFed, Accepts, Refuses, RunsShort, Feeds}
-use Rattle.cborn_wire.specs.devices.Machine.{append_trees, Partial, nothing, State, Live, Failed, start, IsLive, ready_in, held, run, IsReached, Stops}
+use Rattle.cborn_wire.specs.shared.Machine.{append_trees, Partial, nothing, State, Live, Failed, start, IsLive, ready_in, held, run, IsReached, Stops}
 use Rattle.cborn_wire.proofs.Machine.Running.{run-append}
 use Rattle.cborn_wire.proofs.Spelled.AllBytes.{bytes-append, bytes-right}
 use Rattle.cborn_wire.proofs.Machine.WholeFront.{with_front}

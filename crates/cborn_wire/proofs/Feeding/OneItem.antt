@@ -10,7 +10,7 @@ use Rattle.cborn_wire.specs.declared.faults.WireReason.TheVariants.{Truncated}
 use Rattle.cborn_wire.specs.Slots.{Begun}
 use Rattle.cborn_wire.specs.Faults.{Fault}
 use Rattle.cborn_wire.specs.Reading.{IsFirstItem, ItemFault}
-use Rattle.cborn_wire.specs.devices.Machine.{snoc, Partial, nothing, State, Live, Failed, start, IsLive, ready_in, run, Stops, Settles}
+use Rattle.cborn_wire.specs.shared.Machine.{snoc, Partial, nothing, State, Live, Failed, start, IsLive, ready_in, run, Stops, Settles}
 use Rattle.cborn_wire.proofs.Machine.Running.{run-append}
 use Rattle.cborn_wire.proofs.Feeding.Outcomes.{refused_is}
 use Rattle.cborn_wire.proofs.Spelled.AllBytes.{bytes-left, bytes-right}

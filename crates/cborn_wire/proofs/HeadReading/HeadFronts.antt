@@ -14,8 +14,8 @@ use Rattle.cborn_wire.specs.declared.heads.Argument.TheVariants.{Given, Endless}
 use Rattle.cborn_wire.specs.declared.heads.HeadRead.{HeadRead}
 use Rattle.cborn_wire.specs.HeadReading.{major_at, reason_alone, IsHeadOf, IsFrontOfHead, ReadsHead}
 use Rattle.cborn_wire.specs.Slots.{element_or_end}
-use Rattle.cborn_wire.specs.devices.InitialBytes.{Info, Now, Next, Unended, Reserved, info_at, is_unended, is_always_bounded, is_other, head_reason}
-use Rattle.cborn_wire.specs.devices.Machine.{width_bytes, number}
+use Rattle.cborn_wire.specs.shared.InitialBytes.{Info, Now, Next, Unended, Reserved, info_at, is_unended, is_always_bounded, is_other, head_reason}
+use Rattle.cborn_wire.specs.shared.Machine.{width_bytes, number}
 use Rattle.cborn_wire.proofs.HeadReading.InitialBytes.{same_alone}
 use Rattle.cborn_wire.proofs.Spelled.AllBytes.{bytes-append, bytes-left}
 use Rattle.cborn_wire.proofs.Machine.TakesHeads.{info_at-now}

@@ -13,8 +13,8 @@ use Rattle.cborn_wire.specs.declared.heads.Head.{Head}
 use Rattle.cborn_wire.specs.HeadReading.{major_at, seen_argument, reason_alone, IsHeadOf}
 use Rattle.cborn_wire.specs.Slots.{Slot, element_or_end, Begun, slot, open_depth}
 use Rattle.cborn_wire.specs.Faults.{begins_low}
-use Rattle.cborn_wire.specs.devices.InitialBytes.{Info, info_at, is_break, is_other, is_one, is_container, head_reason}
-use Rattle.cborn_wire.specs.devices.Machine.{width_bytes, number, argument_of, nothing, gathering, Live, Failed, after_head, run}
+use Rattle.cborn_wire.specs.shared.InitialBytes.{Info, info_at, is_break, is_other, is_one, is_container, head_reason}
+use Rattle.cborn_wire.specs.shared.Machine.{width_bytes, number, argument_of, nothing, gathering, Live, Failed, after_head, run}
 use Rattle.cborn_wire.proofs.HeadReading.InitialBytes.{same_alone}
 use Rattle.cborn_wire.proofs.Machine.Pieces.{major_of_head, takes_whole_head, refuses_first, argument_done}
 use Rattle.cborn_wire.proofs.Machine.TakesHeads.{major_at-code}

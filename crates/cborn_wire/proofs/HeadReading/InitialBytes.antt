@@ -6,7 +6,7 @@ use Rattle.cborn_wire.specs.Slots.{StringKind, OfBytes, OfText, major_of, Slot, 
 use Rattle.cborn_wire.specs.Faults as numbers
 use Rattle.cborn_wire.specs.Faults.{reason_of, reason_at}
 use Rattle.cborn_wire.specs.HeadReading.{major_at, reason_alone}
-use Rattle.cborn_wire.specs.devices.InitialBytes.{Info, info_at, is_reserved, is_unended, is_always_bounded, is_other, is_container, is_of_kind, is_bad_chunk, is_float, is_one, head_reason, front_reason}
+use Rattle.cborn_wire.specs.shared.InitialBytes.{Info, info_at, is_reserved, is_unended, is_always_bounded, is_other, is_container, is_of_kind, is_bad_chunk, is_float, is_one, head_reason, front_reason}
 
 other_is : (m : ℕ) → leb 7 m ≡ is_other (major_at m)
 other_is zero = refl

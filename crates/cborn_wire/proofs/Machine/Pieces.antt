@@ -8,11 +8,11 @@ use Rattle.cborn_model.specs.Heads.{Argument, Given, Unbounded, code, following,
 use Rattle.cborn_model.specs.Tree.{Trees}
 use Rattle.cborn_wire.specs.declared.faults.WireReason.{WireReason}
 use Rattle.cborn_wire.specs.Slots.{StringKind, Begun, slot, open_depth}
-use Rattle.cborn_wire.specs.devices.InitialBytes.{info_at, head_reason}
-use Rattle.cborn_wire.specs.devices.Machine.{number, Goal, argument_of, content_of, nothing, gathering, Live, Failed, string_done, content_at, after_head, gathered, gather, begin_head, unless, step, run}
+use Rattle.cborn_wire.specs.shared.InitialBytes.{info_at, head_reason, info_for}
+use Rattle.cborn_wire.specs.shared.Machine.{number, Goal, argument_of, content_of, nothing, gathering, Live, Failed, string_done, content_at, after_head, gathered, gather, begin_head, unless, step, run}
 use Rattle.cborn_wire.proofs.Machine.Running.{failed_run}
 use Rattle.cborn_wire.specs.HeadReading.{major_at, ArgumentFits}
-use Rattle.cborn_wire.proofs.Machine.TakesHeads.{gathers, takes_head, info_for, quotient, remainder, major_at-code, info_at-now}
+use Rattle.cborn_wire.proofs.Machine.TakesHeads.{gathers, takes_head, quotient, remainder, major_at-code, info_at-now}
 
 -- the initial byte of a head, and what its information is
 record FirstOf (m : Major) (a : Argument) : Type 0 where

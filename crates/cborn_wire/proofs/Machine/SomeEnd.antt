@@ -13,11 +13,10 @@ use Rattle.cborn_wire.specs.declared.faults.WireReason.{WireReason}
 use Rattle.cborn_wire.specs.declared.faults.WireReason.TheVariants.{BadSimple}
 use Rattle.cborn_wire.specs.Slots.{StringKind, OfBytes, OfText, Slot, Begun, begun_items, begun_pairs, begun_value, begun_tag, begun_chunks, slot, open_depth, IsNoChunk, AreBegun}
 use Rattle.cborn_wire.specs.Faults.{begins_low}
-use Rattle.cborn_wire.specs.devices.InitialBytes.{Info, Now, Next, Reserved, Unended, info_at, is_other, is_one, head_reason, front_reason}
+use Rattle.cborn_wire.specs.shared.InitialBytes.{Info, Now, Next, Reserved, Unended, info_at, is_other, is_one, head_reason, front_reason, info_for}
 use Rattle.cborn_wire.specs.HeadReading.{major_at}
-use Rattle.cborn_wire.specs.devices.Machine.{snoc, snoc_entry, width_bytes, number, argument_of, content_of, Partial, nothing, gathering, State, Live, Failed, items_tree, pairs_tree, string_tree, chunks_tree, finished, items_at, pairs_at, string_done, gather, begin_head, after_head, unless, step, run}
+use Rattle.cborn_wire.specs.shared.Machine.{snoc, snoc_entry, width_bytes, number, argument_of, content_of, Partial, nothing, gathering, State, Live, Failed, items_tree, pairs_tree, string_tree, chunks_tree, finished, items_at, pairs_at, string_done, gather, begin_head, after_head, unless, step, run}
 use Rattle.cborn_wire.proofs.Machine.Running.{failed_run}
-use Rattle.cborn_wire.proofs.Machine.TakesHeads.{info_for}
 use Rattle.cborn_wire.proofs.Machine.TakesItems.{count-snoc, count_entries-snoc, items_open, pairs_open}
 use Rattle.cborn_wire.proofs.Machine.SoundItems.{SoundLive}
 use Rattle.cborn_wire.proofs.Machine.SoundSteps.{Clear, is_clear, free_of, other_kind}

@@ -13,10 +13,10 @@ use Rattle.cborn_model.specs.Spelled.{chunk_bytes, spelled, spelled_all, spelled
 use Rattle.cborn_model.specs.Placed.{ChunksPlaced, Placed, PlacedAll, PlacedEntries}
 use Rattle.cborn_wire.specs.declared.faults.WireReason.{WireReason}
 use Rattle.cborn_wire.specs.Slots.{major_of, Begun, begun_items, begun_pairs, begun_value, begun_tag, begun_chunks, beginnings, slot, open_depth, HasRoom, IsNoChunk, MayBegin, AreBegun}
-use Rattle.cborn_wire.specs.devices.InitialBytes.{Next, is_bad_chunk, head_reason, front_reason}
-use Rattle.cborn_wire.specs.devices.Machine.{front, part_bytes, snoc, snoc_entry, width_bytes, argument_of, content_of, Partial, nothing, gathering, State, Live, Failed, finished, items_at, pairs_at}
+use Rattle.cborn_wire.specs.shared.InitialBytes.{Next, is_bad_chunk, head_reason, front_reason, info_for}
+use Rattle.cborn_wire.specs.shared.Ground.{BegunPlaced, OpenPlaced, Ground}
+use Rattle.cborn_wire.specs.shared.Machine.{front, part_bytes, snoc, snoc_entry, width_bytes, argument_of, content_of, Partial, nothing, gathering, State, Live, Failed, finished, items_at, pairs_at}
 use Rattle.cborn_wire.specs.HeadReading.{ArgumentFits}
-use Rattle.cborn_wire.proofs.Machine.TakesHeads.{info_for}
 use Rattle.cborn_wire.proofs.Machine.TakesItems.{UpTo, count-snoc, count_entries-snoc}
 use Rattle.cborn_wire.proofs.Machine.TakesOpen.{room_fits}
 
@@ -72,19 +72,6 @@ pub chunk_bytes-snoc : (m : Major) (cs : List Chunk) (c : Chunk) → flat_map (c
 chunk_bytes-snoc m [] c = append-nil (chunk_bytes m c)
 chunk_bytes-snoc m (d ∷ cs) c = ap (λ l. chunk_bytes m d ++ l) (chunk_bytes-snoc m cs c) ∙ sym (append_assoc (chunk_bytes m d) (flat_map (chunk_bytes m) cs) (chunk_bytes m c))
 
--- Where what is open stands.
-
-abbrev pub BegunPlaced : ℕ → Begun → Type 0
-BegunPlaced p (begun_items q a ts) = (q ≡ p) × PlacedAll (p + length (head Array a)) ts
-BegunPlaced p (begun_pairs q a es) = (q ≡ p) × PlacedEntries (p + length (head Map a)) es
-BegunPlaced p (begun_value q a es t) = (q ≡ p) × PlacedEntries (p + length (head Map a)) es × Placed (p + length (head Map a) + length (spelled_entries es)) t
-BegunPlaced p (begun_tag q w n) = q ≡ p
-BegunPlaced p (begun_chunks q k cs) = (q ≡ p) × ChunksPlaced (major_of k) (suc p) cs
-
-abbrev pub OpenPlaced : ℕ → List Begun → Type 0
-OpenPlaced p [] = Unit {0}
-OpenPlaced p (o ∷ os) = BegunPlaced (p + length (beginnings os)) o × OpenPlaced p os
-
 -- A part is what the bytes that came make of a head or a string that may stand here.
 abbrev pub PartFits : ℕ → List Begun → ℕ → Partial → Type 0
 PartFits limit os at nothing = Unit {0}
@@ -92,15 +79,8 @@ PartFits limit os at (gathering p (argument_of m w) n got) = (p ≡ at) × (n �
 PartFits limit os at (gathering p (content_of k w) n got) = (p ≡ at) × WidthFits w n × (length got < n) × (is_bad_chunk (slot os) (major_of k) (info_for (Given w n)) ≡ false) × AreBytes got
 
 module _ (limit base : ℕ) where
-  pub record Ground (ready : Trees) (os : List Begun) : Type 0 where
-    pub fit : FitsAll ready
-    pub shallow : depth_all ready ≤ limit
-    pub placed : PlacedAll base ready
-    pub begun : AreBegun limit os
-    pub open_placed : OpenPlaced (base + length (spelled_all ready)) os
-
   pub record SoundLive (x : List ℕ) (fed : ℕ) (ready : Trees) (os : List Begun) (part : Partial) : Type 0 where
-    pub ground : Ground ready os
+    pub ground : Ground limit base ready os
     pub bytes : x ≡ front ready os ++ part_bytes part
     pub fed_is : fed ≡ base + length x
     pub part_fits : PartFits limit os (base + length (front ready os)) part
@@ -121,7 +101,7 @@ module _ (limit base : ℕ) where
   length_front ready os = omega (arith, length-append (spelled_all ready) (beginnings os))
 
   -- one more thing is open
-  pub ground_more : (ready : Trees) (os : List Begun) (o : Begun) → Ground ready os → IsNoChunk (slot os) → MayBegin limit (open_depth os) o → BegunPlaced (base + length (front ready os)) o → Ground ready (o ∷ os)
+  pub ground_more : (ready : Trees) (os : List Begun) (o : Begun) → Ground limit base ready os → IsNoChunk (slot os) → MayBegin limit (open_depth os) o → BegunPlaced (base + length (front ready os)) o → Ground limit base ready (o ∷ os)
   ground_more ready os o g free may placed = record {
     fit = g.fit;
     shallow = g.shallow;
@@ -131,15 +111,15 @@ module _ (limit base : ℕ) where
   }
 
   -- and one less
-  pub ground_less : (ready : Trees) (os : List Begun) (o : Begun) → Ground ready (o ∷ os) → Ground ready os
+  pub ground_less : (ready : Trees) (os : List Begun) (o : Begun) → Ground limit base ready (o ∷ os) → Ground limit base ready os
   ground_less ready os o g = record { fit = g.fit; shallow = g.shallow; placed = g.placed; begun = g.begun.2; open_placed = g.open_placed.1 }
 
-  pub top_placed : (ready : Trees) (os : List Begun) (o : Begun) → Ground ready (o ∷ os) → BegunPlaced (base + length (front ready os)) o
+  pub top_placed : (ready : Trees) (os : List Begun) (o : Begun) → Ground limit base ready (o ∷ os) → BegunPlaced (base + length (front ready os)) o
   top_placed ready os o g = subst (λ q. BegunPlaced q o) (sym (length_front ready os)) g.open_placed.0
 
   -- the machine has a whole t after what is open
   pub record Whole (x : List ℕ) (fed : ℕ) (ready : Trees) (os : List Begun) (t : Tree) : Type 0 where
-    pub ground : Ground ready os
+    pub ground : Ground limit base ready os
     pub free : IsNoChunk (slot os)
     pub fits : Fits t
     pub shallow : open_depth os + depth t ≤ limit
@@ -153,7 +133,7 @@ module _ (limit base : ℕ) where
   -- an array with these items so far
   pub sound_items : (ready : Trees) (os : List Begun) (p : ℕ) (a : Argument) (ts : Trees) (fed : ℕ) (x : List ℕ)
       → ((t : Tree) → Whole x fed ready os t → Sound x (finished fed ready os t))
-      → Ground ready os → IsNoChunk (slot os) → ArgumentFits a → UpTo a (count ts) → FitsAll ts → open_depth os + suc (depth_all ts) ≤ limit
+      → Ground limit base ready os → IsNoChunk (slot os) → ArgumentFits a → UpTo a (count ts) → FitsAll ts → open_depth os + suc (depth_all ts) ≤ limit
       → BegunPlaced (base + length (front ready os)) (begun_items p a ts)
       → x ≡ front ready os ++ (head Array a ++ spelled_all ts) → fed ≡ base + length x
       → Sound x (items_at fed ready os p a ts)
@@ -186,7 +166,7 @@ module _ (limit base : ℕ) where
 
   pub sound_pairs : (ready : Trees) (os : List Begun) (p : ℕ) (a : Argument) (es : Entries) (fed : ℕ) (x : List ℕ)
       → ((t : Tree) → Whole x fed ready os t → Sound x (finished fed ready os t))
-      → Ground ready os → IsNoChunk (slot os) → ArgumentFits a → UpTo a (count_entries es) → FitsEntries es → open_depth os + suc (depth_entries es) ≤ limit
+      → Ground limit base ready os → IsNoChunk (slot os) → ArgumentFits a → UpTo a (count_entries es) → FitsEntries es → open_depth os + suc (depth_entries es) ≤ limit
       → BegunPlaced (base + length (front ready os)) (begun_pairs p a es)
       → x ≡ front ready os ++ (head Map a ++ spelled_entries es) → fed ≡ base + length x
       → Sound x (pairs_at fed ready os p a es)

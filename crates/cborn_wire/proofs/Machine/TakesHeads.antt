@@ -10,8 +10,8 @@ use Rattle.cborn_model.specs.Tree.{Trees}
 pub use Rattle.cborn_model.proofs.Numbers.Majors.{major_at-code}
 use Rattle.cborn_wire.specs.HeadReading.{major_at, ArgumentFits}
 use Rattle.cborn_wire.specs.Slots.{Begun, slot, open_depth}
-use Rattle.cborn_wire.specs.devices.InitialBytes.{Info, Now, Next, Unended, info_at, head_reason}
-use Rattle.cborn_wire.specs.devices.Machine.{width_bytes, number, Goal, argument_of, nothing, gathering, Live, gather, gathered, begin_head, after_head, at_slot, unless, step, run}
+use Rattle.cborn_wire.specs.shared.InitialBytes.{Info, Now, Next, Unended, info_at, head_reason}
+use Rattle.cborn_wire.specs.shared.Machine.{width_bytes, number, Goal, argument_of, nothing, gathering, Live, gather, gathered, begin_head, after_head, at_slot, unless, step, run}
 
 pub quotient : (c i : ℕ) → i < 32 → (32 * c + i) / 32 ≡ c
 quotient c i h = omega arith
@@ -55,14 +55,6 @@ wide limit fed ready os m w i n y x h e r l is =
     ∙ ap (λ k. run limit (after_head (suc fed + length y) fed ready os m (Given w k)) x) is
     ∙ (let count : suc fed + length y ≡ fed + suc (length y) = omega arith in
     ap (λ k. run limit (after_head k fed ready os m (Given w n)) x) count)
-
-abbrev pub info_for : Argument → Info
-info_for (Given Direct n) = Now n
-info_for (Given One n) = Next One
-info_for (Given Two n) = Next Two
-info_for (Given Four n) = Next Four
-info_for (Given Eight n) = Next Eight
-info_for Unbounded = Unended
 
 -- The machine takes a head where it may stand.
 pub takes_head : (limit fed : ℕ) (ready : Trees) (os : List Begun) (m : Major) (a : Argument) (x : List ℕ) → ArgumentFits a

@@ -19,10 +19,10 @@ use Rattle.cborn_model.proofs.Numbers.Simples.{simple_cases, simple_fits, least_
 use Rattle.cborn_wire.specs.declared.faults.WireReason.{WireReason}
 use Rattle.cborn_wire.specs.declared.faults.WireReason.TheVariants.{BadSimple}
 use Rattle.cborn_wire.specs.Slots.{StringKind, OfBytes, OfText, major_of, Slot, item, value, element_or_end, key_or_end, chunk, Begun, begun_items, begun_pairs, begun_value, begun_tag, begun_chunks, slot, slot_in, open_depth, IsNoChunk}
-use Rattle.cborn_wire.specs.devices.InitialBytes.{Info, Now, Next, Unended, is_reserved, is_unended, is_always_bounded, is_other, is_container, is_bad_chunk, head_reason}
-use Rattle.cborn_wire.specs.devices.Machine.{append_trees, snoc, snoc_entry, content_of, nothing, gathering, Live, Failed, is_full, items_tree, pairs_tree, string_tree, chunks_tree, finished, items_at, pairs_at, string_done, gather, after_head, run}
+use Rattle.cborn_wire.specs.shared.InitialBytes.{Info, Now, Next, Unended, is_reserved, is_unended, is_always_bounded, is_other, is_container, is_bad_chunk, head_reason, info_for}
+use Rattle.cborn_wire.specs.shared.Machine.{append_trees, snoc, snoc_entry, content_of, nothing, gathering, Live, Failed, is_full, items_tree, pairs_tree, string_tree, chunks_tree, finished, items_at, pairs_at, string_done, gather, after_head, run}
 use Rattle.cborn_wire.specs.HeadReading.{ArgumentFits}
-use Rattle.cborn_wire.proofs.Machine.TakesHeads.{gathers, takes_head, info_for}
+use Rattle.cborn_wire.proofs.Machine.TakesHeads.{gathers, takes_head}
 
 -- Which heads a slot takes.
 

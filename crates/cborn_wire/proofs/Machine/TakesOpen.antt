@@ -9,7 +9,7 @@ use Rattle.cborn_model.specs.Spelled.{chunk_bytes, chunks, spelled, spelled_all,
 use Rattle.cborn_model.specs.Placed.{Placed}
 use Rattle.cborn_wire.specs.Slots.{major_of, Begun, begun_items, begun_pairs, begun_value, begun_tag, begun_chunks, beginning, beginnings, slot, slot_in, levels, open_depth, HasRoom, IsNoChunk, MayBegin, AreBegun}
 use Rattle.cborn_wire.specs.Places.{chunks_from, placed_from, all_from, entries_from}
-use Rattle.cborn_wire.specs.devices.Machine.{nothing, Live, is_full, items_tree, pairs_tree, finished, run}
+use Rattle.cborn_wire.specs.shared.Machine.{nothing, Live, is_full, items_tree, pairs_tree, finished, run}
 use Rattle.cborn_wire.specs.HeadReading.{ArgumentFits}
 use Rattle.cborn_wire.proofs.Machine.TakesHeads.{takes_head}
 use Rattle.cborn_wire.proofs.Machine.TakesItems.{UpTo, UpTo-is, takes, takes_all, takes_entries, takes_chunks, clear_given, clear_unbounded, clear_argument, starts_chunks, pairs_open}

@@ -9,9 +9,9 @@ use Rattle.cborn_model.specs.Heads.{Argument, Given, Unbounded}
 use Rattle.cborn_model.specs.Tree.{Tree, Items, Pairs, Tagged, Trees, no_item, more, count, count_entries}
 use Rattle.cborn_wire.specs.declared.faults.WireReason.{WireReason}
 use Rattle.cborn_wire.specs.Slots.{StringKind, OfBytes, OfText, Begun, begun_items, begun_pairs, begun_value, begun_tag, begun_chunks}
-use Rattle.cborn_wire.specs.devices.InitialBytes.{Info, Now, Next, Reserved, Unended, info_at}
+use Rattle.cborn_wire.specs.shared.InitialBytes.{Info, Now, Next, Reserved, Unended, info_at}
 use Rattle.cborn_wire.specs.HeadReading.{major_at}
-use Rattle.cborn_wire.specs.devices.Machine.{append_trees, snoc, snoc_entry, width_bytes, number, Goal, argument_of, content_of, nothing, gathering, State, Live, Failed, is_full, items_tree, pairs_tree, string_tree, chunks_tree, finished, string_done, ended, gather, begin_head, after_head, unless, step, run}
+use Rattle.cborn_wire.specs.shared.Machine.{append_trees, snoc, snoc_entry, width_bytes, number, Goal, argument_of, content_of, nothing, gathering, State, Live, Failed, is_full, items_tree, pairs_tree, string_tree, chunks_tree, finished, string_done, ended, gather, begin_head, after_head, unless, step, run}
 
 abbrev pub with_front : Trees → State → State
 with_front front (Live fed ready os part) = Live fed (append_trees front ready) os part

@@ -3,7 +3,7 @@ use Rattle.std.proofs.Common.{◌≡◌, refl, sym, ap, ◌∙◌, ℕ, ◌+◌,
 use Rattle.std.specs.Option.{is_some}
 use Rattle.std.proofs.lemmas.List.{take_more, length-take-le}
 use Rattle.cborn_wire.specs.declared.levels.Level.{Level}
-use Rattle.cborn_wire.specs.devices.Scanning.{turned, open_levels, leave}
+use Rattle.cborn_wire.specs.shared.Scanning.{turned, open_levels, leave}
 
 turned-push : (ls xs : List Level) (l : Level) → turned ls (xs ++ l ∷ []) ≡ l ∷ turned ls xs
 turned-push ls [] l = refl

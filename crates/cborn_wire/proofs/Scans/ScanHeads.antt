@@ -12,12 +12,12 @@ use Rattle.cborn_wire.specs.declared.faults.WireReason.TheVariants.{BadSimple}
 use Rattle.cborn_wire.specs.declared.levels.Level.{Level}
 use Rattle.cborn_wire.specs.declared.levels.Level.TheVariants.{Array, Map}
 use Rattle.cborn_wire.specs.Slots.{StringKind, OfBytes, OfText, Begun, slot, IsNoChunk, AreBegun}
-use Rattle.cborn_wire.specs.devices.InitialBytes.{Next, Unended, is_unended, is_of_kind, is_break, is_other, head_reason}
-use Rattle.cborn_wire.specs.devices.Machine as machine
-use Rattle.cborn_wire.specs.devices.Machine.{nothing, gathering, State, Live, Failed, string_done, content_at, gather, after_head, run}
-use Rattle.cborn_wire.specs.devices.Scanning.{finish, begin_items, begin_pairs, take_head, content_of, levels_of, IsScanned, IsAmid}
+use Rattle.cborn_wire.specs.shared.InitialBytes.{Next, Unended, is_unended, is_of_kind, is_break, is_other, head_reason, info_for}
+use Rattle.cborn_wire.specs.shared.Machine as machine
+use Rattle.cborn_wire.specs.shared.Machine.{nothing, gathering, State, Live, Failed, string_done, content_at, gather, after_head, run}
+use Rattle.cborn_wire.specs.shared.Scanning.{finish, begin_items, begin_pairs, take_head, content_of, levels_of, IsScanned, IsAmid}
 use Rattle.cborn_wire.proofs.Machine.Pieces.{content_whole}
-use Rattle.cborn_wire.proofs.Machine.TakesHeads.{gathers, info_for}
+use Rattle.cborn_wire.proofs.Machine.TakesHeads.{gathers}
 use Rattle.cborn_wire.proofs.Machine.SoundSteps.{is_clear, free_of, other_kind}
 use Rattle.cborn_wire.proofs.Scans.ScanItems.{scanned_at, scans_item, scans_string, scans_end}
 

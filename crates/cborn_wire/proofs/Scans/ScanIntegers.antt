@@ -10,9 +10,9 @@ use Rattle.cborn_model.specs.Tree.{Trees, Uint, count}
 use Rattle.cborn_wire.specs.declared.levels.Level.{Level}
 use Rattle.cborn_wire.specs.declared.levels.Level.TheVariants.{Array, EndlessArray}
 use Rattle.cborn_wire.specs.Slots.{Begun, begun_items, slot, open_depth, IsNoChunk}
-use Rattle.cborn_wire.specs.devices.InitialBytes.{Now}
-use Rattle.cborn_wire.specs.devices.Machine.{snoc, nothing, Live, items_tree, finished, step, run}
-use Rattle.cborn_wire.specs.devices.Scanning.{levels_of, AreSmall, IsScanned, Steps}
+use Rattle.cborn_wire.specs.shared.InitialBytes.{Now}
+use Rattle.cborn_wire.specs.shared.Machine.{snoc, nothing, Live, items_tree, finished, step, run}
+use Rattle.cborn_wire.specs.shared.Scanning.{levels_of, AreSmall, IsScanned, Steps}
 use Rattle.cborn_wire.specs.declared.scanning.Step.TheVariants.{Taken}
 use Rattle.cborn_wire.specs.Slots.{begun_pairs, begun_value, begun_tag, begun_chunks}
 use Rattle.cborn_wire.proofs.Machine.TakesHeads.{first, info_at-now}

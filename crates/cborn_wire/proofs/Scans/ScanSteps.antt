@@ -15,14 +15,14 @@ use Rattle.cborn_wire.specs.declared.heads.Argument.TheVariants as arguments
 use Rattle.cborn_wire.specs.declared.heads.Head.{Head}
 use Rattle.cborn_wire.specs.declared.levels.Level.{Level}
 use Rattle.cborn_wire.specs.Slots.{Begun, slot, element_or_end, open_depth, IsNoChunk, AreBegun}
-use Rattle.cborn_wire.specs.devices.InitialBytes.{Now, Next, info_at, head_reason}
+use Rattle.cborn_wire.specs.shared.InitialBytes.{Now, Next, info_at, head_reason, info_for}
 use Rattle.cborn_wire.specs.HeadReading.{major_at, seen_argument, reason_alone, IsHeadOf, IsFrontOfHead}
-use Rattle.cborn_wire.specs.devices.Machine.{width_bytes, argument_of, nothing, gathering, Live, gather, gathered, begin_head, after_head, unless, at_slot, run}
-use Rattle.cborn_wire.specs.devices.Scanning.{finish, take_head, content_of, slot_at, levels_of, IsScanned, IsAmid, HasFailed}
+use Rattle.cborn_wire.specs.shared.Machine.{width_bytes, argument_of, nothing, gathering, Live, gather, gathered, begin_head, after_head, unless, at_slot, run}
+use Rattle.cborn_wire.specs.shared.Scanning.{finish, take_head, content_of, slot_at, levels_of, IsScanned, IsAmid, HasFailed}
 use Rattle.cborn_wire.proofs.HeadReading.InitialBytes.{same_alone}
 use Rattle.cborn_wire.proofs.Machine.Running.{run-append}
 use Rattle.cborn_wire.proofs.Machine.Pieces.{major_of_head, info_of_head}
-use Rattle.cborn_wire.proofs.Machine.TakesHeads.{gathers, info_for, info_at-now}
+use Rattle.cborn_wire.proofs.Machine.TakesHeads.{gathers, info_at-now}
 use Rattle.cborn_wire.proofs.Machine.TakesItems.{clear_given}
 use Rattle.cborn_wire.proofs.HeadReading.HeadFronts.{small_head}
 use Rattle.cborn_wire.proofs.HeadReading.HeadSteps.{first_refused, second_refused, head_taken, head_fits}

@@ -12,8 +12,8 @@ use Rattle.cborn_wire.specs.declared.levels.Level.{Level}
 use Rattle.cborn_wire.specs.declared.scanning.Step.TheVariants.{Taken, Cut, Refused}
 use Rattle.cborn_wire.specs.Slots.{Begun, AreBegun}
 use Rattle.cborn_wire.specs.Faults.{Fault}
-use Rattle.cborn_wire.specs.devices.Machine.{Partial, nothing, gathering, State, Live, Failed, start, run}
-use Rattle.cborn_wire.specs.devices.Scanning.{levels_of, IsScanned, IsAmid, Steps}
+use Rattle.cborn_wire.specs.shared.Machine.{Partial, nothing, gathering, State, Live, Failed, start, run}
+use Rattle.cborn_wire.specs.shared.Scanning.{levels_of, IsScanned, IsAmid, Steps}
 use Rattle.cborn_wire.proofs.Machine.Running.{run-append}
 use Rattle.cborn_wire.proofs.Spelled.AllBytes.{bytes-left}
 use Rattle.cborn_wire.proofs.Machine.SoundItems.{SoundLive, Sound}

@@ -9,10 +9,10 @@ use Rattle.cborn_wire.specs.declared.faults.WireReason.{WireReason}
 use Rattle.cborn_wire.specs.declared.faults.WireReason.TheVariants.{ReservedInfo, EndlessNotAllowed, BadChunk, UnexpectedBreak, FloatLeftOut, BadSimple, TooDeep, Truncated}
 use Rattle.cborn_wire.specs.Slots.{Slot, Begun, beginnings, slot, open_depth, Open}
 use Rattle.cborn_wire.specs.Faults.{IsWellformed, Refused, Fault, needs_item, begins_low}
-use Rattle.cborn_wire.specs.devices.InitialBytes.{Info, info_at, is_reserved, is_unended, is_always_bounded, is_other, is_container, is_break, is_bad_chunk, is_float, is_one, head_reason, front_reason}
+use Rattle.cborn_wire.specs.shared.InitialBytes.{Info, info_at, is_reserved, is_unended, is_always_bounded, is_other, is_container, is_break, is_bad_chunk, is_float, is_one, head_reason, front_reason}
 use Rattle.cborn_wire.specs.HeadReading.{major_at}
 use Rattle.cborn_wire.specs.Places.{all_from}
-use Rattle.cborn_wire.specs.devices.Machine.{Partial, nothing, gathering, State, Live, Failed, run, start, front}
+use Rattle.cborn_wire.specs.shared.Machine.{Partial, nothing, gathering, State, Live, Failed, run, start, front}
 use Rattle.cborn_wire.proofs.HeadReading.InitialBytes.{same_reason}
 use Rattle.cborn_wire.proofs.Machine.Running.{run-append, failed_run}
 use Rattle.cborn_wire.proofs.Spelled.AllBytes.{bytes-append, bytes-left, well_bytes}

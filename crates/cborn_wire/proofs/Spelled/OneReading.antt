@@ -5,7 +5,7 @@ use Rattle.cborn_model.specs.Tree.{Tree, Trees, no_item, more, depth, depth_all}
 use Rattle.cborn_model.specs.Spelled.{spelled, spelled_all, Fits, FitsAll, Wellformed}
 use Rattle.cborn_model.specs.Placed.{Placed, PlacedAll}
 use Rattle.cborn_wire.specs.Places.{placed_from, all_from}
-use Rattle.cborn_wire.specs.devices.Machine.{append_trees, snoc, nothing, State, Live, Failed, start, ready_in, run}
+use Rattle.cborn_wire.specs.shared.Machine.{append_trees, snoc, nothing, State, Live, Failed, start, ready_in, run}
 use Rattle.cborn_wire.proofs.Machine.Running.{run-append}
 use Rattle.cborn_wire.proofs.Machine.TakesItems.{takes, append_trees-nil, append_trees-snoc}
 use Rattle.cborn_wire.proofs.Spelled.AsPlaced.{spelled-from, spelled_all-from, depth-from, depth_all-from, fits-from, fits_all-from, placed-from, placed_all-from, same_all-from}

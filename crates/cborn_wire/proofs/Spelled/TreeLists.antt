@@ -3,7 +3,7 @@ use Rattle.std.proofs.Common.{◌≡◌, refl, sym, ap, ◌∙◌, List, [], ◌
 use Rattle.cborn_model.specs.Tree.{Tree, Trees, no_item, more, entry, trees, entries}
 use Rattle.cborn_model.specs.Spelled.{spelled, spelled_all}
 use Rattle.cborn_model.proofs.Listed.Trees.{trees-injective}
-use Rattle.cborn_wire.specs.devices.Machine.{append_trees, snoc, snoc_entry}
+use Rattle.cborn_wire.specs.shared.Machine.{append_trees, snoc, snoc_entry}
 
 pub trees-append : (ts us : List Tree) → trees (ts ++ us) ≡ append_trees (trees ts) (trees us)
 trees-append [] us = refl

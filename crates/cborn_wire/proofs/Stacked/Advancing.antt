@@ -17,8 +17,8 @@ use Rattle.cborn_wire.specs.declared.nests.Outcome.TheVariants.{Open, Whole, Par
 use Rattle.cborn_wire.specs.devices.Standing.{Standing}
 use Rattle.cborn_wire.specs.Slots.{StringKind, OfBytes, OfText, Begun, major_of}
 use Rattle.cborn_wire.specs.HeadReading.{major_at}
-use Rattle.cborn_wire.specs.devices.Machine as machine
-use Rattle.cborn_wire.specs.devices.Machine.{append_trees, State, Live, Failed, ready_in, Stops, Settles, content_of, gathering, width_bytes, snoc, string_done, content_at, after_head, run, IsReached}
+use Rattle.cborn_wire.specs.shared.Machine as machine
+use Rattle.cborn_wire.specs.shared.Machine.{append_trees, State, Live, Failed, ready_in, Stops, Settles, content_of, gathering, width_bytes, snoc, string_done, content_at, after_head, run, IsReached}
 use Rattle.cborn_wire.specs.devices.StackView.{seen_kind, seen_partial, opened, left, seen, FailsAs, Took, IsShort, Fails, IsMade, IsMoved, Advances}
 use Rattle.cborn_wire.proofs.Machine.Running.{run-append, failed_run}
 use Rattle.cborn_wire.proofs.Spelled.AllBytes.{bytes-left}

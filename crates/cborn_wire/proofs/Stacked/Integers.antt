@@ -19,8 +19,8 @@ use Rattle.cborn_wire.specs.declared.nests.Outcome.{Outcome}
 use Rattle.cborn_wire.specs.declared.nests.Outcome.TheVariants.{Open, Whole}
 use Rattle.cborn_wire.specs.HeadReading.{major_at, seen_argument, ArgumentFits, IsHeadOf}
 use Rattle.cborn_wire.specs.Slots.{Begun, begun_items, slot, open_depth, IsNoChunk}
-use Rattle.cborn_wire.specs.devices.InitialBytes.{is_other, is_container}
-use Rattle.cborn_wire.specs.devices.Machine.{nothing, Live, is_full, after_head, finished, run}
+use Rattle.cborn_wire.specs.shared.InitialBytes.{is_other, is_container}
+use Rattle.cborn_wire.specs.shared.Machine.{nothing, Live, is_full, after_head, finished, run}
 use Rattle.cborn_wire.specs.devices.StackView.{seen_partial, seen_open, opened, around, left, Took, StandsFirst}
 use Rattle.cborn_wire.proofs.HeadReading.HeadFronts.{small_head}
 use Rattle.cborn_wire.proofs.HeadReading.HeadSteps.{head_fits, head_front}

@@ -11,7 +11,7 @@ use Rattle.cborn_wire.specs.declared.faults.WireReason.{WireReason}
 use Rattle.cborn_wire.specs.declared.frames.Frame.{Frame}
 use Rattle.cborn_wire.specs.devices.StackView.{seen_frame, FailsAs, PutGives, Puts}
 use Rattle.cborn_wire.specs.Slots.{Begun, begun_items, begun_pairs, begun_value}
-use Rattle.cborn_wire.specs.devices.Machine.{snoc, snoc_entry, is_full, items_tree, pairs_tree, nothing, Live, Failed, State, finished}
+use Rattle.cborn_wire.specs.shared.Machine.{snoc, snoc_entry, is_full, items_tree, pairs_tree, nothing, Live, Failed, State, finished}
 use Rattle.cborn_wire.proofs.Spelled.TreeLists.{trees-push, entries-push}
 
 items_size : (p : ℕ) (a : Argument) (ts : Trees) → items_tree p (seen_argument a) ts ≡ Items p (seen_size a) ts

@@ -8,7 +8,7 @@ use Rattle.cborn_model.specs.declared.heads.Major.TheVariants.{Unsigned, Negativ
 use Rattle.cborn_model.specs.Heads.{Argument, Given, Unbounded}
 use Rattle.cborn_model.specs.Tree.{Tree, Items, Pairs, Tagged, Trees, no_item, Entries, no_entry, count, count_entries}
 use Rattle.cborn_wire.specs.Slots.{StringKind, OfBytes, OfText, Begun, begun_items, begun_pairs, begun_value, begun_tag, begun_chunks}
-use Rattle.cborn_wire.specs.devices.Machine.{snoc, snoc_entry, State, is_full, items_tree, pairs_tree, string_tree, chunks_tree, finished, items_at, pairs_at, string_done, content_at, ended, after_head, Settles}
+use Rattle.cborn_wire.specs.shared.Machine.{snoc, snoc_entry, State, is_full, items_tree, pairs_tree, string_tree, chunks_tree, finished, items_at, pairs_at, string_done, content_at, ended, after_head, Settles}
 
 settles_if : (ready : Trees) (c : Bool) {s u : State} → Settles ready s → Settles ready u → Settles ready (cond c s u)
 settles_if ready true h k = h

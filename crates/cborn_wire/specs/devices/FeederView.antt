@@ -2,7 +2,7 @@
 use Rattle.std.specs.Prelude.{◌≡◌, None}
 use Rattle.cborn_wire.specs.declared.feeders.Feeder.TheInside.{Inside}
 use Rattle.cborn_wire.specs.Feeding.{Feeding}
-use Rattle.cborn_wire.specs.devices.Machine.{held}
+use Rattle.cborn_wire.specs.shared.Machine.{held}
 use Rattle.cborn_wire.specs.devices.StackView.{seen}
 
 abbrev pub told : Inside → Feeding

@@ -2,7 +2,7 @@
 use Rattle.std.specs.Prelude.{ℕ, List, Option, refl}
 use Rattle.std.specs.Coded.{Coded, code_by, coded×, coded_ℕ, coded_list, coded_option}
 use Rattle.cborn_model.specs.Tree.{Tree}
-use Rattle.cborn_model.specs.devices.TreeCode.{tree_code}
+use Rattle.cborn_model.specs.shared.TreeCode.{tree_code}
 use Rattle.cborn_wire.specs.declared.faults.WireFault.{WireFault}
 use Rattle.cborn_wire.specs.contracts.faults.WireFault as fault
 use Rattle.cborn_wire.specs.Feeding.{Feeding}

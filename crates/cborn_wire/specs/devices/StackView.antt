@@ -22,8 +22,8 @@ use Rattle.cborn_wire.specs.devices.Standing.{Standing}
 use Rattle.cborn_wire.specs.HeadReading.{major_at, seen_argument}
 use Rattle.cborn_wire.specs.Slots as slots
 use Rattle.cborn_wire.specs.Slots.{OfBytes, OfText, item, value, element_or_end, key_or_end, chunk, Begun, begun_items, begun_pairs, begun_value, begun_tag, begun_chunks, slot, IsNoChunk}
-use Rattle.cborn_wire.specs.devices.Machine as machine
-use Rattle.cborn_wire.specs.devices.Machine.{argument_of, content_of, nothing, gathering, width_bytes, State, Live, Failed, finished, ended, run, IsReached, Stops, Settles}
+use Rattle.cborn_wire.specs.shared.Machine as machine
+use Rattle.cborn_wire.specs.shared.Machine.{argument_of, content_of, nothing, gathering, width_bytes, State, Live, Failed, finished, ended, run, IsReached, Stops, Settles}
 
 abbrev pub seen_kind : StringKind → slots.StringKind
 seen_kind kinds.Bytes = OfBytes

@@ -2,7 +2,7 @@ use Rattle.std.proofs.Common.{◌++◌, drop, List}
 use Rattle.cborn_model.specs.Orders.{Rising}
 use Rattle.cborn_det.specs.Det.{Entry, keys}
 use Rattle.cborn_det.specs.devices.Writing.{IsWritten}
-use Rattle.cborn_det.proofs.Cutting.{EndsIn}
+use Rattle.cborn_det.specs.shared.KeyBefore.{EndsIn}
 use Rattle.cborn_det.proofs.entries.rise.Given as goal
 
 -- the entries so far, whose keys rise, and those of what is left

@@ -1,7 +1,7 @@
 use Rattle.std.proofs.Common.{codes, [], ◌∷◌, ◌++◌, ◌∙◌, sym, rules, ap, arith, ◌≡◌, ℕ, List, length, true, false, ◌==◌}
 use Rattle.std.proofs.lemmas.Bool.{eqb-true}
 use Rattle.cborn_model.specs.Tree.{Tree, trees}
-use Rattle.cborn_edn.specs.devices.Between.{separated}
+use Rattle.cborn_edn.specs.shared.Between.{separated}
 use Rattle.cborn_edn.specs.Shown as pure
 use Rattle.cborn_edn.proofs.Shown.Characters.{fits_more, fits_whole}
 use Rattle.cborn_edn.proofs.Shown.Separated.{one_more, all_of, lines-separated}

@@ -1,7 +1,7 @@
 use Rattle.std.proofs.Common.{◌≡◌, take, codes}
 use Rattle.cborn_model.specs.Tree.{trees}
 use Rattle.cborn_model.specs.Spelled.{FitsAll}
-use Rattle.cborn_edn.specs.devices.Between.{separated}
+use Rattle.cborn_edn.specs.shared.Between.{separated}
 use Rattle.cborn_edn.specs.Shown as pure
 use Rattle.cborn_edn.proofs.showing.shown.Given as goal
 

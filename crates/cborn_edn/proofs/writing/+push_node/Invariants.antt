@@ -1,6 +1,6 @@
 use Rattle.std.proofs.Common.{◌≡◌, ◌++◌, ◌+◌, ◌*◌, take, codes}
 use Rattle.cborn_model.specs.Tree.{trees, entries, depth, depth_all, depth_entries}
-use Rattle.cborn_edn.specs.devices.Between.{separated}
+use Rattle.cborn_edn.specs.shared.Between.{separated}
 use Rattle.cborn_edn.specs.Shown as pure
 use Rattle.cborn_edn.proofs.Shown.Separated.{shown_pair}
 use Rattle.cborn_edn.proofs.writing.+push_node.Given as goal

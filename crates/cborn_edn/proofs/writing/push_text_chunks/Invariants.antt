@@ -1,6 +1,6 @@
 use Rattle.std.proofs.Common.{◌≡◌, ◌++◌, take, codes}
 use Rattle.cborn_edn.specs.declared.strings.StringKind.TheVariants.{Text as OfText}
-use Rattle.cborn_edn.specs.devices.Between.{separated}
+use Rattle.cborn_edn.specs.shared.Between.{separated}
 use Rattle.cborn_edn.proofs.Shown.Separated.{shown_chunk}
 use Rattle.cborn_edn.proofs.writing.push_text_chunks.Given as goal
 

@@ -3,11 +3,11 @@ use Rattle.cborn_model.proofs.Listed.Trees.{depth_of_item, depth_of_pair}
 use Rattle.cborn_model.specs.ItemView.{item_value}
 use Rattle.cborn_model.specs.declared.items.Item.{Item}
 use Rattle.cborn_judge.specs.Departures.{FindsDefect, LongAt}
-use Rattle.cborn_judge.specs.devices.Judged.{MeansItem}
+use Rattle.cborn_judge.specs.shared.Judged.{MeansItem}
 use Rattle.cborn_judge.proofs.FirstDefect.Departing.{uint_found, nint_found, bytes_found, text_found, byte_chunks_found, text_chunks_found, items_found, pairs_found, tag_found}
 use Rattle.cborn_judge.proofs.FirstDefect.Descending.{same_length, means_at, same_length_of_pairs, pair_means_at, item-take_more, all_items, none_yet, pair-take_more, all_pairs}
 use Rattle.cborn_judge.proofs.FirstDefect.Contents.{weakened, bignum_content, plain_content, no_other, plain_found}
-use Rattle.cborn_judge.specs.devices.Checked.{DefectInAll, SizeAt, MapDefect, TagDefect}
+use Rattle.cborn_judge.specs.shared.Checked.{DefectInAll, SizeAt, MapDefect, TagDefect}
 use Rattle.cborn_judge.specs.Defects.{ChunksDefect}
 use Rattle.cborn_model.specs.Meaning.{Means}
 use Rattle.cborn_model.specs.Tree.{Tagged, trees, entries}

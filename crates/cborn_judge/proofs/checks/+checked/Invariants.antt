@@ -1,7 +1,7 @@
 use Rattle.std.proofs.Common.{◌+◌, ◌*◌, take}
 use Rattle.cborn_model.specs.Tree.{trees, entries, depth, depth_all, depth_entries}
 use Rattle.cborn_judge.specs.Departures.{FindsDefect}
-use Rattle.cborn_judge.specs.devices.Checked.{DefectInAll, DescentAt, DefectAmong}
+use Rattle.cborn_judge.specs.shared.Checked.{DefectInAll, DescentAt, DefectAmong}
 use Rattle.cborn_judge.proofs.Loops.Firsts.{Either}
 use Rattle.cborn_judge.proofs.checks.+checked.Given as goal
 

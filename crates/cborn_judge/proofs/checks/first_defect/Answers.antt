@@ -1,6 +1,6 @@
 use Rattle.std.proofs.Common.{subst}
 use Rattle.cborn_judge.specs.Departures.{FindsDefect}
-use Rattle.cborn_judge.specs.devices.Checked.{DefectIn}
+use Rattle.cborn_judge.specs.shared.Checked.{DefectIn}
 use Rattle.cborn_judge.proofs.FirstDefect.Concluding.{concluded, conclusive}
 use Rattle.cborn_judge.proofs.checks.first_defect.Goals as goal
 

@@ -1,7 +1,7 @@
 use Rattle.std.proofs.Common.{rules, arith, subst, refl, inl, inr}
 use Rattle.cborn_model.proofs.Listed.Fitting.{fits_at, pair_fits_at}
 use Rattle.cborn_model.proofs.Listed.Trees.{depth_of_item, depth_of_pair}
-use Rattle.cborn_judge.specs.devices.Judged.{IsJudged, IsJudgedPair, IsBignumItem, MeansItem}
+use Rattle.cborn_judge.specs.shared.Judged.{IsJudged, IsJudgedPair, IsBignumItem, MeansItem}
 use Rattle.cborn_judge.specs.devices.Places.{key_places}
 use Rattle.cborn_judge.proofs.FirstFlaw.Pairing as pairs
 use Rattle.cborn_judge.proofs.FirstFlaw.Pairing.{kept_valid, kept_flawed, kept-take_more}

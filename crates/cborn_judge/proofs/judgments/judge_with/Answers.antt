@@ -1,7 +1,7 @@
 use Rattle.std.proofs.Common.{arith, subst, ◌≤◌}
 use Rattle.cborn_model.specs.ItemView.{item_value}
 use Rattle.cborn_model.specs.Tree.{depth}
-use Rattle.cborn_judge.specs.devices.Judged.{IsJudged, MeansItem}
+use Rattle.cborn_judge.specs.shared.Judged.{IsJudged, MeansItem}
 use Rattle.cborn_judge.proofs.Meaning.Meanings.{meaning_shallow}
 use Rattle.cborn_judge.proofs.judgments.judge_with.Goals as goal
 

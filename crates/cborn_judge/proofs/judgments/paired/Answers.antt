@@ -1,5 +1,5 @@
 use Rattle.std.proofs.Common.{subst}
-use Rattle.cborn_judge.specs.devices.Judged.{IsJudged}
+use Rattle.cborn_judge.specs.shared.Judged.{IsJudged}
 use Rattle.cborn_judge.proofs.FirstFlaw.Pairing.{value_flawed, key_flawed_with}
 use Rattle.cborn_judge.proofs.judgments.paired.Goals as goal
 

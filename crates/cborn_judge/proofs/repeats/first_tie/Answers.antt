@@ -3,7 +3,7 @@ use Rattle.std.proofs.lemmas.Slice.Eq.{bytes_eq-Decides}
 use Rattle.std.proofs.lemmas.List.Sorted.{All-permutation}
 use Rattle.std.proofs.lemmas.List.{get_or_default}
 use Rattle.cborn_judge.specs.devices.Places.{Key, key_bytes}
-use Rattle.cborn_judge.specs.devices.Judged.{IsEarliestFlaw}
+use Rattle.cborn_judge.specs.shared.Judged.{IsEarliestFlaw}
 use Rattle.cborn_judge.proofs.SameKeys.Neighbours.{repeat_of, none-take_more, one-take_more, ties_again}
 use Rattle.cborn_judge.proofs.repeats.first_tie.Goals as goal
 use Rattle.cborn_judge.proofs.repeats.first_tie.Goals.{then-eq, else-eq}

@@ -1,5 +1,5 @@
 use Rattle.std.proofs.Common.{take}
-use Rattle.cborn_judge.specs.devices.Judged.{FindsFlaw}
+use Rattle.cborn_judge.specs.shared.Judged.{FindsFlaw}
 use Rattle.cborn_judge.proofs.SameKeys.Neighbours.{TieAt}
 use Rattle.cborn_judge.proofs.repeats.first_tie.Given as goal
 

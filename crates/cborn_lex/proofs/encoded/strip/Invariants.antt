@@ -1,5 +1,5 @@
 use Rattle.std.proofs.Common.{◌≡◌, false, drop}
-use Rattle.cborn_lex.specs.devices.Scan.{strip, behind}
+use Rattle.cborn_lex.specs.shared.Scan.{strip, behind}
 use Rattle.cborn_lex.proofs.encoded.strip.Given as goal
 
 abbrev pub invariant-loop-c : goal.invariant-loop-c

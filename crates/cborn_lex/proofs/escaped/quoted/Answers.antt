@@ -2,7 +2,7 @@ use Rattle.std.proofs.Common.{refl}
 use Rattle.cborn_lex.specs.declared.faults.LexReason.TheVariants.{BadEscape}
 use Rattle.cborn_lex.specs.Tokens.{Bad}
 use Rattle.cborn_lex.specs.Strings.{is_content, is_unclosed, IsText}
-use Rattle.cborn_lex.specs.devices.Scan.{string_class}
+use Rattle.cborn_lex.specs.shared.Scan.{string_class}
 use Rattle.cborn_lex.specs.devices.View.{front_view}
 use Rattle.cborn_lex.proofs.Sliced.Words.{IsClosedAt, string_ok, string_bad}
 use Rattle.cborn_lex.proofs.escaped.quoted.Goals as goal

@@ -1,5 +1,5 @@
 use Rattle.std.proofs.Common.{◌≡◌, ◌∙◌, sym, ap, arith, ◌++◌, drop, take, None, encode_utf8, length, ◌+◌, ◌<◌}
-use Rattle.cborn_lex.specs.devices.Scan.{escape_of}
+use Rattle.cborn_lex.specs.shared.Scan.{escape_of}
 use Rattle.cborn_lex.proofs.Contents.Letters.{Step, Moved, all_raw, bad_control, bad_escape, after_escape}
 use Rattle.cborn_lex.proofs.escaped.text_bytes.Goals as goal
 use Rattle.cborn_lex.proofs.escaped.text_bytes.Goals.{In_ok-extend_from_slice, In_ok-push_char}

@@ -3,7 +3,7 @@ use Rattle.std.proofs.Common.{rules, ◌++◌, ◌+◌, List, ◌≢◌, ◌-◌
 use Rattle.std.proofs.lemmas.List.{take_rest}
 use Rattle.cborn_wire.specs.declared.heads.Argument.TheVariants.{Given, Endless}
 use Rattle.cborn_show.specs.Passed.{NodeShown, NodesShown, PairsShown}
-use Rattle.cborn_edn.specs.devices.Between.{between}
+use Rattle.cborn_edn.specs.shared.Between.{between}
 use Rattle.cborn_show.proofs.Decimals.{under}
 use Rattle.cborn_show.proofs.Nodes.{inside, alone, item_last, uint_done, nint_done, bytes_done, text_done, byte_chunks_done, text_chunks_done, simple_done, nodes_none, nodes_more, array_done, endless_array_done, pair_done, pairs_none, pairs_more, map_done, endless_map_done, tagged_done}
 use Rattle.cborn_show.proofs.items.+shown.Goals.{put_items-else-items-test, put_items-then-items-test+in_ok-len+then-is_done}

@@ -1,6 +1,6 @@
 use Rattle.std.proofs.Common.{arith, ap, subst, ◌+◌, ◌++◌, ℕ, List, take, drop, drop-drop, codes, length}
 use Rattle.std.proofs.lemmas.List.{length-drop, take_rest}
-use Rattle.cborn_edn.specs.devices.Between.{between}
+use Rattle.cborn_edn.specs.shared.Between.{between}
 use Rattle.cborn_show.specs.Passed.{NextShown, NodesShown, signed}
 use Rattle.cborn_show.proofs.Nodes.{one_more}
 use Rattle.cborn_show.proofs.runs.put_run.Goals as goal

@@ -6,7 +6,7 @@ use Rattle.cborn_judge.specs.Departures.{FindsDefect, LooseBytesAt}
 use Rattle.cborn_judge.specs.declared.defects.Defect.{Defect}
 use Rattle.cborn_judge.specs.declared.defects.DefectReason.TheVariants.{LooseBignum}
 use Rattle.cborn_transcode.specs.Transcoding.{ItemTranscoded}
-use Rattle.cborn_transcode.specs.devices.Walking.{LeastHeadRead}
+use Rattle.cborn_transcode.specs.shared.Walking.{LeastHeadRead}
 use Rattle.cborn_transcode.proofs.Tagging.{content_is}
 use Rattle.cborn_transcode.proofs.departures.is_loose.Goals as goal
 

@@ -1,5 +1,6 @@
 use Rattle.std.proofs.Common.{sym, ◌∙◌}
-use Rattle.cborn_det.proofs.Cutting.{Below, below_last, below_none}
+use Rattle.cborn_det.proofs.Cutting.{below_last, below_none}
+use Rattle.cborn_det.specs.shared.KeyBefore.{Below}
 use Rattle.cborn_transcode.specs.declared.entries.Span.{Span}
 use Rattle.cborn_transcode.proofs.Keying.{rise_on}
 use Rattle.cborn_transcode.proofs.entries.are_rising.Goals.{in-Some-before+else-not-is_lt, in_default-before}

@@ -1,7 +1,7 @@
 use Rattle.std.proofs.Common.{take}
 use Rattle.cborn_model.specs.Orders.{Rising}
 use Rattle.cborn_det.specs.Det.{keys}
-use Rattle.cborn_det.proofs.Cutting.{EndsIn}
+use Rattle.cborn_det.specs.shared.KeyBefore.{EndsIn}
 use Rattle.cborn_transcode.specs.Transcoding.{all_spanned}
 use Rattle.cborn_transcode.proofs.entries.are_rising.Given as goal
 

@@ -1,7 +1,7 @@
 use Rattle.std.proofs.Common.{◌≡◌, ◌+◌, ◌-◌, ◌++◌, ◌∷◌, [], List, ℕ, drop, length-drop, subst, sym, ap, ◌∙◌, arith}
 use Rattle.std.proofs.lemmas.List.{map-append}
 use Rattle.cborn_transcode.specs.declared.entries.Span.{Span}
-use Rattle.cborn_transcode.specs.devices.Walking.{PairsFound, span_of, spans_of}
+use Rattle.cborn_transcode.specs.shared.Walking.{PairsFound, span_of, spans_of}
 use Rattle.cborn_transcode.proofs.Walking.{found_none, found_at}
 use Rattle.cborn_transcode.proofs.places.find_pairs.Goals as goal
 

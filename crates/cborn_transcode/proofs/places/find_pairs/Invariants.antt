@@ -1,5 +1,5 @@
 use Rattle.std.proofs.Common.{◌≡◌, ◌-◌, ◌≤◌, ℕ, [], length, drop}
-use Rattle.cborn_transcode.specs.devices.Walking.{PairsFound, spans_of}
+use Rattle.cborn_transcode.specs.shared.Walking.{PairsFound, spans_of}
 use Rattle.cborn_transcode.proofs.places.find_pairs.Given as goal
 
 abbrev pub decreases-pairs : goal.decreases-pairs

@@ -1,6 +1,6 @@
 use Rattle.std.proofs.Common.{List, ℕ, drop, subst, arith}
 use Rattle.std.proofs.lemmas.List.{drop-drop, take_rest}
-use Rattle.cborn_transcode.specs.devices.Walking.{LeastHeadRead, ItemWalked}
+use Rattle.cborn_transcode.specs.shared.Walking.{LeastHeadRead, ItemWalked}
 use Rattle.cborn_transcode.proofs.Walking.{leaf_walked, leaf_found, leaf_within}
 use Rattle.cborn_transcode.proofs.places.leaf_end.Goals as goal
 

@@ -1,5 +1,5 @@
 use Rattle.std.proofs.Common.{rules}
-use Rattle.cborn_transcode.specs.devices.Walking.{spans_of}
+use Rattle.cborn_transcode.specs.shared.Walking.{spans_of}
 use Rattle.cborn_transcode.proofs.Walking.{map_found}
 use Rattle.cborn_transcode.proofs.places.put_by_order.Goals as goal
 

@@ -1,6 +1,6 @@
 use Rattle.std.proofs.Common.{◌≡◌, ◌∙◌, ap, length, rules, subst, sym, take, take_at, List, ℕ}
 use Rattle.cborn_transcode.specs.Transcoding.{MapTranscoded}
-use Rattle.cborn_transcode.specs.devices.Walking.{Leaves, spans_of}
+use Rattle.cborn_transcode.specs.shared.Walking.{Leaves, spans_of}
 use Rattle.cborn_transcode.proofs.Iteming.{under}
 use Rattle.cborn_transcode.proofs.Walking.{map_found}
 use Rattle.cborn_transcode.proofs.places.put_great.Goals as goal

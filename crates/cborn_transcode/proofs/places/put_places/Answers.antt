@@ -2,7 +2,7 @@ use Rattle.std.proofs.Common.{◌≡◌, [], ◌∷◌, ◌++◌, List, Some, su
 use Rattle.cborn_transcode.specs.declared.places.PairPlace.{PairPlace}
 use Rattle.cborn_transcode.specs.declared.entries.Span.{Span}
 use Rattle.cborn_transcode.specs.Transcoding.{spanned}
-use Rattle.cborn_transcode.specs.devices.Walking.{span_of}
+use Rattle.cborn_transcode.specs.shared.Walking.{span_of}
 use Rattle.cborn_transcode.proofs.Keying.{WrittenUpTo, written_none, written_more, written_all}
 use Rattle.cborn_transcode.proofs.places.put_places.Goals as goal
 

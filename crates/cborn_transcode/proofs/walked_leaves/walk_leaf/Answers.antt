@@ -1,7 +1,7 @@
 use Rattle.std.proofs.Common.{◌≡◌, List, ℕ, Ordering, refl, sym, subst, ◌∙◌}
 use Rattle.cborn_model.specs.declared.heads.Major.{Major}
 use Rattle.cborn_model.specs.declared.heads.Major.TheVariants.{Unsigned, Negative, ByteString, TextString, Other}
-use Rattle.cborn_transcode.specs.devices.Walking.{WalkedBehind}
+use Rattle.cborn_transcode.specs.shared.Walking.{WalkedBehind}
 use Rattle.cborn_transcode.proofs.Iteming.{under}
 use Rattle.cborn_transcode.proofs.Walking.{uint_walked, nint_walked, bytes_walked, text_walked, simple_walked}
 use Rattle.cborn_transcode.proofs.walked_leaves.walk_leaf.Goals as goal

@@ -2,7 +2,7 @@ use Rattle.cborn_model.specs.declared.heads.Major.TheVariants.{Array, Map, Tag}
 use Rattle.std.proofs.Common.{◌≡◌, ◌≢◌, ◌⊎◌, ◌+◌, ◌-◌, ◌<◌, ◌≤◌, ◌^◌, inl, inr, refl, length, length-append, ap, sym, rules, drop, length-drop, Some, None, ℕ, subst, arith, false, true}
 use Rattle.cborn_judge.specs.declared.defects.DefectReason.TheVariants as reasons
 use Rattle.cborn_transcode.specs.devices.Departing.{IsAbove, Stops, StopsBehind, WalksBehind}
-use Rattle.cborn_transcode.specs.devices.Walking.{ItemWalked, ItemsWalked, PairsWalked, Leaves, WalkedBehind}
+use Rattle.cborn_transcode.specs.shared.Walking.{ItemWalked, ItemsWalked, PairsWalked, Leaves, WalkedBehind}
 use Rattle.cborn_transcode.proofs.Departing.{array_stops, item_clears, leads_first, leads_more, leads_stop}
 use Rattle.cborn_transcode.proofs.Falling.{map_stops, pairs_first, pairs_more, stops_in_key, stops_before_key, stops_at_key, stops_in_value}
 use Rattle.cborn_transcode.proofs.Tagging.{tag_stops}

@@ -1,6 +1,6 @@
 use Rattle.std.proofs.Common.{◌+◌, ◌*◌, ◌-◌, ◌≤◌}
 use Rattle.cborn_transcode.specs.devices.Departing.{Leads, LeadsPairs}
-use Rattle.cborn_transcode.specs.devices.Walking.{ItemsWalked, PairsWalked}
+use Rattle.cborn_transcode.specs.shared.Walking.{ItemsWalked, PairsWalked}
 use Rattle.cborn_transcode.proofs.walks.+walked.Given as goal
 
 abbrev pub decreases-walk_item : goal.decreases-walk_item

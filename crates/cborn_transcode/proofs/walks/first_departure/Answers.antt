@@ -1,6 +1,6 @@
 use Rattle.std.proofs.Common.{◌≡◌, ◌+◌, ◌-◌, ◌^◌, ◌<◌, ◌≤◌, length, length-append, ap, arith, rules}
 use Rattle.cborn_transcode.specs.devices.Departing.{Stops, Tells}
-use Rattle.cborn_transcode.specs.devices.Walking.{Leaves, ItemWalked}
+use Rattle.cborn_transcode.specs.shared.Walking.{Leaves, ItemWalked}
 use Rattle.cborn_transcode.specs.Departing.{IsFirstDefectOfItems}
 use Rattle.cborn_transcode.proofs.Departing.{item_clears, on_first, on_more, on_end}
 use Rattle.cborn_transcode.proofs.Telling.{told_both}

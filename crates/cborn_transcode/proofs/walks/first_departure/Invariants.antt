@@ -1,6 +1,6 @@
 use Rattle.std.proofs.Common.{ℕ}
 use Rattle.cborn_transcode.specs.devices.Departing.{LeadsOn}
-use Rattle.cborn_transcode.specs.devices.Walking.{ItemsWalked}
+use Rattle.cborn_transcode.specs.shared.Walking.{ItemsWalked}
 use Rattle.cborn_transcode.proofs.walks.first_departure.Given as goal
 
 -- the items so far

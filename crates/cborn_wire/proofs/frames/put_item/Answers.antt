@@ -1,6 +1,6 @@
 use Rattle.std.proofs.Common.{◌≡◌, sym, ap, ◌∙◌, length, true, false, arith}
 use Rattle.cborn_wire.specs.HeadReading.{seen_argument}
-use Rattle.cborn_wire.specs.devices.Machine.{is_full}
+use Rattle.cborn_wire.specs.shared.Machine.{is_full}
 use Rattle.cborn_wire.proofs.Stacked.Putting.{items_room, items_full}
 use Rattle.cborn_wire.proofs.frames.put_item.Goals as goal
 

@@ -4,7 +4,7 @@ use Rattle.std.proofs.lemmas.List.{take_rest, length-take-le}
 use Rattle.cborn_model.specs.Tree.{no_item, more, trees}
 use Rattle.cborn_wire.specs.declared.faults.WireFault.TheVariants.{Refused}
 use Rattle.cborn_wire.specs.declared.faults.WireReason.TheVariants.{Truncated}
-use Rattle.cborn_wire.specs.devices.Machine.{Live, Settles, run}
+use Rattle.cborn_wire.specs.shared.Machine.{Live, Settles, run}
 use Rattle.cborn_wire.specs.Reading.{ItemFault}
 use Rattle.cborn_wire.specs.devices.Standing.{Standing}
 use Rattle.cborn_wire.specs.devices.StackView.{seen, seen_partial, opened, Fails}

@@ -4,7 +4,7 @@ use Rattle.cborn_model.specs.Spelled.{Wellformed}
 use Rattle.cborn_model.specs.Placed.{PlacedAll}
 use Rattle.cborn_wire.specs.declared.faults.WireReason.TheVariants.{Truncated}
 use Rattle.cborn_wire.specs.Faults.{Fault}
-use Rattle.cborn_wire.specs.devices.Scanning.{levels}
+use Rattle.cborn_wire.specs.shared.Scanning.{levels}
 use Rattle.cborn_wire.proofs.Spelled.ByteLists.{are_bytes}
 use Rattle.cborn_wire.proofs.Scans.ScanWhole.{scan_begun, scan_taken, scan_cut, scan_refused, scan_whole, scan_open}
 use Rattle.cborn_wire.proofs.Scans.OpenLevels.{some_open, none_open}

@@ -1,6 +1,6 @@
 use Rattle.std.proofs.Common.{◌≤◌, ◌-◌, length, take}
-use Rattle.cborn_wire.specs.devices.Machine.{start, run}
-use Rattle.cborn_wire.specs.devices.Scanning.{levels, IsScanned}
+use Rattle.cborn_wire.specs.shared.Machine.{start, run}
+use Rattle.cborn_wire.specs.shared.Scanning.{levels, IsScanned}
 use Rattle.cborn_wire.proofs.scanning.scan.Given as goal
 
 -- the machine takes the bytes up to here, and has this open

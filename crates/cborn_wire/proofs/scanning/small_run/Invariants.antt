@@ -1,5 +1,5 @@
 use Rattle.std.proofs.Common.{◌≤◌, ◌-◌, take}
-use Rattle.cborn_wire.specs.devices.Scanning.{AreSmall}
+use Rattle.cborn_wire.specs.shared.Scanning.{AreSmall}
 use Rattle.cborn_wire.proofs.scanning.small_run.Given as goal
 
 abbrev pub invariant-loop-at : goal.invariant-loop-at

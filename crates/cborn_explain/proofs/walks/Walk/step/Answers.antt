@@ -1,7 +1,7 @@
 use Rattle.std.proofs.Common.{rules, ◌≡◌, refl, sym, ap, ◌∙◌, subst, ◌+◌, ◌-◌, ◌≤◌, length, take, drop, true, false, arith}
 use Rattle.cborn_wire.specs.HeadReading.{major_at, seen_argument}
-use Rattle.cborn_wire.specs.devices.Machine.{start, run}
-use Rattle.cborn_wire.proofs.Machine.TakesHeads.{info_for}
+use Rattle.cborn_wire.specs.shared.Machine.{start, run}
+use Rattle.cborn_wire.specs.shared.InitialBytes.{info_for}
 use Rattle.cborn_wire.proofs.Spelled.ByteLists.{are_bytes}
 use Rattle.cborn_explain.specs.Paths.{LeadsTo}
 use Rattle.cborn_explain.specs.devices.Walks.{levels, slot_of, may_stand, open_count, path_of, IsBetween}

@@ -3,7 +3,7 @@ use Rattle.std.specs.Prelude.{All}
 use Rattle.std.proofs.lemmas.List.{length-map}
 use Rattle.cborn_model.specs.Tree.{Tree, entries, place}
 use Rattle.cborn_judge.specs.Flaws.{flaw_rank}
-use Rattle.cborn_judge.specs.devices.Judged.{FindsFlaw, RepeatFlaw}
+use Rattle.cborn_judge.specs.shared.Judged.{FindsFlaw, RepeatFlaw}
 use Rattle.cborn_judge.specs.devices.Places.{Key, key_bytes, key_position, key_places, RepeatAt}
 use Rattle.cborn_judge.proofs.SameKeys.Codes.{keys_kept, keys_below, none_repeated}
 use Rattle.cborn_judge.proofs.Loops.Firsts.{found_alike}

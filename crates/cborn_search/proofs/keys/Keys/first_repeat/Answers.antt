@@ -1,6 +1,6 @@
 use Rattle.std.proofs.lemmas.List.Sorted.{IsPermutation-refl}
 use Rattle.cborn_model.specs.Tree.{entries}
-use Rattle.cborn_judge.specs.devices.Judged.{RepeatFlaw}
+use Rattle.cborn_judge.specs.shared.Judged.{RepeatFlaw}
 use Rattle.cborn_transcode.proofs.Iteming.{under}
 use Rattle.cborn_search.proofs.Marking.{no_repeat, repeated_of}
 use Rattle.cborn_search.proofs.Scanning.{sought}

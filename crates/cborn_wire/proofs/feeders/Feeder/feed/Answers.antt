@@ -1,7 +1,7 @@
 use Rattle.std.proofs.Common.{◌≡◌, sym, ◌∙◌, subst, None, Some, Err, arith}
 use Rattle.std.proofs.lemmas.Result.{err_from_is_err_and}
 use Rattle.cborn_wire.specs.Feeding.{Feeding, Feeds}
-use Rattle.cborn_wire.specs.devices.Machine.{held}
+use Rattle.cborn_wire.specs.shared.Machine.{held}
 use Rattle.cborn_wire.specs.devices.StackView.{seen, seen_partial, opened}
 use Rattle.cborn_wire.proofs.Spelled.ByteLists.{are_bytes}
 use Rattle.cborn_wire.proofs.Feeding.FeederLaws.{accepts, fails}

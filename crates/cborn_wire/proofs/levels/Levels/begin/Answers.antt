@@ -1,6 +1,6 @@
 use Rattle.std.proofs.Common.{rules, ◌≡◌, ◌+◌, length, arith}
 use Rattle.std.proofs.lemmas.List.{take_more_set}
-use Rattle.cborn_wire.specs.devices.Scanning.{levels}
+use Rattle.cborn_wire.specs.shared.Scanning.{levels}
 use Rattle.cborn_wire.proofs.Scans.OpenLevels.{open_count, opened_in}
 use Rattle.cborn_wire.proofs.levels.Levels.begin.Goals as goal
 

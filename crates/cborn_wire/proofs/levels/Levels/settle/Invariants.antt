@@ -1,5 +1,5 @@
 use Rattle.std.proofs.Common.{◌≡◌, ◌≤◌, length}
-use Rattle.cborn_wire.specs.devices.Scanning.{levels, finish}
+use Rattle.cborn_wire.specs.shared.Scanning.{levels, finish}
 use Rattle.cborn_wire.proofs.levels.Levels.settle.Given as goal
 
 -- what the item comes to now is what it came to at first

@@ -1,6 +1,6 @@
 use Rattle.std.proofs.Common.{rules, ◌≡◌, ◌+◌, sym, ap, ◌∙◌, subst, length, take, None, arith}
-use Rattle.cborn_wire.specs.devices.Machine.{Live, nothing, run}
-use Rattle.cborn_wire.specs.devices.Scanning.{levels, IsScanned}
+use Rattle.cborn_wire.specs.shared.Machine.{Live, nothing, run}
+use Rattle.cborn_wire.specs.shared.Scanning.{levels, IsScanned}
 use Rattle.cborn_wire.proofs.HeadReading.HeadSteps.{head_fits}
 use Rattle.cborn_wire.proofs.Scans.ScanItems.{levels_most}
 use Rattle.cborn_wire.proofs.Scans.ScanSteps.{reason_here, step_refused, step_bad, step_taken, step_cut, step_short}

@@ -1,7 +1,7 @@
 use Rattle.std.proofs.Common.{rules, ◌≡◌, ◌∷◌, ◌-◌, [], refl, sym, subst, take, Some}
 use Rattle.cborn_wire.specs.declared.levels.Level.TheVariants.{Array, EndlessArray}
 use Rattle.cborn_wire.specs.declared.scanning.Step.TheVariants.{Taken}
-use Rattle.cborn_wire.specs.devices.Scanning.{turned, levels, Steps}
+use Rattle.cborn_wire.specs.shared.Scanning.{turned, levels, Steps}
 use Rattle.cborn_wire.proofs.Scans.OpenLevels.{bare, top_open}
 use Rattle.cborn_wire.proofs.Scans.ScanIntegers.{steps_ground, steps_endless, steps_array}
 use Rattle.cborn_wire.proofs.levels.Levels.take_run.Goals as goal

@@ -1,6 +1,6 @@
 use Rattle.std.proofs.Common.{◌≡◌, ◌+◌, sym, subst, ap, ◌∙◌, take, arith}
-use Rattle.cborn_wire.specs.devices.Machine.{Live, nothing, run}
-use Rattle.cborn_wire.specs.devices.Scanning.{levels, finish, slot_at, Steps, IsScanned}
+use Rattle.cborn_wire.specs.shared.Machine.{Live, nothing, run}
+use Rattle.cborn_wire.specs.shared.Scanning.{levels, finish, slot_at, Steps, IsScanned}
 use Rattle.cborn_wire.specs.Slots.{IsNoChunk}
 use Rattle.cborn_wire.proofs.Scans.ScanSteps.{step_small}
 use Rattle.cborn_wire.proofs.levels.Levels.take_small.Goals as goal

@@ -1,7 +1,7 @@
 use Rattle.std.proofs.Common.{sym, ap, ◌∙◌, ◌∷◌}
 use Rattle.cborn_model.specs.Tree.{no_item}
 use Rattle.cborn_wire.specs.devices.StackView.{seen_frame, seen_open}
-use Rattle.cborn_wire.specs.devices.Machine.{Live, nothing}
+use Rattle.cborn_wire.specs.shared.Machine.{Live, nothing}
 use Rattle.cborn_wire.proofs.Stacked.Opening.{open_push}
 use Rattle.cborn_wire.proofs.nests.Nest.begin.Goals as goal
 

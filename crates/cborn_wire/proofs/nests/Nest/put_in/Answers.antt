@@ -1,7 +1,7 @@
 use Rattle.std.proofs.Common.{◌≡◌, ◌+◌, ◌∷◌, [], sym, ap, ◌∙◌, length, length-append, false, arith}
 use Rattle.cborn_model.specs.Tree.{no_item}
 use Rattle.cborn_wire.specs.HeadReading.{seen_argument}
-use Rattle.cborn_wire.specs.devices.Machine.{is_full}
+use Rattle.cborn_wire.specs.shared.Machine.{is_full}
 use Rattle.cborn_wire.specs.devices.StackView.{around}
 use Rattle.cborn_wire.proofs.Stacked.Putting.{items_room}
 use Rattle.cborn_wire.proofs.nests.Nest.put_in.Goals as goal

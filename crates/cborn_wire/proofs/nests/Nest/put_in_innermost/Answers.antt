@@ -2,7 +2,7 @@ use Rattle.std.proofs.Common.{◌≡◌, sym, ap, ◌∙◌, arith, length}
 use Rattle.std.proofs.lemmas.Result.{err_from_is_err_and}
 use Rattle.std.specs.Option.{option_to_list}
 use Rattle.cborn_model.specs.Tree.{no_item}
-use Rattle.cborn_wire.specs.devices.Machine.{finished}
+use Rattle.cborn_wire.specs.shared.Machine.{finished}
 use Rattle.cborn_wire.specs.devices.StackView.{around}
 use Rattle.cborn_wire.proofs.Stacked.Putting.{put_stays, put_whole, put_fails}
 use Rattle.cborn_wire.proofs.nests.Nest.put_in_innermost.Goals as goal

@@ -1,6 +1,6 @@
 use Rattle.std.proofs.Common.{◌≡◌}
 use Rattle.cborn_model.specs.Tree.{no_item}
-use Rattle.cborn_wire.specs.devices.Machine.{finished}
+use Rattle.cborn_wire.specs.shared.Machine.{finished}
 use Rattle.cborn_wire.specs.devices.StackView.{opened, open_len}
 use Rattle.cborn_wire.proofs.nests.Nest.settle.Given as goal
 

@@ -3,9 +3,9 @@ use Rattle.std.proofs.lemmas.Result.{err_from_is_err_and}
 use Rattle.cborn_model.specs.declared.heads.Major.TheVariants.{ByteString, TextString}
 use Rattle.cborn_model.specs.Tree.{no_item}
 use Rattle.cborn_wire.specs.Slots.{slot, open_depth}
-use Rattle.cborn_wire.specs.devices.InitialBytes.{info_at, head_reason}
+use Rattle.cborn_wire.specs.shared.InitialBytes.{info_at, head_reason}
 use Rattle.cborn_wire.specs.HeadReading.{major_at, seen_argument}
-use Rattle.cborn_wire.specs.devices.Machine.{nothing, after_head}
+use Rattle.cborn_wire.specs.shared.Machine.{nothing, after_head}
 use Rattle.cborn_wire.specs.devices.StackView.{opened}
 use Rattle.cborn_wire.proofs.Stacked.Settling.{settles_head}
 use Rattle.cborn_wire.proofs.Stacked.Advancing.{fails_on, took}

@@ -5,7 +5,7 @@ use Rattle.std.specs.Prelude.{slice_set}
 use Rattle.cborn_model.specs.Heads.{Given}
 use Rattle.cborn_model.specs.Tree.{no_item}
 use Rattle.cborn_wire.specs.HeadReading.{major_at}
-use Rattle.cborn_wire.specs.devices.Machine.{width_bytes, gathering, argument_of}
+use Rattle.cborn_wire.specs.shared.Machine.{width_bytes, gathering, argument_of}
 use Rattle.cborn_wire.specs.devices.StackView.{opened}
 use Rattle.cborn_wire.proofs.Stacked.Settling.{settles_head}
 use Rattle.cborn_wire.proofs.Stacked.Advancing.{fails_on, took}

@@ -1,7 +1,7 @@
 use Rattle.std.proofs.Common.{rules, ◌≡◌, ◌+◌, ◌-◌, ◌≤◌, ◌<◌, refl, inl, arith, length, ap, sym, ◌∙◌}
 use Rattle.std.proofs.lemmas.Result.{err_from_is_err_and}
 use Rattle.cborn_model.specs.Tree.{no_item}
-use Rattle.cborn_wire.specs.devices.Machine.{gathering, content_of, string_done}
+use Rattle.cborn_wire.specs.shared.Machine.{gathering, content_of, string_done}
 use Rattle.cborn_wire.specs.devices.StackView.{seen_kind, opened}
 use Rattle.cborn_wire.proofs.Stacked.Settling.{settles_string}
 use Rattle.cborn_wire.proofs.Stacked.Advancing.{content_ends, content_stays, fails_on, took}

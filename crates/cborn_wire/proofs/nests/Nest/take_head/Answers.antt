@@ -5,7 +5,7 @@ use Rattle.cborn_model.specs.Tree.{no_item}
 use Rattle.cborn_wire.specs.declared.heads.Argument.TheVariants.{Given}
 use Rattle.cborn_wire.specs.declared.heads.Head.{Head}
 use Rattle.cborn_wire.specs.HeadReading.{major_at, seen_argument, IsHeadOf}
-use Rattle.cborn_wire.specs.devices.Machine.{nothing}
+use Rattle.cborn_wire.specs.shared.Machine.{nothing}
 use Rattle.cborn_wire.specs.devices.StackView.{opened}
 use Rattle.cborn_wire.proofs.Stacked.Settling.{settles_head}
 use Rattle.cborn_wire.proofs.Stacked.Advancing.{fails_on, took}

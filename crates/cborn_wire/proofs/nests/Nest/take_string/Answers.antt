@@ -3,7 +3,7 @@ use Rattle.std.proofs.lemmas.Result.{err_from_is_err_and}
 use Rattle.cborn_model.specs.Tree.{no_item}
 use Rattle.cborn_wire.specs.Slots.{major_of}
 use Rattle.cborn_wire.specs.HeadReading.{seen_argument}
-use Rattle.cborn_wire.specs.devices.Machine.{nothing, after_head}
+use Rattle.cborn_wire.specs.shared.Machine.{nothing, after_head}
 use Rattle.cborn_wire.specs.devices.StackView.{seen_kind, opened}
 use Rattle.cborn_wire.proofs.Stacked.Settling.{settles_string}
 use Rattle.cborn_wire.proofs.Stacked.Advancing.{string_whole, fails_on, took}

@@ -4,7 +4,7 @@ use Rattle.cborn_wire.specs.declared.frames.Partial.TheVariants as partials
 use Rattle.cborn_wire.specs.declared.nests.Nest.{Nest}
 use Rattle.cborn_wire.specs.declared.nests.Outcome.TheVariants.{Open, Whole}
 use Rattle.cborn_wire.specs.HeadReading.{seen_argument}
-use Rattle.cborn_wire.specs.devices.Machine.{is_full}
+use Rattle.cborn_wire.specs.shared.Machine.{is_full}
 use Rattle.cborn_wire.specs.devices.Standing.{Standing}
 use Rattle.cborn_wire.specs.devices.StackKeeps.{told}
 use Rattle.cborn_wire.specs.devices.StackView.{StandsFirst}

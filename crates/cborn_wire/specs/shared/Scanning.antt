@@ -1,4 +1,4 @@
--- A device of the proofs: what a scan keeps of what is open, and what items and heads make of that. No definition cites it; the contracts of the crate's own functions do.
+-- A device of the proofs: what a scan keeps of what is open, and what items and heads make of that. No definition cites it.
 use Rattle.std.specs.Prelude.{◌≡◌, ℕ, ◌+◌, ◌-◌, ◌<◌, ◌≤◌, List, [], ◌∷◌, length, take, Option, Some, None, if◌then◌else◌, nat_le}
 use Rattle.cborn_model.specs.declared.heads.Major.{Major}
 use Rattle.cborn_model.specs.declared.heads.Major.TheVariants.{Unsigned, Negative, ByteString, TextString, Other}
@@ -17,7 +17,7 @@ use Rattle.cborn_wire.specs.declared.scanning.Step.TheVariants.{Taken, Cut, Refu
 use Rattle.cborn_wire.specs.Slots as slots
 use Rattle.cborn_wire.specs.Slots.{OfBytes, OfText, Slot, item, value, element_or_end, key_or_end, chunk, Begun, begun_items, begun_pairs, begun_value, begun_tag, begun_chunks, AreBegun}
 use Rattle.cborn_wire.specs.devices.StackView.{seen_kind}
-use Rattle.cborn_wire.specs.devices.Machine.{nothing, gathering, State, Live, Failed, run}
+use Rattle.cborn_wire.specs.shared.Machine.{nothing, gathering, State, Live, Failed, run}
 
 -- the innermost first
 abbrev pub turned : List Level → List Level → List Level

@@ -8,7 +8,7 @@ use Rattle.cborn_model.specs.declared.heads.Major.TheVariants.{ByteString, TextS
 use Rattle.cborn_model.specs.Heads.{Given, head, WidthFits, least}
 use Rattle.cborn_model.specs.Orders.{Rising}
 use Rattle.cborn_det.specs.Det.{Entry, joined, keys}
-use Rattle.cborn_det.proofs.Cutting.{EndsIn}
+use Rattle.cborn_det.specs.shared.KeyBefore.{EndsIn}
 use Rattle.cborn_transcode.specs.declared.entries.Span.{Span}
 use Rattle.cborn_transcode.specs.declared.places.PairPlace.{PairPlace}
 use Rattle.cborn_transcode.specs.Transcoding.{ItemTranscoded, ItemsTranscoded, PairsTranscoded, AreSpans}

@@ -1,4 +1,4 @@
--- A device of the proofs: a machine that takes one byte after another, and is at each moment what the bytes so far make of it. It is no definition of what is well-formed and what is a fault, and no definition cites it; the contracts of the crate's own functions do. That it agrees with the definitions is proved in proofs/.
+-- A device of the proofs: a machine that takes one byte after another, and is at each moment what the bytes so far make of it. It is no definition of what is well-formed and what is a fault, and no definition cites it. That it agrees with the definitions is proved in proofs/.
 use Rattle.std.specs.Prelude.{◌≡◌, ℕ, suc, ◌+◌, ◌*◌, ◌/◌, ◌%◌, List, [], ◌∷◌, ◌++◌, length, Bool, false, if◌then◌else◌, nat_lt, nat_le, Option, Some, None, slice_index, ◌⊎◌}
 use Rattle.std.specs.Int.{w16, w32, w64, from_be_bytes}
 use Rattle.cborn_model.specs.Bytes.{AreBytes}
@@ -16,7 +16,7 @@ use Rattle.cborn_wire.specs.declared.faults.WireFault.TheVariants as faults
 use Rattle.cborn_wire.specs.declared.faults.WireReason.{WireReason}
 use Rattle.cborn_wire.specs.declared.faults.WireReason.TheVariants.{ReservedInfo, EndlessNotAllowed, BadChunk, UnexpectedBreak, FloatLeftOut, BadSimple}
 use Rattle.cborn_wire.specs.Slots.{StringKind, OfBytes, OfText, Begun, begun_items, begun_pairs, begun_value, begun_tag, begun_chunks, beginnings, major_of, slot, open_depth}
-use Rattle.cborn_wire.specs.devices.InitialBytes.{Info, Now, Next, Reserved, Unended, info_at, head_reason}
+use Rattle.cborn_wire.specs.shared.InitialBytes.{Info, Now, Next, Reserved, Unended, info_at, head_reason}
 use Rattle.cborn_wire.specs.HeadReading.{major_at}
 
 -- one list of nodes after another, and a node or a pair at the end of a list

@@ -1,9 +1,10 @@
--- A device of the proofs: the table of faults once more, by the major type and the information as data. No definition and no public contract cites it; the contracts of the crate's own functions do. That it says what the table of `Faults` says is proved in proofs/HeadReading/InitialBytes.antt.
+-- A device of the proofs: the table of faults once more, by the major type and the information as data. No definition and no public contract cites it. That it says what the table of `Faults` says is proved in proofs/HeadReading/InitialBytes.antt.
 use Rattle.std.specs.Prelude.{ℕ, ◌/◌, ◌%◌, List, [], ◌∷◌, Bool, true, false, ◌&&◌, ◌||◌, not, if◌then◌else◌, nat_lt, nat_le, ◌==◌, Option, Some, None}
 use Rattle.cborn_model.specs.declared.heads.Width.{Width}
-use Rattle.cborn_model.specs.declared.heads.Width.TheVariants.{One, Two, Four, Eight}
+use Rattle.cborn_model.specs.declared.heads.Width.TheVariants.{Direct, One, Two, Four, Eight}
 use Rattle.cborn_model.specs.declared.heads.Major.{Major}
 use Rattle.cborn_model.specs.declared.heads.Major.TheVariants.{Unsigned, Negative, ByteString, TextString, Array, Map, Tag, Other}
+use Rattle.cborn_model.specs.Heads.{Argument, Given, Unbounded}
 use Rattle.cborn_wire.specs.declared.faults.WireReason.{WireReason}
 use Rattle.cborn_wire.specs.declared.faults.WireReason.TheVariants.{ReservedInfo, EndlessNotAllowed, BadChunk, UnexpectedBreak, FloatLeftOut, BadSimple, TooDeep}
 use Rattle.cborn_wire.specs.Slots.{StringKind, OfBytes, OfText, Slot, item, value, element_or_end, key_or_end, chunk}
@@ -25,6 +26,15 @@ info_at i =
     else if i == 27 then Next Eight
     else if i == 31 then Unended
     else Reserved
+
+-- what the information of a head says
+abbrev pub info_for : Argument → Info
+info_for (Given Direct n) = Now n
+info_for (Given One n) = Next One
+info_for (Given Two n) = Next Two
+info_for (Given Four n) = Next Four
+info_for (Given Eight n) = Next Eight
+info_for Unbounded = Unended
 
 abbrev pub is_reserved : Info → Bool
 is_reserved (Now n) = false

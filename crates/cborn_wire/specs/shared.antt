@@ -1,0 +1,4 @@
+pub mod Machine
+pub mod Scanning
+pub mod InitialBytes
+pub mod Ground
