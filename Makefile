@@ -16,7 +16,7 @@ COST ?= 8
 help:
 	@echo 'make try        build the program from its source, before any proof, and run it: ARGS="check FILE", or seven bytes as an example'
 	@echo 'make build      prove every crate and build the program, $(PROGRAM)'
-	@echo 'make test       the merge gate from nothing, then make tables, believed, stack, vectors, ample, explanations, growths, failures, counts, cost, library-tests, dist-tests and try-tests, and which of it was left out'
+	@echo 'make test       the merge gate from nothing, then side by side make $(BEHIND), and which of it was left out'
 	@echo 'make check-quick   while you change something: proves what changed, then make layout, tables and believed'
 	@echo 'make try-tests  make try on its seven bytes, on files, on standard input and on a wrong option: one build, of a minute'
 	@echo 'make layout     whether each file of the crates is in the layout of rt fmt, and cites what it may'
@@ -72,11 +72,14 @@ build: kit
 	@test -e $(PROGRAM) || echo 'Each crate is proved, lowest first, and then $(PROGRAM) is built: a quarter of an hour on four idle processors, more than an hour where others use them too. A quiet minute is no hang.'
 	cd crates/cborn && rt run -- --version
 
+# What stands behind the gate runs side by side, over what was built once before; the longest first.
+BEHIND := library-tests dist-tests vectors ample cost counts explanations tables believed stack growths failures try-tests
+
 test:
 	rt ci
 	python3 tests/built.py
-	$(MAKE) tables believed stack vectors ample explanations growths failures counts cost library-tests dist-tests
-	python3 tests/tried.py
+	$(MAKE) build library python
+	$(MAKE) --jobs=$(shell nproc) --output-sync=target --keep-going $(BEHIND)
 	$(MAKE) --no-print-directory left-out
 
 # over what out/ keeps; it tries no must-fail edit, and runs no tests
