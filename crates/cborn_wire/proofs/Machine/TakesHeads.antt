@@ -10,7 +10,7 @@ use Rattle.cborn_model.specs.Tree.{Trees}
 pub use Rattle.cborn_model.proofs.Numbers.Majors.{major_at-code}
 use Rattle.cborn_wire.specs.HeadReading.{major_at, ArgumentFits}
 use Rattle.cborn_wire.specs.Slots.{Begun, slot, open_depth}
-use Rattle.cborn_wire.specs.shared.InitialBytes.{Info, Now, Next, Unended, info_at, head_reason}
+use Rattle.cborn_wire.specs.shared.InitialBytes.{Info, Now, Next, Unended, info_at, info_for, head_reason}
 use Rattle.cborn_wire.specs.shared.Machine.{width_bytes, number, Goal, argument_of, nothing, gathering, Live, gather, gathered, begin_head, after_head, at_slot, unless, step, run}
 
 pub quotient : (c i : ℕ) → i < 32 → (32 * c + i) / 32 ≡ c
