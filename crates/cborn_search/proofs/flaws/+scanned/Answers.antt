@@ -15,7 +15,7 @@ use Rattle.cborn_search.proofs.Scanning.{still, seen_from, uint_seen, nint_seen,
 use Rattle.cborn_search.proofs.flaws.+scanned.Goals as goal
 
 pub scan_item-returns : goal.scan_item-returns
-scan_item-returns t c = IfSome_then c.last.result c.last.ensures (λ rest e. node_last c.in_ok-left.ensures e)
+scan_item-returns t c = IfSome_then c.last.result c.last.ensures.found (λ rest e. node_last c.in_ok-left.ensures e)
 
 pub scan_node-returns-in-Unsigned : goal.scan_node-returns-in-Unsigned
 scan_node-returns-in-Unsigned t c =
@@ -98,14 +98,14 @@ scan_items-items-preserved-in-Some t c =
     let x : Scanned c.args.only_texts c.args.room c.args.total left rest None false = subst (λ (y : List ℕ). Scanned c.args.only_texts c.args.room c.args.total left y None false) (sym (take_rest left c.in-Some.len)) (c.in-Some.ensures.integer c.args.only_texts c.args.room c.args.total c.items.invariant.2) in
     let some : ScannedAll c.args.only_texts c.args.room c.args.total (c.items.count + 1) c.args.bytes.now rest c.items.first =
     all_more c.args.only_texts c.args.room c.args.total c.items.count c.args.bytes.now left rest c.items.first None c.items.first false c.requires.within c.items.invariant.0 x (still c.items.first) in
-    let more : c.items.count ≢ c.args.most = c.is_done.ensures c.if-is_done.false in
+    let more : c.items.count ≢ c.args.most = c.if-is_done.ensures in
     (some, omega (arith, c.items.invariant.1), omega (arith, nodes_left some, c.requires.within))
 
 pub scan_items-items-preserved : goal.scan_items-items-preserved
 scan_items-items-preserved t c =
     let some : ScannedAll c.args.only_texts c.args.room c.args.total (c.items.count + 1) c.args.bytes.now c.in_ok-rest.rest.now c.earliest-first.result =
     all_more c.args.only_texts c.args.room c.args.total c.items.count c.args.bytes.now c.items.rest.now c.in_ok-rest.rest.now c.items.first c.scan_item.new.found.flaw c.earliest-first.result _ c.requires.within c.items.invariant.0 c.in_ok-rest.ensures c.earliest-first.ensures in
-    let more : c.items.count ≢ c.args.most = c.is_done.ensures c.if-is_done.false in
+    let more : c.items.count ≢ c.args.most = c.if-is_done.ensures in
     (some, omega (arith, c.items.invariant.1), omega (arith, nodes_left some, c.requires.within))
 
 pub scan_fixed_array-returns : goal.scan_fixed_array-returns
@@ -176,7 +176,7 @@ scan_pairs-pairs-preserved t c =
     let taken = c.in_ok-take_key.ensures.0 c.args.room key.is_string k i.0 c.pairs.count marked in
     let first : IsEarliestTold c.take_key.new.self.first val.flaw new.first = subst (λ (m : ScannedMap). IsEarliestTold m.first val.flaw new.first) c.deref_mut-in-pairs.ensures.value c.note.ensures.first in
     let kept : AreMarked taken.0 new.keys = subst (AreMarked taken.0) (sym c.note.ensures.keys) (subst (λ (m : ScannedMap). AreMarked taken.0 m.keys) (sym c.deref_mut-in-pairs.ensures.value) taken.1) in
-    let more : c.pairs.count ≢ c.args.most = c.is_done.ensures c.if-is_done.false in
+    let more : c.pairs.count ≢ c.args.most = c.if-is_done.ensures in
     let between : length half ≤ c.args.total = omega (arith, node_left k, i.4) in
     let least : length rest ≤ c.args.total = omega (arith, node_left v, between) in (
       taken.0,
