@@ -1,7 +1,10 @@
 -- A head that was read at the front of bytes, and what stands behind it.
-use Rattle.std.proofs.Common.{◌≡◌, ℕ, ◌+◌, ◌-◌, ◌≤◌, List, ◌++◌, length, drop, sym, ap, ◌∙◌, subst, arith, length-append, drop_at}
+use Rattle.std.proofs.Common.{◌≡◌, ℕ, ◌+◌, ◌-◌, ◌≤◌, List, ◌∷◌, ◌++◌, length, drop, sym, ap, ◌∙◌, subst, arith, append_assoc, append-nil, length-append, drop_at}
 use Rattle.cborn_model.specs.declared.heads.Major.{Major}
-use Rattle.cborn_model.specs.Heads.{head}
+use Rattle.cborn_model.specs.declared.heads.Size.TheVariants.{Fixed, Endless}
+use Rattle.cborn_model.specs.declared.heads.Width.{Width}
+use Rattle.cborn_model.specs.Heads.{Given, Unbounded, head}
+use Rattle.cborn_model.specs.Spelled.{ending}
 use Rattle.cborn_wire.specs.declared.heads.Argument.{Argument}
 use Rattle.cborn_wire.specs.declared.heads.Head.{Head}
 use Rattle.cborn_wire.specs.HeadReading.{major_at, IsHeadOf, seen_argument, ArgumentFits}
@@ -29,6 +32,20 @@ module _ (R : List ℕ → List ℕ → Type 0) where
   -- the head is all of it
   pub head_alone : {x tail : List ℕ} {h : Head} {n left : ℕ} {m : Major} {a : Argument} → tail ≡ drop n x → IsHeadOf x h n → major_at h.major ≡ m → h.argument ≡ a → length tail ≡ left → (ArgumentFits (seen_argument a) → R (head m (seen_argument a) ++ tail) tail) → Leaves (R x) left
   head_alone {tail = tail} t i e f l done = head_before t i e f (λ fits. (tail, l, done fits))
+
+-- ---- contents behind a head, and the end of them
+
+pub fixed_split : (m : Major) (w : Width) (body rest : List ℕ) {n count : ℕ} {input : List ℕ} → count ≡ n → input ≡ body ++ rest → head m (Given w n) ++ input ≡ ((head m (Given w count) ++ body) ++ ending (Fixed w)) ++ rest
+fixed_split m w body rest {count = count} c e =
+    let front : List ℕ = head m (Given w count) in
+    (λ i. head m (Given w (sym c i)) ++ e i) ∙ sym (append_assoc front body rest) ∙ ap (λ z. z ++ rest) (sym (append-nil (front ++ body)))
+
+pub endless_split : (m : Major) (body : List ℕ) {input after rest : List ℕ} → input ≡ body ++ after → after ≡ 255 ∷ rest → head m Unbounded ++ input ≡ ((head m Unbounded ++ body) ++ ending Endless) ++ rest
+endless_split m body {rest = rest} e f =
+    let front : List ℕ = head m Unbounded in
+    ap (λ z. front ++ z) (e ∙ ap (λ z. body ++ z) f) ∙ sym (append_assoc front body (255 ∷ rest)) ∙ sym (append_assoc (front ++ body) (ending Endless) rest)
+
+-- ---- places
 
 -- the place of what follows
 pub behind : (total : ℕ) (input front rest : List ℕ) → length input ≤ total → input ≡ front ++ rest → total - length rest ≡ (total - length input) + length front

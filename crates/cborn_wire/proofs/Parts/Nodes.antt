@@ -4,12 +4,13 @@ use Rattle.cborn_model.specs.declared.heads.Width.{Width}
 use Rattle.cborn_model.specs.declared.heads.Size.TheVariants.{Fixed, Endless}
 use Rattle.cborn_model.specs.declared.heads.Major.TheVariants.{Unsigned, Negative, Array, Tag, Other}
 use Rattle.cborn_model.specs.Heads.{Given, Unbounded, head, WidthFits}
-use Rattle.cborn_model.specs.Spelled.{spelled, spelled_all, FitsAll, ending, Wellformed}
+use Rattle.cborn_model.specs.Spelled.{spelled, spelled_all, FitsAll, Wellformed}
 use Rattle.cborn_model.specs.Tree.{Tree, Uint, Nint, Items, Tagged, Simple, trees, depth_all, count}
 use Rattle.cborn_model.proofs.Listed.Trees.{count-trees}
 use Rattle.cborn_wire.specs.declared.heads.Argument.{Argument}
 use Rattle.cborn_wire.specs.HeadReading.{seen_argument}
 use Rattle.cborn_wire.specs.shared.Parts.{IsSimpleArgument, NodeRead, NodesRead, Leaves}
+use Rattle.cborn_wire.proofs.Parts.Heads.{fixed_split, endless_split}
 use Rattle.cborn_wire.proofs.Spelled.TreeLists.{trees-append, spelled_all-append}
 
 -- ---- leaves
@@ -104,27 +105,10 @@ module _ {P : List Tree → Type 0} {Q : Tree → Type 0} {room n : ℕ} (place 
   pub array_read : {input rest : List ℕ} (w : Width) → 1 ≤ room → WidthFits w n → (s : NodesRead P (room - 1) n input rest) → Q (Items place (Fixed w) (trees s.nodes)) → NodeRead Q room (head Array (Given w n) ++ input) rest
   array_read {rest = rest} w r h s q =
       let c : count (trees s.nodes) ≡ n = count-trees s.nodes ∙ s.count in
-      let front : List ℕ = head Array (Given w (count (trees s.nodes))) in
-      record {
-        node = Items place (Fixed w) (trees s.nodes);
-        read = (λ i. head Array (Given w (sym c i)) ++ s.read i)
-            ∙ sym (append_assoc front (spelled_all (trees s.nodes)) rest)
-            ∙ ap (λ z. z ++ rest) (sym (append-nil (front ++ spelled_all (trees s.nodes))));
-        fits = (subst (WidthFits w) (sym c) h, s.fits);
-        shallow = omega (arith, r, s.shallow);
-        holds = q;
-      }
+      record { node = Items place (Fixed w) (trees s.nodes); read = fixed_split Array w (spelled_all (trees s.nodes)) rest c s.read; fits = (subst (WidthFits w) (sym c) h, s.fits); shallow = omega (arith, r, s.shallow); holds = q }
 
   pub endless_array_read : {input after rest : List ℕ} → 1 ≤ room → after ≡ 255 ∷ rest → (s : NodesRead P (room - 1) n input after) → Q (Items place Endless (trees s.nodes)) → NodeRead Q room (head Array Unbounded ++ input) rest
-  endless_array_read {rest = rest} r e s q = record {
-    node = Items place Endless (trees s.nodes);
-    read = ap (λ z. head Array Unbounded ++ z) (s.read ∙ ap (λ z. spelled_all (trees s.nodes) ++ z) e)
-        ∙ sym (append_assoc (head Array Unbounded) (spelled_all (trees s.nodes)) (255 ∷ rest))
-        ∙ sym (append_assoc (head Array Unbounded ++ spelled_all (trees s.nodes)) (ending Endless) rest);
-    fits = (tt, s.fits);
-    shallow = omega (arith, r, s.shallow);
-    holds = q;
-  }
+  endless_array_read r e s q = record { node = Items place Endless (trees s.nodes); read = endless_split Array (spelled_all (trees s.nodes)) s.read e; fits = (tt, s.fits); shallow = omega (arith, r, s.shallow); holds = q }
 
 pub tagged_read : {P Q : Tree → Type 0} {room : ℕ} {input rest : List ℕ} (place : ℕ) (w : Width) (n : ℕ) → 1 ≤ room → WidthFits w n → (x : NodeRead P (room - 1) input rest) → Q (Tagged place w n x.node) → NodeRead Q room (head Tag (Given w n) ++ input) rest
 tagged_read {rest = rest} place w n r h x q = record {

@@ -4,10 +4,11 @@ use Rattle.cborn_model.specs.declared.heads.Width.{Width}
 use Rattle.cborn_model.specs.declared.heads.Size.TheVariants.{Fixed, Endless}
 use Rattle.cborn_model.specs.declared.heads.Major.TheVariants.{Map}
 use Rattle.cborn_model.specs.Heads.{Given, Unbounded, head, WidthFits}
-use Rattle.cborn_model.specs.Spelled.{spelled, spelled_entries, Fits, FitsEntries, ending}
+use Rattle.cborn_model.specs.Spelled.{spelled, spelled_entries, Fits, FitsEntries}
 use Rattle.cborn_model.specs.Tree.{Tree, Pairs, entries, depth, count_entries, depth_entries}
 use Rattle.cborn_model.proofs.Listed.Trees.{count_entries-entries}
 use Rattle.cborn_wire.specs.shared.Parts.{Pair, NodeRead, PairRead, PairsRead}
+use Rattle.cborn_wire.proofs.Parts.Heads.{fixed_split, endless_split}
 
 spelled_more : (ns : List Pair) (p : Pair) → spelled_entries (entries (ns ++ p ∷ [])) ≡ spelled_entries (entries ns) ++ (spelled p.0 ++ spelled p.1)
 spelled_more [] p = append-nil (spelled p.0 ++ spelled p.1)
@@ -64,24 +65,7 @@ module _ {P : List Pair → Type 0} {Q : Tree → Type 0} {room n : ℕ} (place 
   pub map_read : {input rest : List ℕ} (w : Width) → 1 ≤ room → WidthFits w n → (s : PairsRead P (room - 1) n input rest) → Q (Pairs place (Fixed w) (entries s.nodes)) → NodeRead Q room (head Map (Given w n) ++ input) rest
   map_read {rest = rest} w r h s q =
       let c : count_entries (entries s.nodes) ≡ n = count_entries-entries s.nodes ∙ s.count in
-      let front : List ℕ = head Map (Given w (count_entries (entries s.nodes))) in
-      record {
-        node = Pairs place (Fixed w) (entries s.nodes);
-        read = (λ i. head Map (Given w (sym c i)) ++ s.read i)
-            ∙ sym (append_assoc front (spelled_entries (entries s.nodes)) rest)
-            ∙ ap (λ z. z ++ rest) (sym (append-nil (front ++ spelled_entries (entries s.nodes))));
-        fits = (subst (WidthFits w) (sym c) h, s.fits);
-        shallow = omega (arith, r, s.shallow);
-        holds = q;
-      }
+      record { node = Pairs place (Fixed w) (entries s.nodes); read = fixed_split Map w (spelled_entries (entries s.nodes)) rest c s.read; fits = (subst (WidthFits w) (sym c) h, s.fits); shallow = omega (arith, r, s.shallow); holds = q }
 
   pub endless_map_read : {input after rest : List ℕ} → 1 ≤ room → after ≡ 255 ∷ rest → (s : PairsRead P (room - 1) n input after) → Q (Pairs place Endless (entries s.nodes)) → NodeRead Q room (head Map Unbounded ++ input) rest
-  endless_map_read {rest = rest} r e s q = record {
-    node = Pairs place Endless (entries s.nodes);
-    read = ap (λ z. head Map Unbounded ++ z) (s.read ∙ ap (λ z. spelled_entries (entries s.nodes) ++ z) e)
-        ∙ sym (append_assoc (head Map Unbounded) (spelled_entries (entries s.nodes)) (255 ∷ rest))
-        ∙ sym (append_assoc (head Map Unbounded ++ spelled_entries (entries s.nodes)) (ending Endless) rest);
-    fits = (tt, s.fits);
-    shallow = omega (arith, r, s.shallow);
-    holds = q;
-  }
+  endless_map_read r e s q = record { node = Pairs place Endless (entries s.nodes); read = endless_split Map (spelled_entries (entries s.nodes)) s.read e; fits = (tt, s.fits); shallow = omega (arith, r, s.shallow); holds = q }

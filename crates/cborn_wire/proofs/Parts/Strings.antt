@@ -4,12 +4,11 @@ use Rattle.std.specs.List.{flat_map}
 use Rattle.std.proofs.lemmas.List.{length-take-le, take-append-drop}
 use Rattle.cborn_model.specs.Bytes.{AreBytes}
 use Rattle.cborn_model.specs.declared.heads.Width.{Width}
-use Rattle.cborn_model.specs.declared.heads.Size.TheVariants.{Endless}
 use Rattle.cborn_model.specs.declared.heads.Major.{Major}
 use Rattle.cborn_model.specs.declared.heads.Major.TheVariants.{ByteString, TextString}
 use Rattle.cborn_model.specs.declared.nodes.Chunk.{Chunk}
 use Rattle.cborn_model.specs.Heads.{Given, Unbounded, head, WidthFits}
-use Rattle.cborn_model.specs.Spelled.{string, chunk_bytes, chunks, ending}
+use Rattle.cborn_model.specs.Spelled.{string, chunk_bytes}
 use Rattle.cborn_model.specs.Tree.{Tree, Bytes, Text, ByteChunks, TextChunks}
 use Rattle.cborn_wire.specs.declared.heads.Argument.{Argument}
 use Rattle.cborn_wire.specs.declared.heads.Argument.TheVariants as arguments
@@ -17,7 +16,7 @@ use Rattle.cborn_wire.specs.declared.heads.Head.{Head}
 use Rattle.cborn_wire.specs.HeadReading.{major_at, IsHeadOf, seen_argument, ArgumentFits}
 use Rattle.cborn_wire.specs.shared.Parts.{StringRead, ChunkRead, ChunksRead, NodeRead}
 use Rattle.cborn_wire.proofs.Machine.SoundItems.{fits_chunks-snoc, chunk_bytes-snoc}
-use Rattle.cborn_wire.proofs.Parts.Heads.{head_read}
+use Rattle.cborn_wire.proofs.Parts.Heads.{head_read, endless_split}
 use Rattle.cborn_wire.proofs.Spelled.AllBytes.{bytes-left}
 
 -- ---- strings
@@ -89,15 +88,9 @@ pub chunks_left : {P : List Chunk → Type 0} {major : Major} {input rest : List
 chunks_left {major = major} {rest = rest} x = omega (arith, ap length x.read ∙ length-append (flat_map (chunk_bytes major) x.chunks) rest)
 
 -- chunks between a head and a break
-chunks_split : (m : Major) (cs : List Chunk) (input after rest : List ℕ) → input ≡ flat_map (chunk_bytes m) cs ++ after → after ≡ 255 ∷ rest → head m Unbounded ++ input ≡ (chunks m cs ++ ending Endless) ++ rest
-chunks_split m cs input after rest e f =
-    ap (λ l. head m Unbounded ++ l) (e ∙ ap (λ l. flat_map (chunk_bytes m) cs ++ l) f)
-    ∙ sym (append_assoc (head m Unbounded) (flat_map (chunk_bytes m) cs) (255 ∷ rest))
-    ∙ sym (append_assoc (chunks m cs) (ending Endless) rest)
-
 module _ {P : List Chunk → Type 0} {Q : Tree → Type 0} {room : ℕ} {input after rest : List ℕ} (place : ℕ) where
   pub byte_chunks_read : after ≡ 255 ∷ rest → (s : ChunksRead P ByteString input after) → Q (ByteChunks place s.chunks) → NodeRead Q room (head ByteString Unbounded ++ input) rest
-  byte_chunks_read e s q = record { node = ByteChunks place s.chunks; read = chunks_split ByteString s.chunks input after rest s.read e; fits = s.fits; shallow = omega arith; holds = q }
+  byte_chunks_read e s q = record { node = ByteChunks place s.chunks; read = endless_split ByteString (flat_map (chunk_bytes ByteString) s.chunks) s.read e; fits = s.fits; shallow = omega arith; holds = q }
 
   pub text_chunks_read : after ≡ 255 ∷ rest → (s : ChunksRead P TextString input after) → Q (TextChunks place s.chunks) → NodeRead Q room (head TextString Unbounded ++ input) rest
-  text_chunks_read e s q = record { node = TextChunks place s.chunks; read = chunks_split TextString s.chunks input after rest s.read e; fits = s.fits; shallow = omega arith; holds = q }
+  text_chunks_read e s q = record { node = TextChunks place s.chunks; read = endless_split TextString (flat_map (chunk_bytes TextString) s.chunks) s.read e; fits = s.fits; shallow = omega arith; holds = q }
