@@ -8,19 +8,19 @@ ghost use Rattle.std.specs.Prelude.{◌≡◌, ◌≢◌, ◌≤◌, ◌-◌, �
 ghost use Rattle.cborn_model.specs.declared.heads.Width.{Width};
 ghost use Rattle.cborn_model.specs.declared.heads.Major.TheVariants.{Array, Map, Tag};
 ghost use Rattle.cborn_model.specs.Heads.{Given, Unbounded, head, WidthFits};
-ghost use Rattle.cborn_transcode.specs.shared.Walking.{Leaves};
+ghost use Rattle.cborn_wire.specs.shared.Parts.{Leaves};
 ghost use Rattle.cborn_search.specs.Flawed.{Scanned, ScannedAll};
 ghost use Rattle.cborn_search.specs.devices.Marks.{MapSeen};
 
 use crate::leaves::{
-    behind_break, integer_len, is_bignum, is_done, is_simple, is_sound, last, scan_long_bytes,
-    scan_long_text, scan_text, string_at,
+    integer_len, is_bignum, is_simple, is_sound, scan_long_bytes, scan_long_text, scan_text,
+    string_at,
 };
 use crate::scanned_maps::SpareMaps;
 use crate::told::Finding;
 use cborn_judge::{InvalidReason, earliest};
 use cborn_model::Major;
-use cborn_wire::{Argument, HeadRead, read_head};
+use cborn_wire::{Argument, HeadRead, behind_break, is_done, last, read_head};
 
 /// The item at the front of `bytes`, the last of `total`: what follows it. None promises nothing.
 #[cycle(scanned)]

@@ -1,48 +1,17 @@
 //! Items without children.
 
-ghost use Rattle.std.specs.Prelude.{◌≡◌, ◌≢◌, ◌≤◌, ◌-◌, ◌++◌, ◌∷◌, ◌⊎◌, ℕ, List, Bool, None, true, false, length, drop, IsTrue, IfSome, MatchBool};
+ghost use Rattle.std.specs.Prelude.{◌≡◌, ◌≢◌, ◌≤◌, ◌-◌, ◌++◌, ◌⊎◌, ℕ, Bool, None, true, false, length, drop, IsTrue, IfSome, MatchBool};
 ghost use Rattle.cborn_model.specs.declared.heads.Width.{Width};
 ghost use Rattle.cborn_model.specs.declared.heads.Major.TheVariants.{ByteString, TextString};
 ghost use Rattle.cborn_model.specs.Heads.{Given, Unbounded, head, WidthFits};
-ghost use Rattle.cborn_transcode.specs.shared.Walking.{Leaves};
 ghost use Rattle.cborn_wire.specs.HeadReading.{ArgumentFits, seen_argument};
+ghost use Rattle.cborn_wire.specs.shared.Parts.{StringRead, IsSimpleArgument, Leaves};
 ghost use Rattle.cborn_search.specs.Flawed.{FindsTold, TextFlaw, ChunkSeen, ChunksSeen, Scanned};
-ghost use Rattle.cborn_search.specs.Reading.{StringRead, IsSimpleArgument};
 
 use crate::told::Finding;
 use cborn_judge::{InvalidReason, earliest};
 use cborn_model::{Major, is_simple_value, shortest};
-use cborn_wire::{Argument, HeadRead, read_head, read_mixed_head};
-
-/// Whether no more is to be taken: all that there may be is taken, or a break ends it.
-#[inline(always)]
-pub(crate) fn is_done(count: u64, most: u64, may_end: bool, bytes: &[u8]) -> bool
-    ensures { result ≡ false → count ≢ most }
-{
-    count == most || (may_end && matches!(bytes, [255, ..]))
-}
-
-/// What follows the break at the front.
-#[inline(always)]
-pub(crate) fn behind_break(bytes: &[u8]) -> Option<&[u8]>
-    ensures { IfSome result (λ rest. bytes.now ≡ 255 ∷ rest.now) }
-{
-    match bytes {
-        [255, rest @ ..] => Some(rest),
-        _ => None,
-    }
-}
-
-/// The last `left` bytes.
-#[inline(always)]
-pub(crate) fn last(bytes: &[u8], left: usize) -> Option<&[u8]>
-    ensures { IfSome result (λ rest. (front back : List ℕ) → bytes.now ≡ front ++ back → length back ≡ left → rest.now ≡ back) }
-{
-    if left > bytes.len() {
-        return None;
-    }
-    Some(&bytes[bytes.len() - left..])
-}
+use cborn_wire::{Argument, HeadRead, behind_break, read_head, read_mixed_head};
 
 /// Whether the tag is that of a bignum.
 #[inline(always)]

@@ -4,3 +4,4 @@ pub mod HeadReading
 pub mod Stacked
 pub mod Feeding
 pub mod Scans
+pub mod Parts

@@ -2,3 +2,4 @@ pub mod Machine
 pub mod Scanning
 pub mod InitialBytes
 pub mod Ground
+pub mod Parts

@@ -10,7 +10,9 @@
 //! and `finishing` puts what is whole into what stands around it. The writer is [`spell`], which
 //! writes what a node was read from. Below both stand single heads, in `heads`. [`scan`] tells
 //! whether an input that is held whole is well-formed, or its one fault, and keeps nothing of the
-//! items (`scanning`): of what is open only how much is missing (`levels`).
+//! items (`scanning`): of what is open only how much is missing (`levels`). What other walks over
+//! bytes ask at each step is in `walks`, and what they read, whatever they find of it, is told by
+//! `Parts` in `specs/shared`.
 //!
 //! A reader of the definitions starts at `specs/Faults.antt`, which tells where bytes are no items,
 //! and why; what the items of well-formed bytes are is told by `cborn_model`. `specs/Feeding.antt`
@@ -32,6 +34,7 @@ mod refusals;
 mod scanning;
 mod spelling;
 mod stacks;
+mod walks;
 
 pub use faults::{WireFault, WireReason};
 pub use feeders::Feeder;
@@ -39,3 +42,4 @@ pub use heads::{Argument, Head, HeadRead, head_bytes, push_head, read_head, read
 pub use readers::{read_all, read_one};
 pub use scanning::scan;
 pub use spelling::{spell, spell_all};
+pub use walks::{behind_break, is_done, last};
