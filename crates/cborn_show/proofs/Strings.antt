@@ -38,10 +38,11 @@ shown_more k (d ∷ cs) c = ap (λ l. codes ", " ++ (shown_string k d.width d.by
 pub chunks_more : (text : Bool) (input mid rest old half comma new : List ℕ) → ChunksShown text input mid old half → comma ≡ half ++ codes ", " → ChunkShown text mid rest comma new → ChunksShown text input rest old new
 chunks_more text input mid rest old half comma new s b c =
     let k = kind_of text in
-    chunk_more s c
-    (λ e. text_more s.chunks c.chunk (s.holds.0 e) (c.holds.0 e),
+    chunk_more s c (
+      λ e. text_more s.chunks c.chunk (s.holds.0 e) (c.holds.0 e),
       after_three (shown_more_chunks k s.chunks) (codes ", ") (shown_string k c.chunk.width c.chunk.bytes) old half comma new s.holds.1 b c.holds.1
-      ∙ ap (λ l. old ++ l) (sym (shown_more k s.chunks c.chunk)))
+          ∙ ap (λ l. old ++ l) (sym (shown_more k s.chunks c.chunk)),
+    )
 
 pub long_string_empty : (text : Bool) (input rest old new : List ℕ) → input ≡ 255 ∷ rest → new ≡ old ++ shown_chunks (kind_of text) [] → LongStringShown text input rest old new
 long_string_empty text input rest old new e w = record { chunks = []; read = e; fits = tt; holds = (λ e. tt, w) }
