@@ -1,5 +1,5 @@
 -- Digits that are copied as a block, with what is of no use cut off or written over.
-use Rattle.std.specs.Prelude.{OnSome, IfSome}
+use Rattle.std.specs.Prelude.{OnSome}
 use Rattle.std.proofs.Common.{Option, None, Some, ◌≡◌, ◌≤◌, ◌<◌, ℕ, suc, ◌+◌, ◌-◌, Bool, true, false, if◌then◌else◌, nat_lt, zero, length-append, ltb-true, lt-ltb, List, [], ◌∷◌, ◌++◌, length, take, drop, refl, sym, ap, ◌∙◌, codes, decimal, arith, take_at, append_assoc}
 use Rattle.std.proofs.lemmas.List.{take-take, length-take-le, length-drop}
 use borrow.Rule.Slice.PartMut.{put_mid}
@@ -19,10 +19,6 @@ block_cut start end old text z behind block ext new s b t e f n =
 pub on : {A : Type 0} {P Q : Type 0} (r : Option A) → (P → Q) → OnSome r P → OnSome r Q
 on None f h = h
 on (Some x) f h = f h
-
-pub under : {A : Type 0} {P Q : A → Type 0} (r : Option A) → ((x : A) → P x → Q x) → IfSome r P → IfSome r Q
-under None f h = h
-under (Some x) f h = f x h
 
 -- a number with its sign, and what stands before it, written from the end
 

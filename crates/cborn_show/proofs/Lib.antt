@@ -1,5 +1,5 @@
 pub mod Decimals
 pub mod EightDigits
-pub mod Heading
 pub mod Nodes
 pub mod Placing
+pub mod Strings

@@ -11,12 +11,13 @@ use Rattle.cborn_model.specs.Tree.{Tree, Uint, Nint, Bytes, Text, ByteChunks, Te
 use Rattle.cborn_model.specs.Spelled.{chunk_bytes, spelled, spelled_all, Wellformed}
 use Rattle.cborn_model.specs.Placed.{PlacedAll}
 use Rattle.cborn_edn.specs.Shown.{Shown, shown, shown_lines}
-use Rattle.cborn_edn.specs.ReadingBack.{unplaced_chunks, unplaced, unplaced_all, unplaced_entries}
 use Rattle.cborn_edn.specs.shared.Between.{separated}
+use Rattle.cborn_edn.specs.ReadingBack.{unplaced_chunks, unplaced, unplaced_all, unplaced_entries}
 use Rattle.cborn_edn.proofs.Shown.Separated.{lines-separated}
 use Rattle.cborn_edn.proofs.Shown.Characters.{lines_text}
 use Rattle.cborn_edn.proofs.Shown.SameText.{same_notation}
 use Rattle.cborn_wire.specs.Places.{chunks_from, placed_from, all_from, entries_from}
+use Rattle.cborn_wire.proofs.Parts.Nodes.{wellformed}
 use Rattle.cborn_wire.proofs.Spelled.AsPlaced.{spelled_all-from, depth_all-from, fits_all-from, placed_all-from}
 use Rattle.cborn_wire.proofs.Spelled.TreeLists.{tree_list, trees-tree_list}
 use Rattle.cborn_show.specs.Passed.{NodesShown, PassShown, IsShownText}
@@ -69,22 +70,12 @@ no_lines limit input text e t = record { nodes = []; read = record { spells = sy
 pub some_lines : (limit n : ℕ) (input rest out text : List ℕ) → NodesShown (codes ",\n") limit n input rest [] out → rest ≡ [] → (input ≡ [] → ⊥) → text ≡ out ++ codes "\n" → PassShown limit input text
 some_lines limit n input rest out text s r some t = go s.nodes refl
   where
-    whole : input ≡ spelled_all (trees s.nodes)
-    whole = s.read ∙ ap (λ l. spelled_all (trees s.nodes) ++ l) r ∙ append-nil (spelled_all (trees s.nodes))
-
     go : (ns : List Tree) → s.nodes ≡ ns → PassShown limit input text
-    go [] e = absurd (some (whole ∙ ap (λ (ts : List Tree). spelled_all (trees ts)) e))
-    go (x ∷ xs) e = record {
-      nodes = s.nodes;
-      read = record { spells = sym whole; fit = s.fits; shallow = s.shallow };
-      shown = (subst IsUtf8 (sym same) (lines_text (trees s.nodes) s.fits s.showable), same);
-    }
+    go [] e = absurd (some (sym (wellformed s r).spells ∙ ap (λ (ts : List Tree). spelled_all (trees ts)) e))
+    go (x ∷ xs) e = record { nodes = s.nodes; read = wellformed s r; shown = (subst IsUtf8 (sym same) (lines_text (trees s.nodes) s.fits s.holds.0), same) }
       where
-        lines : (ns : List Tree) (x : Tree) (xs : List Tree) → ns ≡ x ∷ xs → separated (codes ",\n") shown ns ++ codes "\n" ≡ shown_lines (trees ns)
-        lines ns x xs e = ap (λ (ts : List Tree). separated (codes ",\n") shown ts ++ codes "\n") e ∙ sym (lines-separated x xs) ∙ ap (λ (ts : List Tree). shown_lines (trees ts)) (sym e)
-
         same : text ≡ shown_lines (trees s.nodes)
-        same = t ∙ ap (λ l. l ++ codes "\n") s.written ∙ lines s.nodes x xs e
+        same = t ∙ ap (λ l. l ++ codes "\n") s.holds.1 ∙ ap (λ (ts : List Tree). separated (codes ",\n") shown ts ++ codes "\n") e ∙ sym (lines-separated x xs) ∙ ap (λ (ts : List Tree). shown_lines (trees ts)) (sym e)
 
 pub nothing_left : (l : List ℕ) → (length l == 0) ≡ true → l ≡ []
 nothing_left [] h = refl

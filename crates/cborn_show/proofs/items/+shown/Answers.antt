@@ -1,83 +1,69 @@
-use Rattle.cborn_model.specs.declared.heads.Major.TheVariants.{Unsigned, Negative, ByteString, TextString, Array, Map, Tag, Other}
 use Rattle.std.proofs.Common.{rules, ◌++◌, ◌+◌, List, ◌≢◌, ◌-◌, refl, ℕ, codes, subst, arith, sym, ◌∙◌}
 use Rattle.std.proofs.lemmas.List.{take_rest}
-use Rattle.cborn_wire.specs.declared.heads.Argument.TheVariants.{Given, Endless}
-use Rattle.cborn_show.specs.Passed.{NodeShown, NodesShown, PairsShown}
+use Rattle.std.proofs.lemmas.Option.{IfSome_then}
 use Rattle.cborn_edn.specs.shared.Between.{between}
-use Rattle.cborn_show.proofs.Decimals.{under}
-use Rattle.cborn_show.proofs.Nodes.{inside, alone, item_last, uint_done, nint_done, bytes_done, text_done, byte_chunks_done, text_chunks_done, simple_done, nodes_none, nodes_more, array_done, endless_array_done, pair_done, pairs_none, pairs_more, map_done, endless_map_done, tagged_done}
+use Rattle.cborn_wire.specs.shared.Parts.{NodeRead}
+use Rattle.cborn_wire.proofs.Parts.Heads.{head_before, head_alone}
+use Rattle.cborn_wire.proofs.Parts.Nodes.{uint_read, nint_read, simple_read, node_last}
+use Rattle.cborn_wire.proofs.Parts.Strings.{bytes_read, text_read, byte_chunks_read, text_chunks_read}
+use Rattle.cborn_show.specs.Passed.{NodeWritten, NodeShown, NodesShown, PairsShown}
+use Rattle.cborn_show.proofs.Nodes.{nodes_none, nodes_more, array_done, endless_array_done, pair_done, pairs_none, pairs_more, map_done, endless_map_done, tagged_done}
 use Rattle.cborn_show.proofs.items.+shown.Goals.{put_items-else-items-test, put_items-then-items-test+in_ok-len+then-is_done}
 use Rattle.cborn_show.proofs.items.+shown.Goals as goal
 
 pub put_item-returns : goal.put_item-returns
-put_item-returns t c =
-    under c.last.result
-    (λ rest e. item_last c.args.room c.args.bytes.now rest.now c.args.out.now.items c.put_node.new.out.items c.in_ok-left.left c.in_ok-left.ensures e)
-    c.last.ensures
+put_item-returns t c = IfSome_then c.last.result c.last.ensures (λ rest e. node_last c.in_ok-left.ensures e)
 
 pub put_node-returns-in_ok-put_number-in-Unsigned : goal.put_node-returns-in_ok-put_number-in-Unsigned
 put_node-returns-in_ok-put_number-in-Unsigned t c =
-    alone c.args.room c.args.bytes.now _ c.args.out.now.items c.put_number.new.out.items _ c.in-Full.head c.in-Full.len Unsigned (Given c.in-Given.width c.in-Given.n) (take_rest c.args.bytes.now c.in-Full.len) c.in-Full.ensures (sym c.major_type-major.ensures ∙ c.in-Unsigned.is) c.in-Given.is (search rules)
-    (λ fits. uint_done c.args.room c.in-Given.width c.in-Given.n _ c.args.out.now.items c.put_number.new.out.items fits c.in_ok-put_number-in-Unsigned.ensures)
+    head_alone (NodeRead (NodeWritten c.args.out.now.items c.put_number.new.out.items) c.args.room) (take_rest c.args.bytes.now c.in-Full.len) c.in-Full.ensures (sym c.major_type-major.ensures ∙ c.in-Unsigned.is) c.in-Given.is (search rules)
+    (λ fits. uint_read 0 c.in-Given.width c.in-Given.n fits (tt, c.in_ok-put_number-in-Unsigned.ensures))
 
 pub put_node-returns-in_ok-put_below-in-Negative : goal.put_node-returns-in_ok-put_below-in-Negative
 put_node-returns-in_ok-put_below-in-Negative t c =
-    alone c.args.room c.args.bytes.now _ c.args.out.now.items c.put_below.new.out.items _ c.in-Full.head c.in-Full.len Negative (Given c.in-Given.width c.in-Given.n) (take_rest c.args.bytes.now c.in-Full.len) c.in-Full.ensures (sym c.major_type-major.ensures ∙ c.in-Negative.is) c.in-Given.is (search rules)
-    (λ fits. nint_done c.args.room c.in-Given.width c.in-Given.n _ c.args.out.now.items c.put_below.new.out.items fits c.in_ok-put_below-in-Negative.ensures)
+    head_alone (NodeRead (NodeWritten c.args.out.now.items c.put_below.new.out.items) c.args.room) (take_rest c.args.bytes.now c.in-Full.len) c.in-Full.ensures (sym c.major_type-major.ensures ∙ c.in-Negative.is) c.in-Given.is (search rules)
+    (λ fits. nint_read 0 c.in-Given.width c.in-Given.n fits (tt, c.in_ok-put_below-in-Negative.ensures))
 
 pub put_node-returns-in-ByteString : goal.put_node-returns-in-ByteString
 put_node-returns-in-ByteString t c =
-    under c.put_string_leaving.result
-    (λ left s. inside c.args.room c.args.bytes.now _ c.args.out.now.items c.put_string_leaving.new.out.items left c.in-Full.head c.in-Full.len ByteString (Given c.in-Given.width c.in-Given.n) (take_rest c.args.bytes.now c.in-Full.len) c.in-Full.ensures (sym c.major_type-major.ensures ∙ c.in-ByteString.is) c.in-Given.is
-    (λ fits. (s.0, s.1, bytes_done c.args.room c.in-Given.width c.in-Given.n _ s.0 c.args.out.now.items c.put_string_leaving.new.out.items fits s.2)))
-    c.put_string_leaving.ensures
+    IfSome_then c.put_string_leaving.result c.put_string_leaving.ensures
+    (λ left s. head_before (NodeRead (NodeWritten c.args.out.now.items c.put_string_leaving.new.out.items) c.args.room) (take_rest c.args.bytes.now c.in-Full.len) c.in-Full.ensures (sym c.major_type-major.ensures ∙ c.in-ByteString.is) c.in-Given.is (λ fits. (s.0, s.1, bytes_read 0 c.in-Given.width fits s.2.1 (tt, s.2.2.1))))
 
 pub put_node-returns-in-TextString : goal.put_node-returns-in-TextString
 put_node-returns-in-TextString t c =
-    under c.put_string_leaving-in-TextString.result
-    (λ left s. inside c.args.room c.args.bytes.now _ c.args.out.now.items c.put_string_leaving-in-TextString.new.out.items left c.in-Full.head c.in-Full.len TextString (Given c.in-Given.width c.in-Given.n) (take_rest c.args.bytes.now c.in-Full.len) c.in-Full.ensures (sym c.major_type-major.ensures ∙ c.in-TextString.is) c.in-Given.is
-    (λ fits. (s.0, s.1, text_done c.args.room c.in-Given.width c.in-Given.n _ s.0 c.args.out.now.items c.put_string_leaving-in-TextString.new.out.items fits s.2)))
-    c.put_string_leaving-in-TextString.ensures
+    IfSome_then c.put_string_leaving-in-TextString.result c.put_string_leaving-in-TextString.ensures
+    (λ left s. head_before (NodeRead (NodeWritten c.args.out.now.items c.put_string_leaving-in-TextString.new.out.items) c.args.room) (take_rest c.args.bytes.now c.in-Full.len) c.in-Full.ensures (sym c.major_type-major.ensures ∙ c.in-TextString.is) c.in-Given.is (λ fits. (s.0, s.1, text_read 0 c.in-Given.width fits s.2.1 (s.2.2.0 refl, s.2.2.1))))
 
 pub put_node-returns-in-Array : goal.put_node-returns-in-Array
 put_node-returns-in-Array t c =
-    under c.put_fixed_array.result
-    (λ left s. inside c.args.room c.args.bytes.now _ c.args.out.now.items c.put_fixed_array.new.out.items left c.in-Full.head c.in-Full.len Array (Given c.in-Given.width c.in-Given.n) (take_rest c.args.bytes.now c.in-Full.len) c.in-Full.ensures (sym c.major_type-major.ensures ∙ c.in-Array.is) c.in-Given.is
-    (λ fits. s fits))
-    c.put_fixed_array.ensures
+    IfSome_then c.put_fixed_array.result c.put_fixed_array.ensures
+    (λ left s. head_before (NodeRead (NodeWritten c.args.out.now.items c.put_fixed_array.new.out.items) c.args.room) (take_rest c.args.bytes.now c.in-Full.len) c.in-Full.ensures (sym c.major_type-major.ensures ∙ c.in-Array.is) c.in-Given.is (λ fits. s fits))
 
 pub put_node-returns-in-Map : goal.put_node-returns-in-Map
 put_node-returns-in-Map t c =
-    under c.put_fixed_map.result
-    (λ left s. inside c.args.room c.args.bytes.now _ c.args.out.now.items c.put_fixed_map.new.out.items left c.in-Full.head c.in-Full.len Map (Given c.in-Given.width c.in-Given.n) (take_rest c.args.bytes.now c.in-Full.len) c.in-Full.ensures (sym c.major_type-major.ensures ∙ c.in-Map.is) c.in-Given.is
-    (λ fits. s fits))
-    c.put_fixed_map.ensures
+    IfSome_then c.put_fixed_map.result c.put_fixed_map.ensures
+    (λ left s. head_before (NodeRead (NodeWritten c.args.out.now.items c.put_fixed_map.new.out.items) c.args.room) (take_rest c.args.bytes.now c.in-Full.len) c.in-Full.ensures (sym c.major_type-major.ensures ∙ c.in-Map.is) c.in-Given.is (λ fits. s fits))
 
 pub put_node-returns-in-Tag : goal.put_node-returns-in-Tag
 put_node-returns-in-Tag t c =
-    under c.put_tagged.result
-    (λ left s. inside c.args.room c.args.bytes.now _ c.args.out.now.items c.put_tagged.new.out.items left c.in-Full.head c.in-Full.len Tag (Given c.in-Given.width c.in-Given.n) (take_rest c.args.bytes.now c.in-Full.len) c.in-Full.ensures (sym c.major_type-major.ensures ∙ c.in-Tag.is) c.in-Given.is
-    (λ fits. s fits))
-    c.put_tagged.ensures
+    IfSome_then c.put_tagged.result c.put_tagged.ensures
+    (λ left s. head_before (NodeRead (NodeWritten c.args.out.now.items c.put_tagged.new.out.items) c.args.room) (take_rest c.args.bytes.now c.in-Full.len) c.in-Full.ensures (sym c.major_type-major.ensures ∙ c.in-Tag.is) c.in-Given.is (λ fits. s fits))
 
 pub put_node-returns-in_ok-put_simple-in-Other : goal.put_node-returns-in_ok-put_simple-in-Other
 put_node-returns-in_ok-put_simple-in-Other t c =
-    alone c.args.room c.args.bytes.now _ c.args.out.now.items c.put_simple.new.out.items _ c.in-Full.head c.in-Full.len Other c.in-Full.head.argument (take_rest c.args.bytes.now c.in-Full.len) c.in-Full.ensures (sym c.major_type-major.ensures ∙ c.in-Other.is) refl (search rules)
-    (λ fits. simple_done c.args.room c.in-Full.head.argument _ c.args.out.now.items c.put_simple.new.out.items c.in_ok-put_simple-in-Other.ensures)
+    let s = c.in_ok-put_simple-in-Other.ensures in
+    head_alone (NodeRead (NodeWritten c.args.out.now.items c.put_simple.new.out.items) c.args.room) (take_rest c.args.bytes.now c.in-Full.len) c.in-Full.ensures (sym c.major_type-major.ensures ∙ c.in-Other.is) refl (search rules)
+    (λ fits. simple_read 0 c.in-Full.head.argument (s.0, s.1, s.2) (tt, s.3))
 
 pub put_node-returns-in-ByteString-major : goal.put_node-returns-in-ByteString-major
 put_node-returns-in-ByteString-major t c =
-    under c.put_long_string_leaving.result
-    (λ left s. inside c.args.room c.args.bytes.now _ c.args.out.now.items c.put_long_string_leaving.new.out.items left c.in-Full.head c.in-Full.len ByteString Endless (take_rest c.args.bytes.now c.in-Full.len) c.in-Full.ensures (sym c.major_type-major.ensures ∙ c.in-ByteString-major.is) c.in-Endless.is
-    (λ fits. (s.0, s.1, byte_chunks_done c.args.room _ s.0 c.args.out.now.items c.put_long_string_leaving.new.out.items s.2)))
-    c.put_long_string_leaving.ensures
+    IfSome_then c.put_long_string_leaving.result c.put_long_string_leaving.ensures
+    (λ left s. head_before (NodeRead (NodeWritten c.args.out.now.items c.put_long_string_leaving.new.out.items) c.args.room) (take_rest c.args.bytes.now c.in-Full.len) c.in-Full.ensures (sym c.major_type-major.ensures ∙ c.in-ByteString-major.is) c.in-Endless.is (λ fits. (s.0, s.1, byte_chunks_read 0 refl s.2 (tt, s.2.holds.1))))
 
 pub put_node-returns-in-TextString-major : goal.put_node-returns-in-TextString-major
 put_node-returns-in-TextString-major t c =
-    under c.put_long_string_leaving-in-TextString-major.result
-    (λ left s. inside c.args.room c.args.bytes.now _ c.args.out.now.items c.put_long_string_leaving-in-TextString-major.new.out.items left c.in-Full.head c.in-Full.len TextString Endless (take_rest c.args.bytes.now c.in-Full.len) c.in-Full.ensures (sym c.major_type-major.ensures ∙ c.in-TextString-major.is) c.in-Endless.is
-    (λ fits. (s.0, s.1, text_chunks_done c.args.room _ s.0 c.args.out.now.items c.put_long_string_leaving-in-TextString-major.new.out.items s.2)))
-    c.put_long_string_leaving-in-TextString-major.ensures
+    IfSome_then c.put_long_string_leaving-in-TextString-major.result c.put_long_string_leaving-in-TextString-major.ensures
+    (λ left s. head_before (NodeRead (NodeWritten c.args.out.now.items c.put_long_string_leaving-in-TextString-major.new.out.items) c.args.room) (take_rest c.args.bytes.now c.in-Full.len) c.in-Full.ensures (sym c.major_type-major.ensures ∙ c.in-TextString-major.is) c.in-Endless.is (λ fits. (s.0, s.1, text_chunks_read 0 refl s.2 (s.2.holds.0 refl, s.2.holds.1))))
 
 pub put_endless_array-returns : goal.put_endless_array-returns
 put_endless_array-returns t c = (
@@ -137,12 +123,12 @@ put_items-returns t c =
 
 pub put_next-returns : goal.put_next-returns
 put_next-returns t c =
-    under c.put_item.result (λ rest s. subst (λ (o : List ℕ). NodeShown c.args.room c.args.bytes.now rest.now o c.put_item.new.out.items) c.in_ok-put_between.ensures s) c.put_item.ensures
+    IfSome_then c.put_item.result c.put_item.ensures (λ rest s. subst (λ (o : List ℕ). NodeShown c.args.room c.args.bytes.now rest.now o c.put_item.new.out.items) c.in_ok-put_between.ensures s)
 
 pub put_pair-returns : goal.put_pair-returns
 put_pair-returns t c =
-    under c.put_item-2.result
-    (λ rest s. pair_done c.args.room c.args.bytes.now c.in_ok-after.after.now rest.now c.args.out.now.items c.put_item.new.out.items c.extend_from_slice.new.self.items c.put_item-2.new.out.items c.in_ok-after.ensures (search rules) s) c.put_item-2.ensures
+    IfSome_then c.put_item-2.result c.put_item-2.ensures
+    (λ rest s. pair_done c.args.room c.args.bytes.now c.in_ok-after.after.now rest.now c.args.out.now.items c.put_item.new.out.items c.extend_from_slice.new.self.items c.put_item-2.new.out.items c.in_ok-after.ensures (search rules) s)
 
 pub put_pairs-pairs-init : goal.put_pairs-pairs-init
 put_pairs-pairs-init t c = (pairs_none c.args.room c.args.bytes.now c.args.out.now.items, omega arith)

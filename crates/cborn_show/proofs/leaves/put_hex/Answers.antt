@@ -1,6 +1,6 @@
 use Rattle.std.proofs.Common.{rules, ◌≡◌, ◌++◌, ◌∷◌, [], ap, ◌∙◌}
 use Rattle.hex.specs.Hex.{encode_lower}
-use Rattle.cborn_show.proofs.Heading.{hex_one, hex_four, hex_end, pair_of}
+use Rattle.cborn_show.proofs.Strings.{hex_one, hex_four, hex_end, pair_of}
 use Rattle.cborn_show.proofs.leaves.put_hex.Goals as goal
 
 pub loop-a-preserved : goal.loop-a-preserved

@@ -1,5 +1,5 @@
 use Rattle.std.proofs.Common.{rules}
-use Rattle.cborn_show.proofs.Heading.{long_string_empty, long_string_shown}
+use Rattle.cborn_show.proofs.Strings.{long_string_empty, long_string_shown}
 use Rattle.cborn_show.proofs.leaves.put_long_string.Goals as goal
 
 pub returns-in-Some : goal.returns-in-Some

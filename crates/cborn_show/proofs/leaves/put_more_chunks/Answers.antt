@@ -1,5 +1,5 @@
 use Rattle.std.proofs.Common.{rules}
-use Rattle.cborn_show.proofs.Heading.{chunks_none, chunks_more}
+use Rattle.cborn_show.proofs.Strings.{chunks_none, chunks_more}
 use Rattle.cborn_show.proofs.leaves.put_more_chunks.Goals as goal
 
 pub chunks-init : goal.chunks-init

@@ -1,5 +1,5 @@
 use Rattle.cborn_wire.proofs.Spelled.ByteLists.{are_bytes}
-use Rattle.cborn_show.proofs.Heading.{string_taken}
+use Rattle.cborn_show.proofs.Strings.{string_taken}
 use Rattle.cborn_show.proofs.leaves.put_string.Goals as goal
 
 pub returns : goal.returns
