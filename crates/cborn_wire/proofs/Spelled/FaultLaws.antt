@@ -7,7 +7,7 @@ use Rattle.cborn_model.specs.Spelled.{Wellformed}
 use Rattle.cborn_wire.specs.declared.faults.WireReason.{WireReason}
 use Rattle.cborn_wire.specs.declared.faults.WireReason.TheVariants.{Truncated}
 use Rattle.cborn_wire.specs.Slots.{Begun}
-use Rattle.cborn_wire.specs.Faults.{IsWellformed, GoesOn, judged, reason_of, IsReason, Refused, Fault}
+use Rattle.cborn_wire.specs.Faults.{IsWellformed, GoesOn, IsReason, Refused, Fault}
 use Rattle.cborn_wire.specs.SlotFaults.{SlotRefused}
 use Rattle.cborn_wire.specs.shared.Machine.{Partial, nothing, gathering, State, Live, Failed, run, start}
 use Rattle.cborn_wire.proofs.Spelled.AllBytes.{bytes-left, well_bytes}

@@ -11,7 +11,7 @@ use Rattle.cborn_wire.specs.Slots.{StringKind, OfBytes, OfText, Slot, item, valu
 use Rattle.cborn_wire.specs.Faults.{IsWellformed, GoesOn, BeginsHead, judged, IsReason, Refused}
 use Rattle.cborn_wire.specs.SlotFaults.{reason_at, SlotRefused}
 use Rattle.cborn_wire.specs.shared.InitialBytes.{Next, head_reason}
-use Rattle.cborn_wire.specs.shared.Machine.{argument_of, Partial, nothing, gathering, State, Live, Failed, step, start, run, unless}
+use Rattle.cborn_wire.specs.shared.Machine.{argument_of, nothing, gathering, State, Live, Failed, step, start, run, unless}
 use Rattle.cborn_wire.proofs.Machine.Running.{run-append}
 use Rattle.cborn_wire.proofs.Machine.SomeEnd.{Closable, takes_part, takes_integer}
 use Rattle.cborn_wire.proofs.Machine.SoundItems.{SoundLive, Sound}

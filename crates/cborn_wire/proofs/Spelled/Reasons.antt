@@ -1,5 +1,5 @@
 -- The table of faults by slots gives the reason of `Faults`.
-use Rattle.std.proofs.Common.{◌≡◌, refl, sym, ap, ◌∙◌, subst, ℕ, ◌/◌, ◌%◌, ◌<◌, List, [], ◌∷◌, take, Bool, true, false, cond, not, ◌&&◌, ◌||◌, leb, eqb, Option, Some, None, arith}
+use Rattle.std.proofs.Common.{◌≡◌, refl, sym, ◌∙◌, subst, ℕ, ◌/◌, ◌%◌, ◌<◌, List, [], ◌∷◌, take, Bool, true, false, cond, not, ◌&&◌, ◌||◌, leb, eqb, Option, Some, None, arith}
 use Rattle.std.proofs.lemmas.Bool.{leb-true, eqb-true, le-leb, lt-leb, and_parts, agree_below_at}
 use Rattle.cborn_model.specs.Heads.{code}
 use Rattle.cborn_wire.specs.declared.faults.WireReason.{WireReason}
