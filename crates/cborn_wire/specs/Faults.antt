@@ -1,59 +1,51 @@
 -- Faults: which bytes are not well-formed (RFC 8949 section 3 and appendix C; floats are left out), at which place, and why.
-use Rattle.std.specs.Prelude.{◌≡◌, ℕ, ◌/◌, ◌%◌, List, [], ◌∷◌, ◌++◌, length, Bool, true, false, ◌&&◌, ◌||◌, not, if◌then◌else◌, nat_lt, nat_le, ◌==◌, Option, Some, None, ◌⊎◌}
-use Rattle.cborn_model.specs.Heads.{code}
+use Rattle.std.specs.Prelude.{◌≡◌, ℕ, ◌/◌, ◌%◌, List, [], ◌∷◌, ◌++◌, length, take, Bool, true, false, ◌&&◌, ◌||◌, if◌then◌else◌, nat_le, ◌==◌, ◌⊎◌}
 use Rattle.cborn_model.specs.Tree.{Trees}
 use Rattle.cborn_model.specs.Spelled.{Wellformed}
 use Rattle.cborn_wire.specs.declared.faults.WireReason.{WireReason}
 use Rattle.cborn_wire.specs.declared.faults.WireReason.TheVariants.{ReservedInfo, EndlessNotAllowed, BadChunk, UnexpectedBreak, FloatLeftOut, BadSimple, TooDeep, Truncated}
-use Rattle.cborn_wire.specs.Slots.{major_of, Slot, item, value, chunk, Open}
-
--- An initial byte is its major type m, the high three bits, and its additional information i, the low five. 7 is the last major type: 7 ≤ m says that it is this one.
-
-abbrev pub is_break : ℕ → ℕ → Bool
-is_break m i = nat_le 7 m && i == 31
-
--- in an indefinite string neither a break nor a definite string of its kind (RFC 8949 section 3.2.3)
-abbrev pub is_bad_chunk : Slot → ℕ → ℕ → Bool
-is_bad_chunk (chunk k) m i = not (is_break m i || (m == code (major_of k) && not (i == 31)))
-is_bad_chunk _ m i = false
-
--- an item has to stand here, and no break
-abbrev pub needs_item : Slot → Bool
-needs_item item = true
-needs_item value = true
-needs_item _ = false
-
-abbrev pub begins_low : List ℕ → Bool
-begins_low [] = false
-begins_low (b ∷ y) = nat_lt b 32
-
--- The table of faults: the first line that applies to an initial byte in the slot s, with y behind it. `full`: as many arrays, maps and tags are open around the slot as the limit allows. Integers and tags have no indefinite form (RFC 8949 section 3.2), and a simple value below 32 none of two bytes (section 3.3).
-abbrev pub reason_of : Slot → Bool → ℕ → ℕ → List ℕ → Option WireReason
-reason_of s full m i y =
-    if nat_le 28 i && nat_le i 30 then Some ReservedInfo
-    else if i == 31 && (nat_le m 1 || m == 6) then Some EndlessNotAllowed
-    else if is_bad_chunk s m i then Some BadChunk
-    else if is_break m i && needs_item s then Some UnexpectedBreak
-    else if nat_le 7 m && (nat_le 25 i && nat_le i 27) then Some FloatLeftOut
-    else if nat_le 7 m && i == 24 && begins_low y then Some BadSimple
-    else if nat_le 4 m && nat_le m 6 && full then Some TooDeep
-    else None
-
--- the same for the head at the front of these bytes, in the slot s inside k arrays, maps and tags
-abbrev pub reason_at : ℕ → Slot → ℕ → List ℕ → Option WireReason
-reason_at limit s k [] = None
-reason_at limit s k (b ∷ y) = reason_of s (nat_le limit k) (b / 32) (b % 32) y
 
 abbrev pub IsWellformed : ℕ → List ℕ → Type 0
 IsWellformed limit x = (ts : Trees) × Wellformed limit ts x
 
+-- some bytes behind f make it well-formed
+abbrev pub GoesOn : ℕ → List ℕ → Type 0
+GoesOn limit f = (y : List ℕ) × IsWellformed limit (f ++ y)
+
+-- A head begins behind f: 0xfc may stand anywhere in an argument and in a string, but begins no head, since its additional information 28 is reserved (RFC 8949 section 3).
+abbrev pub BeginsHead : ℕ → List ℕ → Type 0
+BeginsHead limit f = GoesOn limit f × (GoesOn limit (f ++ 0xfc ∷ []) → ⊥)
+
+-- The bytes by which a head is judged: its initial byte b, and in a simple value of two bytes the other one too, which is never below 32 (section 3.3).
+abbrev pub judged : ℕ → List ℕ → List ℕ
+judged b y = b ∷ (if b == 0xf8 then take 1 y else [])
+
+-- Why a head may not stand where it stands: the first line that applies to its major type m and its additional information i, the high three and the low five bits of its initial byte. `chunk`: it stands in a string of indefinite length, which has definite strings of its kind alone (section 3.2.3). Integers and tags have no indefinite length (section 3.2).
+abbrev pub reason_of : Bool → ℕ → ℕ → WireReason
+reason_of chunk m i =
+    if nat_le 28 i && nat_le i 30 then ReservedInfo
+    else if i == 31 && (nat_le m 1 || m == 6) then EndlessNotAllowed
+    else if chunk then BadChunk
+    else if nat_le 7 m && i == 31 then UnexpectedBreak
+    else if nat_le 7 m && (nat_le 25 i && nat_le i 27) then FloatLeftOut
+    else if nat_le 7 m && i == 24 then BadSimple
+    else TooDeep
+
+-- A chunk stands behind f exactly if no integer may: 0x00 is one, and stands wherever another item does.
+abbrev pub IsReason : ℕ → List ℕ → ℕ → WireReason → Type 0
+IsReason limit f b r =
+    (GoesOn limit (f ++ 0x00 ∷ []) × (r ≡ reason_of false (b / 32) (b % 32)))
+    ⊎ ((GoesOn limit (f ++ 0x00 ∷ []) → ⊥) × (r ≡ reason_of true (b / 32) (b % 32)))
+
 -- the head at p may not stand there
 abbrev pub Refused : ℕ → List ℕ → ℕ → WireReason → Type 0
-Refused limit x p r = (f : List ℕ) × (y : List ℕ) × (s : Slot) × (k : ℕ) × (x ≡ f ++ y) × (length f ≡ p) × Open limit f s k × (reason_at limit s k y ≡ Some r)
+Refused limit x p r =
+    (f : List ℕ) × (b : ℕ) × (y : List ℕ) × (x ≡ f ++ b ∷ y) × (length f ≡ p)
+    × BeginsHead limit f × (GoesOn limit (f ++ judged b y) → ⊥) × IsReason limit f b r
 
--- x is not well-formed, ends at p, and followed by some bytes is well-formed
+-- x is not well-formed, ends at p, and goes on
 abbrev pub IsCut : ℕ → List ℕ → ℕ → Type 0
-IsCut limit x p = (p ≡ length x) × (IsWellformed limit x → ⊥) × ((y : List ℕ) × IsWellformed limit (x ++ y))
+IsCut limit x p = (p ≡ length x) × (IsWellformed limit x → ⊥) × GoesOn limit x
 
 -- The bytes x are not well-formed under the limit, at the place p, for the reason r.
 abbrev pub Fault : ℕ → List ℕ → ℕ → WireReason → Type 0

@@ -13,7 +13,7 @@ use Rattle.cborn_wire.specs.declared.heads.Head.{Head}
 use Rattle.cborn_wire.specs.declared.heads.HeadRead.{HeadRead}
 use Rattle.cborn_wire.specs.declared.heads.HeadRead.TheVariants.{Full, Short, Bad}
 use Rattle.cborn_wire.specs.Slots.{element_or_end}
-use Rattle.cborn_wire.specs.Faults.{reason_at}
+use Rattle.cborn_wire.specs.SlotFaults.{reason_at}
 
 abbrev pub seen_argument : Argument → heads.Argument
 seen_argument (arguments.Given w n) = Given w n

@@ -1,5 +1,6 @@
 pub mod Slots
 pub mod Faults
+pub mod SlotFaults
 pub mod Places
 pub mod Feeding
 pub mod Reading

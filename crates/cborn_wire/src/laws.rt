@@ -11,6 +11,7 @@ ghost use Rattle.cborn_wire.specs.declared.faults.WireReason.TheVariants.{Trunca
 ghost use Rattle.cborn_wire.specs.Places.{placed_from, all_from};
 ghost use Rattle.cborn_wire.specs.Slots.{Slot, Open};
 ghost use Rattle.cborn_wire.specs.Faults.{IsWellformed, Refused, Fault};
+ghost use Rattle.cborn_wire.specs.SlotFaults.{SlotRefused};
 
 /// Bytes have at most one reading: two lists of nodes that both spell them are one list where both
 /// stand at the same place (`placed`), and else one list but for their places (`aside`: they are
@@ -61,6 +62,12 @@ pub fn fronts()
 pub fn faults_stay()
     ensures refused { (limit : ℕ) (x y : List ℕ) (p : ℕ) (r : WireReason) → Refused limit x p r → Refused limit (x ++ y) p r }
     ensures fault { (limit : ℕ) (x y : List ℕ) (p : ℕ) (r : WireReason) → Fault limit x p r → (r ≡ Truncated → ⊥) → Fault limit (x ++ y) p r }
+{}
+
+/// Where a head may not stand is told by slots too: by what is open around it, and one table.
+pub fn faults_by_slots()
+    ensures told { (limit : ℕ) (x : List ℕ) (p : ℕ) (r : WireReason) → AreBytes x → SlotRefused limit x p r → Refused limit x p r }
+    ensures found { (limit : ℕ) (x : List ℕ) (p : ℕ) (r : WireReason) → AreBytes x → Refused limit x p r → SlotRefused limit x p r }
 {}
 
 /// What is well-formed under a limit is so under each larger one, as the same nodes.

@@ -2,7 +2,7 @@
 
 ghost use Rattle.std.specs.Prelude.{◌≡◌, ◌<◌, ◌%◌, ◌/◌, [], nat_le};
 ghost use Rattle.cborn_wire.specs.Slots.{slot, open_depth, AreBegun};
-ghost use Rattle.cborn_wire.specs.Faults.{needs_item};
+ghost use Rattle.cborn_wire.specs.SlotFaults.{needs_item};
 ghost use Rattle.cborn_wire.specs.shared.InitialBytes.{info_at, is_bad_chunk, is_of_kind, head_reason};
 ghost use Rattle.cborn_wire.specs.HeadReading.{major_at};
 ghost use Rattle.cborn_wire.specs.devices.StackView.{seen_kind, seen_slot, plain, opened};

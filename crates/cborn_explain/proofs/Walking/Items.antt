@@ -10,7 +10,7 @@ use Rattle.cborn_model.specs.Heads.{Given, Unbounded, head}
 use Rattle.cborn_model.specs.Tree.{Tree, Items, Pairs, Tagged, Trees, no_item, more, Entries, no_entry, entry, count, count_entries}
 use Rattle.cborn_model.specs.Spelled.{chunk_bytes, spelled, spelled_all, spelled_entries}
 use Rattle.cborn_wire.specs.Slots.{StringKind, OfBytes, OfText, Begun, begun_items, begun_pairs, begun_value, begun_tag, begun_chunks, beginning, beginnings, slot, slot_in, IsNoChunk, AreBegun}
-use Rattle.cborn_wire.specs.Faults.{needs_item}
+use Rattle.cborn_wire.specs.SlotFaults.{needs_item}
 use Rattle.cborn_wire.specs.shared.Machine.{snoc, snoc_entry, State, items_tree, pairs_tree, string_tree, chunks_tree, finished, string_done, ended}
 use Rattle.cborn_wire.proofs.Machine.TakesItems.{count-snoc, count_entries-snoc, items_open, pairs_open}
 use Rattle.cborn_judge.proofs.Meaning.Meanings.{some_bytes}

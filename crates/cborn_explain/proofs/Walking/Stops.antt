@@ -10,7 +10,7 @@ use Rattle.cborn_wire.specs.declared.faults.WireReason.{WireReason}
 use Rattle.cborn_wire.specs.declared.heads.Head.{Head}
 use Rattle.cborn_wire.specs.declared.heads.HeadRead.{HeadRead}
 use Rattle.cborn_wire.specs.declared.heads.HeadRead.TheVariants.{Full, Short, Bad}
-use Rattle.cborn_wire.specs.Faults.{needs_item}
+use Rattle.cborn_wire.specs.SlotFaults.{needs_item}
 use Rattle.cborn_wire.specs.Slots.{Slot, element_or_end, Begun, slot, open_depth, AreBegun}
 use Rattle.cborn_wire.specs.HeadReading.{major_at, seen_argument, reason_alone, IsHeadOf, IsFrontOfHead, ReadsHead}
 use Rattle.cborn_wire.specs.shared.InitialBytes.{Info, Now, Next, Reserved, Unended, info_at, is_bad_chunk, is_break, is_container, is_other, is_one, head_reason, info_for}
@@ -22,6 +22,7 @@ use Rattle.cborn_wire.proofs.Machine.Pieces.{major_of_head, info_of_head}
 use Rattle.cborn_wire.proofs.Machine.SoundSteps.{is_clear}
 use Rattle.cborn_wire.proofs.Scans.ScanItems.{reason_levels, slot_levels}
 use Rattle.cborn_wire.proofs.Scans.ScanSteps.{reason_here, step_refused, step_bad, step_cut, step_short}
+use Rattle.cborn_wire.proofs.Spelled.ByteLists.{split}
 use Rattle.cborn_explain.specs.devices.Walks.{may_stand, IsNotWhole, HasNoHead}
 
 -- the machine isn't between two heads
@@ -36,20 +37,6 @@ amid_not (Failed ready p r) h = absurd h
 
 failed_not : (s : State) (at : ℕ) (r : WireReason) → HasFailed at r s → IsNotBetween s
 failed_not s at r (ready, e) = subst IsNotBetween (sym e) tt
-
--- one list is the front of another that begins with the same
-pub split : (g h z r : List ℕ) → g ++ z ≡ h ++ r → length g ≤ length h → (m : List ℕ) × (h ≡ g ++ m)
-split [] h z r e l = (h, refl)
-split (b ∷ g) [] z r e l = absurd (omega (arith, l))
-split (b ∷ g) (c ∷ h) z r e l =
-    let (m, is) = split g h z r (rest e) (omega (arith, l)) in
-    (m, ap (λ k. k ∷ h) (first e) ∙ ap (λ k. b ∷ k) is)
-  where
-    rest : {x y : List ℕ} → b ∷ x ≡ c ∷ y → x ≡ y
-    rest e = cc
-
-    first : {x y : List ℕ} → b ∷ x ≡ c ∷ y → c ≡ b
-    first e = cc
 
 -- the second byte tells only of a simple value
 same_first : (m : Major) (i : Info) (z : List ℕ) → is_one i ≡ false → head_reason element_or_end false m i z ≡ head_reason element_or_end false m i []

@@ -10,7 +10,7 @@ use Rattle.cborn_wire.specs.declared.heads.Head.{Head}
 use Rattle.cborn_wire.specs.declared.heads.HeadRead.{HeadRead}
 use Rattle.cborn_wire.specs.declared.heads.HeadRead.TheVariants.{Full, Short, Bad}
 use Rattle.cborn_wire.specs.HeadReading.{major_at, seen_argument, IsHeadOf, ReadsHead}
-use Rattle.cborn_wire.specs.Faults.{needs_item}
+use Rattle.cborn_wire.specs.SlotFaults.{needs_item}
 use Rattle.cborn_wire.specs.Slots.{StringKind, OfBytes, OfText, Slot, item, value, element_or_end, key_or_end, chunk, Begun, begun_items, begun_pairs, begun_value, begun_tag, begun_chunks}
 use Rattle.cborn_wire.specs.shared.InitialBytes.{Info, is_bad_chunk, is_break, is_container}
 use Rattle.cborn_wire.specs.shared.Machine.{nothing, gathering, State, Live, Failed, start, run, front}

@@ -18,7 +18,9 @@ use Rattle.cborn_wire.proofs.Machine.TakesItems.{append_trees-nil}
 use Rattle.cborn_wire.proofs.Spelled.OneReading.{reads, longest, ready_front}
 use Rattle.cborn_wire.proofs.Machine.SoundItems.{SoundLive, Sound}
 use Rattle.cborn_wire.proofs.Machine.SoundRuns.{sound}
-use Rattle.cborn_wire.proofs.Spelled.FaultLaws.{refused_fails, ends_read, well_or_fault}
+use Rattle.cborn_wire.proofs.Spelled.FaultLaws.{well_or_fault}
+use Rattle.cborn_wire.proofs.Spelled.GoingOn.{refused_ends}
+use Rattle.cborn_wire.proofs.Spelled.SlotLaws.{ends_read, live_goes}
 use Rattle.cborn_wire.proofs.Spelled.TreeLists.{spelled_all-append}
 
 -- Whole items stay, and more follow them.
@@ -105,10 +107,7 @@ module _ (limit base : ℕ) where
       empty no_item n is = sym is
       empty (more t ts) n is = cc
 
-      dead : {s : State} {ready : Trees} {p : ℕ} {r : WireReason} → s ≡ Failed ready p r → IsLive s → ⊥
-      dead f l = subst IsLive f l
-
       choose : IsWellformed limit x ⊎ ((p : ℕ) × (r : WireReason) × Fault limit x p r) → (x ≡ []) ⊎ Fault limit x (length x) Truncated
       choose (inl (ts, w)) = inl (empty ts (sym (ap ready_in (reads limit base ts x w)) ∙ e) w.spells)
-      choose (inr (p, r, inl h)) = absurd (dead (refused_fails limit base x p r h).1 live)
+      choose (inr (p, r, inl h)) = absurd (refused_ends limit x p r h (live_goes limit base x bytes live))
       choose (inr (p, r, inr h)) = inr (inr (refl, (refl, h.1.1, h.1.2)))

@@ -19,7 +19,9 @@ use Rattle.cborn_wire.proofs.Machine.WholeFront.{with_front}
 use Rattle.cborn_wire.proofs.Spelled.OneReading.{reads, after_first}
 use Rattle.cborn_wire.proofs.Machine.SoundItems.{SoundLive, Sound}
 use Rattle.cborn_wire.proofs.Machine.SoundRuns.{sound}
-use Rattle.cborn_wire.proofs.Spelled.FaultLaws.{refused_fails, fails_refused, ends_read, goes_on}
+use Rattle.cborn_wire.proofs.Spelled.FaultLaws.{fails_refused}
+use Rattle.cborn_wire.proofs.Spelled.GoingOn.{refused_ends}
+use Rattle.cborn_wire.proofs.Spelled.SlotLaws.{ends_read, goes_on, live_goes}
 use Rattle.cborn_wire.proofs.Machine.Reached.{reached_held, reached_more, reached_offset}
 use Rattle.cborn_wire.proofs.Feeding.Completing.{complete, ready_grows}
 use Rattle.cborn_wire.proofs.Spelled.TreeLists.{trees-append, trees-tree_list, tree_list, begins_list}
@@ -56,12 +58,11 @@ module _ (limit base : ℕ) where
   pub feeds_items_left : (s : State) (y : List ℕ) (items : List Tree) → IsReached limit base s → IsLive s → AreBytes y → ready_in (run limit s y) ≡ trees items → AreComplete limit base items (held s ++ y)
   feeds_items_left s y items h live are e = complete limit base items (held s ++ y) (feeds_bytes s y h live are) (ap ready_in (feeds s y h live) ∙ e)
 
-  -- Each fault but that of an end is answered.
-  pub refused_feeds : (s : State) (y : List ℕ) (p : ℕ) (r : WireReason) → IsReached limit base s → IsLive s → Refused limit (held s ++ y) p r
-      → (ready : Trees) × (run limit s y ≡ Failed ready (base + p) r)
-  refused_feeds s y p r h live fault =
-      let (ready, e) = refused_fails limit base (held s ++ y) p r fault in
-      (ready, sym (feeds s y h live) ∙ e)
+  -- Where a piece is taken nothing is refused.
+  pub feeds_free : (s : State) (y : List ℕ) (p : ℕ) (r : WireReason) → IsReached limit base s → IsLive s → AreBytes y → IsLive (run limit s y) → Refused limit (held s ++ y) p r → ⊥
+  feeds_free s y p r h live are lives fault =
+      let x = held s ++ y in
+      refused_ends limit x p r fault (live_goes limit base x (feeds_bytes s y h live are) (subst IsLive (sym (feeds s y h live)) lives))
 
   -- Where nothing is open what is held is the items to take.
   pub feeds_whole : (fed : ℕ) (ready : Trees) → IsReached limit base (Live fed ready [] nothing) → Wellformed limit ready (held (Live fed ready [] nothing)) × PlacedAll base ready
@@ -129,13 +130,8 @@ module _ (limit base at fed : ℕ) (items : List Tree) (os : List Begun) (part :
       let bytes : held s' ≡ held s ++ piece = ap held (sym e) ∙ feeds_more limit base s piece h tt are (subst IsLive (sym e) tt) in (
         rw bytes refl,
         (base, omega (arith, offset, ap length bytes, length-append (held s) piece), feeds_items limit base s' items' h' tt refl),
-        never s' e tt,
+        λ p r. feeds_free limit base s piece p r h tt are (subst IsLive (sym e) tt),
       )
-    where
-      never : (s' : State) → run limit (Live at (trees items) os part) piece ≡ s' → IsLive s' → (p : ℕ) (r : WireReason) → Refused limit (held (Live at (trees items) os part) ++ piece) p r → ⊥
-      never s' e live p r fault =
-          let f = refused_feeds limit base (Live at (trees items) os part) piece p r h tt fault in
-          subst IsLive (sym e ∙ f.1) live
 
   pub refuses : (piece : List ℕ) (g : Feeding) (q : ℕ) (r : WireReason) (fault : Option WireFault) → AreBytes piece
       → run limit (Live at (trees items) os part) piece ≡ Failed (trees g.items) q r → Refuses piece (told fault) g q r

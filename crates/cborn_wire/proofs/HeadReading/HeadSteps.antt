@@ -12,7 +12,7 @@ use Rattle.cborn_wire.specs.declared.faults.WireReason.TheVariants.{BadSimple, T
 use Rattle.cborn_wire.specs.declared.heads.Head.{Head}
 use Rattle.cborn_wire.specs.HeadReading.{major_at, seen_argument, reason_alone, IsHeadOf}
 use Rattle.cborn_wire.specs.Slots.{Slot, element_or_end, Begun, slot, open_depth}
-use Rattle.cborn_wire.specs.Faults.{begins_low}
+use Rattle.cborn_wire.specs.SlotFaults.{begins_low}
 use Rattle.cborn_wire.specs.shared.InitialBytes.{Info, info_at, is_break, is_other, is_one, is_container, head_reason}
 use Rattle.cborn_wire.specs.shared.Machine.{width_bytes, number, argument_of, nothing, gathering, Live, Failed, after_head, run}
 use Rattle.cborn_wire.proofs.HeadReading.InitialBytes.{same_alone}

@@ -3,8 +3,8 @@ use Rattle.std.proofs.Common.{◌≡◌, refl, ap, ◌∙◌, ℕ, zero, suc, �
 use Rattle.std.proofs.lemmas.Bool.{le-leb, lt-leb, ne_eqb, agree_below_at}
 use Rattle.cborn_model.specs.Heads.{code}
 use Rattle.cborn_wire.specs.Slots.{StringKind, OfBytes, OfText, major_of, Slot, item, value, element_or_end, key_or_end, chunk}
-use Rattle.cborn_wire.specs.Faults as numbers
-use Rattle.cborn_wire.specs.Faults.{reason_of, reason_at}
+use Rattle.cborn_wire.specs.SlotFaults as numbers
+use Rattle.cborn_wire.specs.SlotFaults.{reason_of, reason_at}
 use Rattle.cborn_wire.specs.HeadReading.{major_at, reason_alone}
 use Rattle.cborn_wire.specs.shared.InitialBytes.{Info, info_at, is_reserved, is_unended, is_always_bounded, is_other, is_container, is_of_kind, is_bad_chunk, is_float, is_one, head_reason, front_reason}
 

@@ -11,11 +11,11 @@ use Rattle.cborn_model.specs.Heads.{Argument, Given, Unbounded}
 use Rattle.cborn_model.specs.Tree.{Tree, Uint, Items, Pairs, Tagged, Simple, Trees, no_item, Entries, no_entry, count, count_entries}
 use Rattle.cborn_wire.specs.declared.faults.WireReason.{WireReason}
 use Rattle.cborn_wire.specs.declared.faults.WireReason.TheVariants.{BadSimple}
-use Rattle.cborn_wire.specs.Slots.{StringKind, OfBytes, OfText, Slot, Begun, begun_items, begun_pairs, begun_value, begun_tag, begun_chunks, slot, open_depth, IsNoChunk, AreBegun}
-use Rattle.cborn_wire.specs.Faults.{begins_low}
+use Rattle.cborn_wire.specs.Slots.{StringKind, OfBytes, OfText, Slot, item, value, element_or_end, key_or_end, chunk, Begun, begun_items, begun_pairs, begun_value, begun_tag, begun_chunks, slot, open_depth, IsNoChunk, AreBegun}
+use Rattle.cborn_wire.specs.SlotFaults.{begins_low}
 use Rattle.cborn_wire.specs.shared.InitialBytes.{Info, Now, Next, Reserved, Unended, info_at, is_other, is_one, head_reason, front_reason, info_for}
 use Rattle.cborn_wire.specs.HeadReading.{major_at}
-use Rattle.cborn_wire.specs.shared.Machine.{snoc, snoc_entry, width_bytes, number, argument_of, content_of, Partial, nothing, gathering, State, Live, Failed, items_tree, pairs_tree, string_tree, chunks_tree, finished, items_at, pairs_at, string_done, gather, begin_head, after_head, unless, step, run}
+use Rattle.cborn_wire.specs.shared.Machine.{snoc, snoc_entry, width_bytes, number, Goal, argument_of, content_of, Partial, nothing, gathering, State, Live, Failed, items_tree, pairs_tree, string_tree, chunks_tree, finished, items_at, pairs_at, string_done, gather, begin_head, after_head, unless, step, run}
 use Rattle.cborn_wire.proofs.Machine.Running.{failed_run}
 use Rattle.cborn_wire.proofs.Machine.TakesItems.{count-snoc, count_entries-snoc, items_open, pairs_open}
 use Rattle.cborn_wire.proofs.Machine.SoundItems.{SoundLive}
@@ -178,40 +178,57 @@ module _ (limit : ℕ) where
   closes_head Other Four n os fed p ready h c high = let e : true ≡ false = c.float in cc
   closes_head Other Eight n os fed p ready h c high = let e : true ≡ false = c.float in cc
 
-number_last : (w : Width) (g : List ℕ) → suc (length g) ≡ width_bytes w → 32 ≤ number w (g ++ 255 ∷ [])
-number_last Direct g l = absurd (omega arith)
-number_last One g l = omega (arith, get_or_at g 255 [] 0 0 (omega arith))
-number_last Two g l = omega (arith, get_or_at g 255 [] 0 1 (omega arith))
-number_last Four g l = omega (arith, get_or_at g 255 [] 0 3 (omega arith))
-number_last Eight g l = omega (arith, get_or_at g 255 [] 0 7 (omega arith))
+number_last : (w : Width) (g : List ℕ) (c : ℕ) → 32 ≤ c → suc (length g) ≡ width_bytes w → 32 ≤ number w (g ++ c ∷ [])
+number_last Direct g c high l = absurd (omega arith)
+number_last One g c high l = omega (arith, get_or_at g c [] 0 0 (omega arith))
+number_last Two g c high l = omega (arith, get_or_at g c [] 0 1 (omega arith))
+number_last Four g c high l = omega (arith, get_or_at g c [] 0 3 (omega arith))
+number_last Eight g c high l = omega (arith, get_or_at g c [] 0 7 (omega arith))
 
 module _ (limit : ℕ) where
-  closes_argument : (j : ℕ) (m : Major) (w : Width) (n : ℕ) (os : List Begun) (fed p : ℕ) (ready : Trees) (got : List ℕ) → AreBegun limit os → head_reason (slot os) (leb limit (open_depth os)) m (Next w) [] ≡ None
+  -- A byte that makes no simple value below 32 may be one of an argument.
+  takes_argument : (j : ℕ) (c : ℕ) (m : Major) (w : Width) (n : ℕ) (os : List Begun) (fed p : ℕ) (ready : Trees) (got : List ℕ) → 32 ≤ c → AreBegun limit os → head_reason (slot os) (leb limit (open_depth os)) m (Next w) [] ≡ None
       → n ≡ width_bytes w → length got + suc j ≡ n
-      → Closable limit (Live fed ready os (gathering p (argument_of m w) n got))
-  closes_argument zero m w n os fed p ready got h none all left =
-      let got' = got ++ 255 ∷ [] in
-      let l : length got' ≡ suc (length got) = omega (arith, length-append got (255 ∷ [])) in
+      → Closable limit (step limit (Live fed ready os (gathering p (argument_of m w) n got)) c)
+  takes_argument zero c m w n os fed p ready got high h none all left =
+      let got' = got ++ c ∷ [] in
+      let l : length got' ≡ suc (length got) = omega (arith, length-append got (c ∷ [])) in
       let broad = wide w (omega arith) in
-      after_byte limit 255 (Live fed ready os (gathering p (argument_of m w) n got)) (omega arith)
-      (subst (λ c. Closable limit (cond c (after_head (suc fed) p ready os m (Given w (number w got'))) (Live (suc fed) ready os (gathering p (argument_of m w) n got'))))
+      subst (λ b. Closable limit (cond b (after_head (suc fed) p ready os m (Given w (number w got'))) (Live (suc fed) ready os (gathering p (argument_of m w) n got'))))
       (sym (le-leb n (length got') (omega arith)))
       (closes_head limit m w (number w got') os (suc fed) p ready h
       (subst (Clear (slot os) (leb limit (open_depth os)) m) (sym (wide_info w (number w got') broad)) (is_clear (slot os) (leb limit (open_depth os)) m (Next w) [] none))
-      (number_last w got (omega arith))))
-  closes_argument (suc j) m w n os fed p ready got h none all left =
-      let got' = got ++ 255 ∷ [] in
-      let l : length got' ≡ suc (length got) = omega (arith, length-append got (255 ∷ [])) in
-      after_byte limit 255 (Live fed ready os (gathering p (argument_of m w) n got)) (omega arith)
-      (subst (λ c. Closable limit (cond c (after_head (suc fed) p ready os m (Given w (number w got'))) (Live (suc fed) ready os (gathering p (argument_of m w) n got'))))
+      (number_last w got c high (omega arith)))
+  takes_argument (suc j) c m w n os fed p ready got high h none all left =
+      let got' = got ++ c ∷ [] in
+      let l : length got' ≡ suc (length got) = omega (arith, length-append got (c ∷ [])) in
+      subst (λ b. Closable limit (cond b (after_head (suc fed) p ready os m (Given w (number w got'))) (Live (suc fed) ready os (gathering p (argument_of m w) n got'))))
       (sym (lt-leb n (length got') (omega arith)))
-      (closes_argument j m w n os (suc fed) p ready got' h none all (omega arith)))
+      (after_byte limit 255 (Live (suc fed) ready os (gathering p (argument_of m w) n got')) (omega arith)
+      (takes_argument j 255 m w n os (suc fed) p ready got' (omega arith) h none all (omega arith)))
+
+  -- so any such byte may follow where an argument or a string has begun
+  pub takes_part : (base : ℕ) (x : List ℕ) (fed : ℕ) (ready : Trees) (os : List Begun) (p : ℕ) (g : Goal) (n : ℕ) (got : List ℕ) (c : ℕ) → 32 ≤ c → SoundLive limit base x fed ready os (gathering p g n got)
+      → Closable limit (step limit (Live fed ready os (gathering p g n got)) c)
+  takes_part base x fed ready os p (argument_of m w) n got c high h =
+      takes_argument (n - suc (length got)) c m w n os fed p ready got high h.ground.begun h.part_fits.3 h.part_fits.1 (omega (arith, h.part_fits.2))
+  takes_part base x fed ready os p (content_of k w) n got c high h = closes_content limit n os (suc fed) p ready k w n (got ++ c ∷ []) h.ground.begun (omega arith)
 
   -- Each state that lives can come to an end of whole items.
   pub closes : (base : ℕ) (x : List ℕ) (fed : ℕ) (ready : Trees) (os : List Begun) (part : Partial) → SoundLive limit base x fed ready os part → Closable limit (Live fed ready os part)
   closes base x fed ready os nothing h = closes_open limit os fed ready h.ground.begun
-  closes base x fed ready os (gathering p (argument_of m w) n got) h =
-      closes_argument (n - suc (length got)) m w n os fed p ready got h.ground.begun h.part_fits.3 h.part_fits.1 (omega (arith, h.part_fits.2))
-  closes base x fed ready os (gathering p (content_of k w) n got) h =
-      subst (λ c. Closable limit (cond c (string_done fed p ready os k w got) (Live fed ready os (gathering p (content_of k w) n got)))) (lt-leb n (length got) h.part_fits.2)
-      (closes_content limit n os fed p ready k w n got h.ground.begun (omega arith))
+  closes base x fed ready os (gathering p g n got) h =
+      after_byte limit 255 (Live fed ready os (gathering p g n got)) (omega arith) (takes_part base x fed ready os p g n got 255 (omega arith) h)
+
+  none_there : (s : Slot) (full : Bool) → IsNoChunk s → head_reason s full Unsigned (Now 0) [] ≡ None
+  none_there item full free = refl
+  none_there value full free = refl
+  none_there element_or_end full free = refl
+  none_there key_or_end full free = refl
+  none_there (chunk k) full free = absurd free
+
+  -- An integer may stand wherever no chunk has to.
+  pub takes_integer : (fed : ℕ) (ready : Trees) (os : List Begun) → AreBegun limit os → IsNoChunk (slot os) → Closable limit (step limit (Live fed ready os nothing) 0)
+  takes_integer fed ready os h free =
+      subst (λ o. Closable limit (unless o ready fed (finished (suc fed) ready os (Uint fed Direct 0)))) (sym (none_there (slot os) (leb limit (open_depth os)) free))
+      (closes_finished limit os (suc fed) ready (Uint fed Direct 0) h free)

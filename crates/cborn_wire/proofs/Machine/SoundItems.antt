@@ -12,9 +12,9 @@ use Rattle.cborn_model.specs.Tree.{Tree, Items, Pairs, Tagged, Trees, no_item, m
 use Rattle.cborn_model.specs.Spelled.{chunk_bytes, spelled, spelled_all, spelled_entries, ChunksFit, Fits, FitsAll, FitsEntries}
 use Rattle.cborn_model.specs.Placed.{ChunksPlaced, Placed, PlacedAll, PlacedEntries}
 use Rattle.cborn_wire.specs.declared.faults.WireReason.{WireReason}
-use Rattle.cborn_wire.specs.Slots.{major_of, Begun, begun_items, begun_pairs, begun_value, begun_tag, begun_chunks, beginnings, slot, open_depth, HasRoom, IsNoChunk, MayBegin, AreBegun}
+use Rattle.cborn_wire.specs.Slots.{major_of, Begun, begun_items, begun_pairs, begun_value, begun_tag, begun_chunks, beginnings, slot, open_depth, HasRoom, IsNoChunk, MayBegin}
 use Rattle.cborn_wire.specs.shared.InitialBytes.{Next, is_bad_chunk, head_reason, front_reason, info_for}
-use Rattle.cborn_wire.specs.shared.Ground.{BegunPlaced, OpenPlaced, Ground}
+use Rattle.cborn_wire.specs.shared.Ground.{BegunPlaced, Ground}
 use Rattle.cborn_wire.specs.shared.Machine.{front, part_bytes, snoc, snoc_entry, width_bytes, argument_of, content_of, Partial, nothing, gathering, State, Live, Failed, finished, items_at, pairs_at}
 use Rattle.cborn_wire.specs.HeadReading.{ArgumentFits}
 use Rattle.cborn_wire.proofs.Machine.TakesItems.{UpTo, count-snoc, count_entries-snoc}

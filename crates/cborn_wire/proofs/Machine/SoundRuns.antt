@@ -14,7 +14,7 @@ pub use Rattle.cborn_model.proofs.Numbers.Majors.{code_at}
 use Rattle.cborn_wire.specs.declared.faults.WireReason.{WireReason}
 use Rattle.cborn_wire.specs.declared.faults.WireReason.TheVariants.{BadSimple, TooDeep}
 use Rattle.cborn_wire.specs.Slots.{major_of, Slot, Begun, slot, open_depth}
-use Rattle.cborn_wire.specs.Faults.{needs_item, begins_low}
+use Rattle.cborn_wire.specs.SlotFaults.{needs_item, begins_low}
 use Rattle.cborn_wire.specs.shared.InitialBytes.{Info, Now, Next, Reserved, Unended, info_at, is_bad_chunk, head_reason, front_reason, is_reserved, is_unended, is_always_bounded, is_break, is_other, is_float, is_one, is_container, info_for}
 use Rattle.cborn_wire.specs.HeadReading.{major_at}
 use Rattle.cborn_wire.specs.shared.Machine.{start, width_bytes, number, argument_of, content_of, nothing, gathering, State, Live, Failed, gather, begin_head, after_head, at_slot, unless, step, run, front}

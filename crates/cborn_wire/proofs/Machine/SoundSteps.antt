@@ -17,7 +17,7 @@ use Rattle.cborn_model.proofs.Numbers.Simples.{simple_value, least_direct, least
 use Rattle.cborn_wire.specs.declared.faults.WireReason.{WireReason}
 use Rattle.cborn_wire.specs.declared.faults.WireReason.TheVariants.{BadSimple}
 use Rattle.cborn_wire.specs.Slots.{StringKind, OfBytes, OfText, major_of, Slot, item, value, element_or_end, key_or_end, chunk, Begun, begun_items, begun_pairs, begun_value, begun_tag, begun_chunks, beginnings, slot, open_depth, IsNoChunk, AreBegun}
-use Rattle.cborn_wire.specs.Faults.{needs_item, begins_low}
+use Rattle.cborn_wire.specs.SlotFaults.{needs_item, begins_low}
 use Rattle.cborn_wire.specs.shared.InitialBytes.{Info, Now, Next, Unended, is_reserved, is_unended, is_always_bounded, is_other, is_container, is_of_kind, is_break, is_bad_chunk, is_float, is_one, head_reason, info_for}
 use Rattle.cborn_wire.specs.shared.Machine.{content_of, nothing, gathering, Live, Failed, string_tree, chunks_tree, finished, string_done, ended, gather, after_head, front}
 use Rattle.cborn_wire.specs.HeadReading.{ArgumentFits}

@@ -11,7 +11,7 @@ use Rattle.cborn_model.specs.Tree.{Tree, Items, Pairs, Tagged, Trees, count, cou
 use Rattle.cborn_wire.specs.declared.levels.Level.{Level}
 use Rattle.cborn_wire.specs.declared.levels.Level.TheVariants.{Array, Map}
 use Rattle.cborn_wire.specs.Slots.{StringKind, OfBytes, OfText, Slot, item, value, element_or_end, key_or_end, chunk, Begun, begun_items, begun_pairs, begun_value, begun_tag, begun_chunks, slot, slot_in, open_depth, IsNoChunk, AreBegun}
-use Rattle.cborn_wire.specs.Faults.{needs_item}
+use Rattle.cborn_wire.specs.SlotFaults.{needs_item}
 use Rattle.cborn_wire.specs.shared.InitialBytes.{Info, head_reason}
 use Rattle.cborn_wire.specs.shared.Machine.{snoc, snoc_entry, State, items_tree, pairs_tree, string_tree, chunks_tree, finished, string_done, ended}
 use Rattle.cborn_wire.specs.shared.Scanning.{or_around, finish, leave, slot_of, slot_at, level_of, levels_of, IsScanned}

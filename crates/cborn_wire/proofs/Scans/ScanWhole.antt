@@ -18,7 +18,8 @@ use Rattle.cborn_wire.proofs.Machine.Running.{run-append}
 use Rattle.cborn_wire.proofs.Spelled.AllBytes.{bytes-left}
 use Rattle.cborn_wire.proofs.Machine.SoundItems.{SoundLive, Sound}
 use Rattle.cborn_wire.proofs.Machine.SoundRuns.{sound}
-use Rattle.cborn_wire.proofs.Spelled.FaultLaws.{fails_refused, ends_read}
+use Rattle.cborn_wire.proofs.Spelled.FaultLaws.{fails_refused}
+use Rattle.cborn_wire.proofs.Spelled.SlotLaws.{ends_read}
 use Rattle.cborn_wire.proofs.Feeding.FeederLaws.{feeds_cut}
 use Rattle.cborn_wire.proofs.Machine.Reached.{reached_begun}
 

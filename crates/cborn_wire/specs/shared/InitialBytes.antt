@@ -1,4 +1,4 @@
--- A device of the proofs: the table of faults once more, by the major type and the information as data. No definition and no public contract cites it. That it says what the table of `Faults` says is proved in proofs/HeadReading/InitialBytes.antt.
+-- A device of the proofs: the table of faults once more, by the major type and the information as data. No definition and no public contract cites it. That it says what the table of `SlotFaults` says is proved in proofs/HeadReading/InitialBytes.antt.
 use Rattle.std.specs.Prelude.{ℕ, ◌/◌, ◌%◌, List, [], ◌∷◌, Bool, true, false, ◌&&◌, ◌||◌, not, if◌then◌else◌, nat_lt, nat_le, ◌==◌, Option, Some, None}
 use Rattle.cborn_model.specs.declared.heads.Width.{Width}
 use Rattle.cborn_model.specs.declared.heads.Width.TheVariants.{Direct, One, Two, Four, Eight}
@@ -8,7 +8,7 @@ use Rattle.cborn_model.specs.Heads.{Argument, Given, Unbounded}
 use Rattle.cborn_wire.specs.declared.faults.WireReason.{WireReason}
 use Rattle.cborn_wire.specs.declared.faults.WireReason.TheVariants.{ReservedInfo, EndlessNotAllowed, BadChunk, UnexpectedBreak, FloatLeftOut, BadSimple, TooDeep}
 use Rattle.cborn_wire.specs.Slots.{StringKind, OfBytes, OfText, Slot, item, value, element_or_end, key_or_end, chunk}
-use Rattle.cborn_wire.specs.Faults.{needs_item, begins_low}
+use Rattle.cborn_wire.specs.SlotFaults.{needs_item, begins_low}
 use Rattle.cborn_wire.specs.HeadReading.{major_at}
 
 -- What the information says: the argument itself, the width of the argument that follows, nothing (28 to 30), or that the length is indefinite (31).

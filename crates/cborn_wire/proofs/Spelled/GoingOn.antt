@@ -1,0 +1,134 @@
+-- Which bytes go on: what the machine is at where a head begins, and which heads may stand there.
+use Rattle.std.proofs.Common.{◌≡◌, refl, sym, ap, ◌∙◌, subst, ℕ, suc, ◌+◌, ◌/◌, ◌%◌, ◌<◌, List, [], ◌∷◌, ◌++◌, length, take, drop, Bool, true, false, cond, leb, eqb, Option, Some, None, inl, inr, arith, append_assoc, append-nil}
+use Rattle.std.proofs.lemmas.Bool.{eqb-true}
+use Rattle.std.proofs.lemmas.List.{take-append-drop}
+use Rattle.cborn_model.specs.Bytes.{AreBytes}
+use Rattle.cborn_model.specs.Tree.{Trees}
+use Rattle.cborn_model.specs.declared.heads.Width.TheVariants.{One}
+use Rattle.cborn_model.specs.declared.heads.Major.TheVariants.{Other}
+use Rattle.cborn_wire.specs.declared.faults.WireReason.{WireReason}
+use Rattle.cborn_wire.specs.Slots.{StringKind, OfBytes, OfText, Slot, item, value, element_or_end, key_or_end, chunk, Begun, slot, open_depth, IsNoChunk, Open}
+use Rattle.cborn_wire.specs.Faults.{IsWellformed, GoesOn, BeginsHead, judged, IsReason, Refused}
+use Rattle.cborn_wire.specs.SlotFaults.{reason_at, SlotRefused}
+use Rattle.cborn_wire.specs.shared.InitialBytes.{Next, head_reason}
+use Rattle.cborn_wire.specs.shared.Machine.{argument_of, nothing, gathering, State, Live, Failed, step, start, run, unless}
+use Rattle.cborn_wire.proofs.Machine.Running.{run-append}
+use Rattle.cborn_wire.proofs.Machine.SomeEnd.{Closable, takes_part, takes_integer}
+use Rattle.cborn_wire.proofs.Machine.SoundItems.{SoundLive, Sound}
+use Rattle.cborn_wire.proofs.Machine.SoundRuns.{sound}
+use Rattle.cborn_wire.proofs.Spelled.AllBytes.{bytes-append, bytes-left, bytes-right, well_bytes}
+use Rattle.cborn_wire.proofs.Spelled.ByteLists.{later}
+use Rattle.cborn_wire.proofs.Spelled.Reasons.{table_reason, judged_reason}
+use Rattle.cborn_wire.proofs.Spelled.SlotLaws.{At, opened, closable_goes, goes_on, fails_ends, slot_ends}
+
+module _ (limit : ℕ) where
+  -- what goes on is bytes, and each front of it goes on
+  pub goes_bytes : (f : List ℕ) → GoesOn limit f → AreBytes f
+  goes_bytes f (y, (ts, w)) = bytes-left f y (well_bytes limit ts (f ++ y) w)
+
+  pub goes_front : (f g : List ℕ) → GoesOn limit (f ++ g) → GoesOn limit f
+  goes_front f g (y, w) = (g ++ y, subst (IsWellformed limit) (append_assoc f g y) w)
+
+  pub well_goes : (x : List ℕ) → IsWellformed limit x → GoesOn limit x
+  well_goes x w = ([], subst (IsWellformed limit) (sym (append-nil x)) w)
+
+  -- a byte behind a front that the machine may take goes on
+  byte_goes : (f : List ℕ) (c : ℕ) (s : State) → AreBytes f → c < 256 → run limit (start 0) f ≡ s → Closable limit (step limit s c) → GoesOn limit (f ++ c ∷ [])
+  byte_goes f c s bytes byte e h =
+      closable_goes limit 0 (f ++ c ∷ []) (bytes-append f (c ∷ []) bytes (byte, tt))
+      (subst (Closable limit) (sym (run-append limit (start 0) f (c ∷ []) ∙ ap (λ s. run limit s (c ∷ [])) e)) h)
+
+  -- Where a head begins the machine is between heads.
+  pub record Between (f : List ℕ) : Type 0 where
+    pub fed : ℕ
+    pub ready : Trees
+    pub os : List Begun
+    pub is : run limit (start 0) f ≡ Live fed ready os nothing
+
+  pub begins_between : (f : List ℕ) → BeginsHead limit f → Between f
+  begins_between f (goes, free) = go (run limit (start 0) f) refl
+    where
+      bytes : AreBytes f
+      bytes = goes_bytes f goes
+
+      go : (s : State) → run limit (start 0) f ≡ s → Between f
+      go (Live fed ready os nothing) e = record { fed = fed; ready = ready; os = os; is = e }
+      go (Live fed ready os (gathering p g n got)) e =
+          let h : SoundLive limit 0 f fed ready os (gathering p g n got) = subst (Sound limit 0 f) e (sound limit 0 f bytes) in
+          absurd (free (byte_goes f 0xfc (Live fed ready os (gathering p g n got)) bytes (omega arith) e (takes_part limit 0 f fed ready os p g n got 0xfc (omega arith) h)))
+      go (Failed ready p r) e = absurd (fails_ends limit 0 f p r ready e goes)
+
+  -- behind the first byte of a simple value of two bytes it isn't
+  amid_simple : (f : List ℕ) → Between f → Between (f ++ 0xf8 ∷ []) → ⊥
+  amid_simple f a b =
+      go (head_reason (slot a.os) (leb limit (open_depth a.os)) Other (Next One) [])
+      (sym (run-append limit (start 0) f (0xf8 ∷ []) ∙ ap (λ s. run limit s (0xf8 ∷ [])) a.is) ∙ b.is)
+    where
+      go : (o : Option WireReason) → unless o a.ready a.fed (Live (suc a.fed) a.ready a.os (gathering a.fed (argument_of Other One) 1 [])) ≡ Live b.fed b.ready b.os nothing → ⊥
+      go None e = cc
+      go (Some r) e = cc
+
+  judged_front : (b : ℕ) (y : List ℕ) → (z : List ℕ) × (b ∷ y ≡ judged b y ++ z)
+  judged_front b y = go (eqb b 0xf8)
+    where
+      go : (c : Bool) → (z : List ℕ) × (b ∷ y ≡ (b ∷ cond c (take 1 y) []) ++ z)
+      go true = (drop 1 y, ap (λ l. b ∷ l) (sym (take-append-drop 1 y)))
+      go false = (y, refl)
+
+  -- what is refused has no end
+  pub refused_ends : (x : List ℕ) (p : ℕ) (r : WireReason) → Refused limit x p r → GoesOn limit x → ⊥
+  refused_ends x p r (f, b, y, is, at, begins, bad, why) goes =
+      let (z, e) = judged_front b y in
+      bad (goes_front (f ++ judged b y) z (subst (GoesOn limit) (is ∙ ap (λ l. f ++ l) e ∙ sym (append_assoc f (judged b y) z)) goes))
+
+  -- Behind a head that is refused no further one begins.
+  pub none_later : (x f g y z : List ℕ) (b c : ℕ) → x ≡ f ++ b ∷ y → x ≡ g ++ c ∷ z → BeginsHead limit f → (GoesOn limit (f ++ judged b y) → ⊥) → BeginsHead limit g → length f < length g → ⊥
+  none_later x f g y z b c e h begins bad after l =
+      let (w, front, rest) = later x f g y z b c e h l in
+      go w front rest (eqb b 0xf8) refl bad
+    where
+      go : (w : List ℕ) → g ≡ f ++ b ∷ w → y ≡ w ++ c ∷ z → (d : Bool) → eqb b 0xf8 ≡ d → (GoesOn limit (f ++ b ∷ cond d (take 1 y) []) → ⊥) → ⊥
+      go w front rest false k bad = bad (goes_front (f ++ b ∷ []) w (subst (GoesOn limit) (front ∙ sym (append_assoc f (b ∷ []) w)) after.0))
+      go [] front rest true k bad =
+          amid_simple f (begins_between f begins) (subst Between (front ∙ ap (λ b. f ++ b ∷ []) (eqb-true b 0xf8 k)) (begins_between g after))
+      go (d ∷ w) front rest true k bad =
+          let two : take 1 y ≡ d ∷ [] = ap (take 1) rest in
+          bad (subst (λ l. GoesOn limit (f ++ b ∷ l)) (sym two) (goes_front (f ++ b ∷ d ∷ []) w (subst (GoesOn limit) (front ∙ sym (append_assoc f (b ∷ d ∷ []) w)) after.0)))
+
+  -- What the table refuses may not stand behind its front.
+  stands_not : (f y : List ℕ) (s : Slot) (k : ℕ) (r : WireReason) → Open limit f s k → reason_at limit s k y ≡ Some r → GoesOn limit (f ++ y) → ⊥
+  stands_not f y s k r opens reason = slot_ends limit (f ++ y) (length f) r (f, y, s, k, refl, refl, opens, reason)
+
+  no_integer : (f : List ℕ) (kind : StringKind) (k : ℕ) → Open limit f (chunk kind) k → GoesOn limit (f ++ 0 ∷ []) → ⊥
+  no_integer f OfBytes k opens = stands_not f (0 ∷ []) (chunk OfBytes) k _ opens refl
+  no_integer f OfText k opens = stands_not f (0 ∷ []) (chunk OfText) k _ opens refl
+
+  some_integer : (f : List ℕ) (s : Slot) (k : ℕ) → AreBytes f → Open limit f s k → IsNoChunk s → GoesOn limit (f ++ 0 ∷ [])
+  some_integer f s k bytes opens free =
+      let a : At limit 0 f s k = opened limit 0 f s k opens in
+      let h : SoundLive limit 0 f (0 + length f) a.ready a.os nothing = subst (Sound limit 0 f) a.is (sound limit 0 f bytes) in
+      byte_goes f 0 (Live (0 + length f) a.ready a.os nothing) bytes (omega arith) a.is (takes_integer limit (0 + length f) a.ready a.os h.ground.begun (subst IsNoChunk (sym a.slot_is) free))
+
+  reason_there : (f : List ℕ) (s : Slot) (k b : ℕ) (y : List ℕ) (r : WireReason) → AreBytes f → Open limit f s k → reason_at limit s k (b ∷ y) ≡ Some r → IsReason limit f b r
+  reason_there f item k b y r bytes opens e = inl (some_integer f item k bytes opens tt, table_reason item (leb limit k) (b / 32) (b % 32) y r e)
+  reason_there f value k b y r bytes opens e = inl (some_integer f value k bytes opens tt, table_reason value (leb limit k) (b / 32) (b % 32) y r e)
+  reason_there f element_or_end k b y r bytes opens e = inl (some_integer f element_or_end k bytes opens tt, table_reason element_or_end (leb limit k) (b / 32) (b % 32) y r e)
+  reason_there f key_or_end k b y r bytes opens e = inl (some_integer f key_or_end k bytes opens tt, table_reason key_or_end (leb limit k) (b / 32) (b % 32) y r e)
+  reason_there f (chunk kind) k b y r bytes opens e = inr (no_integer f kind k opens, table_reason (chunk kind) (leb limit k) (b / 32) (b % 32) y r e)
+
+  -- What the table refuses is refused.
+  pub refused_said : (x : List ℕ) (p : ℕ) (r : WireReason) → AreBytes x → SlotRefused limit x p r → Refused limit x p r
+  refused_said x p r bytes (f, [], s, k, is, at, opens, reason) = cc
+  refused_said x p r bytes (f, b ∷ y, s, k, is, at, opens, reason) =
+      let all : AreBytes (f ++ b ∷ y) = subst AreBytes is bytes in
+      let here : AreBytes f = bytes-left f (b ∷ y) all in
+      let a : At limit 0 f s k = opened limit 0 f s k opens in (
+        f,
+        b,
+        y,
+        is,
+        at,
+        (goes_on limit 0 f here (0 + length f) a.ready a.os nothing a.is, stands_not f (0xfc ∷ []) s k _ opens refl),
+        stands_not f (judged b y) s k r opens (judged_reason limit s k b y (bytes-right f (b ∷ y) all).0 ∙ reason),
+        reason_there f s k b y r here opens reason,
+      )
