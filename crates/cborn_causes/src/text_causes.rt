@@ -256,15 +256,15 @@ impl Refused<'_> {
 
     /// Writes what may stand behind the last token.
     fn push_allowed(&self, out: &mut String, walk: &TextWalk) -> Result<(), AllocError> {
-        if walk.before == Before::Piece {
+        if matches!(walk.before, Before::Piece) {
             out.push_str("a further piece of the string, or ")?;
         }
         let is_behind = matches!(walk.before, Before::Piece | Before::Item);
-        let may_end = walk.before == Before::Opening
-            || walk.before == Before::Separator && self.profile == Profile::Two;
+        let may_end = matches!(walk.before, Before::Opening)
+            || matches!(walk.before, Before::Separator) && self.profile == Profile::Two;
         let words = match walk.open.last() {
             None if is_behind => "a comma, or the end",
-            None if walk.before == Before::Opening => "an item, or the end",
+            None if matches!(walk.before, Before::Opening) => "an item, or the end",
             None => "an item",
             Some(open) => match open.bracket {
                 Bracket::Array if is_behind => "a comma or ]",

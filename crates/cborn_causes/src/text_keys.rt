@@ -59,7 +59,7 @@ pub(crate) fn key_at(
     'tokens: for _ in 0..front.len() {
         stop = walk.stop;
         if !walk.take_next(alloc, profile, front, front.len())?
-            || walk.before == Before::Separator && walk.open.is_empty()
+            || matches!(walk.before, Before::Separator) && walk.open.is_empty()
         {
             break;
         }

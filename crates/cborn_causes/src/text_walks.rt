@@ -12,7 +12,7 @@ use std::alloc::{AllocError, Global};
 const MOST_OPEN: usize = 1026;
 
 /// What a bracket opens.
-#[derive(Clone, Copy, PartialEq, Eq)]
+#[derive(Clone, Copy)]
 pub enum Bracket {
     Array,
     Map,
@@ -59,12 +59,12 @@ impl OpenBracket {
 
     /// A map, in which a key stands next or has just been read.
     pub(crate) fn is_at_key(&self) -> bool {
-        self.bracket == Bracket::Map && self.parts % 2 == 0
+        matches!(self.bracket, Bracket::Map) && self.parts % 2 == 0
     }
 }
 
 /// What the last token was.
-#[derive(Clone, Copy, PartialEq, Eq)]
+#[derive(Clone, Copy)]
 pub enum Before {
     /// None, or a bracket that opens.
     Opening,
@@ -226,9 +226,9 @@ impl TextWalk {
     pub(crate) fn key_before_colon(&self) -> Option<(usize, usize)> {
         match self.open.as_slice() {
             [open]
-                if open.bracket == Bracket::Map
+                if matches!(open.bracket, Bracket::Map)
                     && open.parts % 2 == 1
-                    && self.before == Before::Separator => { Some(open.key) }
+                    && matches!(self.before, Before::Separator) => { Some(open.key) }
             _ => None,
         }
     }

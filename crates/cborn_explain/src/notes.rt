@@ -8,7 +8,7 @@ use cborn_causes::{
 };
 use cborn_lex::Profile;
 use cborn_model::Limit;
-use cborn_paths::{Step, Walk, place_in, walk_to_place};
+use cborn_paths::{Step, Walk, walk_to_place};
 use std::alloc::{AllocError, Global};
 
 /// How many characters of a key of a text are written.
@@ -73,6 +73,11 @@ pub fn explain_text(
     refused.push_cause(alloc, &mut out, &walk, reason)?;
     out.push('\n')?;
     Ok(out)
+}
+
+/// An offset as an index, at most the length.
+fn place_in(bytes: &[u8], place: u64) -> usize {
+    place.min(bytes.len() as u64) as usize
 }
 
 /// Writes the path to where a walk has come.

@@ -1,4 +1,4 @@
 pub mod Levels
 pub mod Paths
-pub mod WholeHeads
 pub mod devices
+pub mod shared

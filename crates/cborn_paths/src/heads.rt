@@ -6,7 +6,7 @@ ghost use Rattle.cborn_wire.specs.HeadReading.{major_at, seen_argument};
 ghost use Rattle.cborn_wire.specs.shared.InitialBytes.{is_unended, is_of_kind, is_break, is_container, is_bad_chunk, info_for};
 ghost use Rattle.cborn_wire.specs.shared.Scanning.{content_of};
 ghost use Rattle.cborn_wire.specs.Faults.{needs_item};
-ghost use Rattle.cborn_paths.specs.WholeHeads.{IsWholeHead, HasNoHead};
+ghost use Rattle.cborn_paths.specs.shared.WholeHeads.{IsWholeHead, HasNoHead};
 ghost use Rattle.cborn_paths.specs.devices.Walks.{slot_of, may_stand};
 
 use crate::nestings::Nesting;

@@ -8,7 +8,7 @@
 //! than its path.
 //!
 //! `heads` has the heads as a walk meets them, with the bytes of their strings
-//! (`specs/WholeHeads.antt`). `specs/devices/Walks.antt` is a device of the proofs.
+//! (`specs/shared/WholeHeads.antt`). `specs/devices/Walks.antt` is a device of the proofs.
 #![tactic(auto)]
 
 mod differences;
@@ -22,5 +22,5 @@ pub use differences::{Difference, find_difference, walk_to_difference};
 pub use heads::{content_len, whole_head};
 pub use nestings::Nesting;
 pub use paths::{Path, Step};
-pub use places::{path_to, place_in, walk_to_place};
+pub use places::{path_to, walk_to_place};
 pub use walks::{Level, Open, Walk, behind};

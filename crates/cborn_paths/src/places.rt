@@ -37,7 +37,7 @@ pub fn walk_to_place(alloc: Global, bytes: &[u8], place: u64) -> Result<Walk, Al
 }
 
 /// An offset as an index, at most the length.
-pub fn place_in(bytes: &[u8], place: u64) -> usize
+fn place_in(bytes: &[u8], place: u64) -> usize
     ensures within { result ≤ length bytes.now }
     ensures place { (result ≡ place) ⊎ ((result ≡ length bytes.now) × (length bytes.now ≤ place)) }
 {

@@ -22,7 +22,7 @@ use Rattle.cborn_wire.proofs.Machine.Pieces.{major_of_head, info_of_head}
 use Rattle.cborn_wire.proofs.Machine.SoundSteps.{is_clear}
 use Rattle.cborn_wire.proofs.Scans.ScanItems.{reason_levels, slot_levels}
 use Rattle.cborn_wire.proofs.Scans.ScanSteps.{reason_here, step_refused, step_bad, step_cut, step_short}
-use Rattle.cborn_paths.specs.WholeHeads.{IsNotWhole, HasNoHead}
+use Rattle.cborn_paths.specs.shared.WholeHeads.{IsNotWhole, HasNoHead}
 use Rattle.cborn_paths.specs.devices.Walks.{may_stand}
 
 -- the machine isn't between two heads

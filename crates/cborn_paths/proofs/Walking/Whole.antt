@@ -29,7 +29,7 @@ use Rattle.cborn_paths.specs.declared.paths.Step.{Step}
 use Rattle.cborn_paths.specs.declared.walks.Level.{Level}
 use Rattle.cborn_paths.specs.Paths.{EndsAt, LeadsTo}
 use Rattle.cborn_paths.specs.Levels.{path_of}
-use Rattle.cborn_paths.specs.WholeHeads.{IsWholeHead, HasNoHead}
+use Rattle.cborn_paths.specs.shared.WholeHeads.{IsWholeHead, HasNoHead}
 use Rattle.cborn_paths.specs.devices.Walks.{slot_of, may_stand, take_head, nesting_at, open_count, levels_of, IsBetween, IsOpened, AreCounted}
 use Rattle.cborn_paths.proofs.Walking.Items.{levels_length, slot_is, path_is, counted}
 use Rattle.cborn_paths.proofs.Walking.Heads.{HasNotFailed, head_taken}

@@ -1,4 +1,4 @@
--- Heads that are there with the bytes of their strings (RFC 8949 section 3).
+-- A device of the proofs: heads that are there with the bytes of their strings. No definition cites it.
 use Rattle.std.specs.Prelude.{◌≡◌, ℕ, ◌+◌, ◌<◌, ◌≤◌, List, length}
 use Rattle.cborn_wire.specs.declared.heads.Head.{Head}
 use Rattle.cborn_wire.specs.declared.heads.HeadRead.{HeadRead}
