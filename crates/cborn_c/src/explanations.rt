@@ -1,7 +1,7 @@
 //! What is said of a fault or a defect, which is what the program says of it.
 ghost use Rattle.std.specs.Prelude.{◌≡◌, ◌≢◌, ◌<◌, ◌⊎◌, IfSome, IfNone};
-ghost use Rattle.cborn_explain.specs.declared.reasons.BytesReason.{BytesReason};
-ghost use Rattle.cborn_explain.specs.declared.reasons.TextReason.{TextReason};
+ghost use Rattle.cborn_causes.specs.declared.reasons.BytesReason.{BytesReason};
+ghost use Rattle.cborn_causes.specs.declared.reasons.TextReason.{TextReason};
 ghost use Rattle.cborn_c.specs.Calls.{IsExplained, TextTold};
 ghost use Rattle.cborn_c.specs.Numbers.{TellsOfBytes, text_number};
 

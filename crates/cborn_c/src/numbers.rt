@@ -25,7 +25,7 @@ pub const DIFFERENT: u32 = 5;
 pub const OF_SECOND: u32 = 0x10000;
 
 /// How the keys of maps rise (RFC 8949 sections 4.2.1 and 4.2.3).
-#[derive(Clone, Copy, PartialEq, Eq, Debug)]
+#[derive(Clone, Copy)]
 pub enum KeyOrdering {
     Bytewise,
     LengthFirst,

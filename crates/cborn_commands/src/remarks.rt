@@ -12,7 +12,7 @@ use cborn_model::{KeyOrder, Limit};
 use std::alloc::{AllocError, Global};
 
 /// Who reads standard error.
-#[derive(Clone, Copy, PartialEq, Eq)]
+#[derive(Clone, Copy)]
 pub enum Audience {
     /// A person, at a terminal.
     Person,
@@ -44,7 +44,7 @@ impl Remarks {
     pub fn notes(&self, alloc: Global, kind: Kind) -> Notes {
         if self.explain {
             Notes::Whole(Kept::new(alloc))
-        } else if self.audience == Audience::Person && kind == Kind::Wire {
+        } else if matches!(self.audience, Audience::Person) && kind == Kind::Wire {
             Notes::Look(Look::new())
         } else {
             Notes::Nothing

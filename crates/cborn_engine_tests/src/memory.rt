@@ -61,7 +61,7 @@ impl Source for Bytes<'_> {
 }
 
 /// What a writer does at its chosen call.
-#[derive(Clone, Copy, Debug, PartialEq, Eq)]
+#[derive(Clone, Copy)]
 pub enum Trouble {
     Nothing,
     Fails,
@@ -107,11 +107,6 @@ impl Taken {
             flushes: 0,
         })
     }
-
-    /// Whether nothing was written and nothing flushed.
-    pub fn is_untouched(&self) -> bool {
-        self.writes == 0 && self.flushes == 0
-    }
 }
 
 impl Sink for Taken {
@@ -121,11 +116,11 @@ impl Sink for Taken {
 
     fn write_some(&mut self, piece: &[u8]) -> io::Result<usize> {
         self.writes = self.writes.saturating_add(1);
-        if self.calls_to_trouble == 0 && self.trouble == Trouble::Fails {
+        if self.calls_to_trouble == 0 && matches!(self.trouble, Trouble::Fails) {
             self.failed = self.failed.saturating_add(1);
             return Err(io::Error::from(ErrorKind::Other));
         }
-        if self.calls_to_trouble == 0 && self.trouble == Trouble::TakesNothing {
+        if self.calls_to_trouble == 0 && matches!(self.trouble, Trouble::TakesNothing) {
             if !piece.is_empty() {
                 self.failed = self.failed.saturating_add(1);
             }
@@ -142,7 +137,7 @@ impl Sink for Taken {
 
     fn flush_all(&mut self) -> io::Result<()> {
         self.flushes = self.flushes.saturating_add(1);
-        if self.trouble == Trouble::FailsToFlush {
+        if matches!(self.trouble, Trouble::FailsToFlush) {
             self.failed = self.failed.saturating_add(1);
             return Err(io::Error::from(ErrorKind::Other));
         }

@@ -1,3 +1,1 @@
 pub mod Hints
-pub mod Paths
-pub mod devices

@@ -1,30 +1,15 @@
 //! Where two sequences of items differ, and what stands there.
 
-ghost use Rattle.std.specs.Prelude.{◌≡◌, ◌≤◌, ◌<◌, [], length, take, slice_index_or, IfOk, MatchOption};
+ghost use Rattle.std.specs.Prelude.{◌≡◌, [], IfOk};
 ghost use Rattle.std.specs.String.{string_bytes};
-ghost use Rattle.cborn_explain.specs.Paths.{LeadsToDifference};
-ghost use Rattle.cborn_explain.specs.devices.Walks.{levels, path_of};
 
-use crate::causes::behind;
-use crate::heads::whole_head;
-use crate::notes::{push_path, slice_of};
-use crate::paths::Path;
-use crate::quotes::push_item;
-use crate::walks::Walk;
+use crate::notes::push_path;
+use cborn_causes::{push_item, slice_of};
 use cborn_model::{KeyOrder, Limit, Major};
+use cborn_paths::{behind, walk_to_difference, whole_head};
 use cborn_wire::Argument;
 use std::alloc::{AllocError, Global};
 use std::cmp::Ordering;
-
-/// Where two deterministic encodings first differ.
-#[derive(Drop)]
-pub struct Difference {
-    /// The offset in bytes, in both, of the head that differs; of a key that differs, or a part of
-    /// which does, that of the key.
-    pub place: u64,
-    /// The path to it, which is the same in both.
-    pub path: Path,
-}
 
 /// Lines that say where two deterministic encodings first differ, the keys of maps in the order
 /// `O`: the path to that place, which is the same in both, and what stands there in each, or that
@@ -60,43 +45,6 @@ pub fn explain_difference<O: KeyOrder>(
     push_lone_key::<O>(alloc, limit, &mut out, ours, theirs)?;
     out.push('\n')?;
     Ok(out)
-}
-
-/// Where two encodings first differ, told as [`explain_difference`] tells it. None: they are equal.
-///
-/// # Errors
-/// Where memory was refused.
-pub fn find_difference(
-    alloc: Global,
-    first: &[u8],
-    second: &[u8],
-) -> Result<Option<Difference>, AllocError>
-    ensures leads { IfOk result (λ found. MatchOption found (first.now ≡ second.now) (λ d. LeadsToDifference first.now second.now d.place d.path.steps.items)) }
-{
-    let Some(walk) = walk_to_difference(alloc, first, second)? else {
-        return Ok(None);
-    };
-    let path = walk.path(alloc)?;
-    let place = walk.at as u64;
-    Ok(Some(Difference { place, path }))
-}
-
-/// A walk over `first` to where they first differ; but to a key as a whole, the outermost.
-fn walk_to_difference(
-    alloc: Global,
-    first: &[u8],
-    second: &[u8],
-) -> Result<Option<Walk>, AllocError>
-    ensures { IfOk result (λ found. MatchOption found (first.now ≡ second.now) (λ walk. LeadsToDifference first.now second.now walk.at (path_of (levels walk)))) }
-{
-    let common = common_len(first, second);
-    if common == first.len() && common == second.len() {
-        return Ok(None);
-    }
-    let mut walk = Walk::new(alloc);
-    walk.walk_to(first, common)?;
-    walk.leave_keys();
-    Ok(Some(walk))
 }
 
 /// The item that begins at an offset; no bytes where there is none.
@@ -188,20 +136,4 @@ fn pairs_of(item: &[u8]) -> Option<&[u8]> {
 fn behind_pair(alloc: Global, pairs: &[u8], key: usize) -> Result<&[u8], AllocError> {
     let end = behind(alloc, pairs, key)?;
     Ok(pairs.get(end..).unwrap_or(&[]))
-}
-
-/// How many bytes two lists have in common at their front.
-fn common_len(first: &[u8], second: &[u8]) -> usize
-    ensures ours { result ≤ length first.now }
-    ensures theirs { result ≤ length second.now }
-    ensures same { take result first.now ≡ take result second.now }
-    ensures differ { result < length first.now → result < length second.now → slice_index_or first.now result 0 ≡ slice_index_or second.now result 0 → ⊥ }
-{
-    let most = first.len().min(second.len());
-    for i in 0..most {
-        if first[i] != second[i] {
-            return i;
-        }
-    }
-    most
 }

@@ -13,34 +13,19 @@
 //! that differ. [`hint_of`] tells of bytes that they look like a text, and [`Look`] of what comes in by
 //! pieces.
 //!
-//! [`path_to`] and [`find_difference`] give the path alone, and their clauses say where it leads:
-//! `specs/Paths.antt` defines that over the nodes that bytes spell. `specs/devices/Walks.antt` is a
-//! device of the proofs.
-//!
-//! Start with `walks` for bytes, over `heads` and `nestings`, and `text_walks` for texts; `paths`
-//! writes the path, `causes` and `text_causes` have a sentence for each reason, `quotes` writes
-//! pieces of the input so that they change nothing but the line that they stand in. docs/FORMATS.md
-//! has the form of the lines.
+//! `cborn_paths` walks over bytes, and gives the path alone, with a proof of where it leads; `cborn_causes`
+//! has the sentence for each reason, and quotes the input. Here these become lines: `notes` has the
+//! explanation of an input, `differences` that of two, `path_lines` writes a path. docs/FORMATS.md has
+//! the form of the lines.
 #![tactic(auto)]
 
-mod causes;
 mod differences;
-mod heads;
 mod hints;
-mod items;
-mod nestings;
 mod notes;
-mod paths;
-mod quotes;
-mod reasons;
-mod text_causes;
-mod text_keys;
-mod text_spots;
-mod text_walks;
-mod walks;
+mod path_lines;
 
-pub use differences::{Difference, explain_difference, find_difference};
+pub use cborn_causes::{BytesReason, TextReason};
+pub use cborn_paths::{Difference, Path, Step, find_difference, path_to};
+pub use differences::explain_difference;
 pub use hints::{Digits, Hint, Look, hint_of};
-pub use notes::{explain_bytes, explain_text, path_to};
-pub use paths::{Path, Step};
-pub use reasons::{BytesReason, TextReason};
+pub use notes::{explain_bytes, explain_text};

@@ -1,19 +1,14 @@
 //! An explanation: where, what stands there, and why.
 
-ghost use Rattle.std.specs.Prelude.{◌≡◌, ◌≤◌, ◌⊎◌, length, IfOk};
-ghost use Rattle.cborn_explain.specs.Paths.{LeadsTo};
-
-use crate::causes::push_cause;
-use crate::hints::{Hint, hint_of};
-use crate::paths::{Path, PathWriter, Step, step_text};
-use crate::quotes::{line_and_column, push_bytes_around, push_item, push_line_around, push_text};
-use crate::reasons::{BytesReason, TextReason};
-use crate::text_causes::Refused;
-use crate::text_spots::spot_of;
-use crate::text_walks::{TextWalk, walk_text};
-use crate::walks::Walk;
+use crate::hints::hint_of;
+use crate::path_lines::{PathWriter, step_text};
+use cborn_causes::{
+    BytesReason, Refused, TextReason, TextWalk, line_and_column, push_bytes_around, push_cause,
+    push_item, push_line_around, push_text, slice_of, spot_of, walk_text,
+};
 use cborn_lex::Profile;
 use cborn_model::Limit;
+use cborn_paths::{Step, Walk, walk_to_place};
 use std::alloc::{AllocError, Global};
 
 /// How many characters of a key of a text are written.
@@ -32,9 +27,8 @@ pub fn explain_bytes(
     place: u64,
     reason: BytesReason,
 ) -> Result<String, AllocError> {
+    let walk = walk_to_place(alloc, bytes, place)?;
     let place = place_in(bytes, place);
-    let mut walk = Walk::new(alloc);
-    walk.walk_to(bytes, place)?;
     let mut out = String::new(alloc);
     out.push_str("  path  ")?;
     push_path(alloc, limit, &mut out, bytes, &walk)?;
@@ -45,22 +39,6 @@ pub fn explain_bytes(
     out.push('\n')?;
     push_hint(&mut out, bytes)?;
     Ok(out)
-}
-
-/// The path to a place in some bytes, an offset in bytes from their start: to the node, or the head,
-/// that begins there or, with the bytes of its string, holds it (RFC 8949 section 3). Where bytes
-/// before the place aren't well-formed, it leads to the first head that isn't whole or may not stand
-/// where it stands, or stands in as many arrays, maps and tags as any limit lets be open.
-///
-/// # Errors
-/// Where memory was refused.
-pub fn path_to(alloc: Global, bytes: &[u8], place: u64) -> Result<Path, AllocError>
-    ensures leads { IfOk result (λ path. LeadsTo bytes.now place path.steps.items) }
-{
-    let at = place_in(bytes, place);
-    let mut walk = Walk::new(alloc);
-    walk.walk_to(bytes, at)?;
-    walk.path(alloc)
 }
 
 /// The same of a text of the notation: the path to `place`, line and column and the line itself
@@ -98,15 +76,8 @@ pub fn explain_text(
 }
 
 /// An offset as an index, at most the length.
-fn place_in(bytes: &[u8], place: u64) -> usize
-    ensures within { result ≤ length bytes.now }
-    ensures place { (result ≡ place) ⊎ ((result ≡ length bytes.now) × (length bytes.now ≤ place)) }
-{
-    if place > bytes.len() as u64 {
-        bytes.len()
-    } else {
-        place as usize
-    }
+fn place_in(bytes: &[u8], place: u64) -> usize {
+    place.min(bytes.len() as u64) as usize
 }
 
 /// Writes the path to where a walk has come.
@@ -129,11 +100,6 @@ pub(crate) fn push_path(
         writer.step(out, text)?;
     }
     writer.end(out)
-}
-
-/// The slice from an offset to another; nothing where there is none.
-pub(crate) fn slice_of(bytes: &[u8], from: usize, to: usize) -> &[u8] {
-    bytes.get(from..to).unwrap_or(&[])
 }
 
 /// Writes the path to where a walk over a text has come.

@@ -13,20 +13,6 @@ fn feed(rt: &impl Abort, feeder: &mut Feeder, piece: &[u8]) {
     let _answer = feeder.feed(piece);
 }
 
-/// What is read of two pieces.
-fn in_two(
-    rt: &impl Abort,
-    alloc: Global,
-    limit: Limit,
-    front: &[u8],
-    rest: &[u8],
-) -> Result<Vec<Spelled>, WireFault> {
-    let mut feeder = Feeder::new(alloc, limit);
-    feed(rt, &mut feeder, front);
-    feed(rt, &mut feeder, rest);
-    feeder.finish()
-}
-
 /// What is read of pieces of one byte, with an empty piece before each.
 pub fn by_bytes(
     rt: &impl Abort,
@@ -40,24 +26,6 @@ pub fn by_bytes(
         feed(rt, &mut feeder, &[*byte]);
     }
     feeder.finish()
-}
-
-/// The input is read, wherever it is cut.
-fn reads_cut(rt: &impl Abort, alloc: Global, input: &[u8]) {
-    for cut in 0..input.len() {
-        let (front, rest) = input.split_at(cut);
-        let read = in_two(rt, alloc, Limit::USUAL, front, rest);
-        spells(rt, alloc, read, input);
-    }
-}
-
-/// Catches a head, a string or a chunk that is lost or read twice where a piece ends.
-#[test]
-fn reads_at_each_cut(rt: HostRuntime) -> Result<(), Fail> {
-    for input in wellformed(rt.alloc())? {
-        reads_cut(&rt, rt.alloc(), input);
-    }
-    Ok(())
 }
 
 /// Catches what is kept of a head for one more piece alone.

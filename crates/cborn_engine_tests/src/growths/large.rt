@@ -1,61 +1,12 @@
-//! Inputs that take many growths, and limits other than the usual one.
+//! Inputs that take many growths.
 use super::super::memory::Bytes;
-use super::{normalised, shown};
 use cborn_det::encode_all;
 use cborn_edn::show;
 use cborn_engine::{Kind, load};
 use cborn_judge::judge_all;
 use cborn_model::{Bytewise, Limit};
 use cborn_wire::{Feeder, read_one, spell_all};
-use std::alloc::{AllocError, Global};
 use std::test::Fail;
-
-/// A map of 2,000 pairs, whose keys are 1,000 to 2,999 and rise or fall, and whose values are 0.
-fn map(alloc: Global, is_rising: bool) -> Result<Vec<u8>, AllocError> {
-    let mut bytes = Vec::with_capacity(alloc, 8003)?;
-    bytes.extend_from_slice(b"\xb9\x07\xd0")?;
-    for step in 0..2000u16 {
-        let key = if is_rising { 1000 + step } else { 2999 - step };
-        let [high, low] = key.to_be_bytes();
-        bytes.extend_from_slice(&[0x19, high, low, 0])?;
-    }
-    Ok(bytes)
-}
-
-#[test]
-fn large_map_normalised(rt: HostRuntime) -> Result<(), Fail> {
-    let kind = Kind::Wire;
-    let falling = map(rt.alloc(), false)?;
-    let rising = map(rt.alloc(), true)?;
-    let bytes = normalised(rt.alloc(), Limit::USUAL, kind, &falling, kind)?;
-    assert!(rt; bytes == rising);
-    let bytes = shown(rt.alloc(), Limit::USUAL, kind, &falling, kind)?;
-    assert!(rt; bytes == falling);
-    Ok(())
-}
-
-/// `front`, 5,000 times the byte `each`, and `tail`.
-fn long(alloc: Global, front: &[u8], each: u8, tail: &[u8]) -> Result<Vec<u8>, AllocError> {
-    let mut bytes = Vec::with_capacity(alloc, 5010)?;
-    bytes.extend_from_slice(front)?;
-    for _ in 0..5000 {
-        bytes.push(each)?;
-    }
-    bytes.extend_from_slice(tail)?;
-    Ok(bytes)
-}
-
-#[test]
-fn long_text_normalised(rt: HostRuntime) -> Result<(), Fail> {
-    let text = long(rt.alloc(), b"\"", b'a', b"\"")?;
-    let bytes = normalised(rt.alloc(), Limit::USUAL, Kind::Notation, &text, Kind::Wire)?;
-    let wire = long(rt.alloc(), b"\x79\x13\x88", b'a', b"")?;
-    assert!(rt; bytes == wire);
-    let lines = shown(rt.alloc(), Limit::USUAL, Kind::Wire, &wire, Kind::Notation2)?;
-    let line = long(rt.alloc(), b"\"", b'a', b"\"\n")?;
-    assert!(rt; lines == line);
-    Ok(())
-}
 
 #[test]
 fn long_piece_fed(rt: HostRuntime) -> Result<(), Fail> {
@@ -100,47 +51,5 @@ fn long_inputs_loaded(rt: HostRuntime) -> Result<(), Fail> {
     }
     let (_, end) = read_one(rt.alloc(), Limit::USUAL, &text, 0)?;
     assert_eq!(rt; end, 1);
-    Ok(())
-}
-
-/// `count` times `open`, a middle, and as often `close`.
-fn nested(
-    alloc: Global,
-    open: u8,
-    count: usize,
-    middle: &[u8],
-    close: &[u8],
-) -> Result<Vec<u8>, AllocError> {
-    let mut bytes = Vec::with_capacity(alloc, 3000)?;
-    for _ in 0..count {
-        bytes.push(open)?;
-    }
-    bytes.extend_from_slice(middle)?;
-    for _ in 0..count {
-        bytes.extend_from_slice(close)?;
-    }
-    Ok(bytes)
-}
-
-#[test]
-fn nests_at_other_limits(rt: HostRuntime) -> Result<(), Fail> {
-    for levels in [1, 200, 1024] {
-        let Some(limit) = Limit::new(levels as u64) else {
-            return Err(Fail::new("no limit"));
-        };
-        let text = nested(rt.alloc(), b'[', levels, b"0x0", b"]")?;
-        let wire = nested(rt.alloc(), 0x81, levels, b"\x00", b"")?;
-        let bytes = normalised(rt.alloc(), limit, Kind::Notation, &text, Kind::Wire)?;
-        assert!(rt; bytes == wire, "{levels}");
-        let endless = nested(rt.alloc(), 0x9f, levels, b"\x00", b"\xff")?;
-        let bytes = normalised(rt.alloc(), limit, Kind::Wire, &endless, Kind::Wire)?;
-        assert!(rt; bytes == wire, "{levels}");
-        let lines = shown(rt.alloc(), limit, Kind::Wire, &wire, Kind::Notation)?;
-        let line = nested(rt.alloc(), b'[', levels, b"0", b"]")?;
-        assert!(rt;
-            lines.starts_with(&line) && lines.len() == line.len() + 1,
-            "{levels}"
-        );
-    }
     Ok(())
 }

@@ -1,0 +1,339 @@
+//! Why a text is refused: a sentence for each reason.
+
+use crate::causes::push_too_deep;
+use crate::quotes::{line_and_column, push_char, push_text, valid_front};
+use crate::reasons::TextReason;
+use crate::text_keys::{earlier_key, key_at};
+use crate::text_walks::{Before, Bracket, TextWalk};
+use cborn_edn::EdnReason;
+use cborn_judge::InvalidReason;
+use cborn_lex::{LexReason, Profile};
+use cborn_model::Limit;
+use std::alloc::{AllocError, Global};
+
+/// How many characters of a word, a number or a key are written.
+const WORD: usize = 40;
+
+/// A text that is refused at a place, what a walk up to it found, and the character that is at
+/// fault.
+#[derive(Clone, Copy)]
+pub struct Refused<'a> {
+    pub text: &'a [u8],
+    pub profile: Profile,
+    pub limit: Limit,
+    pub place: usize,
+    pub spot: usize,
+}
+
+impl Refused<'_> {
+    /// Writes why it has this reason.
+    pub fn push_cause(
+        &self,
+        alloc: Global,
+        out: &mut String,
+        walk: &TextWalk,
+        reason: TextReason,
+    ) -> Result<(), AllocError> {
+        match reason {
+            TextReason::NotUtf8 => self.push_not_utf8(out),
+            TextReason::Token(reason) => self.push_token(out, reason),
+            TextReason::Notation(reason) => self.push_notation(out, walk, reason),
+            TextReason::Invalid(InvalidReason::DuplicateKey) => {
+                self.push_duplicate(alloc, out, walk)
+            }
+            TextReason::Invalid(InvalidReason::BadBignum) => {
+                out.push_str(
+                    "tag 2 or 3 makes an integer of a byte string, and here it stands over another item",
+                )
+            }
+            TextReason::Invalid(InvalidReason::NotUtf8) => {
+                out.push_str("a text string is UTF-8, and this one isn't")
+            }
+        }
+    }
+
+    fn push_not_utf8(&self, out: &mut String) -> Result<(), AllocError> {
+        let byte = self.text.get(self.place).copied().unwrap_or(0);
+        write!(
+            out,
+            "a text is UTF-8, and the byte {byte:02x} here begins no character or is cut off"
+        )
+    }
+
+    /// Writes line and column of an offset.
+    fn push_place(&self, out: &mut String, place: usize) -> Result<(), AllocError> {
+        let (line, column) = line_and_column(self.text, place);
+        write!(out, "{line}:{column}")
+    }
+
+    /// Writes the character at fault, in quotes.
+    fn push_spot(&self, out: &mut String) -> Result<(), AllocError> {
+        let rest = self.text.get(self.spot..).unwrap_or(&[]);
+        let front = rest.get(..4).unwrap_or(rest);
+        match valid_front(front).chars().next() {
+            Some(c) => {
+                out.push('\'')?;
+                push_char(out, c)?;
+                out.push('\'')
+            }
+            None => out.push_str("the end"),
+        }
+    }
+
+    /// A quote is at fault, and with it what stands before.
+    fn is_quote(&self) -> bool {
+        self.text.get(self.spot) == Some(&b'\'')
+    }
+
+    /// Writes where the character at fault stands, between these words; without first words the
+    /// character itself.
+    fn push_at_spot(&self, out: &mut String, before: &str, behind: &str) -> Result<(), AllocError> {
+        if before.is_empty() {
+            self.push_spot(out)?;
+            out.push_str(" at ")?;
+        }
+        out.push_str(before)?;
+        self.push_place(out, self.spot)?;
+        out.push_str(behind)
+    }
+
+    /// The run of letters, digits, points, underscores and a sign at an offset.
+    fn word_at(&self, place: usize) -> &[u8] {
+        let rest = self.text.get(place..).unwrap_or(&[]);
+        let len = rest.iter().position(|b| !is_word(*b)).unwrap_or(rest.len());
+        rest.get(..len).unwrap_or(rest)
+    }
+
+    fn push_word(&self, out: &mut String, place: usize) -> Result<(), AllocError> {
+        out.push('\'')?;
+        push_text(out, self.word_at(place), WORD)?;
+        out.push('\'')
+    }
+
+    /// Why a token is bad.
+    fn push_token(&self, out: &mut String, reason: LexReason) -> Result<(), AllocError> {
+        match reason {
+            LexReason::UnexpectedCharacter => self.push_unexpected_character(out),
+            LexReason::UnclosedString => {
+                out.push_str("the string that begins here has no quote that ends it")
+            }
+            LexReason::UnclosedComment => {
+                out.push_str("the comment that begins here has no slash that ends it")
+            }
+            LexReason::BadEscape => self.push_at_spot(
+                out,
+                "",
+                " begins no escape of JSON, or is a control character, which has to be escaped",
+            ),
+            LexReason::BadHex if self.is_quote() => self.push_at_spot(
+                out,
+                "the quote at ",
+                " ends the bytes behind an odd number of digits",
+            ),
+            LexReason::BadHex => self.push_at_spot(
+                out,
+                "",
+                " is no hexadecimal digit, white space or whole comment",
+            ),
+            LexReason::BadBase64 if self.is_quote() => self.push_at_spot(
+                out,
+                "the quote at ",
+                " ends the bytes behind digits or padding that fit no bytes",
+            ),
+            LexReason::BadBase64 => self.push_at_spot(out, "", " is no digit of base64"),
+            LexReason::UnknownPrefix => {
+                self.push_word(out, self.place)?;
+                out.push_str(
+                    " is no prefix of a string: h is, for hexadecimal, and b64, for base64",
+                )
+            }
+            LexReason::BadNumber => self.push_bad_number(out),
+            LexReason::NumberTooLarge => {
+                out.push_str(
+                    "a number has at most 128 bits: 340282366920938463463374607431768211455 is the greatest",
+                )
+            }
+            LexReason::BadIndicator => {
+                self.push_word(out, self.spot)?;
+                out.push_str(
+                    " is no encoding indicator: _, _0, _1, _2 and _3 are, and behind ( stands _ alone",
+                )
+            }
+            LexReason::FloatLeftOut => {
+                self.push_word(out, self.place)?;
+                out.push_str(" is a float, and floats are left out")
+            }
+        }
+    }
+
+    fn push_unexpected_character(&self, out: &mut String) -> Result<(), AllocError> {
+        match self.text.get(self.place) {
+            Some(b'#') if self.profile == Profile::One => {
+                out.push_str("comments from # to the end of a line are read with notation-2 alone")
+            }
+            Some(byte) if byte.is_ascii_alphabetic() => {
+                self.push_word(out, self.place)?;
+                out.push_str(
+                    " is no word of the notation: false, true, null and undefined are, and simple(",
+                )
+            }
+            _ => {
+                self.push_spot(out)?;
+                out.push_str(" begins no token")
+            }
+        }
+    }
+
+    fn push_bad_number(&self, out: &mut String) -> Result<(), AllocError> {
+        self.push_word(out, self.place)?;
+        if self.spot > self.place {
+            out.push_str(" is no number: ")?;
+            return self.push_at_spot(out, "", " is no digit of it");
+        }
+        out.push_str(" is no number: it lacks digits, or begins with a 0 that it doesn't need")
+    }
+
+    /// Why tokens are no text of the grammar, or mean nothing.
+    fn push_notation(
+        &self,
+        out: &mut String,
+        walk: &TextWalk,
+        reason: EdnReason,
+    ) -> Result<(), AllocError> {
+        match reason {
+            EdnReason::UnexpectedToken => {
+                out.push_str("here may stand ")?;
+                self.push_allowed(out, walk)
+            }
+            EdnReason::UnexpectedEnd => self.push_unexpected_end(out, walk),
+            EdnReason::TooDeep => push_too_deep(self.limit, out),
+            EdnReason::IndicatorTooNarrow => {
+                out.push_str(
+                    "the number, the length or the count doesn't fit the width that the indicator asks for: _0 has 1 byte, _1 has 2, _2 has 4 and _3 has 8",
+                )
+            }
+            EdnReason::IndicatorNotAllowed => {
+                out.push_str(
+                    "no indicator may stand here: of a string its last piece alone has one, and only [, { and an empty string have _",
+                )
+            }
+            EdnReason::MixedString => {
+                out.push_str(
+                    "pieces behind a byte string are bytes too, and this one is a text in double quotes",
+                )
+            }
+            EdnReason::MixedChunks => {
+                out.push_str(
+                    "the chunks of a string are all of one kind, bytes or text, as the first is",
+                )
+            }
+            EdnReason::TextNotUtf8 => {
+                out.push_str("a text string is UTF-8, and the joined pieces of this one aren't")
+            }
+            EdnReason::BadSimple => {
+                out.push_str("a simple value is from 0 to 23, or from 32 to 255")
+            }
+            EdnReason::TagTooLarge => {
+                out.push_str("the number of a tag is at most 18446744073709551615")
+            }
+        }
+    }
+
+    fn push_unexpected_end(&self, out: &mut String, walk: &TextWalk) -> Result<(), AllocError> {
+        out.push_str("the text ends, and here must stand ")?;
+        self.push_allowed(out, walk)?;
+        match walk.open.last() {
+            Some(open) => {
+                out.push_str(": the ")?;
+                out.push_str(opening(open.bracket))?;
+                out.push_str(" at ")?;
+                self.push_place(out, open.place)?;
+                out.push_str(" is open")
+            }
+            None => Ok(()),
+        }
+    }
+
+    /// Writes what may stand behind the last token.
+    fn push_allowed(&self, out: &mut String, walk: &TextWalk) -> Result<(), AllocError> {
+        if matches!(walk.before, Before::Piece) {
+            out.push_str("a further piece of the string, or ")?;
+        }
+        let is_behind = matches!(walk.before, Before::Piece | Before::Item);
+        let may_end = matches!(walk.before, Before::Opening)
+            || matches!(walk.before, Before::Separator) && self.profile == Profile::Two;
+        let words = match walk.open.last() {
+            None if is_behind => "a comma, or the end",
+            None if matches!(walk.before, Before::Opening) => "an item, or the end",
+            None => "an item",
+            Some(open) => match open.bracket {
+                Bracket::Array if is_behind => "a comma or ]",
+                Bracket::Array if may_end => "an item or ]",
+                Bracket::Map if is_behind && open.is_at_key() => "a colon",
+                Bracket::Map if is_behind => "a comma or }",
+                Bracket::Map if !open.is_at_key() => "a value",
+                Bracket::Map if may_end => "a key or }",
+                Bracket::Map => "a key",
+                Bracket::Tag(_) | Bracket::Simple if is_behind => ")",
+                Bracket::Simple => "a number",
+                Bracket::Chunks if is_behind => "a comma or )",
+                Bracket::Chunks => "a string",
+                Bracket::Embedded if is_behind => "a comma or >>",
+                Bracket::Embedded if may_end => "an item or >>",
+                _ => "an item",
+            },
+        };
+        out.push_str(words)
+    }
+
+    /// The key that the key at the place repeats.
+    fn push_duplicate(
+        &self,
+        alloc: Global,
+        out: &mut String,
+        walk: &TextWalk,
+    ) -> Result<(), AllocError> {
+        let text = self.text;
+        let key = key_at(alloc, self.profile, text, self.place)?;
+        out.push_str("the key ")?;
+        push_text(out, key, WORD)?;
+        let found = match walk.open.last() {
+            Some(open) => {
+                earlier_key(
+                    alloc,
+                    self.limit,
+                    self.profile,
+                    text,
+                    open.place,
+                    self.place,
+                )?
+            }
+            None => None,
+        };
+        match found {
+            Some(place) => {
+                out.push_str(" is the same as the key at ")?;
+                self.push_place(out, place)?;
+                write!(out, " (offset {place}) of this map")
+            }
+            None => out.push_str(" is the same as an earlier key of this map"),
+        }
+    }
+}
+
+/// What a bracket is written as.
+fn opening(bracket: Bracket) -> &'static str {
+    match bracket {
+        Bracket::Array => "[",
+        Bracket::Map => "{",
+        Bracket::Tag(_) => "tag",
+        Bracket::Chunks => "(_",
+        Bracket::Simple => "simple(",
+        Bracket::Embedded => "<<",
+    }
+}
+
+/// A character of a word, of a number or of an indicator.
+fn is_word(byte: u8) -> bool {
+    byte.is_ascii_alphanumeric() || matches!(byte, b'_' | b'.' | b'-')
+}

@@ -1,0 +1,182 @@
+//! The very character within a token that is at fault.
+
+ghost use Rattle.std.specs.Prelude.{◌≤◌, length};
+
+use crate::reasons::TextReason;
+use cborn_lex::{LexReason, are_hex, hex_code, is_high, is_low};
+
+/// Where the character stands that is at fault for this reason, which is told of `place`: that
+/// place itself, or one within the token that begins there.
+pub fn spot_of(text: &[u8], place: usize, reason: TextReason) -> usize {
+    let token = text.get(place..).unwrap_or(&[]);
+    let within = match reason {
+        TextReason::Token(LexReason::BadEscape) => bad_escape(token),
+        TextReason::Token(LexReason::BadHex) => bad_hex(token),
+        TextReason::Token(LexReason::BadBase64) => bad_base64(token),
+        TextReason::Token(LexReason::BadNumber) => bad_digit(token),
+        TextReason::Token(LexReason::BadIndicator) => bad_indicator(token),
+        _ => 0,
+    };
+    place.saturating_add(within)
+}
+
+/// The escape of a string in quotes that isn't one, or the character that has to be escaped.
+fn bad_escape(token: &[u8]) -> usize {
+    let quote = token.first().copied().unwrap_or(0);
+    let mut at = 1;
+    'units: for _ in 0..token.len() {
+        let rest = token.get(at..).unwrap_or(&[]);
+        match unit_len(quote, rest) {
+            Some(len) => at = at.saturating_add(len),
+            None => break,
+        }
+    }
+    at.min(token.len())
+}
+
+/// The length of the character or the escape at the front. None where it is none, or the string
+/// ends.
+fn unit_len(quote: u8, rest: &[u8]) -> Option<usize> {
+    match rest {
+        [b'\\', b'u', a, b, c, d, behind @ ..] if are_hex(*a, *b, *c, *d) => {
+            let code = hex_code(*a, *b, *c, *d);
+            if is_low(code) {
+                return None;
+            }
+            if is_high(code) {
+                pair_len(behind)
+            } else {
+                Some(6)
+            }
+        }
+        [
+            b'\\',
+            b'"' | b'\\' | b'/' | b'b' | b'f' | b'n' | b'r' | b't',
+            ..
+        ] => Some(2),
+        [b'\\', b'\'', ..] if quote == b'\'' => Some(2),
+        [b'\\', ..] => None,
+        [byte, ..] if *byte >= 0x20 => Some(1),
+        _ => None,
+    }
+}
+
+/// The length of a pair of surrogates, of which the second has to stand at the front.
+fn pair_len(behind: &[u8]) -> Option<usize> {
+    match behind {
+        [b'\\', b'u', a, b, c, d, ..] if are_hex(*a, *b, *c, *d) => {
+            if is_low(hex_code(*a, *b, *c, *d)) {
+                Some(12)
+            } else {
+                None
+            }
+        }
+        _ => None,
+    }
+}
+
+/// The character of `h'..'` that is no digit, or the quote where their number is odd.
+fn bad_hex(token: &[u8]) -> usize {
+    let mut is_comment = false;
+    let mut opened = 2;
+    for (i, byte) in token.iter().enumerate() {
+        if i < 2 {
+            continue;
+        }
+        if *byte == b'/' {
+            is_comment = !is_comment;
+            opened = i;
+        } else if *byte == b'\'' {
+            return if is_comment { opened } else { i };
+        } else if !is_comment && !is_white(*byte) && !byte.is_ascii_hexdigit() {
+            return i;
+        }
+    }
+    0
+}
+
+/// The character of `b64'..'` that is in no alphabet, or the quote.
+fn bad_base64(token: &[u8]) -> usize {
+    for (i, byte) in token.iter().enumerate() {
+        if i >= 4 && !is_base64(*byte) && !is_white(*byte) {
+            return i;
+        }
+    }
+    0
+}
+
+fn is_base64(byte: u8) -> bool {
+    byte.is_ascii_alphanumeric() || matches!(byte, b'+' | b'/' | b'-' | b'_' | b'=')
+}
+
+fn is_white(byte: u8) -> bool {
+    matches!(byte, b' ' | b'\t' | b'\n' | b'\r')
+}
+
+/// The character of a number that is no digit of its base; its start where digits alone make none.
+fn bad_digit(token: &[u8]) -> usize {
+    let signed = matches!(token.first(), Some(b'-'));
+    let body = if signed {
+        token.get(1..).unwrap_or(&[])
+    } else {
+        token
+    };
+    let start = if signed { 1 } else { 0 };
+    let (base, skipped) = match body {
+        [b'0', b'x' | b'X', ..] => (16, 2),
+        [b'0', b'o' | b'O', ..] => (8, 2),
+        [b'0', b'b' | b'B', ..] => (2, 2),
+        _ => (10, 0),
+    };
+    for (i, byte) in body.iter().enumerate() {
+        if i >= skipped && !is_digit(base, *byte) {
+            return if is_body(*byte) {
+                i.saturating_add(start)
+            } else {
+                0
+            };
+        }
+    }
+    0
+}
+
+fn is_digit(base: u8, byte: u8) -> bool {
+    match base {
+        16 => byte.is_ascii_hexdigit(),
+        8 => matches!(byte, b'0'..=b'7'),
+        2 => matches!(byte, b'0' | b'1'),
+        _ => byte.is_ascii_digit(),
+    }
+}
+
+/// A character that a number's body may hold.
+fn is_body(byte: u8) -> bool {
+    byte.is_ascii_alphanumeric() || byte == b'.'
+}
+
+/// The underscore of a token's indicator: the last of its characters that begins one.
+fn bad_indicator(token: &[u8]) -> usize {
+    let quote = match token {
+        [b'"', ..] => b'"',
+        [b'\'', ..] | [b'h', b'\'', ..] | [b'b', b'6', b'4', b'\'', ..] => b'\'',
+        _ => return first_underscore(token),
+    };
+    let opened = token.iter().position(|b| *b == quote).unwrap_or(0);
+    let mut is_escape = false;
+    for (i, byte) in token.iter().enumerate() {
+        if i > opened {
+            if is_escape {
+                is_escape = false;
+            } else if *byte == b'\\' {
+                is_escape = true;
+            } else if *byte == quote {
+                return i.saturating_add(1);
+            }
+        }
+    }
+    0
+}
+
+fn first_underscore(token: &[u8]) -> usize {
+    token.iter().position(|b| *b == b'_').unwrap_or(0)
+}

@@ -1,6 +1,0 @@
-use Rattle.std.proofs.Common.{◌≡◌, false, map, take}
-use Rattle.cborn_explain.specs.devices.Walks.{step_of, has_key}
-use Rattle.cborn_explain.proofs.walks.Walk.is_in_key.Given as goal
-
-abbrev pub invariant-levels : goal.invariant-levels
-invariant-levels l = has_key (map (λ o. step_of o.level.nesting) (take l.outer-index l.self.outer.items)) ≡ false

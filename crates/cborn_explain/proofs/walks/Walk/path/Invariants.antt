@@ -1,6 +1,0 @@
-use Rattle.std.proofs.Common.{◌≡◌, map, take}
-use Rattle.cborn_explain.specs.devices.Walks.{step_of}
-use Rattle.cborn_explain.proofs.walks.Walk.path.Given as goal
-
-abbrev pub invariant-steps : goal.invariant-steps
-invariant-steps l = l.steps.items ≡ map (λ o. step_of o.level.nesting) (take l.around-index l.self.outer.items)

@@ -1,0 +1,36 @@
+-- What is open where a walk stands, and the path to what comes next there.
+use Rattle.std.specs.Prelude.{List, [], ◌∷◌, ◌++◌}
+use Rattle.cborn_paths.specs.declared.paths.Step.{Step}
+use Rattle.cborn_paths.specs.declared.paths.Step.TheVariants as paths
+use Rattle.cborn_paths.specs.declared.nestings.Nesting.{Nesting}
+use Rattle.cborn_paths.specs.declared.nestings.Nesting.TheVariants.{Sequence, Array, Map, MapValue, Tag, ByteChunks, TextChunks}
+use Rattle.cborn_paths.specs.declared.walks.Level.{Level}
+use Rattle.cborn_paths.specs.declared.walks.Open.{Open}
+use Rattle.cborn_paths.specs.declared.walks.Walk.{Walk}
+
+-- the step to its next part
+abbrev pub step_of : Nesting → Step
+step_of (Sequence n) = paths.Item n
+step_of (Array s n) = paths.Element n
+step_of (Map s n) = paths.Key n
+step_of (MapValue s n) = paths.Value n
+step_of (Tag t) = paths.Content t
+step_of (ByteChunks n) = paths.Chunk n
+step_of (TextChunks n) = paths.Chunk n
+
+-- What is open, the innermost first, and the input itself last.
+
+abbrev pub turned : List Level → List Open → List Level
+turned ls [] = ls
+turned ls (o ∷ os) = turned (o.level ∷ ls) os
+
+abbrev pub open_levels : Open → List Open → List Level
+open_levels top outer = top.level ∷ turned [] outer
+
+abbrev pub levels : Walk → List Level
+levels w = open_levels w.top w.outer.items
+
+-- the steps to what comes next
+abbrev pub path_of : List Level → List Step
+path_of [] = []
+path_of (l ∷ ls) = path_of ls ++ step_of l.nesting ∷ []

@@ -1,0 +1,4 @@
+pub mod Levels
+pub mod Paths
+pub mod devices
+pub mod shared

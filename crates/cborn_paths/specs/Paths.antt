@@ -1,0 +1,50 @@
+-- Paths: where a place in some bytes stands among their items (RFC 8949 section 3, RFC 8742).
+use Rattle.std.specs.Prelude.{◌≡◌, ℕ, ◌+◌, ◌≤◌, List, [], ◌∷◌, ◌++◌, length, take, Bool, true, false, if◌then◌else◌}
+use Rattle.cborn_model.specs.Tree.{Trees, count, count_entries, depth_all}
+use Rattle.cborn_model.specs.Spelled.{spelled_all, FitsAll}
+use Rattle.cborn_wire.specs.Slots.{Begun, begun_items, begun_pairs, begun_value, begun_tag, begun_chunks, beginnings, AreBegun}
+use Rattle.cborn_paths.specs.declared.paths.Step.{Step}
+use Rattle.cborn_paths.specs.declared.paths.Step.TheVariants.{Item, Element, Key, Value, Content, Chunk}
+
+-- Into what has begun, to the part that comes next: parts are counted from 0, by those that are whole before it.
+abbrev pub step_in : Begun → Step
+step_in (begun_items p a ts) = Element (count ts)
+step_in (begun_pairs p a es) = Key (count_entries es)
+step_in (begun_value p a es k) = Value (count_entries es)
+step_in (begun_tag p w n) = Content n
+step_in (begun_chunks p k cs) = Chunk (length cs)
+
+-- Behind these whole items, into what is open, the innermost first: to an item of the sequence, and on inwards.
+abbrev pub steps : Trees → List Begun → List Step
+steps ts [] = Item (count ts) ∷ []
+steps ts (o ∷ os) = steps ts os ++ step_in o ∷ []
+
+-- The bytes f end between two heads: they are whole items, and the beginnings of what is open at their end. What comes next there has this path. No more is open than the highest nesting limit lets be.
+abbrev pub EndsAt : List ℕ → List Step → Type 0
+EndsAt f path = (ts : Trees) × (os : List Begun) × FitsAll ts × (depth_all ts ≤ 1024) × AreBegun 1024 os × (f ≡ spelled_all ts ++ beginnings os) × (path ≡ steps ts os)
+
+-- The path leads to the place in x: no longer front of x, up to the place, ends between two heads than the one behind which it leads. So it leads to the node, or to the head, that begins at the place or, with the bytes of its string, holds it. Where x isn't well-formed before the place, it leads to the first head that isn't whole or may not stand there.
+abbrev pub LeadsTo : List ℕ → ℕ → List Step → Type 0
+LeadsTo x place path =
+    (f : List ℕ) × (y : List ℕ) × (x ≡ f ++ y) × (length f ≤ place) × EndsAt f path
+    × ((g z : List ℕ) (other : List Step) → x ≡ g ++ z → length g ≤ place → EndsAt g other → length g ≤ length f)
+
+-- a step to the key of a pair
+abbrev pub is_key : Step → Bool
+is_key (Key n) = true
+is_key _ = false
+
+-- a path as far as the first key into which it leads, if it leads into one
+abbrev pub up_to_key : List Step → List Step
+up_to_key [] = []
+up_to_key (s ∷ path) = s ∷ (if is_key s then [] else up_to_key path)
+
+-- the first n bytes of x and y are the same, and no more
+abbrev pub DifferFirstAt : List ℕ → List ℕ → ℕ → Type 0
+DifferFirstAt x y n = (n ≤ length x) × (n ≤ length y) × (take n x ≡ take n y) × (take (n + 1) x ≡ take (n + 1) y → ⊥)
+
+-- In x and in y the path leads to the byte at which they first differ; but to a key as a whole, the outermost, where it would lead into one. The place is where that begins, in both.
+abbrev pub LeadsToDifference : List ℕ → List ℕ → ℕ → List Step → Type 0
+LeadsToDifference x y place path =
+    (n : ℕ) × (whole : List Step) × DifferFirstAt x y n × LeadsTo x n whole × LeadsTo y n whole
+    × (path ≡ up_to_key whole) × (place ≤ n) × EndsAt (take place x) path × EndsAt (take place y) path

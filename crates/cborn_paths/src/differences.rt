@@ -1,0 +1,76 @@
+//! Where two sequences of items differ.
+
+ghost use Rattle.std.specs.Prelude.{◌≡◌, ◌≤◌, ◌<◌, length, take, slice_index_or, IfOk, MatchOption};
+ghost use Rattle.cborn_paths.specs.Levels.{levels, path_of};
+ghost use Rattle.cborn_paths.specs.Paths.{LeadsToDifference};
+
+use crate::paths::Path;
+use crate::walks::Walk;
+use std::alloc::{AllocError, Global};
+
+/// Where two deterministic encodings first differ.
+#[derive(Drop)]
+pub struct Difference {
+    /// The offset in bytes, in both, of the head that differs; of a key that differs, or a part of
+    /// which does, that of the key.
+    pub place: u64,
+    /// The path to it, which is the same in both.
+    pub path: Path,
+}
+
+/// Where two encodings first differ, of a key that differs the key as a whole. None: they are equal.
+///
+/// # Errors
+/// Where memory was refused.
+pub fn find_difference(
+    alloc: Global,
+    first: &[u8],
+    second: &[u8],
+) -> Result<Option<Difference>, AllocError>
+    ensures leads { IfOk result (λ found. MatchOption found (first.now ≡ second.now) (λ d. LeadsToDifference first.now second.now d.place d.path.steps.items)) }
+{
+    let Some(walk) = walk_to_difference(alloc, first, second)? else {
+        return Ok(None);
+    };
+    let path = walk.path(alloc)?;
+    let place = walk.at as u64;
+    Ok(Some(Difference { place, path }))
+}
+
+/// A walk over `first` to where they first differ; but to a key as a whole, the outermost. None: they
+/// are equal.
+///
+/// # Errors
+/// Where memory was refused.
+pub fn walk_to_difference(
+    alloc: Global,
+    first: &[u8],
+    second: &[u8],
+) -> Result<Option<Walk>, AllocError>
+    ensures { IfOk result (λ found. MatchOption found (first.now ≡ second.now) (λ walk. LeadsToDifference first.now second.now walk.at (path_of (levels walk)))) }
+{
+    let common = common_len(first, second);
+    if common == first.len() && common == second.len() {
+        return Ok(None);
+    }
+    let mut walk = Walk::new(alloc);
+    walk.walk_to(first, common)?;
+    walk.leave_keys();
+    Ok(Some(walk))
+}
+
+/// How many bytes two lists have in common at their front.
+fn common_len(first: &[u8], second: &[u8]) -> usize
+    ensures ours { result ≤ length first.now }
+    ensures theirs { result ≤ length second.now }
+    ensures same { take result first.now ≡ take result second.now }
+    ensures differ { result < length first.now → result < length second.now → slice_index_or first.now result 0 ≡ slice_index_or second.now result 0 → ⊥ }
+{
+    let most = first.len().min(second.len());
+    for i in 0..most {
+        if first[i] != second[i] {
+            return i;
+        }
+    }
+    most
+}
