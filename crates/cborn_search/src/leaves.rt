@@ -34,7 +34,7 @@ pub(crate) fn is_sound(only_texts: bool, is_string: bool) -> bool
 #[inline(always)]
 pub(crate) fn integer_len(bytes: &[u8]) -> Option<usize>
     ensures len { IfSome result (λ len. len ≤ length bytes.now) }
-    ensures integer { IfSome result (λ len. (only : Bool) (room total : ℕ) → length bytes.now ≤ total → Scanned only room total bytes.now (drop len bytes.now) None false) }
+    ensures integer { IfSome result (λ len. (only : Bool) (room total : ℕ) → Scanned only room total bytes.now (drop len bytes.now) None false) }
 {
     let [0..64, ..] = bytes else {
         return None;

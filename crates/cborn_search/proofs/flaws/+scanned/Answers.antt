@@ -1,8 +1,7 @@
 use Rattle.std.proofs.Common.{rules, [], ◌++◌, Bool, List, Option, ◌≢◌, ◌≤◌, ◌+◌, ◌-◌, refl, sym, length, ℕ, true, false, subst, arith, None, ◌∙◌, take, drop}
 use Rattle.std.proofs.lemmas.List.{take_rest}
 use Rattle.std.proofs.lemmas.Option.{IfSome_then}
-use Rattle.cborn_wire.specs.declared.heads.Argument.TheVariants.{Given, Endless}
-use Rattle.cborn_model.specs.declared.heads.Major.TheVariants.{Map, Unsigned, Negative, ByteString, TextString, Array, Tag, Other}
+use Rattle.cborn_model.specs.declared.heads.Major.TheVariants.{Map}
 use Rattle.cborn_model.specs.Heads.{Unbounded, head}
 use Rattle.cborn_model.specs.Heads as heads
 use Rattle.cborn_wire.proofs.Parts.Heads.{head_alone}
@@ -64,7 +63,7 @@ scan_node-returns-else-is_bignum t c =
 
 pub scan_node-returns-then-is_simple : goal.scan_node-returns-then-is_simple
 scan_node-returns-then-is_simple t c =
-    head_alone (λ y rest. Scanned c.args.only_texts c.args.room c.args.total y rest None false) (take_rest c.args.bytes.now c.in-Full.len) c.in-Full.ensures (sym c.major_type-major.ensures ∙ c.in-Other.is) (refl {x = c.in-Full.head.argument}) (search rules)
+    head_alone (λ y rest. Scanned c.args.only_texts c.args.room c.args.total y rest None false) (take_rest c.args.bytes.now c.in-Full.len) c.in-Full.ensures (sym c.major_type-major.ensures ∙ c.in-Other.is) refl (search rules)
     (λ fits. simple_seen c.args.only_texts c.args.room c.args.total c.in-Full.head.argument _ (c.if-is_simple.ensures refl))
 
 pub scan_node-returns-in-ByteString-major : goal.scan_node-returns-in-ByteString-major
@@ -95,7 +94,7 @@ pub scan_items-items-preserved-in-Some : goal.scan_items-items-preserved-in-Some
 scan_items-items-preserved-in-Some t c =
     let left : List ℕ = c.items.rest.now in
     let rest : List ℕ = take (length left - c.in-Some.len) (drop c.in-Some.len left) in
-    let x : Scanned c.args.only_texts c.args.room c.args.total left rest None false = subst (λ (y : List ℕ). Scanned c.args.only_texts c.args.room c.args.total left y None false) (sym (take_rest left c.in-Some.len)) (c.in-Some.ensures.integer c.args.only_texts c.args.room c.args.total c.items.invariant.2) in
+    let x : Scanned c.args.only_texts c.args.room c.args.total left rest None false = subst (λ (y : List ℕ). Scanned c.args.only_texts c.args.room c.args.total left y None false) (sym (take_rest left c.in-Some.len)) (c.in-Some.ensures.integer c.args.only_texts c.args.room c.args.total) in
     let some : ScannedAll c.args.only_texts c.args.room c.args.total (c.items.count + 1) c.args.bytes.now rest c.items.first =
     all_more c.args.only_texts c.args.room c.args.total c.items.count c.args.bytes.now left rest c.items.first None c.items.first false c.requires.within c.items.invariant.0 x (still c.items.first) in
     let more : c.items.count ≢ c.args.most = c.if-is_done.ensures in
