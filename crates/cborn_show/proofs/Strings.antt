@@ -34,10 +34,11 @@ text_more (d ∷ cs) c f g = (f.0, text_more cs c f.1 g)
 pub chunks_more : (text : Bool) (input mid rest old half comma new : List ℕ) → ChunksShown text input mid old half → comma ≡ half ++ codes ", " → ChunkShown text mid rest comma new → ChunksShown text input rest old new
 chunks_more text input mid rest old half comma new s b c =
     let show = shown_chunk (kind_of text) in
-    chunk_more s c
-    (λ e. text_more s.chunks c.chunk (s.holds.0 e) (c.holds.0 e),
+    chunk_more s c (
+      λ e. text_more s.chunks c.chunk (s.holds.0 e) (c.holds.0 e),
       after_three (others (codes ", ") (map show s.chunks)) (codes ", ") (show c.chunk) old half comma new s.holds.1 b c.holds.1
-      ∙ ap (λ l. old ++ l) (sym (others_more (codes ", ") show s.chunks c.chunk)))
+          ∙ ap (λ l. old ++ l) (sym (others_more (codes ", ") show s.chunks c.chunk)),
+    )
 
 pub long_string_empty : (text : Bool) (input rest old new : List ℕ) → input ≡ 255 ∷ rest → new ≡ old ++ shown_chunks (kind_of text) [] → LongStringShown text input rest old new
 long_string_empty text input rest old new e w = record { chunks = []; read = e; fits = tt; holds = (λ e. tt, w) }
