@@ -95,7 +95,10 @@ all_begin (more t ts) z h e = rw append_assoc (node_begins t _ h.0)
 
 entries_begin : (es : Entries) (z : List ℕ) → FitsEntries es → Unmarked z → Unmarked (joined_by (codes ", ") (pair_texts es) ++ z)
 entries_begin no_entry z h e = e
-entries_begin (entry k v es) z h e = rw (append_assoc, append_assoc) (node_begins k _ h.0)
+entries_begin (entry k v es) z h e =
+    let value : List ℕ = codes ": " ++ shown v in
+    let rest : List ℕ = further (pair_texts es) in
+    subst Unmarked (sym (append_assoc (shown k ++ value) rest z ∙ append_assoc (shown k) value (rest ++ z))) (node_begins k (value ++ (rest ++ z)) h.0)
 
 -- Nodes.
 

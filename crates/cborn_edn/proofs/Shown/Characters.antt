@@ -192,7 +192,7 @@ mutual
 
 pub lines_text : (ts : Trees) → FitsAll ts → EachShowable ts → IsUtf8 (shown_lines ts)
 lines_text no_node h s = IsUtf8-nil
-lines_text (more t ts) h s = IsUtf8-append _ _ (joined_text (codes ",\n") _ (ascii (codes ",\n") refl) (each_item (more t ts) h s)) (ascii (codes "\n") refl)
+lines_text (more t ts) h s = IsUtf8-append _ _ (joined_text (codes ",\n") (item_texts (more t ts)) (ascii (codes ",\n") refl) (each_item (more t ts) h s)) (ascii (codes "\n") refl)
 
 pub is_text : (nodes : Trees) (text : List ℕ) → FitsAll nodes → Shown nodes text → is_utf8 text ≡ true
 is_text nodes text fits shown = is_utf8-from_IsUtf8 text shown.0

@@ -76,15 +76,15 @@ chunks_show (c ∷ cs) u = (string_shows c.width c.bytes u.0, chunks_show cs u.1
 mutual
   node_shows : (t : Tree) → Fits t → IsUtf8 (shown t) → IsShowable t
   node_shows (TextNode p w x) h u = string_shows w x u
-  node_shows (TextChunks p (c ∷ cs)) h u = chunks_show (c ∷ cs) (after_commas _ (before _ (codes ")") (low_ascii (codes ")") refl) (behind (codes "(_ ") _ (low_ascii (codes "(_ ") refl) u)))
+  node_shows (TextChunks p (c ∷ cs)) h u = chunks_show (c ∷ cs) (after_commas (map (shown_chunk OfText) (c ∷ cs)) (before _ (codes ")") (low_ascii (codes ")") refl) (behind (codes "(_ ") _ (low_ascii (codes "(_ ") refl) u)))
   node_shows (Items p z ts) h u =
       let o = opened (mark_for_size z (count ts)) in
       let x = joined_by (codes ", ") (item_texts ts) in
-      all_show ts h.1 (after_commas _ (before x (codes "]") (low_ascii (codes "]") refl) (behind o (x ++ codes "]") (low_ascii o (opened_low (mark_for_size z (count ts)))) (behind (codes "[") (o ++ (x ++ codes "]")) (low_ascii (codes "[") refl) u))))
+      all_show ts h.1 (after_commas (item_texts ts) (before x (codes "]") (low_ascii (codes "]") refl) (behind o (x ++ codes "]") (low_ascii o (opened_low (mark_for_size z (count ts)))) (behind (codes "[") (o ++ (x ++ codes "]")) (low_ascii (codes "[") refl) u))))
   node_shows (PairNode p z es) h u =
       let o = opened (mark_for_size z (count_entries es)) in
       let x = joined_by (codes ", ") (pair_texts es) in
-      pairs_show es h.1 (after_commas _ (before x (codes "}") (low_ascii (codes "}") refl) (behind o (x ++ codes "}") (low_ascii o (opened_low (mark_for_size z (count_entries es)))) (behind (codes "{") (o ++ (x ++ codes "}")) (low_ascii (codes "{") refl) u))))
+      pairs_show es h.1 (after_commas (pair_texts es) (before x (codes "}") (low_ascii (codes "}") refl) (behind o (x ++ codes "}") (low_ascii o (opened_low (mark_for_size z (count_entries es)))) (behind (codes "{") (o ++ (x ++ codes "}")) (low_ascii (codes "{") refl) u))))
   node_shows (Tagged p w n t) h u =
       let l = below w n h.0 in
       let m = indicator (mark_for w n) in
