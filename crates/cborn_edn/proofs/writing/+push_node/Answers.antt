@@ -1,4 +1,4 @@
-use Rattle.std.proofs.Common.{codes, ◌∙◌, sym, ap, ◌++◌, arith, rules}
+use Rattle.std.proofs.Common.{codes, arith, rules}
 use Rattle.cborn_model.proofs.Listed.Trees.{depth_of_item, depth_of_pair}
 use Rattle.cborn_edn.specs.shared.Between.{shown_pair}
 use Rattle.cborn_edn.specs.Shown as pure
