@@ -1,6 +1,6 @@
 -- The fixed notation of nodes, as text, and why nodes have none.
-use Rattle.std.specs.Prelude.{◌≡◌, ℕ, suc, ◌≤◌, List, [], ◌∷◌, ◌++◌, length, codes, decimal, false, nat_lt, ◌==◌, ◌⊎◌, if◌then◌else◌}
-use Rattle.std.specs.List.{flat_map}
+use Rattle.std.specs.Prelude.{◌≡◌, ℕ, suc, ◌≤◌, List, [], ◌∷◌, ◌++◌, map, length, codes, decimal, false, nat_lt, ◌==◌, ◌⊎◌, if◌then◌else◌}
+use Rattle.std.specs.List.{flat_map, join_by}
 use Rattle.std.specs.Str.{is_utf8, IsUtf8}
 use Rattle.hex.specs.Hex.{encode_lower}
 use Rattle.cborn_model.specs.declared.heads.Width.{Width}
@@ -56,14 +56,17 @@ abbrev pub shown_string : StringKind → Width → List ℕ → List ℕ
 shown_string OfBytes w x = codes "h'" ++ (encode_lower x ++ (codes "'" ++ indicator (mark_for w (length x))))
 shown_string OfText w x = codes "\"" ++ (flat_map escaped x ++ (codes "\"" ++ indicator (mark_for w (length x))))
 
-abbrev pub shown_more_chunks : StringKind → List Chunk → List ℕ
-shown_more_chunks k [] = []
-shown_more_chunks k (c ∷ cs) = codes ", " ++ (shown_string k c.width c.bytes ++ shown_more_chunks k cs)
+abbrev pub shown_chunk : StringKind → Chunk → List ℕ
+shown_chunk k c = shown_string k c.width c.bytes
+
+-- texts one after another, with a separator between them
+abbrev pub joined_by : List ℕ → List (List ℕ) → List ℕ
+joined_by = join_by (λ text. text)
 
 abbrev pub shown_chunks : StringKind → List Chunk → List ℕ
 shown_chunks OfBytes [] = codes "''_"
 shown_chunks OfText [] = codes "\"\"_"
-shown_chunks k (c ∷ cs) = codes "(_ " ++ (shown_string k c.width c.bytes ++ (shown_more_chunks k cs ++ codes ")"))
+shown_chunks k cs = codes "(_ " ++ (joined_by (codes ", ") (map (shown_chunk k) cs) ++ codes ")")
 
 abbrev pub shown_simple : ℕ → List ℕ
 shown_simple n =
@@ -81,37 +84,23 @@ abbrev mutual
   shown (TextNode p w x) = shown_string OfText w x
   shown (ByteChunks p cs) = shown_chunks OfBytes cs
   shown (TextChunks p cs) = shown_chunks OfText cs
-  shown (Items p s ts) = codes "[" ++ (opened (mark_for_size s (count ts)) ++ (shown_all ts ++ codes "]"))
-  shown (PairNode p s es) = codes "{" ++ (opened (mark_for_size s (count_entries es)) ++ (shown_entries es ++ codes "}"))
+  shown (Items p s ts) = codes "[" ++ (opened (mark_for_size s (count ts)) ++ (joined_by (codes ", ") (item_texts ts) ++ codes "]"))
+  shown (PairNode p s es) = codes "{" ++ (opened (mark_for_size s (count_entries es)) ++ (joined_by (codes ", ") (pair_texts es) ++ codes "}"))
   shown (Tagged p w n t) = decimal n ++ (indicator (mark_for w n) ++ (codes "(" ++ (shown t ++ codes ")")))
   shown (Simple p n) = shown_simple n
 
-  -- joined by a comma and a space
-  pub shown_all : Trees → List ℕ
-  shown_all no_node = []
-  shown_all (more t ts) = shown t ++ shown_more ts
+  pub item_texts : Trees → List (List ℕ)
+  item_texts no_node = []
+  item_texts (more t ts) = shown t ∷ item_texts ts
 
-  pub shown_more : Trees → List ℕ
-  shown_more no_node = []
-  shown_more (more t ts) = codes ", " ++ (shown t ++ shown_more ts)
-
-  pub shown_entries : Entries → List ℕ
-  shown_entries no_entry = []
-  shown_entries (entry k v es) = shown k ++ (codes ": " ++ (shown v ++ shown_more_entries es))
-
-  pub shown_more_entries : Entries → List ℕ
-  shown_more_entries no_entry = []
-  shown_more_entries (entry k v es) = codes ", " ++ (shown k ++ (codes ": " ++ (shown v ++ shown_more_entries es)))
+  pub pair_texts : Entries → List (List ℕ)
+  pair_texts no_entry = []
+  pair_texts (entry k v es) = (shown k ++ (codes ": " ++ shown v)) ∷ pair_texts es
 
 -- a sequence: a comma and LF between its items, LF at the end
-abbrev mutual
-  pub shown_lines : Trees → List ℕ
-  shown_lines no_node = []
-  shown_lines (more t ts) = shown t ++ shown_more_lines ts
-
-  pub shown_more_lines : Trees → List ℕ
-  shown_more_lines no_node = codes "\n"
-  shown_more_lines (more t ts) = codes ",\n" ++ (shown t ++ shown_more_lines ts)
+abbrev pub shown_lines : Trees → List ℕ
+shown_lines no_node = []
+shown_lines ts = joined_by (codes ",\n") (item_texts ts) ++ codes "\n"
 
 -- A text string or a text chunk at p isn't UTF-8.
 abbrev pub IsBadChunk : List Chunk → ℕ → Type 0

@@ -1,11 +1,10 @@
 //! The fixed notation of a node, appended to text.
 
-ghost use Rattle.std.specs.Prelude.{◌≡◌, ◌++◌, suc, true, OnOk, codes, decimal};
+ghost use Rattle.std.specs.Prelude.{◌≡◌, ◌++◌, map, suc, true, OnOk, codes, decimal};
 ghost use Rattle.std.specs.List.{flat_map};
-ghost use Rattle.cborn_model.specs.Tree.{trees, entries};
 ghost use Rattle.cborn_edn.specs.declared.strings.StringKind.TheVariants.{Bytes as OfBytes, Text as OfText};
 ghost use Rattle.cborn_edn.specs.Shown as pure;
-ghost use Rattle.cborn_edn.specs.shared.Between.{between};
+ghost use Rattle.cborn_edn.specs.shared.Between.{between, shown_pair};
 ghost use Rattle.cborn_edn.specs.Shown.{mark_for, mark_for_size};
 ghost use Rattle.cborn_edn.specs.devices.Escaping.{is_escaped};
 
@@ -53,7 +52,7 @@ pub(crate) fn push_node(alloc: Global, out: &mut Vec<u8>, node: &Node) -> Result
 /// Appends the items of an array.
 #[cycle(push_node)]
 fn push_items(alloc: Global, out: &mut Vec<u8>, items: &[Node]) -> Result<(), AllocError>
-    ensures { OnOk result (out.new.items ≡ out.old.items ++ pure.shown_all (trees items.now)) }
+    ensures { OnOk result (out.new.items ≡ out.old.items ++ pure.joined_by (codes ", ") (map pure.shown items.now)) }
 {
     for (i, item) in items.iter().enumerate() {
         push_between(out, i, b", ")?;
@@ -65,7 +64,7 @@ fn push_items(alloc: Global, out: &mut Vec<u8>, items: &[Node]) -> Result<(), Al
 /// Appends the pairs of a map.
 #[cycle(push_node)]
 fn push_pairs(alloc: Global, out: &mut Vec<u8>, pairs: &[(Node, Node)]) -> Result<(), AllocError>
-    ensures { OnOk result (out.new.items ≡ out.old.items ++ pure.shown_entries (entries pairs.now)) }
+    ensures { OnOk result (out.new.items ≡ out.old.items ++ pure.joined_by (codes ", ") (map shown_pair pairs.now)) }
 {
     for (i, (key, value)) in pairs.iter().enumerate() {
         push_between(out, i, b", ")?;

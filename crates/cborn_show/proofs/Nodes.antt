@@ -1,15 +1,15 @@
 -- Nodes that were read and written, one after another and inside one another.
-use Rattle.std.proofs.Common.{◌≡◌, ℕ, suc, ◌+◌, ◌-◌, ◌≤◌, List, [], ◌∷◌, ◌++◌, length, drop, codes, decimal, refl, sym, ap, ◌∙◌, subst, append_assoc, append-nil, Bool, true, false}
+use Rattle.std.proofs.Common.{◌≡◌, ℕ, suc, ◌+◌, ◌-◌, ◌≤◌, List, [], ◌∷◌, ◌++◌, map, length, drop, codes, decimal, refl, sym, ap, ◌∙◌, subst, append_assoc, append-nil, Bool, true, false}
 use Rattle.std.proofs.lemmas.Bool.{eq-eqb}
 use Rattle.cborn_model.specs.declared.heads.Width.{Width}
 use Rattle.cborn_model.specs.declared.heads.Size.TheVariants.{Fixed, Endless}
 use Rattle.cborn_model.specs.declared.heads.Major.TheVariants.{Array, Map, Tag}
 use Rattle.cborn_model.specs.Heads.{Given, Unbounded, head, WidthFits, following, least}
 use Rattle.cborn_model.specs.Tree.{Tree, trees, entries}
-use Rattle.cborn_edn.specs.shared.Between.{between, separated}
-use Rattle.cborn_edn.specs.Shown.{mark_for, indicator, opened, shown}
+use Rattle.cborn_edn.specs.shared.Between.{between, shown_pair}
+use Rattle.cborn_edn.specs.Shown.{mark_for, indicator, opened, joined_by, shown}
 use Rattle.cborn_edn.specs.shared.Texts.{IsShowable, EachShowable, ArePairsShowable}
-use Rattle.cborn_edn.proofs.Shown.Separated.{separated-push, all-separated, entries-separated, shown_items, shown_pairs, after_three}
+use Rattle.cborn_edn.proofs.Shown.Separated.{joined_more, shown_items, shown_pairs, after_three}
 use Rattle.cborn_wire.specs.declared.heads.Argument.TheVariants as arguments
 use Rattle.cborn_wire.specs.declared.heads.Head.{Head}
 use Rattle.cborn_wire.specs.HeadReading.{major_at, IsHeadOf}
@@ -17,7 +17,7 @@ use Rattle.cborn_wire.specs.shared.Parts.{Pair}
 use Rattle.cborn_wire.proofs.Parts.Heads.{read_from}
 use Rattle.cborn_wire.proofs.Parts.Nodes.{uint_read, nint_read, no_node, node_more, array_read, endless_array_read, tagged_read}
 use Rattle.cborn_wire.proofs.Parts.Pairs.{pair_read, no_pair, pair_more, map_read, endless_map_read}
-use Rattle.cborn_show.specs.Passed.{NodeShown, NextShown, NodesShown, PairShown, PairsShown, shown_pair, signed, integer_major}
+use Rattle.cborn_show.specs.Passed.{NodeShown, NextShown, NodesShown, PairShown, PairsShown, signed, integer_major}
 
 -- an integer with the shortest head, behind what stands before it
 pub next_shown : (x tail : List ℕ) (h : Head) (len index n room : ℕ) (w : Width) (below : Bool) (old : List ℕ) → tail ≡ drop len x → IsHeadOf x h len → major_at h.major ≡ integer_major below → h.argument ≡ arguments.Given w n → w ≡ least n
@@ -46,10 +46,10 @@ pairs_showable : (ns : List Pair) (e : Pair) → ArePairsShowable (entries ns) �
 pairs_showable [] e f g = (g.0, g.1, tt)
 pairs_showable (n ∷ ns) e f g = (f.0, f.1, pairs_showable ns e f.2 g)
 
-written_more : {A : Type 0} (sep : List ℕ) (f : A → List ℕ) (xs : List A) (x : A) (n : ℕ) (old out half new : List ℕ) → length xs ≡ n → out ≡ old ++ separated sep f xs → half ≡ out ++ between sep n → new ≡ half ++ f x → new ≡ old ++ separated sep f (xs ++ x ∷ [])
+written_more : {A : Type 0} (sep : List ℕ) (f : A → List ℕ) (xs : List A) (x : A) (n : ℕ) (old out half new : List ℕ) → length xs ≡ n → out ≡ old ++ joined_by sep (map f xs) → half ≡ out ++ between sep n → new ≡ half ++ f x → new ≡ old ++ joined_by sep (map f (xs ++ x ∷ []))
 written_more sep f xs x n old out half new c a b d =
-    after_three (separated sep f xs) (between sep (length xs)) (f x) old out half new a (b ∙ ap (λ k. out ++ between sep k) (sym c)) d
-    ∙ ap (λ l. old ++ l) (sym (separated-push sep f xs x))
+    after_three (joined_by sep (map f xs)) (between sep (length xs)) (f x) old out half new a (b ∙ ap (λ k. out ++ between sep k) (sym c)) d
+    ∙ ap (λ l. old ++ l) (sym (joined_more sep f xs x))
 
 module _ (room : ℕ) where
   pub nodes_none : (sep input old : List ℕ) → NodesShown sep room 0 input input old old
@@ -61,12 +61,12 @@ module _ (room : ℕ) where
 
   pub array_done : (w : Width) (n : ℕ) (input rest old o1 o2 o3 new : List ℕ) → 1 ≤ room → WidthFits w n → o1 ≡ old ++ codes "[" → o2 ≡ o1 ++ opened (mark_for w n) → NodesShown (codes ", ") (room - 1) n input rest o2 o3 → new ≡ o3 ++ codes "]"
       → NodeShown room (head Array (Given w n) ++ input) rest old new
-  array_done w n input rest old o1 o2 o3 new r h a b s d = array_read 0 w r h s (s.holds.0, shown_items 0 (Fixed w) n s.nodes old o1 o2 o3 new (sym s.count) a b (s.holds.1 ∙ ap (λ l. o2 ++ l) (sym (all-separated s.nodes))) d)
+  array_done w n input rest old o1 o2 o3 new r h a b s d = array_read 0 w r h s (s.holds.0, shown_items 0 (Fixed w) n s.nodes old o1 o2 o3 new (sym s.count) a b s.holds.1 d)
 
   pub endless_array_done : (n : ℕ) (input after rest old o1 o2 new : List ℕ) → 1 ≤ room → o1 ≡ old ++ codes "[_ " → NodesShown (codes ", ") (room - 1) n input after o1 o2 → after ≡ 255 ∷ rest → new ≡ o2 ++ codes "]"
       → NodeShown room (head Array Unbounded ++ input) rest old new
   endless_array_done n input after rest old o1 o2 new r a s e d =
-      endless_array_read 0 r e s (s.holds.0, shown_items 0 Endless n s.nodes old (old ++ codes "[") o1 o2 new (sym s.count) refl (a ∙ sym (append_assoc old (codes "[") (codes "_ "))) (s.holds.1 ∙ ap (λ l. o1 ++ l) (sym (all-separated s.nodes))) d)
+      endless_array_read 0 r e s (s.holds.0, shown_items 0 Endless n s.nodes old (old ++ codes "[") o1 o2 new (sym s.count) refl (a ∙ sym (append_assoc old (codes "[") (codes "_ "))) s.holds.1 d)
 
   pub pair_done : (input mid rest old o1 o2 new : List ℕ) → NodeShown room input mid old o1 → o2 ≡ o1 ++ codes ": " → NodeShown room mid rest o2 new → PairShown room input rest old new
   pair_done input mid rest old o1 o2 new k b v = pair_read k v ((k.holds.0, v.holds.0), after_three (shown k.node) (codes ": ") (shown v.node) old o1 o2 new k.holds.1 b v.holds.1)
@@ -80,12 +80,12 @@ module _ (room : ℕ) where
 
   pub map_done : (w : Width) (n : ℕ) (input rest old o1 o2 o3 new : List ℕ) → 1 ≤ room → WidthFits w n → o1 ≡ old ++ codes "{" → o2 ≡ o1 ++ opened (mark_for w n) → PairsShown (room - 1) n input rest o2 o3 → new ≡ o3 ++ codes "}"
       → NodeShown room (head Map (Given w n) ++ input) rest old new
-  map_done w n input rest old o1 o2 o3 new r h a b s d = map_read 0 w r h s (s.holds.0, shown_pairs 0 (Fixed w) n s.nodes old o1 o2 o3 new (sym s.count) a b (s.holds.1 ∙ ap (λ l. o2 ++ l) (sym (entries-separated s.nodes))) d)
+  map_done w n input rest old o1 o2 o3 new r h a b s d = map_read 0 w r h s (s.holds.0, shown_pairs 0 (Fixed w) n s.nodes old o1 o2 o3 new (sym s.count) a b s.holds.1 d)
 
   pub endless_map_done : (n : ℕ) (input after rest old o1 o2 new : List ℕ) → 1 ≤ room → o1 ≡ old ++ codes "{_ " → PairsShown (room - 1) n input after o1 o2 → after ≡ 255 ∷ rest → new ≡ o2 ++ codes "}"
       → NodeShown room (head Map Unbounded ++ input) rest old new
   endless_map_done n input after rest old o1 o2 new r a s e d =
-      endless_map_read 0 r e s (s.holds.0, shown_pairs 0 Endless n s.nodes old (old ++ codes "{") o1 o2 new (sym s.count) refl (a ∙ sym (append_assoc old (codes "{") (codes "_ "))) (s.holds.1 ∙ ap (λ l. o1 ++ l) (sym (entries-separated s.nodes))) d)
+      endless_map_read 0 r e s (s.holds.0, shown_pairs 0 Endless n s.nodes old (old ++ codes "{") o1 o2 new (sym s.count) refl (a ∙ sym (append_assoc old (codes "{") (codes "_ "))) s.holds.1 d)
 
   pub tagged_done : (w : Width) (n : ℕ) (input rest old o1 o2 o3 new : List ℕ) → 1 ≤ room → WidthFits w n → o1 ≡ old ++ (decimal n ++ indicator (mark_for w n)) → o2 ≡ o1 ++ codes "(" → NodeShown (room - 1) input rest o2 o3 → new ≡ o3 ++ codes ")"
       → NodeShown room (head Tag (Given w n) ++ input) rest old new

@@ -1,5 +1,5 @@
 -- Whole texts, and nodes at their places.
-use Rattle.std.proofs.Common.{◌≡◌, ◌≤◌, ℕ, suc, ◌+◌, List, [], ◌∷◌, ◌++◌, length, codes, refl, sym, ap, ◌∙◌, subst, arith, true, false, ◌==◌}
+use Rattle.std.proofs.Common.{◌≡◌, ◌≤◌, ℕ, suc, ◌+◌, List, [], ◌∷◌, ◌++◌, map, length, codes, refl, sym, ap, ◌∙◌, subst, arith, true, false, ◌==◌}
 use Rattle.std.proofs.lemmas.Bool.{eqb-true}
 use Rattle.std.proofs.lemmas.Str.{IsUtf8-nil}
 use Rattle.std.specs.Str.{IsUtf8}
@@ -10,10 +10,9 @@ use Rattle.cborn_model.specs.Heads.{Given, head, argument}
 use Rattle.cborn_model.specs.Tree.{Tree, Uint, Nint, Bytes, Text, ByteChunks, TextChunks, Items, Pairs, Tagged, Simple, Trees, no_item, more, Entries, no_entry, entry, trees, count, count_entries}
 use Rattle.cborn_model.specs.Spelled.{chunk_bytes, spelled, spelled_all, Wellformed}
 use Rattle.cborn_model.specs.Placed.{PlacedAll}
-use Rattle.cborn_edn.specs.Shown.{Shown, shown, shown_lines}
-use Rattle.cborn_edn.specs.shared.Between.{separated}
+use Rattle.cborn_edn.specs.Shown.{Shown, joined_by, shown, shown_lines}
 use Rattle.cborn_edn.specs.ReadingBack.{unplaced_chunks, unplaced, unplaced_all, unplaced_entries}
-use Rattle.cborn_edn.proofs.Shown.Separated.{lines-separated}
+use Rattle.cborn_edn.proofs.Shown.Separated.{lines_joined}
 use Rattle.cborn_edn.proofs.Shown.Characters.{lines_text}
 use Rattle.cborn_edn.proofs.Shown.SameText.{same_notation}
 use Rattle.cborn_wire.specs.Places.{chunks_from, placed_from, all_from, entries_from}
@@ -75,7 +74,7 @@ some_lines limit n input rest out text s r some t = go s.nodes refl
     go (x ∷ xs) e = record { nodes = s.nodes; read = wellformed s r; shown = (subst IsUtf8 (sym same) (lines_text (trees s.nodes) s.fits s.holds.0), same) }
       where
         same : text ≡ shown_lines (trees s.nodes)
-        same = t ∙ ap (λ l. l ++ codes "\n") s.holds.1 ∙ ap (λ (ts : List Tree). separated (codes ",\n") shown ts ++ codes "\n") e ∙ sym (lines-separated x xs) ∙ ap (λ (ts : List Tree). shown_lines (trees ts)) (sym e)
+        same = t ∙ ap (λ l. l ++ codes "\n") s.holds.1 ∙ ap (λ (ts : List Tree). joined_by (codes ",\n") (map shown ts) ++ codes "\n") e ∙ lines_joined x xs ∙ ap (λ (ts : List Tree). shown_lines (trees ts)) (sym e)
 
 pub nothing_left : (l : List ℕ) → (length l == 0) ≡ true → l ≡ []
 nothing_left [] h = refl

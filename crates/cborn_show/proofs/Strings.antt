@@ -1,14 +1,14 @@
 -- Strings and chunks that were read and written.
-use Rattle.std.proofs.Common.{◌≡◌, ◌≤◌, ◌/◌, ◌%◌, slice_index, ℕ, List, [], ◌∷◌, ◌++◌, length, take, drop, codes, refl, sym, ap, ◌∙◌, subst, append_assoc, append-nil, Bool, true, false}
+use Rattle.std.proofs.Common.{◌≡◌, ◌≤◌, ◌/◌, ◌%◌, slice_index, ℕ, List, [], ◌∷◌, ◌++◌, map, length, take, drop, codes, refl, sym, ap, ◌∙◌, subst, append_assoc, append-nil, Bool, true, false}
 use Rattle.std.specs.Str.{is_utf8}
 use Rattle.hex.specs.Hex.{encode_lower, encode_with, lower_digits}
 use Rattle.cborn_model.specs.declared.heads.Width.{Width}
 use Rattle.cborn_model.specs.declared.nodes.Chunk.{Chunk}
 use Rattle.cborn_model.specs.Bytes.{AreBytes}
-use Rattle.cborn_edn.specs.declared.strings.StringKind.{StringKind}
-use Rattle.cborn_edn.specs.Shown.{shown_string, shown_more_chunks, shown_chunks, mark_for, indicator}
+use Rattle.cborn_edn.specs.shared.Between.{others}
+use Rattle.cborn_edn.specs.Shown.{joined_by, shown_string, shown_chunk, shown_chunks, mark_for, indicator}
 use Rattle.cborn_edn.specs.shared.Texts.{AreTexts}
-use Rattle.cborn_edn.proofs.Shown.Separated.{enclosed, after_three}
+use Rattle.cborn_edn.proofs.Shown.Separated.{others_more, enclosed, after_three}
 use Rattle.cborn_wire.specs.shared.Parts.{StringRead, ChunksRead}
 use Rattle.cborn_wire.proofs.Parts.Strings.{string_front, no_chunk, chunk_more, chunk_first}
 use Rattle.cborn_show.specs.Passed.{StringShown, ChunkShown, ChunksShown, LongStringShown, ChunksWritten, kind_of, major_of, shown_content}
@@ -31,17 +31,13 @@ text_more : (cs : List Chunk) (c : Chunk) → AreTexts cs → is_utf8 c.bytes �
 text_more [] c f g = (g, tt)
 text_more (d ∷ cs) c f g = (f.0, text_more cs c f.1 g)
 
-shown_more : (k : StringKind) (cs : List Chunk) (c : Chunk) → shown_more_chunks k (cs ++ c ∷ []) ≡ shown_more_chunks k cs ++ (codes ", " ++ shown_string k c.width c.bytes)
-shown_more k [] c = ap (λ l. codes ", " ++ l) (append-nil (shown_string k c.width c.bytes))
-shown_more k (d ∷ cs) c = ap (λ l. codes ", " ++ (shown_string k d.width d.bytes ++ l)) (shown_more k cs c) ∙ simp append_assoc
-
 pub chunks_more : (text : Bool) (input mid rest old half comma new : List ℕ) → ChunksShown text input mid old half → comma ≡ half ++ codes ", " → ChunkShown text mid rest comma new → ChunksShown text input rest old new
 chunks_more text input mid rest old half comma new s b c =
-    let k = kind_of text in
+    let show = shown_chunk (kind_of text) in
     chunk_more s c (
       λ e. text_more s.chunks c.chunk (s.holds.0 e) (c.holds.0 e),
-      after_three (shown_more_chunks k s.chunks) (codes ", ") (shown_string k c.chunk.width c.chunk.bytes) old half comma new s.holds.1 b c.holds.1
-          ∙ ap (λ l. old ++ l) (sym (shown_more k s.chunks c.chunk)),
+      after_three (others (codes ", ") (map show s.chunks)) (codes ", ") (show c.chunk) old half comma new s.holds.1 b c.holds.1
+          ∙ ap (λ l. old ++ l) (sym (others_more (codes ", ") show s.chunks c.chunk)),
     )
 
 pub long_string_empty : (text : Bool) (input rest old new : List ℕ) → input ≡ 255 ∷ rest → new ≡ old ++ shown_chunks (kind_of text) [] → LongStringShown text input rest old new
@@ -49,12 +45,13 @@ long_string_empty text input rest old new e w = record { chunks = []; read = e; 
 
 pub long_string_shown : (text : Bool) (input mid after rest old o1 o2 o3 new : List ℕ) → o1 ≡ old ++ codes "(_ " → ChunkShown text input mid o1 o2 → ChunksShown text mid after o2 o3 → after ≡ 255 ∷ rest → new ≡ o3 ++ codes ")" → LongStringShown text input rest old new
 long_string_shown text input mid after rest old o1 o2 o3 new a c s e d =
-    let first : List ℕ = shown_string (kind_of text) c.chunk.width c.chunk.bytes in
-    let further : List ℕ = shown_more_chunks (kind_of text) s.chunks in
-    let written : new ≡ old ++ shown_chunks (kind_of text) (c.chunk ∷ s.chunks) = enclosed (codes "(_ ") first further (codes ")") old o1 o2 o3 new a c.holds.1 s.holds.1 d ∙ ap (λ l. old ++ l) (whole text) in
+    let first : List ℕ = shown_chunk (kind_of text) c.chunk in
+    let further : List ℕ = others (codes ", ") (map (shown_chunk (kind_of text)) s.chunks) in
+    let written : new ≡ old ++ shown_chunks (kind_of text) (c.chunk ∷ s.chunks) =
+    enclosed (codes "(_ ") first further (codes ")") old o1 o2 o3 new a c.holds.1 s.holds.1 d ∙ ap (λ l. old ++ l) (ap (λ l. codes "(_ " ++ l) (sym (append_assoc first further (codes ")"))) ∙ whole text) in
     subst (λ (y : List ℕ). ChunksRead (ChunksWritten text old new (shown_chunks (kind_of text))) (major_of text) input y) e (chunk_first c s (λ t. (c.holds.0 t, s.holds.0 t), written))
   where
-    whole : (b : Bool) → codes "(_ " ++ (shown_string (kind_of b) c.chunk.width c.chunk.bytes ++ (shown_more_chunks (kind_of b) s.chunks ++ codes ")")) ≡ shown_chunks (kind_of b) (c.chunk ∷ s.chunks)
+    whole : (b : Bool) → codes "(_ " ++ (joined_by (codes ", ") (map (shown_chunk (kind_of b)) (c.chunk ∷ s.chunks)) ++ codes ")") ≡ shown_chunks (kind_of b) (c.chunk ∷ s.chunks)
     whole true = refl
     whole false = refl
 

@@ -1,7 +1,7 @@
 -- What one pass reads at the front of its input, and the notation that it writes at the end of its buffer.
 -- Start with IsShownText, at the end: it is all that the public call promises. What stands before it says the same of a part
 -- of the input: of input, the pass took a front and left rest; of its buffer, what was old became new.
-use Rattle.std.specs.Prelude.{◌≡◌, ℕ, suc, List, ◌∷◌, ◌++◌, Bool, true, false, codes, decimal}
+use Rattle.std.specs.Prelude.{◌≡◌, ℕ, suc, List, ◌∷◌, ◌++◌, map, Bool, true, false, codes, decimal}
 use Rattle.std.specs.List.{flat_map}
 use Rattle.std.specs.Str.{is_utf8}
 use Rattle.cborn_model.specs.declared.heads.Width.{Width}
@@ -15,8 +15,8 @@ use Rattle.cborn_model.specs.Tree.{Tree, trees, entries, Simple}
 use Rattle.hex.specs.Hex.{encode_lower}
 use Rattle.cborn_edn.specs.declared.strings.StringKind.{StringKind}
 use Rattle.cborn_edn.specs.declared.strings.StringKind.TheVariants.{Bytes as OfBytes, Text as OfText}
-use Rattle.cborn_edn.specs.shared.Between.{between, separated}
-use Rattle.cborn_edn.specs.Shown.{Shown, shown, shown_string, shown_more_chunks, shown_chunks, shown_simple, escaped}
+use Rattle.cborn_edn.specs.shared.Between.{between, others, shown_pair}
+use Rattle.cborn_edn.specs.Shown.{Shown, joined_by, shown, shown_string, shown_chunk, shown_chunks, shown_simple, escaped}
 use Rattle.cborn_edn.specs.shared.Texts.{AreTexts, IsShowable, EachShowable, ArePairsShowable}
 use Rattle.cborn_wire.specs.declared.heads.Argument.{Argument}
 use Rattle.cborn_wire.specs.declared.heads.Argument.TheVariants as arguments
@@ -40,9 +40,6 @@ abbrev pub shown_content : Bool → List ℕ → List ℕ
 shown_content true x = codes "\"" ++ (flat_map escaped x ++ codes "\"")
 shown_content false x = codes "h'" ++ (encode_lower x ++ codes "'")
 
-abbrev pub shown_pair : Pair → List ℕ
-shown_pair e = shown e.0 ++ (codes ": " ++ shown e.1)
-
 -- What is found of the parts that are read: texts are UTF-8, and what is shown was written.
 
 abbrev pub StringWritten : (text : Bool) (old new : List ℕ) → Width → List ℕ → Type 0
@@ -55,13 +52,13 @@ abbrev pub NodeWritten : (old new : List ℕ) → Tree → Type 0
 NodeWritten old new t = IsShowable t × (new ≡ old ++ shown t)
 
 abbrev pub NodesWritten : (sep old new : List ℕ) → List Tree → Type 0
-NodesWritten sep old new ts = EachShowable (trees ts) × (new ≡ old ++ separated sep shown ts)
+NodesWritten sep old new ts = EachShowable (trees ts) × (new ≡ old ++ joined_by sep (map shown ts))
 
 abbrev pub PairWritten : (old new : List ℕ) → Pair → Type 0
 PairWritten old new p = (IsShowable p.0 × IsShowable p.1) × (new ≡ old ++ shown_pair p)
 
 abbrev pub PairsWritten : (old new : List ℕ) → List Pair → Type 0
-PairsWritten old new ps = ArePairsShowable (entries ps) × (new ≡ old ++ separated (codes ", ") shown_pair ps)
+PairsWritten old new ps = ArePairsShowable (entries ps) × (new ≡ old ++ joined_by (codes ", ") (map shown_pair ps))
 
 -- the content of a string of n bytes; the string is written
 abbrev pub StringShown : (text : Bool) (w : Width) (n : ℕ) (input rest old new : List ℕ) → Type 0
@@ -73,7 +70,7 @@ ChunkShown text input rest old new = ChunkRead (λ c. StringWritten text old new
 
 -- chunks one after another, each written behind a comma
 abbrev pub ChunksShown : (text : Bool) (input rest old new : List ℕ) → Type 0
-ChunksShown text input rest old new = ChunksRead (ChunksWritten text old new (shown_more_chunks (kind_of text))) (major_of text) input rest
+ChunksShown text input rest old new = ChunksRead (ChunksWritten text old new (λ cs. others (codes ", ") (map (shown_chunk (kind_of text)) cs))) (major_of text) input rest
 
 -- the chunks of a string up to its break; the string is written
 abbrev pub LongStringShown : (text : Bool) (input rest old new : List ℕ) → Type 0

@@ -1,5 +1,5 @@
 -- Nodes of the fixed notation, as pieces.
-use Rattle.std.proofs.Common.{◌≡◌, refl, sym, ap, ◌∙◌, subst, ℕ, List, [], ◌∷◌, ◌++◌, length, false, eqb, decimal, append_assoc, arith}
+use Rattle.std.proofs.Common.{◌≡◌, refl, sym, ap, ◌∙◌, subst, ℕ, List, [], ◌∷◌, ◌++◌, map, length, false, eqb, decimal, append_assoc, arith}
 use Rattle.std.specs.Prelude.{codes}
 use Rattle.cborn_model.specs.Bytes.{AreBytes}
 use Rattle.cborn_model.specs.declared.heads.Width.{Width}
@@ -15,7 +15,8 @@ use Rattle.cborn_edn.specs.Syntax.{no_string, no_item, no_pair, token, tokens_of
 use Rattle.cborn_edn.specs.declared.strings.StringKind.{StringKind}
 use Rattle.cborn_edn.specs.declared.strings.StringKind.TheVariants.{Bytes as OfBytes, Text as OfText}
 use Rattle.cborn_edn.specs.ReadingBack.{nowhere, chunk_pieces, chunk_row, chunk_item, notated, notated_content, notated_fields, notated_input}
-use Rattle.cborn_edn.specs.Shown.{mark_for, mark_for_size, indicator, opened, shown_string, shown_chunks, shown_more_chunks, shown, shown_all, shown_more, shown_entries, shown_more_entries, shown_lines, shown_more_lines}
+use Rattle.cborn_edn.specs.shared.Between.{others}
+use Rattle.cborn_edn.specs.Shown.{mark_for, mark_for_size, indicator, opened, shown_string, shown_chunk, joined_by, shown_chunks, shown, item_texts, pair_texts, shown_lines}
 use Rattle.cborn_model.proofs.Numbers.Simples.{simple_below}
 use Rattle.cborn_edn.proofs.RoundTrip.Back.{below}
 use Rattle.cborn_edn.proofs.Lexed.Chained.{Chained, no_text, both, retell}
@@ -32,28 +33,33 @@ string_text : (k : StringKind) (w : Width) (x : List ℕ) (p : ℕ) (z : List �
 string_text OfBytes w x p z h b close = bytes_text x (mark_for w (length x)) z b (is_mark w (length x) h) close
 string_text OfText w x p z h b close = text_text x (mark_for w (length x)) z b (is_mark w (length x) h) close
 
-chunk_text : (k : StringKind) (c : Chunk) (z : List ℕ) → WidthFits c.width (length c.bytes) → AreBytes c.bytes → Closes z → Chained (shown_string k c.width c.bytes) z (tokens_of_pieces (chunk_pieces k c))
+chunk_text : (k : StringKind) (c : Chunk) (z : List ℕ) → WidthFits c.width (length c.bytes) → AreBytes c.bytes → Closes z → Chained (shown_chunk k c) z (tokens_of_pieces (chunk_pieces k c))
 chunk_text k c z h b close = string_text k c.width c.bytes c.place z h b close
 
-chunks_close : (k : StringKind) (cs : List Chunk) (z : List ℕ) → Closes z → Closes (shown_more_chunks k cs ++ z)
-chunks_close k [] z h = h
-chunks_close k (c ∷ cs) z h = comma_closes _
+-- what stands behind the first of several texts
+abbrev further : List (List ℕ) → List ℕ
+further = others (codes ", ")
 
-more_chunks : (k : StringKind) (cs : List Chunk) (z : List ℕ) → ChunksFit cs → Closes z → Chained (shown_more_chunks k cs) z (more_chunk_tokens k cs)
+further_close : (xs : List (List ℕ)) (z : List ℕ) → Closes z → Closes (further xs ++ z)
+further_close [] z h = h
+further_close (x ∷ xs) z h = comma_closes _
+
+abbrev further_chunks : StringKind → List Chunk → List ℕ
+further_chunks k cs = further (map (shown_chunk k) cs)
+
+more_chunks : (k : StringKind) (cs : List Chunk) (z : List ℕ) → ChunksFit cs → Closes z → Chained (further_chunks k cs) z (more_chunk_tokens k cs)
 more_chunks k [] z h close = no_text z
 more_chunks k (c ∷ cs) z h close =
-    both (codes ", ") (shown_string k c.width c.bytes ++ shown_more_chunks k cs) z (token nowhere Comma ∷ []) (tokens_of_pieces (chunk_pieces k c) ++ more_chunk_tokens k cs) (comma_space _)
-    (both (shown_string k c.width c.bytes) (shown_more_chunks k cs) z (tokens_of_pieces (chunk_pieces k c)) (more_chunk_tokens k cs) (chunk_text k c _ h.0.0 h.0.1 (chunks_close k cs z close)) (more_chunks k cs z h.1 close))
+    both (codes ", ") (shown_chunk k c ++ further_chunks k cs) z (token nowhere Comma ∷ []) (tokens_of_pieces (chunk_pieces k c) ++ more_chunk_tokens k cs) (comma_space _)
+    (both (shown_chunk k c) (further_chunks k cs) z (tokens_of_pieces (chunk_pieces k c)) (more_chunk_tokens k cs) (chunk_text k c _ h.0.0 h.0.1 (further_close _ z close)) (more_chunks k cs z h.1 close))
 
 -- one chunk or more
-chunks_text : (k : StringKind) (c : Chunk) (cs : List Chunk) (z : List ℕ) → ChunksFit (c ∷ cs) → Chained (codes "(_ " ++ (shown_string k c.width c.bytes ++ (shown_more_chunks k cs ++ codes ")"))) z (tokens_of (chunk_item k (c ∷ cs)))
+chunks_text : (k : StringKind) (c : Chunk) (cs : List Chunk) (z : List ℕ) → ChunksFit (c ∷ cs) → Chained (codes "(_ " ++ (joined_by (codes ", ") (map (shown_chunk k) (c ∷ cs)) ++ codes ")")) z (tokens_of (chunk_item k (c ∷ cs)))
 chunks_text k c cs z h =
-    let rest = both (shown_more_chunks k cs) (codes ")") z (more_chunk_tokens k cs) (token nowhere ParenClose ∷ []) (more_chunks k cs (41 ∷ z) h.1 (paren_closes z)) (paren_close z) in
-    let ends : Closes ((shown_more_chunks k cs ++ codes ")") ++ z) = rw append_assoc (chunks_close k cs (41 ∷ z) (paren_closes z)) in
-    let row = both (shown_string k c.width c.bytes) (shown_more_chunks k cs ++ codes ")") z (tokens_of_pieces (chunk_pieces k c)) (more_chunk_tokens k cs ++ token nowhere ParenClose ∷ []) (chunk_text k c _ h.0.0 h.0.1 ends) rest in
-    let told : tokens_of_pieces (chunk_pieces k c) ++ (more_chunk_tokens k cs ++ token nowhere ParenClose ∷ []) ≡ tokens_of_strings (chunk_row k cs no_string c) ++ token nowhere ParenClose ∷ [] =
-    sym (append_assoc (tokens_of_pieces (chunk_pieces k c)) (more_chunk_tokens k cs) (token nowhere ParenClose ∷ [])) ∙ ap (λ ts. ts ++ token nowhere ParenClose ∷ []) (sym (chunk_tokens k cs no_string c)) in
-    both (codes "(_ ") _ z (token nowhere ChunkOpen ∷ []) (tokens_of_strings (chunk_row k cs no_string c) ++ token nowhere ParenClose ∷ []) (chunks_open _) (retell _ z _ _ told row)
+    let row = both (shown_chunk k c) (further_chunks k cs) (41 ∷ z) (tokens_of_pieces (chunk_pieces k c)) (more_chunk_tokens k cs) (chunk_text k c _ h.0.0 h.0.1 (further_close _ (41 ∷ z) (paren_closes z))) (more_chunks k cs (41 ∷ z) h.1 (paren_closes z)) in
+    let inside = tokens_of_strings (chunk_row k cs no_string c) in
+    both (codes "(_ ") _ z (token nowhere ChunkOpen ∷ []) (inside ++ token nowhere ParenClose ∷ []) (chunks_open _)
+    (both _ (codes ")") z inside (token nowhere ParenClose ∷ []) (retell _ (41 ∷ z) _ _ (sym (chunk_tokens k cs no_string c)) row) (paren_close z))
 
 chunked_bytes : (cs : List Chunk) (z : List ℕ) → ChunksFit cs → Closes z → Chained (shown_chunks OfBytes cs) z (tokens_of (chunk_item OfBytes cs))
 chunked_bytes [] z h close = no_byte_chunks z close
@@ -83,27 +89,16 @@ node_begins (Tagged p w n t) z h = let l = below w n h.0 in rw append_assoc (dec
 node_begins (Simple p n) z h = simple_begins n z
 node_begins _ z h = refl
 
-all_begin : (ts : Trees) (z : List ℕ) → FitsAll ts → Unmarked z → Unmarked (shown_all ts ++ z)
+all_begin : (ts : Trees) (z : List ℕ) → FitsAll ts → Unmarked z → Unmarked (joined_by (codes ", ") (item_texts ts) ++ z)
 all_begin no_node z h e = e
-all_begin (more t ts) z h e = rw append_assoc (node_begins t (shown_more ts ++ z) h.0)
+all_begin (more t ts) z h e = rw append_assoc (node_begins t _ h.0)
 
-entries_begin : (es : Entries) (z : List ℕ) → FitsEntries es → Unmarked z → Unmarked (shown_entries es ++ z)
+entries_begin : (es : Entries) (z : List ℕ) → FitsEntries es → Unmarked z → Unmarked (joined_by (codes ", ") (pair_texts es) ++ z)
 entries_begin no_entry z h e = e
-entries_begin (entry k v es) z h e = rw append_assoc (node_begins k ((codes ": " ++ (shown v ++ shown_more_entries es)) ++ z) h.0)
-
--- What closes a node.
-
-more_close : (ts : Trees) (z : List ℕ) → Closes z → Closes (shown_more ts ++ z)
-more_close no_node z h = h
-more_close (more t ts) z h = comma_closes _
-
-entries_close : (es : Entries) (z : List ℕ) → Closes z → Closes (shown_more_entries es ++ z)
-entries_close no_entry z h = h
-entries_close (entry k v es) z h = comma_closes _
-
-lines_close : (ts : Trees) (z : List ℕ) → Closes (shown_more_lines ts ++ z)
-lines_close no_node z = line_closes _
-lines_close (more t ts) z = comma_closes _
+entries_begin (entry k v es) z h e =
+    let value : List ℕ = codes ": " ++ shown v in
+    let rest : List ℕ = further (pair_texts es) in
+    subst Unmarked (sym (append_assoc (shown k ++ value) rest z ∙ append_assoc (shown k) value (rest ++ z))) (node_begins k (value ++ (rest ++ z)) h.0)
 
 -- Nodes.
 
@@ -112,15 +107,13 @@ tag_whole : (n : ℕ) (m : Mark) (x z : List ℕ) (ts : List Token) → Chained 
 tag_whole n m x z ts h = subst (λ (y : List ℕ). Chained y z ts) (append_assoc (decimal n) (indicator m ++ codes "(") (x ++ codes ")") ∙ ap (λ y. decimal n ++ y) (append_assoc (indicator m) (codes "(") (x ++ codes ")"))) h
 
 -- a pair and those behind it, from the readings of both
-abbrev pair_tail : Tree → Entries → List ℕ
-pair_tail v es = codes ": " ++ (shown v ++ shown_more_entries es)
-
-pair_text : (k v : Tree) (es : Entries) (z : List ℕ) → Chained (shown k) (pair_tail v es ++ z) (tokens_of (notated k)) → Chained (shown v) (shown_more_entries es ++ z) (tokens_of (notated v)) → Chained (shown_more_entries es) z (more_pair_tokens es)
-    → Chained (shown k ++ pair_tail v es) z (tokens_of (notated k) ++ (token nowhere Colon ∷ (tokens_of (notated v) ++ more_pair_tokens es)))
-pair_text k v es z key value rest =
-    both (shown k) (pair_tail v es) z (tokens_of (notated k)) (token nowhere Colon ∷ (tokens_of (notated v) ++ more_pair_tokens es)) key
-    (both (codes ": ") (shown v ++ shown_more_entries es) z (token nowhere Colon ∷ []) (tokens_of (notated v) ++ more_pair_tokens es) (colon_space _)
-    (both (shown v) (shown_more_entries es) z (tokens_of (notated v)) (more_pair_tokens es) value rest))
+pair_text : (k v : Tree) (x z : List ℕ) (ts : List Token) → Chained (shown k) (codes ": " ++ ((shown v ++ x) ++ z)) (tokens_of (notated k)) → Chained (shown v) (x ++ z) (tokens_of (notated v)) → Chained x z ts
+    → Chained ((shown k ++ (codes ": " ++ shown v)) ++ x) z (tokens_of (notated k) ++ (token nowhere Colon ∷ (tokens_of (notated v) ++ ts)))
+pair_text k v x z ts key value rest =
+    subst (λ (y : List ℕ). Chained y z (tokens_of (notated k) ++ (token nowhere Colon ∷ (tokens_of (notated v) ++ ts)))) (sym (append_assoc (shown k) (codes ": " ++ shown v) x))
+    (both (shown k) (codes ": " ++ (shown v ++ x)) z (tokens_of (notated k)) (token nowhere Colon ∷ (tokens_of (notated v) ++ ts)) key
+    (both (codes ": ") (shown v ++ x) z (token nowhere Colon ∷ []) (tokens_of (notated v) ++ ts) (colon_space _)
+    (both (shown v) x z (tokens_of (notated v)) ts value rest)))
 
 mutual
   pub node_text : (t : Tree) (z : List ℕ) → Fits t → Closes z → Chained (shown t) z (tokens_of (notated t))
@@ -132,14 +125,14 @@ mutual
   node_text (TextChunks p cs) z h close = chunked_text cs z h close
   node_text (Items p s ts) z h close =
       let m = mark_for_size s (count ts) in
-      both (codes "[" ++ opened m) (shown_all ts ++ codes "]") z (token nowhere (ArrayOpen m) ∷ []) (tokens_of_content (notated_content ts) ++ token nowhere ArrayClose ∷ [])
+      both (codes "[" ++ opened m) (joined_by (codes ", ") (item_texts ts) ++ codes "]") z (token nowhere (ArrayOpen m) ∷ []) (tokens_of_content (notated_content ts) ++ token nowhere ArrayClose ∷ [])
       (array_open m _ (is_size_mark s (count ts) h.0) (rw append_assoc (all_begin ts (93 ∷ z) h.1 refl)))
-      (both (shown_all ts) (codes "]") z (tokens_of_content (notated_content ts)) (token nowhere ArrayClose ∷ []) (all_text ts (93 ∷ z) h.1 (bracket_closes z)) (bracket_close z))
+      (both (joined_by (codes ", ") (item_texts ts)) (codes "]") z (tokens_of_content (notated_content ts)) (token nowhere ArrayClose ∷ []) (all_text ts (93 ∷ z) h.1 (bracket_closes z)) (bracket_close z))
   node_text (PairNode p s es) z h close =
       let m = mark_for_size s (count_entries es) in
-      both (codes "{" ++ opened m) (shown_entries es ++ codes "}") z (token nowhere (MapOpen m) ∷ []) (tokens_of_fields (notated_fields es) ++ token nowhere MapClose ∷ [])
+      both (codes "{" ++ opened m) (joined_by (codes ", ") (pair_texts es) ++ codes "}") z (token nowhere (MapOpen m) ∷ []) (tokens_of_fields (notated_fields es) ++ token nowhere MapClose ∷ [])
       (map_open m _ (is_size_mark s (count_entries es) h.0) (rw append_assoc (entries_begin es (125 ∷ z) h.1 refl)))
-      (both (shown_entries es) (codes "}") z (tokens_of_fields (notated_fields es)) (token nowhere MapClose ∷ []) (entries_text es (125 ∷ z) h.1 (brace_closes z)) (brace_close z))
+      (both (joined_by (codes ", ") (pair_texts es)) (codes "}") z (tokens_of_fields (notated_fields es)) (token nowhere MapClose ∷ []) (entries_text es (125 ∷ z) h.1 (brace_closes z)) (brace_close z))
   node_text (Tagged p w n t) z h close =
       let l = below w n h.0 in
       let m = mark_for w n in
@@ -149,38 +142,47 @@ mutual
       (both (shown t) (codes ")") z (tokens_of (notated t)) (token nowhere ParenClose ∷ []) (node_text t (41 ∷ z) h.1 (paren_closes z)) (paren_close z)))
   node_text (Simple p n) z h close = simple_text n z (simple_below n h) close
 
-  all_text : (ts : Trees) (z : List ℕ) → FitsAll ts → Closes z → Chained (shown_all ts) z (tokens_of_content (notated_content ts))
+  all_text : (ts : Trees) (z : List ℕ) → FitsAll ts → Closes z → Chained (joined_by (codes ", ") (item_texts ts)) z (tokens_of_content (notated_content ts))
   all_text no_node z h close = no_text z
   all_text (more t ts) z h close =
       retell _ z _ _ (sym (row_tokens ts no_item (notated t)))
-      (both (shown t) (shown_more ts) z (tokens_of (notated t)) (more_tokens ts) (node_text t _ h.0 (more_close ts z close)) (more_text ts z h.1 close))
+      (both (shown t) (further (item_texts ts)) z (tokens_of (notated t)) (more_tokens ts) (node_text t _ h.0 (further_close _ z close)) (more_text ts z h.1 close))
 
-  more_text : (ts : Trees) (z : List ℕ) → FitsAll ts → Closes z → Chained (shown_more ts) z (more_tokens ts)
+  more_text : (ts : Trees) (z : List ℕ) → FitsAll ts → Closes z → Chained (further (item_texts ts)) z (more_tokens ts)
   more_text no_node z h close = no_text z
   more_text (more t ts) z h close =
-      both (codes ", ") (shown t ++ shown_more ts) z (token nowhere Comma ∷ []) (tokens_of (notated t) ++ more_tokens ts) (comma_space _)
-      (both (shown t) (shown_more ts) z (tokens_of (notated t)) (more_tokens ts) (node_text t _ h.0 (more_close ts z close)) (more_text ts z h.1 close))
+      both (codes ", ") (shown t ++ further (item_texts ts)) z (token nowhere Comma ∷ []) (tokens_of (notated t) ++ more_tokens ts) (comma_space _)
+      (both (shown t) (further (item_texts ts)) z (tokens_of (notated t)) (more_tokens ts) (node_text t _ h.0 (further_close _ z close)) (more_text ts z h.1 close))
 
-  entries_text : (es : Entries) (z : List ℕ) → FitsEntries es → Closes z → Chained (shown_entries es) z (tokens_of_fields (notated_fields es))
+  entries_text : (es : Entries) (z : List ℕ) → FitsEntries es → Closes z → Chained (joined_by (codes ", ") (pair_texts es)) z (tokens_of_fields (notated_fields es))
   entries_text no_entry z h close = no_text z
   entries_text (entry k v es) z h close =
-      retell _ z _ _ (sym (pair_tokens es no_pair (notated k) (notated v))) (pair_text k v es z (node_text k _ h.0 (colon_closes _)) (node_text v _ h.1 (entries_close es z close)) (more_entries es z h.2 close))
+      retell _ z _ _ (sym (pair_tokens es no_pair (notated k) (notated v))) (pair_text k v _ z (more_pair_tokens es) (node_text k _ h.0 (colon_closes _)) (node_text v _ h.1 (further_close _ z close)) (more_entries es z h.2 close))
 
-  more_entries : (es : Entries) (z : List ℕ) → FitsEntries es → Closes z → Chained (shown_more_entries es) z (more_pair_tokens es)
+  more_entries : (es : Entries) (z : List ℕ) → FitsEntries es → Closes z → Chained (further (pair_texts es)) z (more_pair_tokens es)
   more_entries no_entry z h close = no_text z
   more_entries (entry k v es) z h close =
-      both (codes ", ") _ z (token nowhere Comma ∷ []) (tokens_of (notated k) ++ (token nowhere Colon ∷ (tokens_of (notated v) ++ more_pair_tokens es))) (comma_space _) (pair_text k v es z (node_text k _ h.0 (colon_closes _)) (node_text v _ h.1 (entries_close es z close)) (more_entries es z h.2 close))
+      both (codes ", ") _ z (token nowhere Comma ∷ []) (tokens_of (notated k) ++ (token nowhere Colon ∷ (tokens_of (notated v) ++ more_pair_tokens es))) (comma_space _) (pair_text k v _ z (more_pair_tokens es) (node_text k _ h.0 (colon_closes _)) (node_text v _ h.1 (further_close _ z close)) (more_entries es z h.2 close))
 
 -- A sequence.
 
-more_lines : (ts : Trees) (z : List ℕ) → FitsAll ts → Chained (shown_more_lines ts) z (more_tokens ts)
+abbrev further_lines : Trees → List ℕ
+further_lines ts = others (codes ",\n") (item_texts ts)
+
+lines_close : (ts : Trees) (z : List ℕ) → Closes ((further_lines ts ++ codes "\n") ++ z)
+lines_close no_node z = line_closes _
+lines_close (more t ts) z = comma_closes _
+
+line_text : (t : Tree) (ts : Trees) (z : List ℕ) → Fits t → Chained (further_lines ts ++ codes "\n") z (more_tokens ts) → Chained ((shown t ++ further_lines ts) ++ codes "\n") z (tokens_of (notated t) ++ more_tokens ts)
+line_text t ts z h rest =
+    subst (λ (y : List ℕ). Chained y z (tokens_of (notated t) ++ more_tokens ts)) (sym (append_assoc (shown t) (further_lines ts) (codes "\n")))
+    (both (shown t) (further_lines ts ++ codes "\n") z (tokens_of (notated t)) (more_tokens ts) (node_text t _ h (lines_close ts z)) rest)
+
+more_lines : (ts : Trees) (z : List ℕ) → FitsAll ts → Chained (further_lines ts ++ codes "\n") z (more_tokens ts)
 more_lines no_node z h = line z
 more_lines (more t ts) z h =
-    both (codes ",\n") (shown t ++ shown_more_lines ts) z (token nowhere Comma ∷ []) (tokens_of (notated t) ++ more_tokens ts) (comma_line _)
-    (both (shown t) (shown_more_lines ts) z (tokens_of (notated t)) (more_tokens ts) (node_text t _ h.0 (lines_close ts z)) (more_lines ts z h.1))
+    both (codes ",\n") ((shown t ++ further_lines ts) ++ codes "\n") z (token nowhere Comma ∷ []) (tokens_of (notated t) ++ more_tokens ts) (comma_line _) (line_text t ts z h.0 (more_lines ts z h.1))
 
 pub lines_text : (ts : Trees) (z : List ℕ) → FitsAll ts → Chained (shown_lines ts) z (tokens_of_input (notated_input ts))
 lines_text no_node z h = no_text z
-lines_text (more t ts) z h =
-    retell _ z _ _ (sym (row_tokens ts no_item (notated t)))
-    (both (shown t) (shown_more_lines ts) z (tokens_of (notated t)) (more_tokens ts) (node_text t _ h.0 (lines_close ts z)) (more_lines ts z h.1))
+lines_text (more t ts) z h = retell _ z _ _ (sym (row_tokens ts no_item (notated t))) (line_text t ts z h.0 (more_lines ts z h.1))

@@ -1,5 +1,5 @@
 -- The text of the fixed notation is UTF-8.
-use Rattle.std.proofs.Common.{◌≡◌, refl, sym, ap, ◌∙◌, subst, ℕ, suc, ◌+◌, ◌^◌, ◌<◌, ◌≤◌, List, [], ◌∷◌, ◌++◌, length, get_or, take, Bool, true, false, ◌&&◌, ltb, eqb, cond, inl, inr, decimal, append-nil, arith}
+use Rattle.std.proofs.Common.{◌≡◌, refl, sym, ap, ◌∙◌, subst, ℕ, suc, ◌+◌, ◌^◌, ◌<◌, ◌≤◌, List, [], ◌∷◌, ◌++◌, map, length, get_or, take, Bool, true, false, ◌&&◌, ltb, eqb, cond, inl, inr, decimal, append-nil, arith}
 use Rattle.std.proofs.lemmas.Bool.{and_parts, cond-false, le-ltb, ltb-true, ne_eqb, cases_lt}
 use Rattle.std.proofs.lemmas.List.{take_more, take_all}
 use Rattle.std.proofs.lemmas.Str.{IsUtf8-append, IsUtf8-nil, IsUtf8-encode, IsUtf8-from_ascii, IsUtf8-from_is_utf8, is_utf8-from_IsUtf8, inside_one, encode_ascii}
@@ -21,7 +21,8 @@ use Rattle.cborn_lex.specs.declared.classes.Mark.{Mark}
 use Rattle.cborn_lex.specs.declared.classes.Mark.TheVariants.{Wide}
 use Rattle.cborn_edn.specs.declared.strings.StringKind.{StringKind}
 use Rattle.cborn_edn.specs.declared.strings.StringKind.TheVariants.{Bytes as OfBytes, Text as OfText}
-use Rattle.cborn_edn.specs.Shown.{mark_for, mark_for_size, escaped, indicator, opened, shown_string, shown_chunks, shown_more_chunks, shown_simple, shown, shown_all, shown_more, shown_entries, shown_more_entries, shown_lines, shown_more_lines, Shown}
+use Rattle.cborn_edn.specs.shared.Between.{others}
+use Rattle.cborn_edn.specs.Shown.{mark_for, mark_for_size, escaped, indicator, opened, shown_string, shown_chunk, joined_by, shown_chunks, shown_simple, shown, item_texts, pair_texts, shown_lines, Shown}
 use Rattle.cborn_edn.specs.shared.Texts.{AreTexts, IsShowable, EachShowable, ArePairsShowable}
 use Rattle.cborn_model.proofs.Numbers.Simples.{simple_below}
 use Rattle.cborn_edn.proofs.RoundTrip.Back.{below}
@@ -129,18 +130,32 @@ texts_sound : (cs : List Chunk) → AreTexts cs → AreSound OfText cs
 texts_sound [] h = tt
 texts_sound (c ∷ cs) h = (h.0, texts_sound cs h.1)
 
-more_chunks : (k : StringKind) (cs : List Chunk) → AreSound k cs → IsUtf8 (shown_more_chunks k cs)
-more_chunks k [] h = IsUtf8-nil
-more_chunks k (c ∷ cs) h = IsUtf8-append _ _ (ascii (codes ", ") refl) (IsUtf8-append _ _ (string_text k c.width c.bytes h.0) (more_chunks k cs h.1))
+-- texts one after another
 
-some_chunks : (k : StringKind) (c : Chunk) (cs : List Chunk) → AreSound k (c ∷ cs) → IsUtf8 (codes "(_ " ++ (shown_string k c.width c.bytes ++ (shown_more_chunks k cs ++ codes ")")))
-some_chunks k c cs h = IsUtf8-append _ _ (ascii (codes "(_ ") refl) (IsUtf8-append _ _ (string_text k c.width c.bytes h.0) (IsUtf8-append _ _ (more_chunks k cs h.1) (ascii (codes ")") refl)))
+abbrev pub EachUtf8 : List (List ℕ) → Type 0
+EachUtf8 [] = Unit {0}
+EachUtf8 (x ∷ xs) = IsUtf8 x × EachUtf8 xs
+
+others_text : (sep : List ℕ) (xs : List (List ℕ)) → IsUtf8 sep → EachUtf8 xs → IsUtf8 (others sep xs)
+others_text sep [] s h = IsUtf8-nil
+others_text sep (x ∷ xs) s h = IsUtf8-append _ _ (IsUtf8-append _ _ s h.0) (others_text sep xs s h.1)
+
+joined_text : (sep : List ℕ) (xs : List (List ℕ)) → IsUtf8 sep → EachUtf8 xs → IsUtf8 (joined_by sep xs)
+joined_text sep [] s h = IsUtf8-nil
+joined_text sep (x ∷ xs) s h = IsUtf8-append _ _ h.0 (others_text sep xs s h.1)
+
+each_chunk : (k : StringKind) (cs : List Chunk) → AreSound k cs → EachUtf8 (map (shown_chunk k) cs)
+each_chunk k [] h = tt
+each_chunk k (c ∷ cs) h = (string_text k c.width c.bytes h.0, each_chunk k cs h.1)
+
+some_chunks : (k : StringKind) (cs : List Chunk) → AreSound k cs → IsUtf8 (codes "(_ " ++ (joined_by (codes ", ") (map (shown_chunk k) cs) ++ codes ")"))
+some_chunks k cs h = IsUtf8-append _ _ (ascii (codes "(_ ") refl) (IsUtf8-append _ _ (joined_text (codes ", ") _ (ascii (codes ", ") refl) (each_chunk k cs h)) (ascii (codes ")") refl))
 
 chunks_text : (k : StringKind) (cs : List Chunk) → AreSound k cs → IsUtf8 (shown_chunks k cs)
 chunks_text OfBytes [] h = ascii _ refl
 chunks_text OfText [] h = ascii _ refl
-chunks_text OfBytes (c ∷ cs) h = some_chunks OfBytes c cs h
-chunks_text OfText (c ∷ cs) h = some_chunks OfText c cs h
+chunks_text OfBytes (c ∷ cs) h = some_chunks OfBytes (c ∷ cs) h
+chunks_text OfText (c ∷ cs) h = some_chunks OfText (c ∷ cs) h
 
 simple_text : (n : ℕ) → n < 256 → IsUtf8 (shown_simple n)
 simple_text n h = go (eqb n 20) (eqb n 21) (eqb n 22) (eqb n 23)
@@ -160,37 +175,24 @@ mutual
   node_text (TextNode p w x) h s = string_text OfText w x s
   node_text (ByteChunks p cs) h s = chunks_text OfBytes cs (bytes_sound cs)
   node_text (TextChunks p cs) h s = chunks_text OfText cs (texts_sound cs s)
-  node_text (Items p z ts) h s = IsUtf8-append _ _ (ascii (codes "[") refl) (IsUtf8-append _ _ (opened_text (mark_for_size z (count ts))) (IsUtf8-append _ _ (all_text ts h.1 s) (ascii (codes "]") refl)))
-  node_text (PairNode p z es) h s = IsUtf8-append _ _ (ascii (codes "{") refl) (IsUtf8-append _ _ (opened_text (mark_for_size z (count_entries es))) (IsUtf8-append _ _ (entries_text es h.1 s) (ascii (codes "}") refl)))
+  node_text (Items p z ts) h s = IsUtf8-append _ _ (ascii (codes "[") refl) (IsUtf8-append _ _ (opened_text (mark_for_size z (count ts))) (IsUtf8-append _ _ (joined_text (codes ", ") _ (ascii (codes ", ") refl) (each_item ts h.1 s)) (ascii (codes "]") refl)))
+  node_text (PairNode p z es) h s = IsUtf8-append _ _ (ascii (codes "{") refl) (IsUtf8-append _ _ (opened_text (mark_for_size z (count_entries es))) (IsUtf8-append _ _ (joined_text (codes ", ") _ (ascii (codes ", ") refl) (each_pair es h.1 s)) (ascii (codes "}") refl)))
   node_text (Tagged p w n t) h s =
       let l = below w n h.0 in
       IsUtf8-append _ _ (number_text n (omega arith)) (IsUtf8-append _ _ (indicator_text (mark_for w n)) (IsUtf8-append _ _ (ascii (codes "(") refl) (IsUtf8-append _ _ (node_text t h.1 s) (ascii (codes ")") refl))))
   node_text (Simple p n) h s = simple_text n (simple_below n h)
 
-  all_text : (ts : Trees) → FitsAll ts → EachShowable ts → IsUtf8 (shown_all ts)
-  all_text no_node h s = IsUtf8-nil
-  all_text (more t ts) h s = IsUtf8-append _ _ (node_text t h.0 s.0) (more_text ts h.1 s.1)
+  each_item : (ts : Trees) → FitsAll ts → EachShowable ts → EachUtf8 (item_texts ts)
+  each_item no_node h s = tt
+  each_item (more t ts) h s = (node_text t h.0 s.0, each_item ts h.1 s.1)
 
-  more_text : (ts : Trees) → FitsAll ts → EachShowable ts → IsUtf8 (shown_more ts)
-  more_text no_node h s = IsUtf8-nil
-  more_text (more t ts) h s = IsUtf8-append _ _ (ascii (codes ", ") refl) (IsUtf8-append _ _ (node_text t h.0 s.0) (more_text ts h.1 s.1))
-
-  entries_text : (es : Entries) → FitsEntries es → ArePairsShowable es → IsUtf8 (shown_entries es)
-  entries_text no_entry h s = IsUtf8-nil
-  entries_text (entry k v es) h s = IsUtf8-append _ _ (node_text k h.0 s.0) (IsUtf8-append _ _ (ascii (codes ": ") refl) (IsUtf8-append _ _ (node_text v h.1 s.1) (more_entries es h.2 s.2)))
-
-  more_entries : (es : Entries) → FitsEntries es → ArePairsShowable es → IsUtf8 (shown_more_entries es)
-  more_entries no_entry h s = IsUtf8-nil
-  more_entries (entry k v es) h s =
-      IsUtf8-append _ _ (ascii (codes ", ") refl) (IsUtf8-append _ _ (node_text k h.0 s.0) (IsUtf8-append _ _ (ascii (codes ": ") refl) (IsUtf8-append _ _ (node_text v h.1 s.1) (more_entries es h.2 s.2))))
-
-more_lines : (ts : Trees) → FitsAll ts → EachShowable ts → IsUtf8 (shown_more_lines ts)
-more_lines no_node h s = ascii _ refl
-more_lines (more t ts) h s = IsUtf8-append _ _ (ascii (codes ",\n") refl) (IsUtf8-append _ _ (node_text t h.0 s.0) (more_lines ts h.1 s.1))
+  each_pair : (es : Entries) → FitsEntries es → ArePairsShowable es → EachUtf8 (pair_texts es)
+  each_pair no_entry h s = tt
+  each_pair (entry k v es) h s = (IsUtf8-append _ _ (node_text k h.0 s.0) (IsUtf8-append _ _ (ascii (codes ": ") refl) (node_text v h.1 s.1)), each_pair es h.2 s.2)
 
 pub lines_text : (ts : Trees) → FitsAll ts → EachShowable ts → IsUtf8 (shown_lines ts)
 lines_text no_node h s = IsUtf8-nil
-lines_text (more t ts) h s = IsUtf8-append _ _ (node_text t h.0 s.0) (more_lines ts h.1 s.1)
+lines_text (more t ts) h s = IsUtf8-append _ _ (joined_text (codes ",\n") (item_texts (more t ts)) (ascii (codes ",\n") refl) (each_item (more t ts) h s)) (ascii (codes "\n") refl)
 
 pub is_text : (nodes : Trees) (text : List ℕ) → FitsAll nodes → Shown nodes text → is_utf8 text ≡ true
 is_text nodes text fits shown = is_utf8-from_IsUtf8 text shown.0

@@ -1,10 +1,9 @@
-use Rattle.std.proofs.Common.{codes, [], ◌∷◌, ◌++◌, ◌∙◌, sym, rules, ap, arith, ◌≡◌, ℕ, List, length, true, false, ◌==◌}
+use Rattle.std.proofs.Common.{codes, [], ◌∷◌, ◌++◌, ◌∙◌, sym, rules, ap, arith, ◌≡◌, ℕ, List, map, length, true, false, ◌==◌}
 use Rattle.std.proofs.lemmas.Bool.{eqb-true}
 use Rattle.cborn_model.specs.Tree.{Tree, trees}
-use Rattle.cborn_edn.specs.shared.Between.{separated}
 use Rattle.cborn_edn.specs.Shown as pure
 use Rattle.cborn_edn.proofs.Shown.Characters.{fits_more, fits_whole}
-use Rattle.cborn_edn.proofs.Shown.Separated.{one_more, all_of, lines-separated}
+use Rattle.cborn_edn.proofs.Shown.Separated.{one_more, all_of, lines_joined}
 use Rattle.cborn_edn.proofs.showing.shown.Goals.{then-not-is_empty+in_ok-push, else-not-is_empty}
 use Rattle.cborn_edn.proofs.showing.shown.Goals as goal
 
@@ -15,11 +14,11 @@ loop-i-preserved c =
       fits_more c.args.items.now c.loop-i.i c.index-items-i.result c.loop-i-test.true c.index-items-i.is c.loop-i.invariant.1 c.node.ensures.spelled.0,
     )
 
-some_lines : (xs : List Tree) (out o1 : List ℕ) → (length xs == 0) ≡ false → out ≡ separated (codes ",\n") pure.shown xs → o1 ≡ out ++ codes "\n" → o1 ≡ pure.shown_lines (trees xs)
+some_lines : (xs : List Tree) (out o1 : List ℕ) → (length xs == 0) ≡ false → out ≡ pure.joined_by (codes ",\n") (map pure.shown xs) → o1 ≡ out ++ codes "\n" → o1 ≡ pure.shown_lines (trees xs)
 some_lines [] out o1 n a b = let e : true ≡ false = n in cc
-some_lines (x ∷ xs) out o1 n a b = b ∙ ap (λ o. o ++ codes "\n") a ∙ sym (lines-separated x xs)
+some_lines (x ∷ xs) out o1 n a b = b ∙ ap (λ o. o ++ codes "\n") a ∙ lines_joined x xs
 
-no_lines : (xs : List Tree) (out : List ℕ) → (length xs == 0) ≡ true → out ≡ separated (codes ",\n") pure.shown xs → out ≡ pure.shown_lines (trees xs)
+no_lines : (xs : List Tree) (out : List ℕ) → (length xs == 0) ≡ true → out ≡ pure.joined_by (codes ",\n") (map pure.shown xs) → out ≡ pure.shown_lines (trees xs)
 no_lines [] out n a = a
 no_lines (x ∷ xs) out n a = let e : length (x ∷ xs) ≡ 0 = eqb-true (length (x ∷ xs)) 0 n in absurd (omega arith)
 

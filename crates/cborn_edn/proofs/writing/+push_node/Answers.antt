@@ -1,7 +1,8 @@
-use Rattle.std.proofs.Common.{codes, ◌∙◌, sym, ap, ◌++◌, arith, rules}
+use Rattle.std.proofs.Common.{codes, arith, rules}
 use Rattle.cborn_model.proofs.Listed.Trees.{depth_of_item, depth_of_pair}
+use Rattle.cborn_edn.specs.shared.Between.{shown_pair}
 use Rattle.cborn_edn.specs.Shown as pure
-use Rattle.cborn_edn.proofs.Shown.Separated.{shown_pair, one_more, all_of, all-separated, entries-separated, after_three, shown_items, shown_pairs}
+use Rattle.cborn_edn.proofs.Shown.Separated.{one_more, all_of, after_three, shown_items, shown_pairs}
 use Rattle.cborn_edn.proofs.writing.+push_node.Goals as goal
 
 pub push_items-push_node-requires : goal.push_items-push_node-requires
@@ -14,7 +15,7 @@ push_items-loop-i-preserved t c =
 
 pub push_items-returns : goal.push_items-returns
 push_items-returns t c =
-    all_of (codes ", ") pure.shown c.args.out.now.items c.loop-i.out.items c.args.items.now c.loop-i.i c.loop-i-test.false c.loop-i.invariant ∙ ap (λ l. c.args.out.now.items ++ l) (sym (all-separated c.args.items.now))
+    all_of (codes ", ") pure.shown c.args.out.now.items c.loop-i.out.items c.args.items.now c.loop-i.i c.loop-i-test.false c.loop-i.invariant
 
 pub push_node-returns-in_ok-push-in-Items-2 : goal.push_node-returns-in_ok-push-in-Items-2
 push_node-returns-in_ok-push-in-Items-2 t c =
@@ -38,4 +39,4 @@ push_pairs-loop-i-preserved t c =
 
 pub push_pairs-returns : goal.push_pairs-returns
 push_pairs-returns t c =
-    all_of (codes ", ") shown_pair c.args.out.now.items c.loop-i.out.items c.args.pairs.now c.loop-i.i c.loop-i-test.false c.loop-i.invariant ∙ ap (λ l. c.args.out.now.items ++ l) (sym (entries-separated c.args.pairs.now))
+    all_of (codes ", ") shown_pair c.args.out.now.items c.loop-i.out.items c.args.pairs.now c.loop-i.i c.loop-i-test.false c.loop-i.invariant

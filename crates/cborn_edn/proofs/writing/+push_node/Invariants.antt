@@ -1,15 +1,14 @@
-use Rattle.std.proofs.Common.{◌≡◌, ◌++◌, ◌+◌, ◌*◌, take, codes}
+use Rattle.std.proofs.Common.{◌≡◌, ◌++◌, ◌+◌, ◌*◌, map, take, codes}
 use Rattle.cborn_model.specs.Tree.{trees, entries, depth, depth_all, depth_entries}
-use Rattle.cborn_edn.specs.shared.Between.{separated}
+use Rattle.cborn_edn.specs.shared.Between.{shown_pair}
 use Rattle.cborn_edn.specs.Shown as pure
-use Rattle.cborn_edn.proofs.Shown.Separated.{shown_pair}
 use Rattle.cborn_edn.proofs.writing.+push_node.Given as goal
 
 abbrev pub invariant-push_items-loop-i : goal.invariant-push_items-loop-i
-invariant-push_items-loop-i l = l.out.items ≡ l.initial.out.items ++ separated (codes ", ") pure.shown (take l.i l.items)
+invariant-push_items-loop-i l = l.out.items ≡ l.initial.out.items ++ pure.joined_by (codes ", ") (map pure.shown (take l.i l.items))
 
 abbrev pub invariant-push_pairs-loop-i : goal.invariant-push_pairs-loop-i
-invariant-push_pairs-loop-i l = l.out.items ≡ l.initial.out.items ++ separated (codes ", ") shown_pair (take l.i l.pairs)
+invariant-push_pairs-loop-i l = l.out.items ≡ l.initial.out.items ++ pure.joined_by (codes ", ") (map shown_pair (take l.i l.pairs))
 
 abbrev pub decreases-push_node : goal.decreases-push_node
 decreases-push_node l = 2 * depth l.node.now

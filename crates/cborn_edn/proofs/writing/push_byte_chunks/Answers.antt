@@ -1,6 +1,7 @@
 use Rattle.std.proofs.Common.{codes}
 use Rattle.cborn_edn.specs.declared.strings.StringKind.TheVariants.{Bytes as OfBytes}
-use Rattle.cborn_edn.proofs.Shown.Separated.{shown_chunk, one_more}
+use Rattle.cborn_edn.specs.Shown.{shown_chunk}
+use Rattle.cborn_edn.proofs.Shown.Separated.{one_more}
 use Rattle.cborn_edn.proofs.writing.push_byte_chunks.Goals as goal
 
 pub loop-i-preserved : goal.loop-i-preserved
