@@ -181,19 +181,23 @@ module _ (profile : Profile) (text : List ℕ) where
 
   -- white space and comments behind a piece without an indicator
   pub pieces_gap : (n m l room : ℕ) (k : StringKind) (mark : Mark) (old new : List ℕ) → PiecesTaken profile text n m room k mark old new → is_absent mark ≡ true → Between profile text m l [] → PiecesBefore profile text n l room k old new
-  pieces_gap n m l room k mark old new ps a g = inr (mark, a, record {
-    pieces = ps.pieces;
-    lexed = subst (λ (ts : List Token). Between profile text n l ts) (append-nil (tokens_of_pieces ps.pieces)) (joins profile text n m l (tokens_of_pieces ps.pieces) [] ps.lexed g);
-    allowed = ps.allowed;
-    shallow = ps.shallow;
-    of_kind = ps.of_kind;
-    marked = ps.marked;
-    bare = ps.bare;
-    fits = ps.fits;
-    bytes = ps.bytes;
-    says = ps.says;
-    written = ps.written;
-  })
+  pieces_gap n m l room k mark old new ps a g = inr (
+    mark,
+    a,
+    record {
+      pieces = ps.pieces;
+      lexed = subst (λ (ts : List Token). Between profile text n l ts) (append-nil (tokens_of_pieces ps.pieces)) (joins profile text n m l (tokens_of_pieces ps.pieces) [] ps.lexed g);
+      allowed = ps.allowed;
+      shallow = ps.shallow;
+      of_kind = ps.of_kind;
+      marked = ps.marked;
+      bare = ps.bare;
+      fits = ps.fits;
+      bytes = ps.bytes;
+      says = ps.says;
+      written = ps.written;
+    },
+  )
 
   -- Strings.
 

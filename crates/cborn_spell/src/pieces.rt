@@ -1,6 +1,5 @@
 //! Strings of pieces, of chunks, and of embedded items. A level of a nest of these takes one frame:
-//! of the functions that call one another in it all but the outermost stand in line, each at one
-//! place.
+//! what calls on the way to the next level is in line, and is called at one place.
 
 ghost use Rattle.std.specs.Prelude.{◌≡◌, ◌≤◌, ◌-◌, ◌++◌, ◌∷◌, [], ℕ, List, length, drop, IfSome};
 ghost use Rattle.cborn_spell.specs.Descent.{kind_at, ItemTaken, PieceTaken, StringTaken, ChunksTaken};

@@ -94,23 +94,23 @@ pieces::put_pieces_item-returns-clause-taken t c =
 
 pub pieces::put_joined-pieces-init : goal.pieces::put_joined-pieces-init
 pieces::put_joined-pieces-init t c =
-    (c.requires.at, pieces_none c.args.source.now.profile c.args.source.now.text.now c.args.at c.args.room c.kind_at.result c.push.new.self.items c.kind_at.ensures)
+    (c.requires.at, pieces_none c.args.source.now.profile c.args.source.now.text.now c.args.at c.args.room c.kind_at-kind.result c.push.new.self.items c.kind_at-kind.ensures)
 
 pub pieces::put_joined-pieces-preserved : goal.pieces::put_joined-pieces-preserved
 pieces::put_joined-pieces-preserved t c =
-    let suit = ap (suits c.kind_at.result) (sym c.kind_at-in-pieces.ensures) ∙ sym c.fits_kind.ensures ∙ c.if-not-fits_kind.false in
-    let all = pieces_more c.args.source.now.profile c.args.source.now.text.now c.args.at c.pieces.place c.in_ok-end.end c.args.room c.kind_at.result c.in_ok-end.mark c.push.new.self.items c.pieces.out.items c.put_piece.new.out.items c.pieces.invariant.1 c.in_ok-end.ensures.taken suit in
-    (c.in-Some.ensures.within, pieces_gap c.args.source.now.profile c.args.source.now.text.now c.args.at c.in_ok-end.end c.in-Some.next c.args.room c.kind_at.result c.in_ok-end.mark c.push.new.self.items c.put_piece.new.out.items all (sym c.is_bare.ensures ∙ c.if-not-is_bare.false) c.in-Some.ensures.gap)
+    let suit = ap (suits c.kind_at-kind.result) (sym c.kind_at.ensures) ∙ sym c.fits_kind.ensures ∙ c.if-not-fits_kind.false in
+    let all = pieces_more c.args.source.now.profile c.args.source.now.text.now c.args.at c.pieces.place c.in_ok-end.end c.args.room c.kind_at-kind.result c.in_ok-end.mark c.push.new.self.items c.pieces.out.items c.put_piece.new.out.items c.pieces.invariant.1 c.in_ok-end.ensures.taken suit in
+    (c.in-Some.ensures.within, pieces_gap c.args.source.now.profile c.args.source.now.text.now c.args.at c.in_ok-end.end c.in-Some.next c.args.room c.kind_at-kind.result c.in_ok-end.mark c.push.new.self.items c.put_piece.new.out.items all (sym c.is_bare.ensures ∙ c.if-not-is_bare.false) c.in-Some.ensures.gap)
 
-pub pieces::put_joined-returns-in-None-clause-taken : goal.pieces::put_joined-returns-in-None-clause-taken
-pieces::put_joined-returns-in-None-clause-taken t c =
+pub pieces::put_joined-returns-in_default-clause-taken : goal.pieces::put_joined-returns-in_default-clause-taken
+pieces::put_joined-returns-in_default-clause-taken t c =
     let text = c.args.source.now.text.now in
     let start : c.len-start.result ≡ length c.args.out.now.items = search rules in
     let pushed : c.push.new.self.items ≡ c.args.out.now.items ++ 0 ∷ [] = search rules in
-    let suit = ap (suits c.kind_at.result) (sym c.kind_at-in-pieces.ensures) ∙ sym c.fits_kind.ensures ∙ c.if-not-fits_kind.false in
-    let all = pieces_more c.args.source.now.profile c.args.source.now.text.now c.args.at c.pieces.place c.in_ok-end.end c.args.room c.kind_at.result c.in_ok-end.mark c.push.new.self.items c.pieces.out.items c.put_piece.new.out.items c.pieces.invariant.1 c.in_ok-end.ensures.taken suit in
-    subst (λ (k : StringKind). StringTaken c.args.source.now.profile text c.args.at c.in_ok-end.end c.args.room k c.args.out.now.items c.close_string.new.out.items) c.kind_at.ensures
-    (string_done c.args.source.now.profile c.args.source.now.text.now c.args.at c.in_ok-end.end c.args.room c.len-start.result c.kind_at.result c.in_ok-end.mark c.args.out.now.items c.push.new.self.items c.put_piece.new.out.items c.close_string.new.out.items start pushed all c.in_ok-close_string.ensures)
+    let suit = ap (suits c.kind_at-kind.result) (sym c.kind_at.ensures) ∙ sym c.fits_kind.ensures ∙ c.if-not-fits_kind.false in
+    let all = pieces_more c.args.source.now.profile c.args.source.now.text.now c.args.at c.pieces.place c.in_ok-end.end c.args.room c.kind_at-kind.result c.in_ok-end.mark c.push.new.self.items c.pieces.out.items c.put_piece.new.out.items c.pieces.invariant.1 c.in_ok-end.ensures.taken suit in
+    subst (λ (k : StringKind). StringTaken c.args.source.now.profile text c.args.at c.in_ok-end.end c.args.room k c.args.out.now.items c.close_string.new.out.items) c.kind_at-kind.ensures
+    (string_done c.args.source.now.profile c.args.source.now.text.now c.args.at c.in_ok-end.end c.args.room c.len-start.result c.kind_at-kind.result c.in_ok-end.mark c.args.out.now.items c.push.new.self.items c.put_piece.new.out.items c.close_string.new.out.items start pushed all c.in_ok-close_string.ensures)
 
 pub pieces::put_piece-returns-in-Some-clause-taken : goal.pieces::put_piece-returns-in-Some-clause-taken
 pieces::put_piece-returns-in-Some-clause-taken t c =
@@ -118,7 +118,7 @@ pieces::put_piece-returns-in-Some-clause-taken t c =
     let opens : begins (λ d. eqb d 60) (drop c.args.at text) ≡ true = sym c.stands.ensures.is ∙ c.if-stands.true in
     IfSome_then c.embed_ending.result c.embed_ending.ensures.ends
     (λ r b. subst (λ (k : StringKind). PieceTaken c.args.source.now.profile text c.args.at r.0 c.args.room k r.1 c.args.out.now.items c.put_row.new.out.items) (sym (embedded_kind (drop c.args.at text) opens))
-    (embedded_done c.args.source.now.profile c.args.source.now.text.now c.args.at c.in-Some.inner c.in_ok-last.last r.0 c.args.room _ r.1 c.args.out.now.items c.put_row.new.out.items (omega (arith, c.if-room.true)) c.in-Some.ensures.token c.in_ok-last.ensures.taken b))
+    (embedded_done c.args.source.now.profile c.args.source.now.text.now c.args.at c.in-Some.inner c.in_ok-last.last r.0 c.args.room _ r.1 c.args.out.now.items c.put_row.new.out.items (omega (arith, c.if-room-gt0.true)) c.in-Some.ensures.token c.in_ok-last.ensures.taken b))
 
 pub pieces::put_chunked-returns-clause-taken : goal.pieces::put_chunked-returns-clause-taken
 pieces::put_chunked-returns-clause-taken t c =
@@ -128,20 +128,20 @@ pieces::put_chunked-returns-clause-taken t c =
 
 pub pieces::put_chunks-chunks-init : goal.pieces::put_chunks-chunks-init
 pieces::put_chunks-chunks-init t c =
-    let begun = chunks_none c.args.source.now.profile c.args.source.now.text.now c.args.at c.args.room c.kind_at.result c.args.out.now.items in
-    (c.in_ok-first.ensures.within, chunks_gap c.args.source.now.profile c.args.source.now.text.now c.args.at c.args.at c.in_ok-first.first c.args.room c.kind_at.result c.args.out.now.items c.args.out.now.items begun c.in_ok-first.ensures.gap)
+    let begun = chunks_none c.args.source.now.profile c.args.source.now.text.now c.args.at c.args.room c.kind_at-kind.result c.args.out.now.items in
+    (c.in_ok-first.ensures.within, chunks_gap c.args.source.now.profile c.args.source.now.text.now c.args.at c.args.at c.in_ok-first.first c.args.room c.kind_at-kind.result c.args.out.now.items c.args.out.now.items begun c.in_ok-first.ensures.gap)
 
 pub pieces::put_chunks-chunks-preserved : goal.pieces::put_chunks-chunks-preserved
 pieces::put_chunks-chunks-preserved t c =
     let text = c.args.source.now.text.now in
-    let same = sym c.kind_at-in-chunks.ensures ∙ c.is_same.ensures c.if-not-is_same.false in
+    let same = sym c.kind_at.ensures ∙ c.is_same.ensures c.if-not-is_same.false in
     let one = subst (λ (k : StringKind). StringTaken c.args.source.now.profile text c.chunks.place c.in_ok-end.end c.args.room k c.chunks.out.items c.put_joined.new.out.items) same c.in_ok-end.ensures.taken in
-    let all = chunks_more c.args.source.now.profile c.args.source.now.text.now c.args.at c.chunks.place c.in_ok-end.end c.args.room c.kind_at.result c.args.out.now.items c.chunks.out.items c.put_joined.new.out.items c.chunks.invariant.1 one in
-    (c.in_ok-place.ensures.within, chunks_gap c.args.source.now.profile c.args.source.now.text.now c.args.at c.in-Some.next c.in_ok-place.place c.args.room c.kind_at.result c.args.out.now.items c.put_joined.new.out.items (chunks_comma c.args.source.now.profile c.args.source.now.text.now c.args.at c.in_ok-end.end c.in-Some.next c.args.room c.kind_at.result c.args.out.now.items c.put_joined.new.out.items all (c.in-Some.ensures.token Comma refl)) c.in_ok-place.ensures.gap)
+    let all = chunks_more c.args.source.now.profile c.args.source.now.text.now c.args.at c.chunks.place c.in_ok-end.end c.args.room c.kind_at-kind.result c.args.out.now.items c.chunks.out.items c.put_joined.new.out.items c.chunks.invariant.1 one in
+    (c.in_ok-place.ensures.within, chunks_gap c.args.source.now.profile c.args.source.now.text.now c.args.at c.in-Some.next c.in_ok-place.place c.args.room c.kind_at-kind.result c.args.out.now.items c.put_joined.new.out.items (chunks_comma c.args.source.now.profile c.args.source.now.text.now c.args.at c.in_ok-end.end c.in-Some.next c.args.room c.kind_at-kind.result c.args.out.now.items c.put_joined.new.out.items all (c.in-Some.ensures.token Comma refl)) c.in_ok-place.ensures.gap)
 
-pub pieces::put_chunks-returns-in-None-clause-taken : goal.pieces::put_chunks-returns-in-None-clause-taken
-pieces::put_chunks-returns-in-None-clause-taken t c =
+pub pieces::put_chunks-returns-in_default-clause-taken : goal.pieces::put_chunks-returns-in_default-clause-taken
+pieces::put_chunks-returns-in_default-clause-taken t c =
     let text = c.args.source.now.text.now in
-    let same = sym c.kind_at-in-chunks.ensures ∙ c.is_same.ensures c.if-not-is_same.false in
+    let same = sym c.kind_at.ensures ∙ c.is_same.ensures c.if-not-is_same.false in
     let one = subst (λ (k : StringKind). StringTaken c.args.source.now.profile text c.chunks.place c.in_ok-end.end c.args.room k c.chunks.out.items c.put_joined.new.out.items) same c.in_ok-end.ensures.taken in
-    chunks_more c.args.source.now.profile c.args.source.now.text.now c.args.at c.chunks.place c.in_ok-end.end c.args.room c.kind_at.result c.args.out.now.items c.chunks.out.items c.put_joined.new.out.items c.chunks.invariant.1 one
+    chunks_more c.args.source.now.profile c.args.source.now.text.now c.args.at c.chunks.place c.in_ok-end.end c.args.room c.kind_at-kind.result c.args.out.now.items c.chunks.out.items c.put_joined.new.out.items c.chunks.invariant.1 one

@@ -5,8 +5,8 @@ use Rattle.cborn_spell.proofs.Reading.{token_is}
 use Rattle.cborn_spell.proofs.Joining.{bytes_piece_done, no_embedded_done}
 use Rattle.cborn_spell.proofs.tokens.put_bytes_piece.Goals as goal
 
-pub returns-in_ok-ok-clause-taken : goal.returns-in_ok-ok-clause-taken
-returns-in_ok-ok-clause-taken c =
+pub returns-in-Bytes-clause-taken : goal.returns-in-Bytes-clause-taken
+returns-in-Bytes-clause-taken c =
     bytes_piece_done c.args.source.now.profile c.args.source.now.text.now c.args.at c.in_ok-class.end c.args.room c.in-Bytes.quoted c.in-Bytes.mark c.as_slice.result.now c.args.out.now.items c.extend_from_slice.new.self.items
     (token_is c.args.source.now.profile c.args.source.now.text.now c.args.at c.in_ok-class.end _ _ c.in_ok-class.ensures.token (c.in-Bytes.is ∙ ap (λ l. Bytes c.in-Bytes.quoted l c.in-Bytes.mark) (search rules))) (search rules)
 
