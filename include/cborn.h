@@ -117,7 +117,7 @@ enum {
 enum { CBORN_MOST_WORDS = 64 };
 
 /* The most bytes of stack that a call takes, as measured. */
-#define CBORN_STACK(depth) (20480 + 560 * (depth))
+#define CBORN_STACK(depth) (20480 + 480 * (depth))
 
 /* What a call tells in addition to its answer. */
 typedef struct {

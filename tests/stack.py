@@ -4,8 +4,7 @@
     stack.py PROGRAM KILOBYTES
 
 One line is printed for each command and nest, with the least stack in KB (2^10 bytes, as of `ulimit -s`). A
-command that answers wrongly with a stack of KILOBYTES has failed; the nests of MORE are allowed so many times as
-much.
+command that answers wrongly with a stack of KILOBYTES has failed.
 """
 import collections
 import concurrent.futures
@@ -24,9 +23,6 @@ MOST, STEP = 16 * 1024, 16
 # What opens and closes a level: in bytes, in their deterministic encoding, and in notation.
 Nest = collections.namedtuple("Nest", "name opening closing shortest_opening shortest_closing text_opening text_closing")
 Case = collections.namedtuple("Case", "command nest words inputs output status")
-JOINED, CHUNKED = "embedded items behind a piece", "embedded items in chunks"
-# A level of these is more calls than one of the others: so many times the stack is allowed.
-MORE = {JOINED: 2, CHUNKED: 2.25}
 NESTS = [
     Nest("arrays", "81", "", "81", "", "[", "]"),
     Nest("indefinite arrays", "9f", "ff", "81", "", "[_ ", "]"),
@@ -94,8 +90,8 @@ def cases():
             yield Case(words, nest.name, words.split(), inputs, output, 0)
         yield Case("check", nest.name, ["check"], [wire], defect, 0 if wire == shortest else 1)
     wire = embedded()
-    for name, opening, closing in [("embedded items", b"<<", b">>"), (JOINED, b"''<<", b">>")]:
-        text = opening * LEVELS + b"0" + closing * LEVELS
+    for name, opening in [("embedded items", b"<<"), ("embedded items behind a piece", b"''<<"), ("embedded items behind none", b"<<>><<")]:
+        text = opening * LEVELS + b"0" + b">>" * LEVELS
         for words, output in [
             ("show --from notation --to wire", wire),
             ("normalise --from notation", wire),
@@ -103,7 +99,7 @@ def cases():
         ]:
             yield Case(words, name, words.split(), [text], output, 0)
     words = "show --from notation --to wire"
-    yield Case(words, CHUNKED, words.split(), [b"(_ ''<<" * LEVELS + b">>)" * LEVELS], chunked(), 0)
+    yield Case(words, "embedded items in chunks", words.split(), [b"(_ ''<<" * LEVELS + b">>)" * LEVELS], chunked(), 0)
 
 
 def is_answered(program, case, kilobytes):
@@ -139,10 +135,10 @@ def main():
         needs = list(pool.map(least_stack, itertools.repeat(program), tried))
     failed = 0
     for case, need in zip(tried, needs):
-        is_within = need is not None and need <= allowed * MORE.get(case.nest, 1)
+        is_within = need is not None and need <= allowed
         failed += not is_within
         print(f"{need or 'wrong':>6} KB  {case.command}: {case.nest}{'' if is_within else ', more than allowed'}")
-    print(f"{len(tried) - failed} commands answered within {allowed} KB, or what more is allowed, {failed} failed")
+    print(f"{len(tried) - failed} commands answered within {allowed} KB, {failed} failed")
     return 1 if failed or not tried else 0
 
 

@@ -268,7 +268,7 @@ _cborn.begin(Kind, Order, _fault, _defect)
 
 def stack(depth: int = 128) -> int:
     """Return the most bytes of stack that a call takes, as measured: CBORN_STACK of cborn.h."""
-    return 20480 + 560 * depth
+    return 20480 + 480 * depth
 
 
 def version() -> str:

@@ -43,7 +43,7 @@ extern "C" {
 
 /// `CBORN_STACK`.
 pub fn stack(depth: usize) -> usize {
-    20480 + 560 * depth
+    20480 + 480 * depth
 }
 
 /// The answer of a call that writes one, into so much room or, if that is too little, into what the call then asks for.

@@ -1,6 +1,6 @@
 -- Strings of pieces and of chunks.
-use Rattle.std.proofs.Common.{◌≡◌, refl, sym, ap, ◌∙◌, subst, ℕ, ◌+◌, ◌-◌, ◌*◌, ◌≤◌, List, [], ◌∷◌, ◌++◌, length, take, drop, Bool, true, Some, inl, inr, ◌⊎◌, eqb, arith, append_assoc, append-nil, length-append, take_at, drop_at}
-use Rattle.std.proofs.lemmas.Bool.{and_from}
+use Rattle.std.proofs.Common.{◌≡◌, refl, sym, ap, ◌∙◌, subst, ℕ, ◌+◌, ◌-◌, ◌*◌, ◌≤◌, List, [], ◌∷◌, ◌++◌, length, take, drop, Bool, true, false, if◌then◌else◌, Some, inl, inr, ◌⊎◌, eqb, arith, append_assoc, append-nil, length-append, take_at, drop_at}
+use Rattle.std.proofs.lemmas.Bool.{and_from, eqb-true}
 use Rattle.std.proofs.lemmas.List.Concat.{flat_map-append}
 use Rattle.std.proofs.lemmas.Str.{is_utf8-from_IsUtf8}
 use Rattle.std.specs.List.{flat_map}
@@ -12,19 +12,20 @@ use Rattle.cborn_model.specs.Spelled.{string as string_bytes, chunk_bytes, spell
 use Rattle.cborn_model.specs.Tree.{ByteChunks, TextChunks}
 use Rattle.cborn_lex.specs.declared.classes.Profile.{Profile}
 use Rattle.cborn_lex.specs.declared.classes.Mark.{Mark}
+use Rattle.cborn_lex.specs.declared.classes.Token.{Token}
 use Rattle.cborn_lex.specs.declared.classes.Mark.TheVariants.{Endless}
 use Rattle.cborn_lex.specs.declared.classes.Class.TheVariants.{Text, Bytes, EmbedOpen, EmbedClose, ChunkOpen, ParenClose, Comma}
 use Rattle.cborn_lex.specs.Tokens as lex
 use Rattle.cborn_lex.specs.Tokens.{begins}
 use Rattle.cborn_lex.specs.Forms.{IsIndicator}
 use Rattle.cborn_lex.specs.Lex.{Between}
-use Rattle.cborn_lex.proofs.WholeTexts.Progress.{joins}
+use Rattle.cborn_lex.proofs.WholeTexts.Progress.{nothing, joins}
 use Rattle.cborn_edn.specs.declared.strings.StringKind.{StringKind}
 use Rattle.cborn_edn.specs.declared.strings.StringKind.TheVariants.{Bytes as OfBytes, Text as OfText}
-use Rattle.cborn_edn.specs.Syntax.{Piece, text as text_piece, bytes as bytes_piece, embedded, Pieces, piece, also, strings, StringsBefore, no_string, after_strings, string, chunked, tokens_of_piece, tokens_of_pieces, tokens_of_strings, tokens_of_content}
+use Rattle.cborn_edn.specs.Syntax.{Piece, text as text_piece, bytes as bytes_piece, embedded, Pieces, piece, also, strings, StringsBefore, no_string, after_strings, string, chunked, tokens_of_piece, tokens_of_pieces, tokens_of_strings, tokens_of_strings_before, tokens_of_content}
 use Rattle.cborn_edn.specs.Meaning.{and_then, when, width_for, is_absent, is_bare, is_bare_before, same_kind, kind_of, mark_of, kind, kind_after, kind_of_strings, place, last_piece, fits_kind, is_of_kind, is_good, string_node, chunked_node, marked_string, means_string, means_chunk, joined, joined_piece, means_strings, means_strings_before}
 use Rattle.cborn_edn.proofs.RoundTrip.Back.{marked_back, same_kind-same}
-use Rattle.cborn_spell.specs.Descent.{AddsString, AddsEmpty, major_of, major_type, suits, ClosesString, ClosesChunks, TokenAt, Ends, ItemTaken, RowTaken, PieceTaken, PiecesTaken, StringTaken, ChunksTaken, LettersTaken}
+use Rattle.cborn_spell.specs.Descent.{AddsString, AddsEmpty, major_of, major_type, suits, kind_at, ClosesString, ClosesChunks, TokenAt, Ends, ItemTaken, RowTaken, PieceTaken, PiecesTaken, PiecesBefore, StringTaken, ChunksTaken, ChunksBefore, LettersTaken}
 use Rattle.cborn_spell.proofs.Allowing.{allows_none, allows_sum}
 use Rattle.cborn_spell.proofs.Taking.{set_head_done, Inner, no_inner, some_inner, comma_inner}
 use Rattle.cborn_spell.proofs.Quoting.{text_done, bytes_done, text_token}
@@ -48,6 +49,18 @@ good_from OfText x h = is_utf8-from_IsUtf8 x (h refl)
 bare_all : (ps : Pieces) → is_bare_before ps ≡ true → is_absent (mark_of (last_piece ps)) ≡ true → is_bare ps ≡ true
 bare_all (piece p) h k = k
 bare_all (also ps p) h k = and_from _ _ h k
+
+-- the character that a piece begins with
+
+pub text_kind : (tail : List ℕ) → begins (λ d. eqb d 34) tail ≡ true → kind_at tail ≡ OfText
+text_kind tail e = ap (λ (b : Bool). if b then OfText else OfBytes) e
+
+pub bytes_kind : (tail : List ℕ) → begins (λ d. eqb d 34) tail ≡ false → kind_at tail ≡ OfBytes
+bytes_kind tail e = ap (λ (b : Bool). if b then OfText else OfBytes) e
+
+pub embedded_kind : (tail : List ℕ) → begins (λ d. eqb d 60) tail ≡ true → kind_at tail ≡ OfBytes
+embedded_kind [] e = refl
+embedded_kind (c ∷ tail) e = ap (λ (n : ℕ). kind_at (n ∷ tail)) (eqb-true c 60 e)
 
 node_spelled : (k : StringKind) (p : ℕ) (w : Width) (x : List ℕ) → spelled (string_node k p w x) ≡ string_bytes (major_type k) w x
 node_spelled OfBytes p w x = refl
@@ -127,7 +140,7 @@ module _ (profile : Profile) (text : List ℕ) where
   pub no_embedded_done : (n at end room : ℕ) (mark : Mark) (old : List ℕ) → 1 ≤ room → TokenAt profile text n at EmbedOpen → TokenAt profile text at end (EmbedClose mark) → PieceTaken profile text n end room OfBytes mark old old
   no_embedded_done n at end room mark old r o b = embedded_from n at at end room 0 mark old old r o (no_inner profile text at (room - 1) old) b
 
-  pub one_piece : (n m room : ℕ) (k : StringKind) (mark : Mark) (old new : List ℕ) → PieceTaken profile text n m room k mark old new → PiecesTaken profile text n m room k mark old new
+  one_piece : (n m room : ℕ) (k : StringKind) (mark : Mark) (old new : List ℕ) → PieceTaken profile text n m room k mark old new → PiecesTaken profile text n m room k mark old new
   one_piece n m room k mark old new p = record {
     pieces = piece p.piece;
     lexed = p.lexed;
@@ -142,7 +155,7 @@ module _ (profile : Profile) (text : List ℕ) where
     written = p.written;
   }
 
-  pub more_pieces : (n m l room : ℕ) (k j : StringKind) (mark next : Mark) (old mid new : List ℕ) → PiecesTaken profile text n m room k mark old mid → is_absent mark ≡ true → PieceTaken profile text m l room j next mid new → suits k j ≡ true → PiecesTaken profile text n l room k next old new
+  more_pieces : (n m l room : ℕ) (k j : StringKind) (mark next : Mark) (old mid new : List ℕ) → PiecesTaken profile text n m room k mark old mid → is_absent mark ≡ true → PieceTaken profile text m l room j next mid new → suits k j ≡ true → PiecesTaken profile text n l room k next old new
   more_pieces n m l room k j mark next old mid new ps a p s = record {
     pieces = also ps.pieces p.piece;
     lexed = joins profile text n m l (tokens_of_pieces ps.pieces) (tokens_of_piece p.piece) ps.lexed p.lexed;
@@ -156,6 +169,35 @@ module _ (profile : Profile) (text : List ℕ) where
     says = ap (λ o. and_then o (λ x. and_then (joined_piece p.piece) (λ y. Some (x ++ y)))) ps.says ∙ ap (λ o. and_then o (λ y. Some (ps.bytes ++ y))) p.says;
     written = p.written ∙ ap (λ z. z ++ p.bytes) ps.written ∙ append_assoc old ps.bytes p.bytes;
   }
+
+  pub pieces_none : (n room : ℕ) (k : StringKind) (old : List ℕ) → k ≡ kind_at (drop n text) → PiecesBefore profile text n n room k old old
+  pieces_none n room k old e = inl (nothing profile text n, e, refl)
+
+  pub pieces_more : (n m l room : ℕ) (k : StringKind) (next : Mark) (old mid new : List ℕ) → PiecesBefore profile text n m room k old mid → PieceTaken profile text m l room (kind_at (drop m text)) next mid new → suits k (kind_at (drop m text)) ≡ true → PiecesTaken profile text n l room k next old new
+  pieces_more n m l room k next old mid new (inl (g, e, w)) p s =
+      subst (λ (j : StringKind). PiecesTaken profile text n l room j next old new) (sym e)
+      (subst (λ (z : List ℕ). PiecesTaken profile text n l room (kind_at (drop m text)) next z new) w (one_piece n l room (kind_at (drop m text)) next mid new (gap_piece n m l room (kind_at (drop m text)) next mid new g p)))
+  pieces_more n m l room k next old mid new (inr (mark, a, ps)) p s = more_pieces n m l room k (kind_at (drop m text)) mark next old mid new ps a p s
+
+  -- white space and comments behind a piece without an indicator
+  pub pieces_gap : (n m l room : ℕ) (k : StringKind) (mark : Mark) (old new : List ℕ) → PiecesTaken profile text n m room k mark old new → is_absent mark ≡ true → Between profile text m l [] → PiecesBefore profile text n l room k old new
+  pieces_gap n m l room k mark old new ps a g = inr (
+    mark,
+    a,
+    record {
+      pieces = ps.pieces;
+      lexed = subst (λ (ts : List Token). Between profile text n l ts) (append-nil (tokens_of_pieces ps.pieces)) (joins profile text n m l (tokens_of_pieces ps.pieces) [] ps.lexed g);
+      allowed = ps.allowed;
+      shallow = ps.shallow;
+      of_kind = ps.of_kind;
+      marked = ps.marked;
+      bare = ps.bare;
+      fits = ps.fits;
+      bytes = ps.bytes;
+      says = ps.says;
+      written = ps.written;
+    },
+  )
 
   -- Strings.
 
@@ -242,33 +284,48 @@ module _ (profile : Profile) (text : List ℕ) where
         ∙ ap (λ s. when s (and_then (means_chunk t.pieces t.bytes) (λ c. Some (cs ++ c ∷ [])))) ((λ i. same_kind (h i) (t.of_kind i)) ∙ same_kind-same k)
         ∙ ap (λ o. and_then o (λ c. Some (cs ++ c ∷ []))) chunk_says
 
-  pub one_chunk : (n m room : ℕ) (k : StringKind) (old new : List ℕ) → StringTaken profile text n m room k old new → ChunksTaken profile text n m room k old new
-  one_chunk n m room k old new t = record {
-    strings = strings no_string t.pieces;
-    lexed = t.lexed;
-    allowed = allows_sum profile _ _ (allows_none profile) t.allowed;
-    shallow = omega (arith, t.shallow);
-    of_kind = t.of_kind;
-    chunks = chunk n m room k old new t ∷ [];
-    says = strings_say n m room k old new t no_string [] refl t.of_kind;
-    written = t.written ∙ ap (λ l. old ++ l) (sym (append-nil (string_bytes (major_type k) t.width t.bytes)));
+  pub chunks_none : (n room : ℕ) (k : StringKind) (old : List ℕ) → ChunksBefore profile text n n room k old old
+  chunks_none n room k old = record { strings = no_string; lexed = nothing profile text n; allowed = allows_none profile; shallow = omega arith; of_kind = refl; chunks = []; says = refl; written = sym (append-nil old) }
+
+  pub chunks_gap : (n m l room : ℕ) (k : StringKind) (old new : List ℕ) → ChunksBefore profile text n m room k old new → Between profile text m l [] → ChunksBefore profile text n l room k old new
+  chunks_gap n m l room k old new b g = record {
+    strings = b.strings;
+    lexed = subst (λ (ts : List Token). Between profile text n l ts) (append-nil (tokens_of_strings_before b.strings)) (joins profile text n m l (tokens_of_strings_before b.strings) [] b.lexed g);
+    allowed = b.allowed;
+    shallow = b.shallow;
+    of_kind = b.of_kind;
+    chunks = b.chunks;
+    says = b.says;
+    written = b.written;
   }
 
-  pub more_chunks : (n m a l room : ℕ) (k : StringKind) (old mid new : List ℕ) → ChunksTaken profile text n m room k old mid → TokenAt profile text m a Comma → StringTaken profile text a l room k mid new → ChunksTaken profile text n l room k old new
-  more_chunks n m a l room k old mid new s c t =
+  pub chunks_comma : (n m l room : ℕ) (k : StringKind) (old new : List ℕ) → ChunksTaken profile text n m room k old new → TokenAt profile text m l Comma → ChunksBefore profile text n l room k old new
+  chunks_comma n m l room k old new s t = record {
+    strings = after_strings s.strings (record { start = t.0; stop = l });
+    lexed = joins profile text n m l (tokens_of_strings s.strings) _ s.lexed t.1;
+    allowed = s.allowed;
+    shallow = s.shallow;
+    of_kind = s.of_kind;
+    chunks = s.chunks;
+    says = s.says;
+    written = s.written;
+  }
+
+  pub chunks_more : (n m l room : ℕ) (k : StringKind) (old mid new : List ℕ) → ChunksBefore profile text n m room k old mid → StringTaken profile text m l room k mid new → ChunksTaken profile text n l room k old new
+  chunks_more n m l room k old mid new b t =
       let f = chunk_bytes (major_type k) in
-      let d = chunk a l room k mid new t in
+      let d = chunk m l room k mid new t in
       let x = string_bytes (major_type k) t.width t.bytes in
-      let before = after_strings s.strings (record { start = c.0; stop = a }) in
+      let h : kind_after b.strings (kind t.pieces) ≡ k = ap (kind_after b.strings) t.of_kind ∙ b.of_kind in
       record {
-        strings = strings before t.pieces;
-        lexed = joins profile text n a l (tokens_of_strings s.strings ++ _) (tokens_of_pieces t.pieces) (joins profile text n m a (tokens_of_strings s.strings) _ s.lexed c.1) t.lexed;
-        allowed = allows_sum profile _ _ s.allowed t.allowed;
-        shallow = omega (arith, s.shallow, t.shallow);
-        of_kind = s.of_kind;
-        chunks = s.chunks ++ d ∷ [];
-        says = strings_say a l room k mid new t before s.chunks s.says s.of_kind;
-        written = t.written ∙ ap (λ z. z ++ x) s.written ∙ append_assoc old (flat_map f s.chunks) x ∙ ap (λ z. old ++ z) (ap (λ z. flat_map f s.chunks ++ z) (sym (append-nil x)) ∙ sym (flat_map-append f s.chunks (d ∷ [])));
+        strings = strings b.strings t.pieces;
+        lexed = joins profile text n m l (tokens_of_strings_before b.strings) (tokens_of_pieces t.pieces) b.lexed t.lexed;
+        allowed = allows_sum profile _ _ b.allowed t.allowed;
+        shallow = omega (arith, b.shallow, t.shallow);
+        of_kind = h;
+        chunks = b.chunks ++ d ∷ [];
+        says = strings_say m l room k mid new t b.strings b.chunks b.says h;
+        written = t.written ∙ ap (λ z. z ++ x) b.written ∙ append_assoc old (flat_map f b.chunks) x ∙ ap (λ z. old ++ z) (ap (λ z. flat_map f b.chunks ++ z) (sym (append-nil x)) ∙ sym (flat_map-append f b.chunks (d ∷ [])));
       }
 
   pub chunked_done : (n at last end room start : ℕ) (k : StringKind) (old one two new : List ℕ) → start ≡ length old → TokenAt profile text n at ChunkOpen → one ≡ old ++ 0 ∷ [] → ChunksTaken profile text at last room k one two → TokenAt profile text last end ParenClose → ClosesChunks k start two new → ItemTaken profile text n end room old new

@@ -27,9 +27,9 @@ use Rattle.cborn_lex.specs.declared.classes.Profile.TheVariants.{Two}
 use Rattle.cborn_lex.specs.declared.classes.Class.TheVariants.{Comma, Word}
 use Rattle.cborn_lex.specs.declared.classes.Class.{Class}
 use Rattle.cborn_lex.specs.Lex.{Between}
-use Rattle.cborn_edn.specs.Syntax.{Piece, tokens_of_piece, depth_of_piece, Pieces, tokens_of_pieces, depth_of_pieces, Strings, tokens_of_strings, depth_of_strings, is_small, is_below, argument_of, Item, tokens_of, depth, Row, RowBefore, tokens_of_row, tokens_of_row_before, depth_of_row, depth_of_row_before, Pairs, PairsBefore, tokens_of_pairs, tokens_of_pairs_before, depth_of_pairs, depth_of_pairs_before}
-use Rattle.cborn_edn.specs.shared.Commas.{commas_of_piece, commas_of_pieces, commas_of_strings, commas, commas_of_row, commas_of_row_before, commas_of_pairs, commas_of_pairs_before, AllowsCount}
-use Rattle.cborn_edn.specs.Meaning.{width_for, is_simple, is_absent, same_kind, kind_of, mark_of, kind, last_piece, is_bare_before, is_of_kind, is_string, kind_of_strings, joined_piece, joined, means, means_strings, means_row, means_row_before, means_pairs, means_pairs_before}
+use Rattle.cborn_edn.specs.Syntax.{Piece, tokens_of_piece, depth_of_piece, Pieces, tokens_of_pieces, depth_of_pieces, Strings, tokens_of_strings, depth_of_strings, StringsBefore, tokens_of_strings_before, depth_of_strings_before, is_small, is_below, argument_of, Item, tokens_of, depth, Row, RowBefore, tokens_of_row, tokens_of_row_before, depth_of_row, depth_of_row_before, Pairs, PairsBefore, tokens_of_pairs, tokens_of_pairs_before, depth_of_pairs, depth_of_pairs_before}
+use Rattle.cborn_edn.specs.shared.Commas.{commas_of_piece, commas_of_pieces, commas_of_strings, commas_of_strings_before, commas, commas_of_row, commas_of_row_before, commas_of_pairs, commas_of_pairs_before, AllowsCount}
+use Rattle.cborn_edn.specs.Meaning.{width_for, is_simple, is_absent, same_kind, kind_of, mark_of, kind, last_piece, is_bare_before, is_of_kind, is_string, kind_of_strings, kind_after, joined_piece, joined, means, means_strings, means_strings_before, means_row, means_row_before, means_pairs, means_pairs_before}
 use Rattle.cborn_edn.specs.declared.strings.StringKind.{StringKind}
 use Rattle.cborn_edn.specs.declared.strings.StringKind.TheVariants.{Bytes as OfBytes, Text as OfText}
 use Rattle.cborn_edn.specs.Notates.{Notates}
@@ -90,6 +90,10 @@ ClosesChunks kind start old new = new ≡ (take start old ++ (32 * major_of kind
 abbrev pub suits : StringKind → StringKind → Bool
 suits OfText k = true
 suits OfBytes k = same_kind k OfBytes
+
+-- the kind of a piece, which its first character tells
+abbrev pub kind_at : List ℕ → StringKind
+kind_at tail = if begins (λ c. c == 34) tail then OfText else OfBytes
 
 -- a tag over the shortest bytes of n
 abbrev pub IsBignum : Bool → ℕ → List ℕ → List ℕ → Type 0
@@ -274,6 +278,10 @@ module _ (profile : Profile) (text : List ℕ) (n m : ℕ) where
     pub says : joined pieces ≡ Some bytes
     pub written : new ≡ old ++ bytes
 
+  -- the same up to where the next piece stands: it tells the kind if it is the first, and may stand there if not
+  abbrev pub PiecesBefore : ℕ → StringKind → List ℕ → List ℕ → Type 0
+  PiecesBefore room k old new = (Between profile text n m [] × (k ≡ kind_at (drop m text)) × (new ≡ old)) ⊎ ((mark : Mark) × (is_absent mark ≡ true) × PiecesTaken room k mark old new)
+
   -- a string of pieces, which is written
   pub record StringTaken (room : ℕ) (k : StringKind) (old new : List ℕ) : Type 0 where
     pub pieces : Pieces
@@ -297,6 +305,17 @@ module _ (profile : Profile) (text : List ℕ) (n m : ℕ) where
     pub of_kind : kind_of_strings strings ≡ k
     pub chunks : List Chunk
     pub says : means_strings strings ≡ Some chunks
+    pub written : new ≡ old ++ flat_map (chunk_bytes (major_type k)) chunks
+
+  -- the same up to where the next chunk stands
+  pub record ChunksBefore (room : ℕ) (k : StringKind) (old new : List ℕ) : Type 0 where
+    pub strings : StringsBefore
+    pub lexed : Between profile text n m (tokens_of_strings_before strings)
+    pub allowed : AllowsCount profile (commas_of_strings_before strings)
+    pub shallow : depth_of_strings_before strings ≤ room
+    pub of_kind : kind_after strings k ≡ k
+    pub chunks : List Chunk
+    pub says : means_strings_before strings ≡ Some chunks
     pub written : new ≡ old ++ flat_map (chunk_bytes (major_type k)) chunks
 
 -- the text notates nodes, and the bytes are what they spell

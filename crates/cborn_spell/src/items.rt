@@ -6,7 +6,7 @@ ghost use Rattle.cborn_spell.specs.Descent.{ItemTaken};
 use crate::guesses::{is_chunkless, is_joined, is_tag, joins};
 use crate::leaves::put_simple;
 use crate::numerals::{below_zero, decimal};
-use crate::pieces::{put_chunked, put_embedded_item, put_pieces_item};
+use crate::pieces::{put_chunked, put_pieces_item};
 use crate::rows::{put_array, put_map};
 use crate::scans::{behind, is_gap, skip};
 use crate::sources::Source;
@@ -51,7 +51,7 @@ fn put_here(source: &Source, room: u64, at: usize, out: &mut Vec<u8>) -> Option<
         b'-' => put_from_minus(source, room, at, out),
         b'[' => put_array(source, room, at, out),
         b'{' => put_map(source, room, at, out),
-        b'<' => put_embedded_item(source, room, at, out),
+        b'<' => put_pieces_item(source, room, at, out),
         _ => put_other(source, room, at, out),
     }
 }

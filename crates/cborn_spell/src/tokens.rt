@@ -1,16 +1,19 @@
 //! What is read as a token: items without children, pieces of strings, and what opens.
 
-ghost use Rattle.std.specs.Prelude.{◌≤◌, ◌<◌, ◌^◌, ℕ, length, false, IfSome};
+ghost use Rattle.std.specs.Prelude.{◌≤◌, ◌<◌, ◌^◌, ℕ, length, drop, false, IfSome};
 ghost use Rattle.cborn_lex.specs.declared.classes.Mark.{Mark};
 ghost use Rattle.cborn_lex.specs.declared.classes.Mark.TheVariants as marks;
 ghost use Rattle.cborn_lex.specs.declared.classes.Class.TheVariants as classes;
-ghost use Rattle.cborn_spell.specs.Descent.{AddsMarked, TokenAt, ItemTaken, PieceTaken};
+ghost use Rattle.cborn_edn.specs.declared.strings.StringKind.TheVariants as kinds;
+ghost use Rattle.cborn_spell.specs.Descent.{kind_at, AddsMarked, TokenAt, ItemTaken, PieceTaken};
 
+use crate::brackets::embed_end;
+use crate::guesses::is_void;
 use crate::leaves::{put_marked, put_simple, put_string};
 use crate::numbers::put_number;
-use crate::scans::behind;
+use crate::scans::{behind, stands};
 use crate::sources::Source;
-use cborn_edn::StringKind;
+use crate::strings::put_text_piece;
 use cborn_lex::{Class, Mark, token_from};
 use cborn_model::Major;
 
@@ -102,28 +105,47 @@ fn whole_number(source: &Source, at: usize) -> Option<(u64, usize)>
     }
 }
 
-/// The bytes of the piece at or behind the place that is one token; answers where it ends, its kind
-/// and its indicator.
+/// The bytes of the piece at the place in which no item stands; answers where it ends, and its
+/// indicator.
 #[inline(never)]
 pub(crate) fn put_string_piece(
     source: &Source,
     room: u64,
     at: usize,
     out: &mut Vec<u8>,
-) -> Option<(usize, StringKind, Mark)>
+) -> Option<(usize, Mark)>
     requires { at ≤ length source.now.text.now }
     ensures within { IfSome result (λ r. r.0 ≤ length source.now.text.now) }
-    ensures taken { IfSome result (λ r. PieceTaken source.now.profile source.now.text.now at r.0 room r.1 r.2 out.old.items out.new.items) }
+    ensures taken { IfSome result (λ r. PieceTaken source.now.profile source.now.text.now at r.0 room (kind_at (drop at source.now.text.now)) r.1 out.old.items out.new.items) }
+{
+    if stands(b'"', source.text, at) {
+        return put_text_piece(source.text, at, out);
+    }
+    put_bytes_piece(source, room, at, out)
+}
+
+/// The same of a piece that is no text.
+fn put_bytes_piece(
+    source: &Source,
+    room: u64,
+    at: usize,
+    out: &mut Vec<u8>,
+) -> Option<(usize, Mark)>
+    requires { at ≤ length source.now.text.now }
+    ensures within { IfSome result (λ r. r.0 ≤ length source.now.text.now) }
+    ensures taken { IfSome result (λ r. PieceTaken source.now.profile source.now.text.now at r.0 room kinds.Bytes r.1 out.old.items out.new.items) }
 {
     let (class, end) = next_token(source, at)?;
     match class {
-        Class::Text { bytes, mark } => {
-            out.extend_from_slice(bytes.as_slice()).ok()?;
-            Some((end, StringKind::Text, mark))
-        }
         Class::Bytes { bytes, mark, .. } => {
             out.extend_from_slice(bytes.as_slice()).ok()?;
-            Some((end, StringKind::Bytes, mark))
+            Some((end, mark))
+        }
+        Class::EmbedOpen => {
+            if room == 0 {
+                return None;
+            }
+            embed_end(source, end)
         }
         _ => None,
     }
@@ -149,16 +171,21 @@ pub(crate) fn put_tag_head(source: &Source, at: usize, out: &mut Vec<u8>) -> Opt
     }
 }
 
-/// The end of the `<<` at or behind the place.
+/// The end of the `<<` at or behind the place. None also where `>>` follows.
 #[inline(never)]
-pub(crate) fn embed_open(source: &Source, at: usize) -> Option<usize>
+pub(crate) fn items_open(source: &Source, at: usize) -> Option<usize>
     requires { at ≤ length source.now.text.now }
     ensures within { IfSome result (λ end. end ≤ length source.now.text.now) }
     ensures token { IfSome result (λ end. TokenAt source.now.profile source.now.text.now at end classes.EmbedOpen) }
 {
     let (class, end) = next_token(source, at)?;
     match class {
-        Class::EmbedOpen => Some(end),
+        Class::EmbedOpen => {
+            if is_void(source, end) {
+                return None;
+            }
+            Some(end)
+        }
         _ => None,
     }
 }

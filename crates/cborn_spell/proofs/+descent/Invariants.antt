@@ -1,5 +1,5 @@
-use Rattle.std.proofs.Common.{◌+◌, ◌*◌, ◌≤◌, ℕ, List, length}
-use Rattle.cborn_spell.specs.Descent.{BeforeTaken, PairsBeforeTaken, PiecesTaken, ChunksTaken}
+use Rattle.std.proofs.Common.{◌+◌, ◌*◌, ◌≤◌, length}
+use Rattle.cborn_spell.specs.Descent.{BeforeTaken, PairsBeforeTaken, PiecesBefore, ChunksBefore}
 use Rattle.cborn_spell.proofs.+descent.Given as goal
 
 abbrev pub decreases-items::put_item : goal.decreases-items::put_item
@@ -35,26 +35,14 @@ decreases-rows::put_map l = 16 * l.room + 6
 abbrev pub decreases-rows::put_pairs : goal.decreases-rows::put_pairs
 decreases-rows::put_pairs l = 16 * l.room + 12
 
-abbrev pub decreases-pieces::put_embedded_item : goal.decreases-pieces::put_embedded_item
-decreases-pieces::put_embedded_item l = 16 * l.room + 6
-
-abbrev pub decreases-pieces::put_joined_behind : goal.decreases-pieces::put_joined_behind
-decreases-pieces::put_joined_behind l = 16 * l.room + 4
-
 abbrev pub decreases-pieces::put_pieces_item : goal.decreases-pieces::put_pieces_item
 decreases-pieces::put_pieces_item l = 16 * l.room + 5
 
 abbrev pub decreases-pieces::put_joined : goal.decreases-pieces::put_joined
 decreases-pieces::put_joined l = 16 * l.room + 4
 
-abbrev pub decreases-pieces::put_further : goal.decreases-pieces::put_further
-decreases-pieces::put_further l = 16 * l.room + 2
-
 abbrev pub decreases-pieces::put_piece : goal.decreases-pieces::put_piece
 decreases-pieces::put_piece l = 16 * l.room + 1
-
-abbrev pub decreases-pieces::put_embedded : goal.decreases-pieces::put_embedded
-decreases-pieces::put_embedded l = 16 * l.room
 
 abbrev pub decreases-pieces::put_chunked : goal.decreases-pieces::put_chunked
 decreases-pieces::put_chunked l = 16 * l.room + 6
@@ -70,10 +58,10 @@ invariant-rows::put_row-items l = (l.place ≤ length l.source.text.now) × Befo
 abbrev pub invariant-rows::put_pairs-pairs : goal.invariant-rows::put_pairs-pairs
 invariant-rows::put_pairs-pairs l = (l.place ≤ length l.source.text.now) × PairsBeforeTaken l.source.profile l.source.text.now l.fn.at l.place l.room l.count l.initial.out.items l.out.items
 
--- the pieces so far
-abbrev pub invariant-pieces::put_further-pieces : goal.invariant-pieces::put_further-pieces
-invariant-pieces::put_further-pieces l = (l.place ≤ length l.source.text.now) × ((n : ℕ) (start : List ℕ) → PiecesTaken l.source.profile l.source.text.now n l.fn.at l.room l.kind l.fn.mark start l.initial.out.items → PiecesTaken l.source.profile l.source.text.now n l.place l.room l.kind l.last_mark start l.out.items)
+-- the pieces so far, behind the byte in the place of the head
+abbrev pub invariant-pieces::put_joined-pieces : goal.invariant-pieces::put_joined-pieces
+invariant-pieces::put_joined-pieces l = (l.place ≤ length l.source.text.now) × PiecesBefore l.source.profile l.source.text.now l.fn.at l.place l.room l.kind l.initial.out.items l.out.items
 
 -- the chunks so far
 abbrev pub invariant-pieces::put_chunks-chunks : goal.invariant-pieces::put_chunks-chunks
-invariant-pieces::put_chunks-chunks l = (l.place ≤ length l.source.text.now) × ChunksTaken l.source.profile l.source.text.now l.fn.at l.place l.room l.kind l.fn.out.items l.out.items
+invariant-pieces::put_chunks-chunks l = (l.place ≤ length l.source.text.now) × ChunksBefore l.source.profile l.source.text.now l.fn.at l.place l.room l.kind l.fn.out.items l.out.items
