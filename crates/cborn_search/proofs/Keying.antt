@@ -9,6 +9,7 @@ use Rattle.cborn_model.specs.Valid.{IsProper}
 use Rattle.cborn_model.specs.Value.{Value}
 use Rattle.cborn_model.specs.Meaning.{Means}
 use Rattle.cborn_wire.specs.Places.{placed_from}
+use Rattle.cborn_wire.specs.shared.Parts.{NodeRead}
 use Rattle.cborn_wire.proofs.Spelled.OneReading.{one_spelling}
 use Rattle.cborn_det.specs.Det.{Det, DetSeq}
 use Rattle.cborn_judge.specs.Flaws.{Flaw}
@@ -17,8 +18,7 @@ use Rattle.cborn_judge.proofs.Meaning.Meanings.{meaning_valid, some_bytes}
 use Rattle.cborn_transcode.specs.Transcoding.{IsTranscoded}
 use Rattle.cborn_transcode.proofs.Opening.{put_there}
 use Rattle.cborn_transcode.proofs.Placing.{means-from}
-use Rattle.cborn_search.specs.Reading.{NodeRead}
-use Rattle.cborn_search.specs.Flawed.{Told, Sought, FindsTold, Scanned}
+use Rattle.cborn_search.specs.Flawed.{Told, Sought, FindsTold, NodeAt, Scanned}
 
 module _ (order : List ℕ → List ℕ → Ordering) where
   -- of nodes that spell what one node spells
@@ -35,18 +35,18 @@ module _ (order : List ℕ → List ℕ → Ordering) where
       absurd (let l = ap count (one_spelling (more t no_item) (trees (u ∷ w ∷ us)) (f, tt) g (append-nil (spelled t) ∙ sym e) p) in omega arith)
 
   -- a key, and the encoding that was made of its bytes alone
-  pub key_coded : (P : Tree → Type 0) (room limit total : ℕ) (x rest bits out : List ℕ) → length x < 2 ^ 64 → (k : NodeRead P room total x rest) → bits ≡ spelled k.node → IsTranscoded order limit bits out → (v : Value) × IsProper v × Means k.node v × Det order v out
+  pub key_coded : (P : Tree → Type 0) (room limit total : ℕ) (x rest bits out : List ℕ) → length x < 2 ^ 64 → (k : NodeAt P room total x rest) → bits ≡ spelled k.node → IsTranscoded order limit bits out → (v : Value) × IsProper v × Means k.node v × Det order v out
   key_coded P room limit total x rest bits out short k b e =
       let below : length (spelled k.node) < 2 ^ 64 = omega (arith, short, ap length k.read ∙ length-append (spelled k.node) rest) in
-      let u = alone (total - length x) k.node e.nodes e.items out k.fits k.placed e.read.fit (e.read.spells ∙ b) e.meant e.encoded in
+      let u = alone (total - length x) k.node e.nodes e.items out k.fits k.holds.0 e.read.fit (e.read.spells ∙ b) e.meant e.encoded in
       (u.0, meaning_valid k.node u.0 k.fits below u.1, u.1, u.2)
 
 -- the bytes of a node, cut out of the input
-pub cut_out : (P : Tree → Type 0) (room total : ℕ) (x rest : List ℕ) (k : NodeRead P room total x rest) → take (length x - length rest) x ≡ spelled k.node
-cut_out P room total x rest k =
+pub cut_out : {P : Tree → Type 0} {room : ℕ} {x rest : List ℕ} (k : NodeRead P room x rest) → take (length x - length rest) x ≡ spelled k.node
+cut_out {x = x} {rest} k =
     let n : length x - length rest ≡ length (spelled k.node) = omega (arith, ap length k.read ∙ length-append (spelled k.node) rest) in
     (λ i. take (n i) (k.read i)) ∙ take-append_seam (spelled k.node) rest
 
 -- a key with a flaw
 pub key_unknown : (only : Bool) (room total : ℕ) (x rest : List ℕ) (s : Bool) (flaw : Option Told) (f : Told) → flaw ≡ Some f → (k : Scanned only room total x rest flaw s) → (v : Value) → Means k.node v → ⊥
-key_unknown only room total x rest s flaw f e k v m = no_flaw k.node v m f.0 f.1 (subst (λ (o : Option Told). FindsTold (Sought only (Flaw k.node)) o) e k.holds.0).is.0
+key_unknown only room total x rest s flaw f e k v m = no_flaw k.node v m f.0 f.1 (subst (λ (o : Option Told). FindsTold (Sought only (Flaw k.node)) o) e k.holds.1.0).is.0

@@ -1,5 +1,4 @@
-pub mod Nodes
-pub mod Couples
+pub mod Places
 pub mod Scanning
 pub mod Keying
 pub mod Mapping

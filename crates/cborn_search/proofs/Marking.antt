@@ -7,6 +7,7 @@ use Rattle.std.proofs.lemmas.List.{take_all, drop-append-le, take-append-le}
 use Rattle.cborn_model.specs.Tree.{entries}
 use Rattle.cborn_model.specs.Orders.{bytewise}
 use Rattle.cborn_model.specs.shared.OrderLaws.{bytewise_order}
+use Rattle.cborn_wire.specs.shared.Parts.{Pair}
 use Rattle.cborn_judge.specs.Flaws.{HasRepeat, flaw_rank}
 use Rattle.cborn_judge.specs.shared.Judged.{RepeatFlaw}
 use Rattle.cborn_judge.specs.shared.Repeats.{IsOneOf, IsAgain, IsTied, PositionsRise}
@@ -15,7 +16,6 @@ use Rattle.cborn_judge.specs.declared.faults.InvalidReason.TheVariants.{NotUtf8,
 use Rattle.cborn_judge.proofs.Loops.Firsts.{Either}
 use Rattle.cborn_judge.proofs.Loops.Passing.{passed_one}
 use Rattle.cborn_judge.proofs.SameKeys.Repeating.{repeat_again, again_repeat, InOrder, again_tied}
-use Rattle.cborn_search.specs.Reading.{Pair}
 use Rattle.cborn_search.specs.Flawed.{Told, IsEarliestTold, FindsTold, SeenKey, seen_bytes, seen_position, seen_place, AreSeen}
 use Rattle.cborn_search.specs.devices.Marks.{mark_start, mark_bytes, IsMark, StartsRise, AreMarked, Comes, InPlace, ComesAfter, TieAfter, TieFlaw}
 use Rattle.cborn_search.specs.declared.keys.Keys.{Keys}

@@ -1,17 +1,24 @@
 -- The first flaw of single nodes, of chunks, of arrays and of tags.
-use Rattle.std.proofs.Common.{◌≡◌, ◌≢◌, ℕ, ◌+◌, ◌-◌, ◌⊎◌, ◌≤◌, inl, inr, List, [], ◌∷◌, ◌++◌, length, Bool, true, false, refl, sym, ap, subst, arith, Option, None, Some}
+use Rattle.std.proofs.Common.{◌≡◌, ◌≢◌, ℕ, suc, ◌+◌, ◌-◌, ◌⊎◌, ◌≤◌, inl, inr, List, [], ◌∷◌, ◌++◌, length, drop, Bool, true, false, refl, sym, ap, subst, arith, Option, None, Some}
 use Rattle.std.specs.Prelude.{◌↔◌}
 use Rattle.cborn_model.specs.declared.heads.Major.{Major}
 use Rattle.cborn_model.specs.declared.heads.Width.{Width}
+use Rattle.cborn_model.specs.declared.heads.Size.{Size}
 use Rattle.cborn_model.specs.declared.heads.Size.TheVariants.{Fixed, Endless}
 use Rattle.cborn_model.specs.declared.nodes.Chunk.{Chunk}
 use Rattle.cborn_model.specs.First.{IsFirst}
 use Rattle.cborn_model.specs.declared.heads.Major.TheVariants.{Unsigned, Negative, ByteString, TextString, Array, Tag, Other}
 use Rattle.cborn_model.specs.Heads.{Given, Unbounded, head, WidthFits}
 use Rattle.cborn_model.specs.Meaning.{joined_chunks, IsByteString}
+use Rattle.cborn_model.specs.Placed.{Placed, PlacedAll, ChunksPlaced}
 use Rattle.cborn_model.specs.Tree.{Tree, Text, TextChunks, Items, Tagged, trees}
 use Rattle.cborn_wire.specs.declared.heads.Argument.{Argument}
-use Rattle.cborn_wire.specs.HeadReading.{seen_argument}
+use Rattle.cborn_wire.specs.declared.heads.Head.{Head}
+use Rattle.cborn_wire.specs.HeadReading.{major_at, IsHeadOf, seen_argument, ArgumentFits}
+use Rattle.cborn_wire.specs.shared.Parts.{StringRead, IsSimpleArgument, Leaves}
+use Rattle.cborn_wire.proofs.Parts.Heads.{read_from}
+use Rattle.cborn_wire.proofs.Parts.Strings.{bytes_read, text_read, no_chunk, chunk_more, byte_chunks_read, text_chunks_read}
+use Rattle.cborn_wire.proofs.Parts.Nodes.{uint_read, nint_read, simple_read, node_more, array_read, endless_array_read, tagged_read}
 use Rattle.cborn_judge.specs.Flaws.{FlawAt, Flaw, flaw_rank}
 use Rattle.cborn_judge.specs.shared.Judged.{FlawIn, ChunkFlaw}
 use Rattle.cborn_judge.specs.declared.faults.InvalidReason.{InvalidReason}
@@ -20,9 +27,8 @@ use Rattle.cborn_judge.proofs.Loops.Firsts.{Either, found_both, found_alike}
 use Rattle.cborn_judge.proofs.FirstFlaw.Steps.{flaw_items, flaw_tagged}
 use Rattle.cborn_judge.proofs.FirstFlaw.Texts.{bad_after, bad_before, bad_last}
 use Rattle.cborn_judge.proofs.FirstFlaw.Walking.{one_more}
-use Rattle.cborn_search.specs.Reading.{StringRead, IsSimpleArgument}
 use Rattle.cborn_search.specs.Flawed.{Told, told_place, told_reason, Sought, IsEarliestTold, FindsTold, TextFlaw, BadChunk, ChunkSeen, ChunksSeen, IsKind, HasFlaw, Scanned, HaveFlaw, ScannedAll}
-use Rattle.cborn_search.proofs.Nodes.{uint_read, nint_read, bytes_read, text_read, simple_read, no_chunk, chunk_more, byte_chunks_read, text_chunks_read, node_more, array_read, endless_array_read, tagged_read}
+use Rattle.cborn_search.proofs.Places.{node_placed, chunk_placed, items_placed, inside}
 
 pub both_told : (F G : ℕ → InvalidReason → Type 0) (a b o : Option Told) → FindsTold F a → FindsTold G b → IsEarliestTold a b o → FindsTold (Either F G) o
 both_told = found_both flaw_rank told_place told_reason
@@ -64,26 +70,33 @@ pub still : (a : Option Told) → IsEarliestTold a None a
 still None = refl
 still (Some x) = refl
 
+-- what is behind a head that was read
+pub seen_from : (only : Bool) (room total : ℕ) (flaw : Option Told) (s : Bool) {x tail : List ℕ} {h : Head} {n left : ℕ} {m : Major} {a : Argument} → tail ≡ drop n x → IsHeadOf x h n → major_at h.major ≡ m → h.argument ≡ a → length x ≤ total
+    → (ArgumentFits (seen_argument a) → length (head m (seen_argument a) ++ tail) ≤ total → total - length x ≡ total - length (head m (seen_argument a) ++ tail) → Leaves (λ rest. Scanned only room total (head m (seen_argument a) ++ tail) rest flaw s) left)
+    → Leaves (λ rest. Scanned only room total x rest flaw s) left
+seen_from only room total flaw s {x} {left = left} t i e f l done =
+    read_from (λ (y : List ℕ). length y ≤ total → total - length x ≡ total - length y → Leaves (λ rest. Scanned only room total y rest flaw s) left) t i e f done l refl
+
 -- ---- leaves
 
 module _ (only : Bool) (room total : ℕ) where
   pub uint_seen : (w : Width) (n : ℕ) (rest : List ℕ) → WidthFits w n → Scanned only room total (head Unsigned (Given w n) ++ rest) rest None false
-  uint_seen w n rest h = uint_read (HasFlaw only None false) room total (total - length (head Unsigned (Given w n) ++ rest)) w n rest h refl ((λ p r f. subst (λ z. FlawAt z p r) f.0.1 f.0.2), (λ b k. k))
+  uint_seen w n rest h = uint_read (total - length (head Unsigned (Given w n) ++ rest)) w n h (refl, ((λ p r f. subst (λ z. FlawAt z p r) f.0.1 f.0.2), (λ b k. k)))
 
   pub nint_seen : (w : Width) (n : ℕ) (rest : List ℕ) → WidthFits w n → Scanned only room total (head Negative (Given w n) ++ rest) rest None false
-  nint_seen w n rest h = nint_read (HasFlaw only None false) room total (total - length (head Negative (Given w n) ++ rest)) w n rest h refl ((λ p r f. subst (λ z. FlawAt z p r) f.0.1 f.0.2), (λ b k. k))
+  nint_seen w n rest h = nint_read (total - length (head Negative (Given w n) ++ rest)) w n h (refl, ((λ p r f. subst (λ z. FlawAt z p r) f.0.1 f.0.2), (λ b k. k)))
 
   pub bytes_seen : (w : Width) (n : ℕ) (input content rest : List ℕ) → WidthFits w n → StringRead n input content rest → Scanned only room total (head ByteString (Given w n) ++ input) rest None true
-  bytes_seen w n input content rest h s = bytes_read (HasFlaw only None true) room total (total - length (head ByteString (Given w n) ++ input)) w n input content rest h refl s ((λ p r f. subst (λ z. FlawAt z p r) f.0.1 f.0.2), (content, refl))
+  bytes_seen w n input content rest h s = bytes_read (total - length (head ByteString (Given w n) ++ input)) w h s (refl, ((λ p r f. subst (λ z. FlawAt z p r) f.0.1 f.0.2), (content, refl)))
 
   pub text_seen : (place : ℕ) (w : Width) (n : ℕ) (input content rest : List ℕ) (flaw : Option Told) → WidthFits w n → place ≡ total - length (head TextString (Given w n) ++ input) → StringRead n input content rest → FindsTold (TextFlaw place content) flaw
       → Scanned only room total (head TextString (Given w n) ++ input) rest flaw false
   text_seen place w n input content rest flaw h e s f =
-      text_read (HasFlaw only flaw false) room total place w n input content rest h e s
-      (all_sought only (TextFlaw place content) (Flaw (Text place w content)) flaw (λ p r. ((λ k. (Text place w content, refl, k)), (λ k. subst (λ z. FlawAt z p r) k.1 k.2))) (λ p r k. k.1) f, (λ b k. k))
+      text_read place w h s
+      (e, (all_sought only (TextFlaw place content) (Flaw (Text place w content)) flaw (λ p r. ((λ k. (Text place w content, refl, k)), (λ k. subst (λ z. FlawAt z p r) k.1 k.2))) (λ p r k. k.1) f, (λ b k. k)))
 
   pub simple_seen : (a : Argument) (rest : List ℕ) → IsSimpleArgument a → Scanned only room total (head Other (seen_argument a) ++ rest) rest None false
-  simple_seen a rest s = simple_read (HasFlaw only None false) room total (total - length (head Other (seen_argument a) ++ rest)) a rest refl s ((λ p r f. subst (λ z. FlawAt z p r) f.0.1 f.0.2), (λ b k. k))
+  simple_seen a rest s = simple_read (total - length (head Other (seen_argument a) ++ rest)) a s (refl, ((λ p r f. subst (λ z. FlawAt z p r) f.0.1 f.0.2), (λ b k. k)))
 
 -- ---- chunks
 
@@ -94,53 +107,58 @@ one_chunk cs c p r = (to, (λ h. elim (bad_after cs c p h.1) [ inl k ↦ inl (h.
     to (inl h) = (h.0, bad_before cs c p h.1)
     to (inr h) = (h.1, bad_last cs c p (h.0, h.2))
 
--- of a text the chunks' first flaw
-abbrev OfText : Major → Option Told → List Chunk → Type 0
-OfText major flaw cs = major ≡ TextString → FindsTold (ChunkFlaw cs) flaw
-
 module _ (major : Major) (total : ℕ) where
   pub chunks_none : (input : List ℕ) → ChunksSeen major total input input None
-  chunks_none input = no_chunk (OfText major None) major total input (λ e p r f. f.1)
+  chunks_none input = no_chunk (tt, (λ e p r f. f.1))
 
   pub chunks_more : (input mid rest : List ℕ) (a b o : Option Told) → length input ≤ total → ChunksSeen major total input mid a → ChunkSeen major total mid rest b → IsEarliestTold a b o → ChunksSeen major total input rest o
   chunks_more input mid rest a b o l x y e =
-      chunk_more (OfText major a) (OfText major o) (λ c. major ≡ TextString → FindsTold (BadChunk c) b) major total input mid rest l x y
-      (λ cs c f g m. alike_told (Either (ChunkFlaw cs) (BadChunk c)) (ChunkFlaw (cs ++ c ∷ [])) o (one_chunk cs c) (both_told (ChunkFlaw cs) (BadChunk c) a b o (f m) (g m) e))
+      chunk_more x y (
+        chunk_placed total input mid l major x.chunks y.chunk x.read x.holds.0 y.holds.0,
+        (λ m. alike_told (Either (ChunkFlaw x.chunks) (BadChunk y.chunk)) (ChunkFlaw (x.chunks ++ y.chunk ∷ [])) o (one_chunk x.chunks y.chunk) (both_told (ChunkFlaw x.chunks) (BadChunk y.chunk) a b o (x.holds.1 m) (y.holds.1 m) e)),
+      )
 
 module _ (only : Bool) (room total : ℕ) (input after rest : List ℕ) (flaw : Option Told) where
   pub byte_chunks_seen : length (head ByteString Unbounded ++ input) ≤ total → after ≡ 255 ∷ rest → ChunksSeen ByteString total input after flaw → Scanned only room total (head ByteString Unbounded ++ input) rest None true
   byte_chunks_seen l e s =
-      byte_chunks_read (OfText ByteString flaw) (HasFlaw only None true) room total (total - length (head ByteString Unbounded ++ input)) input after rest l e refl s
-      (λ cs h. ((λ k r f. subst (λ z. FlawAt z k r) f.0.1 f.0.2), (joined_chunks cs, refl)))
+      let p : ℕ = total - length (head ByteString Unbounded ++ input) in
+      let q : total - length input ≡ suc p = omega (arith, l) in
+      byte_chunks_read p e s ((refl, subst (λ k. ChunksPlaced ByteString k s.chunks) q s.holds.0), ((λ k r f. subst (λ z. FlawAt z k r) f.0.1 f.0.2), (joined_chunks s.chunks, refl)))
 
   pub text_chunks_seen : length (head TextString Unbounded ++ input) ≤ total → after ≡ 255 ∷ rest → ChunksSeen TextString total input after flaw → Scanned only room total (head TextString Unbounded ++ input) rest flaw false
   text_chunks_seen l e s =
       let p : ℕ = total - length (head TextString Unbounded ++ input) in
-      text_chunks_read (OfText TextString flaw) (HasFlaw only flaw false) room total p input after rest l e refl s
-      (λ cs h. (all_sought only (ChunkFlaw cs) (Flaw (TextChunks p cs)) flaw (λ k r. ((λ f. (TextChunks p cs, refl, f)), (λ f. subst (λ z. FlawAt z k r) f.1 f.2))) (λ k r f. f.0) (h refl), (λ b k. k)))
+      let q : total - length input ≡ suc p = omega (arith, l) in
+      text_chunks_read p e s (
+        (refl, subst (λ k. ChunksPlaced TextString k s.chunks) q s.holds.0),
+        (all_sought only (ChunkFlaw s.chunks) (Flaw (TextChunks p s.chunks)) flaw (λ k r. ((λ f. (TextChunks p s.chunks, refl, f)), (λ f. subst (λ z. FlawAt z k r) f.1 f.2))) (λ k r f. f.0) (s.holds.1 refl), (λ b k. k)),
+      )
 
 -- ---- nodes one after another
 
 pub all_more : (only : Bool) (room total n : ℕ) (input mid rest : List ℕ) (a b o : Option Told) (s : Bool) → length input ≤ total → ScannedAll only room total n input mid a → Scanned only room total mid rest b s → IsEarliestTold a b o → ScannedAll only room total (n + 1) input rest o
 all_more only room total n input mid rest a b o s l x y e =
-    node_more (HaveFlaw only a) (HaveFlaw only o) (HasFlaw only b s) room total n input mid rest l x y
-    (λ ts t f g. alike_sought only (Either (FlawIn (trees ts)) (Flaw t)) (FlawIn (trees (ts ++ t ∷ []))) o (one_more ts t) (both_sought only (FlawIn (trees ts)) (Flaw t) a b o f g.0 e))
+    node_more x y (
+      node_placed total input mid l x.nodes y.node x.read x.holds.0 y.holds.0,
+      alike_sought only (Either (FlawIn (trees x.nodes)) (Flaw y.node)) (FlawIn (trees (x.nodes ++ y.node ∷ []))) o (one_more x.nodes y.node) (both_sought only (FlawIn (trees x.nodes)) (Flaw y.node) a b o x.holds.1 y.holds.1.0 e),
+    )
 
 -- ---- arrays
+
+flaw_of_array : (only : Bool) (p : ℕ) (size : Size) (flaw : Option Told) (ts : List Tree) → HaveFlaw only flaw ts → HasFlaw only flaw false (Items p size (trees ts))
+flaw_of_array only p size flaw ts h = (alike_sought only (FlawIn (trees ts)) (Flaw (Items p size (trees ts))) flaw (λ k j. let f = flaw_items p size (trees ts) k j in (f.1, f.0)) h, (λ b k. k))
 
 pub array_seen : (only : Bool) (room total : ℕ) (w : Width) (n : ℕ) (input rest : List ℕ) (flaw : Option Told) → 1 ≤ room → WidthFits w n → length (head Array (Given w n) ++ input) ≤ total → ScannedAll only (room - 1) total n input rest flaw
     → Scanned only room total (head Array (Given w n) ++ input) rest flaw false
 array_seen only room total w n input rest flaw r h l s =
     let p : ℕ = total - length (head Array (Given w n) ++ input) in
-    array_read (HaveFlaw only flaw) (HasFlaw only flaw false) room total p w n input rest r h l refl s
-    (λ ts c g. (alike_sought only (FlawIn (trees ts)) (Flaw (Items p (Fixed w) (trees ts))) flaw (λ k j. let f = flaw_items p (Fixed w) (trees ts) k j in (f.1, f.0)) g, (λ b k. k)))
+    array_read p w r h s ((refl, items_placed total w n input s.nodes l s.count s.holds.0), flaw_of_array only p (Fixed w) flaw s.nodes s.holds.1)
 
 pub endless_array_seen : (only : Bool) (room total n : ℕ) (input after rest : List ℕ) (flaw : Option Told) → 1 ≤ room → after ≡ 255 ∷ rest → length (head Array Unbounded ++ input) ≤ total → ScannedAll only (room - 1) total n input after flaw
     → Scanned only room total (head Array Unbounded ++ input) rest flaw false
 endless_array_seen only room total n input after rest flaw r e l s =
     let p : ℕ = total - length (head Array Unbounded ++ input) in
-    endless_array_read (HaveFlaw only flaw) (HasFlaw only flaw false) room total p n input after rest r e l refl s
-    (λ ts g. (alike_sought only (FlawIn (trees ts)) (Flaw (Items p Endless (trees ts))) flaw (λ k j. let f = flaw_items p Endless (trees ts) k j in (f.1, f.0)) g, (λ b k. k)))
+    endless_array_read p r e s ((refl, subst (λ k. PlacedAll k (trees s.nodes)) (inside total (head Array Unbounded) input l) s.holds.0), flaw_of_array only p Endless flaw s.nodes s.holds.1)
 
 -- ---- tags
 
@@ -164,8 +182,11 @@ module _ (only : Bool) (room total place : ℕ) (w : Width) (n : ℕ) (input res
       → Scanned only room total (head Tag (Given w n) ++ input) rest flaw false
   sound_tag r h l x d =
       let p : ℕ = total - length (head Tag (Given w n) ++ input) in
-      tagged_read (HasFlaw only flaw s) (HasFlaw only flaw false) room total p w n input rest r h l refl x
-      (λ t g. (alike_told (Sought only (Flaw t)) (Sought only (Flaw (Tagged p w n t))) flaw (λ q i. let f = flaw_tagged p w n t q i in ((λ k. (f.1 (inr k.0), k.1)), (λ k. elim (f.0 k.0) [ inl o ↦ absurd (d t p q i g.1 (o, k.1)) | inr o ↦ (o, k.1) ]))) g.0, (λ b k. k)))
+      let t : Tree = x.node in
+      tagged_read p w n r h x (
+        (refl, subst (λ k. Placed k t) (inside total (head Tag (Given w n)) input l) x.holds.0),
+        (alike_told (Sought only (Flaw t)) (Sought only (Flaw (Tagged p w n t))) flaw (λ q i. let f = flaw_tagged p w n t q i in ((λ k. (f.1 (inr k.0), k.1)), (λ k. elim (f.0 k.0) [ inl o ↦ absurd (d t p q i x.holds.1.1 (o, k.1)) | inr o ↦ (o, k.1) ]))) x.holds.1.0, (λ b k. k)),
+      )
 
   pub tagged_seen : 1 ≤ room → WidthFits w n → length (head Tag (Given w n) ++ input) ≤ total → Scanned only (room - 1) total input rest flaw s → n ≢ 2 → n ≢ 3
       → Scanned only room total (head Tag (Given w n) ++ input) rest flaw false
@@ -178,9 +199,12 @@ module _ (only : Bool) (room total place : ℕ) (w : Width) (n : ℕ) (input res
   pub bad_bignum_seen : (o : Option Told) → 1 ≤ room → WidthFits w n → length (head Tag (Given w n) ++ input) ≤ total → place ≡ total - length (head Tag (Given w n) ++ input) → Scanned only (room - 1) total input rest flaw s → (n ≡ 2) ⊎ (n ≡ 3) → (only ≡ false) × (s ≡ false) → IsEarliestTold (Some (place, BadBignum)) flaw o
       → Scanned only room total (head Tag (Given w n) ++ input) rest o false
   bad_bignum_seen o r h l e x d b k =
-      tagged_read (HasFlaw only flaw s) (HasFlaw only o false) room total place w n input rest r h l e x
-      (λ t g. (
-        alike_sought only (Either (FlawAt (Tagged place w n t)) (Flaw t)) (Flaw (Tagged place w n t)) o (λ q i. let f = flaw_tagged place w n t q i in (f.1, f.0))
-            (both_sought only (FlawAt (Tagged place w n t)) (Flaw t) (Some (place, BadBignum)) flaw o (own_first only place w n t b.0 d (no_string_of t s b.1 g.1)) g.0 k),
-        (λ b z. z),
-      ))
+      let t : Tree = x.node in
+      tagged_read place w n r h x (
+        (e, subst (λ k. Placed k t) (inside total (head Tag (Given w n)) input l) x.holds.0),
+        (
+          alike_sought only (Either (FlawAt (Tagged place w n t)) (Flaw t)) (Flaw (Tagged place w n t)) o (λ q i. let f = flaw_tagged place w n t q i in (f.1, f.0))
+              (both_sought only (FlawAt (Tagged place w n t)) (Flaw t) (Some (place, BadBignum)) flaw o (own_first only place w n t b.0 d (no_string_of t s b.1 x.holds.1.1)) x.holds.1.0 k),
+          (λ b z. z),
+        ),
+      )

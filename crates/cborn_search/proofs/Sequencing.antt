@@ -2,6 +2,7 @@
 use Rattle.std.proofs.Common.{◌≡◌, ℕ, ◌+◌, ◌-◌, ◌≤◌, inl, inr, List, [], ◌∷◌, ◌++◌, length, refl, sym, ap, ◌∙◌, subst, arith, append-nil, Bool, true, false, Option, None, Some}
 use Rattle.std.specs.List.{AllZip}
 use Rattle.std.specs.Option.{option_or}
+use Rattle.std.proofs.lemmas.List.{nil_from_length}
 use Rattle.cborn_model.specs.Meaning.{Means}
 use Rattle.cborn_model.specs.Placed.{PlacedAll}
 use Rattle.cborn_model.specs.Spelled.{Wellformed, spelled_all, FitsAll}
@@ -11,15 +12,15 @@ use Rattle.cborn_judge.specs.Flaws.{Flaw, IsRefusal, IsRefusalOfAll}
 use Rattle.cborn_judge.specs.declared.faults.Invalid.TheVariants.{Refused, OutOfMemory}
 use Rattle.cborn_judge.specs.declared.faults.InvalidReason.{InvalidReason}
 use Rattle.cborn_judge.specs.declared.faults.InvalidReason.TheVariants.{NotUtf8}
+use Rattle.cborn_wire.proofs.Parts.Nodes.{no_node, node_more, wellformed}
 use Rattle.cborn_wire.proofs.Spelled.AsPlaced.{same_all-from}
 use Rattle.cborn_wire.proofs.Spelled.OneReading.{one_spelling}
 use Rattle.cborn_judge.specs.shared.Judged.{FlawIn}
 use Rattle.cborn_judge.proofs.Meaning.Judging.{meaning}
 use Rattle.cborn_judge.proofs.FirstFlaw.Sequences.{mean_more}
-use Rattle.cborn_search.specs.Flawed.{Told, FindsTold, HasFlaw, Scanned, HaveFlaw, ScannedAll}
-use Rattle.cborn_search.specs.Reading.{NodesRead}
+use Rattle.cborn_search.specs.Flawed.{Told, FindsTold, NodesAt, Scanned, HaveFlaw, ScannedAll}
 use Rattle.cborn_search.specs.Searching.{FlawVerdict, IsFirstFlawOf, HasBadText, IsFirstBadText}
-use Rattle.cborn_search.proofs.Nodes.{no_node, node_more}
+use Rattle.cborn_search.proofs.Places.{node_placed}
 use Rattle.cborn_search.proofs.Scanning.{plain}
 
 refused_last : (ts : List Tree) (vs : List Value) (t : Tree) (f : Told) → AllZip Means ts vs → IsRefusal t (Refused f.0 f.1) → IsRefusalOfAll (ts ++ t ∷ []) (Refused f.0 f.1)
@@ -44,26 +45,24 @@ verdict_more ts t (Some e) flaw h k = refused_before ts t e h
 abbrev pub HaveVerdict : Option Told → List Tree → Type 0
 HaveVerdict flaw ts = FlawVerdict ts flaw
 
-pub none_judged : (room total : ℕ) (input : List ℕ) → NodesRead (HaveVerdict None) room total 0 input input
-none_judged room total input = no_node (HaveVerdict None) room total input ([], tt)
+pub none_judged : (room total : ℕ) (input : List ℕ) → NodesAt (HaveVerdict None) room total 0 input input
+none_judged room total input = no_node (tt, ([], tt))
 
-pub judged_more : (room total n : ℕ) (input mid rest : List ℕ) (a flaw o : Option Told) (s : Bool) → length input ≤ total → NodesRead (HaveVerdict a) room total n input mid → Scanned false room total mid rest flaw s → o ≡ option_or a flaw → NodesRead (HaveVerdict o) room total (n + 1) input rest
+pub judged_more : (room total n : ℕ) (input mid rest : List ℕ) (a flaw o : Option Told) (s : Bool) → length input ≤ total → NodesAt (HaveVerdict a) room total n input mid → Scanned false room total mid rest flaw s → o ≡ option_or a flaw → NodesAt (HaveVerdict o) room total (n + 1) input rest
 judged_more room total n input mid rest a flaw o s l x y e =
-    node_more (HaveVerdict a) (HaveVerdict o) (HasFlaw false flaw s) room total n input mid rest l x y
-    (λ ts t g h. subst (λ (z : Option Told). FlawVerdict (ts ++ t ∷ []) z) (sym e) (verdict_more ts t a flaw g (plain (Flaw t) flaw h.0)))
-
-no_bytes : (x : List ℕ) → length x ≡ 0 → x ≡ []
-no_bytes [] e = refl
-no_bytes (b ∷ x) e = absurd (omega (arith, e))
+    node_more x y (
+      node_placed total input mid l x.nodes y.node x.read x.holds.0 y.holds.0,
+      subst (λ (z : Option Told). FlawVerdict (x.nodes ++ y.node ∷ []) z) (sym e) (verdict_more x.nodes y.node a flaw x.holds.1 (plain (Flaw y.node) flaw y.holds.1.0)),
+    )
 
 -- nodes that were read up to the end
-pub whole_read : (P : List Tree → Type 0) (room n : ℕ) (input rest : List ℕ) → length rest ≡ 0 → (x : NodesRead P room (length input) n input rest) → Wellformed room (trees x.nodes) input × PlacedAll 0 (trees x.nodes)
+pub whole_read : (P : List Tree → Type 0) (room n : ℕ) (input rest : List ℕ) → length rest ≡ 0 → (x : NodesAt P room (length input) n input rest) → Wellformed room (trees x.nodes) input × PlacedAll 0 (trees x.nodes)
 whole_read P room n input rest e x =
     let z : length input - length input ≡ 0 = omega arith in
-    (record { spells = sym (x.read ∙ ap (λ l. spelled_all (trees x.nodes) ++ l) (no_bytes rest e) ∙ append-nil (spelled_all (trees x.nodes))); fit = x.fits; shallow = x.shallow }, subst (λ p. PlacedAll p (trees x.nodes)) z x.placed)
+    (wellformed x (nil_from_length rest e), subst (λ p. PlacedAll p (trees x.nodes)) z x.holds.0)
 
-pub flaw_found : (room n : ℕ) (input rest : List ℕ) (o : Option Told) → length rest ≡ 0 → NodesRead (HaveVerdict o) room (length input) n input rest → IsFirstFlawOf room input o
-flaw_found room n input rest o e x = let w = whole_read (HaveVerdict o) room n input rest e x in record { nodes = x.nodes; read = w.0; placed = w.1; verdict = x.holds }
+pub flaw_found : (room n : ℕ) (input rest : List ℕ) (o : Option Told) → length rest ≡ 0 → NodesAt (HaveVerdict o) room (length input) n input rest → IsFirstFlawOf room input o
+flaw_found room n input rest o e x = let w = whole_read (HaveVerdict o) room n input rest e x in record { nodes = x.nodes; read = w.0; placed = w.1; verdict = x.holds.1 }
 
 -- nodes that spell the same bytes, and stand at the same place
 one_list : (ts us : Trees) → FitsAll ts → FitsAll us → spelled_all ts ≡ spelled_all us → PlacedAll 0 ts → PlacedAll 0 us → ts ≡ us
@@ -71,10 +70,10 @@ one_list ts us f g e h k = sym (same_all-from ts 0 h) ∙ one_spelling ts us f g
 
 module _ (room n : ℕ) (input rest : List ℕ) (p : ℕ) (r : InvalidReason) (e : length rest ≡ 0) (x : ScannedAll true room (length input) n input rest (Some (p, r))) where
   lowest : (q : ℕ) → HasBadText (trees x.nodes) q → p ≤ q
-  lowest q b = elim (x.holds.first q NotUtf8 (b, λ e. refl)) [ inl l ↦ omega (arith, l) | inr l ↦ omega (arith, l.0) ]
+  lowest q b = elim (x.holds.1.first q NotUtf8 (b, λ e. refl)) [ inl l ↦ omega (arith, l) | inr l ↦ omega (arith, l.0) ]
 
   found : IsFirstBadText (trees x.nodes) p
-  found = record { is = subst (λ (s : InvalidReason). FlawIn (trees x.nodes) p s) (x.holds.is.1 refl) x.holds.is.0; lowest = lowest }
+  found = record { is = subst (λ (s : InvalidReason). FlawIn (trees x.nodes) p s) (x.holds.1.is.1 refl) x.holds.1.is.0; lowest = lowest }
 
   -- where texts alone were looked for
   bad_text_found : (most : ℕ) (nodes : Trees) → Wellformed most nodes input → PlacedAll 0 nodes → IsFirstBadText nodes p

@@ -1,17 +1,18 @@
 -- What the search for flaws finds.
-use Rattle.std.specs.Prelude.{◌≡◌, ℕ, List, Bool, true, false, IsUtf8, Option, MatchBool}
+use Rattle.std.specs.Prelude.{◌≡◌, ℕ, ◌-◌, List, length, Bool, true, false, IsUtf8, Option, MatchBool}
 use Rattle.cborn_model.specs.declared.heads.Major.{Major}
 use Rattle.cborn_model.specs.declared.heads.Major.TheVariants.{TextString}
 use Rattle.cborn_model.specs.Meaning.{IsByteString}
+use Rattle.cborn_model.specs.Placed.{Placed, PlacedAll, PlacedEntries, ChunksPlaced}
 use Rattle.cborn_model.specs.Tree.{Tree, trees, entries}
 use Rattle.cborn_model.specs.declared.nodes.Chunk.{Chunk}
+use Rattle.cborn_wire.specs.shared.Parts.{Pair, ChunkRead, ChunksRead, NodeRead, NodesRead, PairsRead}
 use Rattle.cborn_judge.specs.Flaws.{flaw_rank, Flaw}
 use Rattle.cborn_judge.specs.Earliest.{IsEarliest, Finds}
 use Rattle.cborn_judge.specs.shared.Judged.{FlawIn, FlawAmong, ChunkFlaw}
 use Rattle.cborn_judge.specs.shared.Repeats.{AreKeys}
 use Rattle.cborn_judge.specs.declared.faults.InvalidReason.{InvalidReason}
 use Rattle.cborn_judge.specs.declared.faults.InvalidReason.TheVariants.{NotUtf8}
-use Rattle.cborn_search.specs.Reading.{Pair, ChunkRead, ChunksRead, NodeRead, NodesRead, PairsRead}
 
 -- where, and why
 abbrev pub Told : Type 0
@@ -41,12 +42,23 @@ TextFlaw q b p r = (p ≡ q) × (r ≡ NotUtf8) × (IsUtf8 b → ⊥)
 abbrev pub BadChunk : Chunk → ℕ → InvalidReason → Type 0
 BadChunk c = TextFlaw c.place c.bytes
 
+-- ---- what is read at the front of the last bytes of an input of so many: its place is the number of bytes before it, and P holds of it
+
+abbrev pub NodeAt : (Tree → Type 0) → ℕ → ℕ → List ℕ → List ℕ → Type 0
+NodeAt P room total input rest = NodeRead (λ t. Placed (total - length input) t × P t) room input rest
+
+abbrev pub NodesAt : (List Tree → Type 0) → ℕ → ℕ → ℕ → List ℕ → List ℕ → Type 0
+NodesAt P room total n input rest = NodesRead (λ ts. PlacedAll (total - length input) (trees ts) × P ts) room n input rest
+
+abbrev pub PairsAt : (List Pair → Type 0) → ℕ → ℕ → ℕ → List ℕ → List ℕ → Type 0
+PairsAt P room total n input rest = PairsRead (λ ns. PlacedEntries (total - length input) (entries ns) × P ns) room n input rest
+
 -- of a text its first flaw
 abbrev pub ChunkSeen : Major → ℕ → List ℕ → List ℕ → Option Told → Type 0
-ChunkSeen major total input rest flaw = ChunkRead (λ c. major ≡ TextString → FindsTold (BadChunk c) flaw) major total input rest
+ChunkSeen major total input rest flaw = ChunkRead (λ c. (c.place ≡ total - length input) × (major ≡ TextString → FindsTold (BadChunk c) flaw)) major input rest
 
 abbrev pub ChunksSeen : Major → ℕ → List ℕ → List ℕ → Option Told → Type 0
-ChunksSeen major total input rest flaw = ChunksRead (λ cs. major ≡ TextString → FindsTold (ChunkFlaw cs) flaw) major total input rest
+ChunksSeen major total input rest flaw = ChunksRead (λ cs. ChunksPlaced major (total - length input) cs × (major ≡ TextString → FindsTold (ChunkFlaw cs) flaw)) major input rest
 
 -- whether the node is a byte string
 abbrev pub IsKind : Bool → Tree → Type 0
@@ -57,14 +69,14 @@ HasFlaw only_texts flaw is_string t = FindsTold (Sought only_texts (Flaw t)) fla
 
 -- a node, its first flaw, and whether it is a byte string
 abbrev pub Scanned : Bool → ℕ → ℕ → List ℕ → List ℕ → Option Told → Bool → Type 0
-Scanned only_texts room total input rest flaw is_string = NodeRead (HasFlaw only_texts flaw is_string) room total input rest
+Scanned only_texts room total input rest flaw is_string = NodeAt (HasFlaw only_texts flaw is_string) room total input rest
 
 abbrev pub HaveFlaw : Bool → Option Told → List Tree → Type 0
 HaveFlaw only_texts flaw ts = FindsTold (Sought only_texts (FlawIn (trees ts))) flaw
 
 -- n nodes one after another, and their first flaw
 abbrev pub ScannedAll : Bool → ℕ → ℕ → ℕ → List ℕ → List ℕ → Option Told → Type 0
-ScannedAll only_texts room total n input rest flaw = NodesRead (HaveFlaw only_texts flaw) room total n input rest
+ScannedAll only_texts room total n input rest flaw = NodesAt (HaveFlaw only_texts flaw) room total n input rest
 
 -- a key that means something: its encoding, its position in the map, and its place
 abbrev pub SeenKey : Type 0
@@ -92,4 +104,4 @@ PairsFlaw only_texts flaw keys ns = FindsTold (Sought only_texts (FlawAmong (ent
 
 -- n pairs one after another, the first flaw of their keys and values, and the keys that mean something
 abbrev pub PairsSeen : Bool → ℕ → ℕ → ℕ → List ℕ → List ℕ → Option Told → List SeenKey → Type 0
-PairsSeen only_texts room total n input rest flaw keys = PairsRead (PairsFlaw only_texts flaw keys) room total n input rest
+PairsSeen only_texts room total n input rest flaw keys = PairsAt (PairsFlaw only_texts flaw keys) room total n input rest

@@ -1,4 +1,3 @@
-pub mod Reading
 pub mod Flawed
 pub mod Searching
 pub mod devices

@@ -4,10 +4,9 @@ ghost use Rattle.std.specs.Prelude.{◌≡◌, ◌≢◌, ◌≤◌, ◌-◌, �
 ghost use Rattle.cborn_model.specs.declared.heads.Width.{Width};
 ghost use Rattle.cborn_model.specs.declared.heads.Major.TheVariants.{ByteString, TextString};
 ghost use Rattle.cborn_model.specs.Heads.{Given, Unbounded, head, WidthFits};
-ghost use Rattle.cborn_transcode.specs.shared.Walking.{Leaves};
 ghost use Rattle.cborn_wire.specs.HeadReading.{ArgumentFits, seen_argument};
+ghost use Rattle.cborn_wire.specs.shared.Parts.{StringRead, IsSimpleArgument, Leaves};
 ghost use Rattle.cborn_search.specs.Flawed.{FindsTold, TextFlaw, ChunkSeen, ChunksSeen, Scanned};
-ghost use Rattle.cborn_search.specs.Reading.{StringRead, IsSimpleArgument};
 
 use crate::told::Finding;
 use cborn_judge::{InvalidReason, earliest};

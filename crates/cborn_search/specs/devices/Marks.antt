@@ -4,12 +4,12 @@ use Rattle.std.specs.List.{AllZip}
 use Rattle.std.specs.declared.cmp.Ordering.TheVariants.{Less}
 use Rattle.cborn_model.specs.Orders.{bytewise}
 use Rattle.cborn_model.specs.Tree.{Tree, entries}
+use Rattle.cborn_wire.specs.shared.Parts.{Pair}
 use Rattle.cborn_judge.specs.shared.Judged.{FlawAmong, RepeatFlaw}
 use Rattle.cborn_judge.specs.shared.Repeats.{IsTied}
 use Rattle.cborn_judge.specs.declared.faults.InvalidReason.{InvalidReason}
 use Rattle.cborn_judge.specs.declared.faults.InvalidReason.TheVariants.{DuplicateKey}
-use Rattle.cborn_search.specs.Reading.{Pair, PairsRead}
-use Rattle.cborn_search.specs.Flawed.{Told, Sought, IsEarliestTold, FindsTold, Scanned, SeenKey, seen_bytes, seen_place, AreSeen, AreSought}
+use Rattle.cborn_search.specs.Flawed.{Told, Sought, IsEarliestTold, FindsTold, PairsAt, Scanned, SeenKey, seen_bytes, seen_place, AreSeen, AreSought}
 use Rattle.cborn_search.specs.declared.keys.Keys.{Keys}
 use Rattle.cborn_search.specs.declared.keys.Mark.{Mark}
 
@@ -74,7 +74,7 @@ MapFlaw only_texts flaw ns = FindsTold (Sought only_texts (λ p r. FlawAmong (en
 
 -- n pairs one after another, and the first flaw of the map that they are
 abbrev pub MapSeen : Bool → ℕ → ℕ → ℕ → List ℕ → List ℕ → Option Told → Type 0
-MapSeen only_texts room total n input rest flaw = PairsRead (MapFlaw only_texts flaw) room total n input rest
+MapSeen only_texts room total n input rest flaw = PairsAt (MapFlaw only_texts flaw) room total n input rest
 
 -- of a map with these keys, and this first flaw of keys and values, this is the first flaw
 abbrev pub Concludes : Bool → Keys → Option Told → Option Told → Type 0

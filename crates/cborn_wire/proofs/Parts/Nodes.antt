@@ -95,8 +95,8 @@ pub nodes_left : {P : List Tree → Type 0} {room n : ℕ} {input rest : List �
 nodes_left {rest = rest} x = omega (arith, ap length x.read ∙ length-append (spelled_all (trees x.nodes)) rest)
 
 -- nodes that were read up to the end
-pub wellformed : {P : List Tree → Type 0} {room n : ℕ} {input : List ℕ} (x : NodesRead P room n input []) → Wellformed room (trees x.nodes) input
-wellformed x = record { spells = sym (x.read ∙ append-nil (spelled_all (trees x.nodes))); fit = x.fits; shallow = x.shallow }
+pub wellformed : {P : List Tree → Type 0} {room n : ℕ} {input rest : List ℕ} (x : NodesRead P room n input rest) → rest ≡ [] → Wellformed room (trees x.nodes) input
+wellformed x e = record { spells = sym (x.read ∙ ap (λ z. spelled_all (trees x.nodes) ++ z) e ∙ append-nil (spelled_all (trees x.nodes))); fit = x.fits; shallow = x.shallow }
 
 -- ---- arrays and tags
 

@@ -1,106 +1,95 @@
 use Rattle.std.proofs.Common.{rules, [], ◌++◌, Bool, List, Option, ◌≢◌, ◌≤◌, ◌+◌, ◌-◌, refl, sym, length, ℕ, true, false, subst, arith, None, ◌∙◌, take, drop}
 use Rattle.std.proofs.lemmas.List.{take_rest}
+use Rattle.std.proofs.lemmas.Option.{IfSome_then}
 use Rattle.cborn_wire.specs.declared.heads.Argument.TheVariants.{Given, Endless}
 use Rattle.cborn_model.specs.declared.heads.Major.TheVariants.{Map, Unsigned, Negative, ByteString, TextString, Array, Tag, Other}
 use Rattle.cborn_model.specs.Heads.{Unbounded, head}
 use Rattle.cborn_model.specs.Heads as heads
-use Rattle.cborn_transcode.proofs.Iteming.{under}
+use Rattle.cborn_wire.proofs.Parts.Heads.{head_alone}
+use Rattle.cborn_wire.proofs.Parts.Nodes.{node_last, node_left, nodes_left}
 use Rattle.cborn_search.specs.declared.scanned_maps.ScannedMap.{ScannedMap}
-use Rattle.cborn_search.specs.Flawed.{Told, IsEarliestTold, HasFlaw, Scanned, ScannedAll, PairsSeen}
+use Rattle.cborn_search.specs.Flawed.{Told, IsEarliestTold, Scanned, ScannedAll, PairsSeen}
 use Rattle.cborn_search.specs.devices.Marks.{AreMarked, MapSeen}
 use Rattle.cborn_search.proofs.Mapping.{pairs_none, pairs_more, map_of, map_seen, endless_map_seen}
-use Rattle.cborn_search.proofs.Nodes.{node_left, nodes_left, node_last, head_alone, head_before}
-use Rattle.cborn_search.proofs.Scanning.{still, uint_seen, nint_seen, bytes_seen, simple_seen, all_more, array_seen, endless_array_seen, tagged_seen, bignum_seen, bad_bignum_seen}
+use Rattle.cborn_search.proofs.Scanning.{still, seen_from, uint_seen, nint_seen, bytes_seen, simple_seen, all_more, array_seen, endless_array_seen, tagged_seen, bignum_seen, bad_bignum_seen}
 use Rattle.cborn_search.proofs.flaws.+scanned.Goals as goal
 
 pub scan_item-returns : goal.scan_item-returns
-scan_item-returns t c =
-    under c.last.result
-    (λ rest e. node_last (HasFlaw c.args.only_texts c.scan_node.new.found.flaw c.scan_node.new.found.is_string) c.args.room c.args.total c.args.bytes.now rest.now c.in_ok-left.left c.in_ok-left.ensures e)
-    c.last.ensures
+scan_item-returns t c = IfSome_then c.last.result c.last.ensures (λ rest e. node_last c.in_ok-left.ensures e)
 
 pub scan_node-returns-in-Unsigned : goal.scan_node-returns-in-Unsigned
 scan_node-returns-in-Unsigned t c =
-    head_alone (HasFlaw c.args.only_texts None false) c.args.room c.args.total (c.args.total - length c.args.bytes.now) c.args.bytes.now _ _ c.in-Full.head c.in-Full.len Unsigned (Given c.in-Given.field-0 c.in-Given.n) (take_rest c.args.bytes.now c.in-Full.len) c.in-Full.ensures (sym c.major_type-major.ensures ∙ c.in-Unsigned.is) c.in-Given.is c.requires.within refl (search rules)
-    (λ fits p. uint_seen c.args.only_texts c.args.room c.args.total c.in-Given.field-0 c.in-Given.n _ fits)
+    head_alone (λ y rest. Scanned c.args.only_texts c.args.room c.args.total y rest None false) (take_rest c.args.bytes.now c.in-Full.len) c.in-Full.ensures (sym c.major_type-major.ensures ∙ c.in-Unsigned.is) c.in-Given.is (search rules)
+    (λ fits. uint_seen c.args.only_texts c.args.room c.args.total c.in-Given.field-0 c.in-Given.n _ fits)
 
 pub scan_node-returns-in-Negative : goal.scan_node-returns-in-Negative
 scan_node-returns-in-Negative t c =
-    head_alone (HasFlaw c.args.only_texts None false) c.args.room c.args.total (c.args.total - length c.args.bytes.now) c.args.bytes.now _ _ c.in-Full.head c.in-Full.len Negative (Given c.in-Given.field-0 c.in-Given.n) (take_rest c.args.bytes.now c.in-Full.len) c.in-Full.ensures (sym c.major_type-major.ensures ∙ c.in-Negative.is) c.in-Given.is c.requires.within refl (search rules)
-    (λ fits p. nint_seen c.args.only_texts c.args.room c.args.total c.in-Given.field-0 c.in-Given.n _ fits)
+    head_alone (λ y rest. Scanned c.args.only_texts c.args.room c.args.total y rest None false) (take_rest c.args.bytes.now c.in-Full.len) c.in-Full.ensures (sym c.major_type-major.ensures ∙ c.in-Negative.is) c.in-Given.is (search rules)
+    (λ fits. nint_seen c.args.only_texts c.args.room c.args.total c.in-Given.field-0 c.in-Given.n _ fits)
 
 pub scan_node-returns-in_ok-after-in-ByteString : goal.scan_node-returns-in_ok-after-in-ByteString
 scan_node-returns-in_ok-after-in-ByteString t c =
-    head_before (HasFlaw c.args.only_texts None true) c.args.room c.args.total (c.args.total - length c.args.bytes.now) c.args.bytes.now _ _ c.in-Full.head c.in-Full.len ByteString (Given c.in-Given.field-0 c.in-Given.n) (take_rest c.args.bytes.now c.in-Full.len) c.in-Full.ensures (sym c.major_type-major.ensures ∙ c.in-ByteString.is) c.in-Given.is c.requires.within refl
+    seen_from c.args.only_texts c.args.room c.args.total None true (take_rest c.args.bytes.now c.in-Full.len) c.in-Full.ensures (sym c.major_type-major.ensures ∙ c.in-ByteString.is) c.in-Given.is c.requires.within
     (λ fits l p. (c.in_ok-after-in-ByteString.after.now, search rules, bytes_seen c.args.only_texts c.args.room c.args.total c.in-Given.field-0 c.in-Given.n _ _ c.in_ok-after-in-ByteString.after.now fits c.in_ok-after-in-ByteString.ensures))
 
 pub scan_node-returns-in-TextString : goal.scan_node-returns-in-TextString
 scan_node-returns-in-TextString t c =
-    under c.scan_text.result
-    (λ left s. head_before (HasFlaw c.args.only_texts c.scan_text.new.found.flaw c.scan_text.new.found.is_string) c.args.room c.args.total (c.args.total - length c.args.bytes.now) c.args.bytes.now _ left c.in-Full.head c.in-Full.len TextString (Given c.in-Given.field-0 c.in-Given.n) (take_rest c.args.bytes.now c.in-Full.len) c.in-Full.ensures (sym c.major_type-major.ensures ∙ c.in-TextString.is) c.in-Given.is c.requires.within refl
+    IfSome_then c.scan_text.result c.scan_text.ensures
+    (λ left s. seen_from c.args.only_texts c.args.room c.args.total c.scan_text.new.found.flaw c.scan_text.new.found.is_string (take_rest c.args.bytes.now c.in-Full.len) c.in-Full.ensures (sym c.major_type-major.ensures ∙ c.in-TextString.is) c.in-Given.is c.requires.within
     (λ fits l p. s c.args.only_texts c.args.room c.args.total c.in-Given.field-0 fits p))
-    c.scan_text.ensures
 
 pub scan_node-returns-in-Array : goal.scan_node-returns-in-Array
 scan_node-returns-in-Array t c =
-    under c.scan_fixed_array.result
-    (λ left s. head_before (HasFlaw c.args.only_texts c.scan_fixed_array.new.found.flaw c.scan_fixed_array.new.found.is_string) c.args.room c.args.total (c.args.total - length c.args.bytes.now) c.args.bytes.now _ left c.in-Full.head c.in-Full.len Array (Given c.in-Given.field-0 c.in-Given.n) (take_rest c.args.bytes.now c.in-Full.len) c.in-Full.ensures (sym c.major_type-major.ensures ∙ c.in-Array.is) c.in-Given.is c.requires.within refl
+    IfSome_then c.scan_fixed_array.result c.scan_fixed_array.ensures
+    (λ left s. seen_from c.args.only_texts c.args.room c.args.total c.scan_fixed_array.new.found.flaw c.scan_fixed_array.new.found.is_string (take_rest c.args.bytes.now c.in-Full.len) c.in-Full.ensures (sym c.major_type-major.ensures ∙ c.in-Array.is) c.in-Given.is c.requires.within
     (λ fits l p. s c.in-Given.field-0 fits l))
-    c.scan_fixed_array.ensures
 
 pub scan_node-returns-in-Map : goal.scan_node-returns-in-Map
 scan_node-returns-in-Map t c =
-    under c.scan_fixed_map.result
-    (λ left s. head_before (HasFlaw c.args.only_texts c.scan_fixed_map.new.found.flaw c.scan_fixed_map.new.found.is_string) c.args.room c.args.total (c.args.total - length c.args.bytes.now) c.args.bytes.now _ left c.in-Full.head c.in-Full.len Map (Given c.in-Given.field-0 c.in-Given.n) (take_rest c.args.bytes.now c.in-Full.len) c.in-Full.ensures (sym c.major_type-major.ensures ∙ c.in-Map.is) c.in-Given.is c.requires.within refl
+    IfSome_then c.scan_fixed_map.result c.scan_fixed_map.ensures
+    (λ left s. seen_from c.args.only_texts c.args.room c.args.total c.scan_fixed_map.new.found.flaw c.scan_fixed_map.new.found.is_string (take_rest c.args.bytes.now c.in-Full.len) c.in-Full.ensures (sym c.major_type-major.ensures ∙ c.in-Map.is) c.in-Given.is c.requires.within
     (λ fits l p. s c.in-Given.field-0 fits l))
-    c.scan_fixed_map.ensures
 
 pub scan_node-returns-then-is_bignum : goal.scan_node-returns-then-is_bignum
 scan_node-returns-then-is_bignum t c =
-    under c.scan_bignum.result
-    (λ left s. head_before (HasFlaw c.args.only_texts c.scan_bignum.new.found.flaw c.scan_bignum.new.found.is_string) c.args.room c.args.total (c.args.total - length c.args.bytes.now) c.args.bytes.now _ left c.in-Full.head c.in-Full.len Tag (Given c.in-Given.field-0 c.in-Given.n) (take_rest c.args.bytes.now c.in-Full.len) c.in-Full.ensures (sym c.major_type-major.ensures ∙ c.in-Tag.is) c.in-Given.is c.requires.within refl
+    IfSome_then c.scan_bignum.result c.scan_bignum.ensures
+    (λ left s. seen_from c.args.only_texts c.args.room c.args.total c.scan_bignum.new.found.flaw c.scan_bignum.new.found.is_string (take_rest c.args.bytes.now c.in-Full.len) c.in-Full.ensures (sym c.major_type-major.ensures ∙ c.in-Tag.is) c.in-Given.is c.requires.within
     (λ fits l p. s c.in-Given.field-0 c.in-Given.n c.if-is_bignum.ensures fits l p))
-    c.scan_bignum.ensures
 
 pub scan_node-returns-else-is_bignum : goal.scan_node-returns-else-is_bignum
 scan_node-returns-else-is_bignum t c =
-    under c.scan_tagged.result
-    (λ left s. head_before (HasFlaw c.args.only_texts c.scan_tagged.new.found.flaw c.scan_tagged.new.found.is_string) c.args.room c.args.total (c.args.total - length c.args.bytes.now) c.args.bytes.now _ left c.in-Full.head c.in-Full.len Tag (Given c.in-Given.field-0 c.in-Given.n) (take_rest c.args.bytes.now c.in-Full.len) c.in-Full.ensures (sym c.major_type-major.ensures ∙ c.in-Tag.is) c.in-Given.is c.requires.within refl
+    IfSome_then c.scan_tagged.result c.scan_tagged.ensures
+    (λ left s. seen_from c.args.only_texts c.args.room c.args.total c.scan_tagged.new.found.flaw c.scan_tagged.new.found.is_string (take_rest c.args.bytes.now c.in-Full.len) c.in-Full.ensures (sym c.major_type-major.ensures ∙ c.in-Tag.is) c.in-Given.is c.requires.within
     (λ fits l p. s c.in-Given.field-0 c.in-Given.n c.if-is_bignum.ensures.0 c.if-is_bignum.ensures.1 fits l))
-    c.scan_tagged.ensures
 
 pub scan_node-returns-then-is_simple : goal.scan_node-returns-then-is_simple
 scan_node-returns-then-is_simple t c =
-    head_alone (HasFlaw c.args.only_texts None false) c.args.room c.args.total (c.args.total - length c.args.bytes.now) c.args.bytes.now _ _ c.in-Full.head c.in-Full.len Other c.in-Full.head.argument (take_rest c.args.bytes.now c.in-Full.len) c.in-Full.ensures (sym c.major_type-major.ensures ∙ c.in-Other.is) refl c.requires.within refl (search rules)
-    (λ fits p. simple_seen c.args.only_texts c.args.room c.args.total c.in-Full.head.argument _ (c.if-is_simple.ensures refl))
+    head_alone (λ y rest. Scanned c.args.only_texts c.args.room c.args.total y rest None false) (take_rest c.args.bytes.now c.in-Full.len) c.in-Full.ensures (sym c.major_type-major.ensures ∙ c.in-Other.is) (refl {x = c.in-Full.head.argument}) (search rules)
+    (λ fits. simple_seen c.args.only_texts c.args.room c.args.total c.in-Full.head.argument _ (c.if-is_simple.ensures refl))
 
 pub scan_node-returns-in-ByteString-major : goal.scan_node-returns-in-ByteString-major
 scan_node-returns-in-ByteString-major t c =
-    under c.scan_long_bytes.result
-    (λ left s. head_before (HasFlaw c.args.only_texts c.scan_long_bytes.new.found.flaw c.scan_long_bytes.new.found.is_string) c.args.room c.args.total (c.args.total - length c.args.bytes.now) c.args.bytes.now _ left c.in-Full.head c.in-Full.len ByteString Endless (take_rest c.args.bytes.now c.in-Full.len) c.in-Full.ensures (sym c.major_type-major.ensures ∙ c.in-ByteString-major.is) c.in-Endless.is c.requires.within refl
+    IfSome_then c.scan_long_bytes.result c.scan_long_bytes.ensures
+    (λ left s. seen_from c.args.only_texts c.args.room c.args.total c.scan_long_bytes.new.found.flaw c.scan_long_bytes.new.found.is_string (take_rest c.args.bytes.now c.in-Full.len) c.in-Full.ensures (sym c.major_type-major.ensures ∙ c.in-ByteString-major.is) c.in-Endless.is c.requires.within
     (λ fits l p. s c.args.only_texts c.args.room l))
-    c.scan_long_bytes.ensures
 
 pub scan_node-returns-in-TextString-major : goal.scan_node-returns-in-TextString-major
 scan_node-returns-in-TextString-major t c =
-    under c.scan_long_text.result
-    (λ left s. head_before (HasFlaw c.args.only_texts c.scan_long_text.new.found.flaw c.scan_long_text.new.found.is_string) c.args.room c.args.total (c.args.total - length c.args.bytes.now) c.args.bytes.now _ left c.in-Full.head c.in-Full.len TextString Endless (take_rest c.args.bytes.now c.in-Full.len) c.in-Full.ensures (sym c.major_type-major.ensures ∙ c.in-TextString-major.is) c.in-Endless.is c.requires.within refl
+    IfSome_then c.scan_long_text.result c.scan_long_text.ensures
+    (λ left s. seen_from c.args.only_texts c.args.room c.args.total c.scan_long_text.new.found.flaw c.scan_long_text.new.found.is_string (take_rest c.args.bytes.now c.in-Full.len) c.in-Full.ensures (sym c.major_type-major.ensures ∙ c.in-TextString-major.is) c.in-Endless.is c.requires.within
     (λ fits l p. s c.args.only_texts c.args.room l))
-    c.scan_long_text.ensures
 
 pub scan_node-returns-in-Array-major : goal.scan_node-returns-in-Array-major
 scan_node-returns-in-Array-major t c =
-    under c.scan_endless_array.result
-    (λ left s. head_before (HasFlaw c.args.only_texts c.scan_endless_array.new.found.flaw c.scan_endless_array.new.found.is_string) c.args.room c.args.total (c.args.total - length c.args.bytes.now) c.args.bytes.now _ left c.in-Full.head c.in-Full.len Array Endless (take_rest c.args.bytes.now c.in-Full.len) c.in-Full.ensures (sym c.major_type-major.ensures ∙ c.in-Array-major.is) c.in-Endless.is c.requires.within refl
+    IfSome_then c.scan_endless_array.result c.scan_endless_array.ensures
+    (λ left s. seen_from c.args.only_texts c.args.room c.args.total c.scan_endless_array.new.found.flaw c.scan_endless_array.new.found.is_string (take_rest c.args.bytes.now c.in-Full.len) c.in-Full.ensures (sym c.major_type-major.ensures ∙ c.in-Array-major.is) c.in-Endless.is c.requires.within
     (λ fits l p. s l))
-    c.scan_endless_array.ensures
 
 pub scan_node-returns-in-Map-major : goal.scan_node-returns-in-Map-major
 scan_node-returns-in-Map-major t c =
-    under c.scan_endless_map.result
-    (λ left s. head_before (HasFlaw c.args.only_texts c.scan_endless_map.new.found.flaw c.scan_endless_map.new.found.is_string) c.args.room c.args.total (c.args.total - length c.args.bytes.now) c.args.bytes.now _ left c.in-Full.head c.in-Full.len Map Endless (take_rest c.args.bytes.now c.in-Full.len) c.in-Full.ensures (sym c.major_type-major.ensures ∙ c.in-Map-major.is) c.in-Endless.is c.requires.within refl
+    IfSome_then c.scan_endless_map.result c.scan_endless_map.ensures
+    (λ left s. seen_from c.args.only_texts c.args.room c.args.total c.scan_endless_map.new.found.flaw c.scan_endless_map.new.found.is_string (take_rest c.args.bytes.now c.in-Full.len) c.in-Full.ensures (sym c.major_type-major.ensures ∙ c.in-Map-major.is) c.in-Endless.is c.requires.within
     (λ fits l p. s l))
-    c.scan_endless_map.ensures
 
 pub scan_items-items-preserved-in-Some : goal.scan_items-items-preserved-in-Some
 scan_items-items-preserved-in-Some t c =
@@ -110,14 +99,14 @@ scan_items-items-preserved-in-Some t c =
     let some : ScannedAll c.args.only_texts c.args.room c.args.total (c.items.count + 1) c.args.bytes.now rest c.items.first =
     all_more c.args.only_texts c.args.room c.args.total c.items.count c.args.bytes.now left rest c.items.first None c.items.first false c.requires.within c.items.invariant.0 x (still c.items.first) in
     let more : c.items.count ≢ c.args.most = c.is_done.ensures c.if-is_done.false in
-    (some, omega (arith, c.items.invariant.1), nodes_left _ c.args.room c.args.total (c.items.count + 1) c.args.bytes.now rest c.requires.within some)
+    (some, omega (arith, c.items.invariant.1), omega (arith, nodes_left some, c.requires.within))
 
 pub scan_items-items-preserved : goal.scan_items-items-preserved
 scan_items-items-preserved t c =
     let some : ScannedAll c.args.only_texts c.args.room c.args.total (c.items.count + 1) c.args.bytes.now c.in_ok-rest.rest.now c.earliest-first.result =
     all_more c.args.only_texts c.args.room c.args.total c.items.count c.args.bytes.now c.items.rest.now c.in_ok-rest.rest.now c.items.first c.scan_item.new.found.flaw c.earliest-first.result _ c.requires.within c.items.invariant.0 c.in_ok-rest.ensures c.earliest-first.ensures in
     let more : c.items.count ≢ c.args.most = c.is_done.ensures c.if-is_done.false in
-    (some, omega (arith, c.items.invariant.1), nodes_left _ c.args.room c.args.total (c.items.count + 1) c.args.bytes.now c.in_ok-rest.rest.now c.requires.within some)
+    (some, omega (arith, c.items.invariant.1), omega (arith, nodes_left some, c.requires.within))
 
 pub scan_fixed_array-returns : goal.scan_fixed_array-returns
 scan_fixed_array-returns t c w h l = (
@@ -188,8 +177,8 @@ scan_pairs-pairs-preserved t c =
     let first : IsEarliestTold c.take_key.new.self.first val.flaw new.first = subst (λ (m : ScannedMap). IsEarliestTold m.first val.flaw new.first) c.deref_mut-in-pairs.ensures.value c.note.ensures.first in
     let kept : AreMarked taken.0 new.keys = subst (AreMarked taken.0) (sym c.note.ensures.keys) (subst (λ (m : ScannedMap). AreMarked taken.0 m.keys) (sym c.deref_mut-in-pairs.ensures.value) taken.1) in
     let more : c.pairs.count ≢ c.args.most = c.is_done.ensures c.if-is_done.false in
-    let between : length half ≤ c.args.total = node_left (HasFlaw c.args.only_texts key.flaw key.is_string) c.args.room c.args.total mid half i.4 k in
-    let least : length rest ≤ c.args.total = node_left (HasFlaw c.args.only_texts val.flaw val.is_string) c.args.room c.args.total half rest between v in (
+    let between : length half ≤ c.args.total = omega (arith, node_left k, i.4) in
+    let least : length rest ≤ c.args.total = omega (arith, node_left v, between) in (
       taken.0,
       pairs_more c.args.only_texts c.args.room c.args.total c.pairs.count c.args.bytes.now mid half rest old.first key.flaw val.flaw c.take_key.new.self.first new.first key.is_string val.is_string i.0 taken.0 c.requires.within so_far k v c.in_ok-take_key.ensures.1 first taken.2,
       kept,

@@ -1,8 +1,6 @@
 use Rattle.std.proofs.Common.{◌-◌, sym, refl, ◌∙◌, length, drop, List, ℕ, None, false}
-use Rattle.cborn_wire.specs.declared.heads.Argument.TheVariants.{Given}
-use Rattle.cborn_model.specs.declared.heads.Major.TheVariants.{Unsigned, Negative}
 use Rattle.cborn_search.specs.Flawed.{Scanned}
-use Rattle.cborn_search.proofs.Nodes.{read_from}
+use Rattle.cborn_wire.proofs.Parts.Heads.{read_from}
 use Rattle.cborn_search.proofs.Scanning.{uint_seen, nint_seen}
 use Rattle.cborn_search.proofs.leaves.integer_len.Goals as goal
 
@@ -10,12 +8,12 @@ pub returns-in-Unsigned-clause-integer : goal.returns-in-Unsigned-clause-integer
 returns-in-Unsigned-clause-integer c only room total l =
     let x : List ℕ = c.args.bytes.now in
     let tail : List ℕ = drop c.in-Full.len x in
-    read_from (λ (y : List ℕ). Scanned only room total y tail None false) total (total - length x) x tail c.in-Full.head c.in-Full.len Unsigned (Given c.in-Given.field-0 c.in-Given.field-1) refl c.in-Full.ensures (sym c.major_type.ensures ∙ c.in-Unsigned.is) c.in-Given.is l refl
-    (λ fits m p. uint_seen only room total c.in-Given.field-0 c.in-Given.field-1 tail fits)
+    read_from (λ (y : List ℕ). Scanned only room total y tail None false) refl c.in-Full.ensures (sym c.major_type.ensures ∙ c.in-Unsigned.is) c.in-Given.is
+    (λ fits. uint_seen only room total c.in-Given.field-0 c.in-Given.field-1 tail fits)
 
 pub returns-in-Negative-clause-integer : goal.returns-in-Negative-clause-integer
 returns-in-Negative-clause-integer c only room total l =
     let x : List ℕ = c.args.bytes.now in
     let tail : List ℕ = drop c.in-Full.len x in
-    read_from (λ (y : List ℕ). Scanned only room total y tail None false) total (total - length x) x tail c.in-Full.head c.in-Full.len Negative (Given c.in-Given.field-0 c.in-Given.field-1) refl c.in-Full.ensures (sym c.major_type.ensures ∙ c.in-Negative.is) c.in-Given.is l refl
-    (λ fits m p. nint_seen only room total c.in-Given.field-0 c.in-Given.field-1 tail fits)
+    read_from (λ (y : List ℕ). Scanned only room total y tail None false) refl c.in-Full.ensures (sym c.major_type.ensures ∙ c.in-Negative.is) c.in-Given.is
+    (λ fits. nint_seen only room total c.in-Given.field-0 c.in-Given.field-1 tail fits)

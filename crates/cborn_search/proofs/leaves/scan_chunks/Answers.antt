@@ -1,5 +1,6 @@
+use Rattle.std.proofs.Common.{arith}
 use Rattle.cborn_search.specs.Flawed.{ChunksSeen}
-use Rattle.cborn_search.proofs.Nodes.{chunks_left}
+use Rattle.cborn_wire.proofs.Parts.Strings.{chunks_left}
 use Rattle.cborn_search.proofs.Scanning.{chunks_none, chunks_more}
 use Rattle.cborn_search.proofs.leaves.scan_chunks.Goals as goal
 
@@ -9,4 +10,4 @@ chunks-init c = (chunks_none c.args.major c.args.total c.args.bytes.now, c.requi
 pub chunks-preserved : goal.chunks-preserved
 chunks-preserved c =
     let some : ChunksSeen c.args.major c.args.total c.args.bytes.now c.in_ok-after.after.now c.earliest-first.result = chunks_more c.args.major c.args.total c.args.bytes.now c.chunks.rest.now c.in_ok-after.after.now c.chunks.first c.in_ok-after.flaw c.earliest-first.result c.requires c.chunks.invariant.0 c.in_ok-after.ensures c.earliest-first.ensures in
-    (some, chunks_left _ c.args.major c.args.total c.args.bytes.now c.in_ok-after.after.now c.requires some)
+    (some, omega (arith, chunks_left some, c.requires))

@@ -1,12 +1,12 @@
-use Rattle.std.proofs.Common.{◌≡◌, ◌+◌, ℕ, length, rules, arith, true, None}
-use Rattle.cborn_search.specs.Flawed.{HasFlaw, HaveFlaw, Scanned}
-use Rattle.cborn_search.proofs.Nodes.{no_node, node_left}
+use Rattle.std.proofs.Common.{◌≡◌, ◌+◌, ℕ, length, rules, arith, true}
+use Rattle.cborn_search.specs.Flawed.{Scanned}
+use Rattle.cborn_wire.proofs.Parts.Nodes.{no_node, node_left}
 use Rattle.cborn_search.proofs.Scanning.{all_more}
 use Rattle.cborn_search.proofs.Sequencing.{bad_text_of}
 use Rattle.cborn_search.proofs.sequences.first_bad_text.Goals as goal
 
 pub items-init : goal.items-init
-items-init c = (0, no_node (HaveFlaw true None) c.get-room.result (length c.args.bytes.now) c.args.bytes.now (λ p r f. f.0.1), omega arith)
+items-init c = (0, no_node (tt, (λ p r f. f.0.1)), omega arith)
 
 pub items-preserved : goal.items-preserved
 items-preserved c =
@@ -16,7 +16,7 @@ items-preserved c =
     let x : Scanned true c.get-room.result total c.items.rest.now c.in_ok-rest.rest.now found.flaw found.is_string = c.in_ok-rest.ensures in (
       i.0 + 1,
       all_more true c.get-room.result total i.0 c.args.bytes.now c.items.rest.now c.in_ok-rest.rest.now c.items.first found.flaw c.earliest-first.result found.is_string (omega arith) i.1 x c.earliest-first.ensures,
-      node_left (HasFlaw true found.flaw found.is_string) c.get-room.result total c.items.rest.now c.in_ok-rest.rest.now i.2 x,
+      omega (arith, node_left x, i.2),
     )
 
 pub returns-in-Some : goal.returns-in-Some

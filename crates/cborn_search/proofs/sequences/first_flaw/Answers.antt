@@ -1,7 +1,7 @@
 use Rattle.std.proofs.Common.{◌≡◌, ◌+◌, ℕ, length, rules, arith, subst, false}
-use Rattle.cborn_search.specs.Flawed.{HasFlaw, Scanned}
+use Rattle.cborn_search.specs.Flawed.{Scanned}
 use Rattle.cborn_search.specs.Searching.{IsFirstFlawOf}
-use Rattle.cborn_search.proofs.Nodes.{node_left}
+use Rattle.cborn_wire.proofs.Parts.Nodes.{node_left}
 use Rattle.cborn_search.proofs.Sequencing.{none_judged, judged_more, flaw_found}
 use Rattle.cborn_search.proofs.sequences.first_flaw.Goals as goal
 
@@ -15,7 +15,7 @@ items-preserved c =
     let x : Scanned false c.get-room.result total c.items.rest.now c.in-Some.behind.now c.scan_item.new.found.flaw c.scan_item.new.found.is_string = c.in-Some.ensures in (
       i.0 + 1,
       judged_more c.get-room.result total i.0 c.args.bytes.now c.items.rest.now c.in-Some.behind.now c.items.first c.scan_item.new.found.flaw c.or-first.result c.scan_item.new.found.is_string (omega arith) i.1 x c.or-first.ensures,
-      node_left (HasFlaw false c.scan_item.new.found.flaw c.scan_item.new.found.is_string) c.get-room.result total c.items.rest.now c.in-Some.behind.now i.2 x,
+      omega (arith, node_left x, i.2),
     )
 
 pub returns-in-Some-first : goal.returns-in-Some-first

@@ -1,8 +1,8 @@
 use Rattle.std.proofs.Common.{ℕ, ◌≤◌, length}
-use Rattle.cborn_search.specs.Reading.{NodesRead}
+use Rattle.cborn_search.specs.Flawed.{NodesAt}
 use Rattle.cborn_search.proofs.Sequencing.{HaveVerdict}
 use Rattle.cborn_search.proofs.sequences.first_flaw.Given as goal
 
 -- the items so far
 abbrev pub invariant-items : goal.invariant-items
-invariant-items l = (n : ℕ) × NodesRead (HaveVerdict l.first) l.room l.total n l.bytes l.rest × (length l.rest ≤ l.total)
+invariant-items l = (n : ℕ) × NodesAt (HaveVerdict l.first) l.room l.total n l.bytes l.rest × (length l.rest ≤ l.total)

@@ -1,7 +1,7 @@
 use Rattle.std.proofs.lemmas.List.Sorted.{IsPermutation-refl}
+use Rattle.std.proofs.lemmas.Option.{IfSome_then}
 use Rattle.cborn_model.specs.Tree.{entries}
 use Rattle.cborn_judge.specs.shared.Judged.{RepeatFlaw}
-use Rattle.cborn_transcode.proofs.Iteming.{under}
 use Rattle.cborn_search.proofs.Marking.{no_repeat, repeated_of}
 use Rattle.cborn_search.proofs.Scanning.{sought}
 use Rattle.cborn_search.proofs.keys.Keys.first_repeat.Goals as goal
@@ -16,7 +16,6 @@ returns-in-Some c ns ks h s =
 
 pub returns : goal.returns
 returns c =
-    under c.first_tie-2.result
+    IfSome_then c.first_tie-2.result c.first_tie-2.ensures
     (λ first t ns ks h s. sought c.args.only_texts (RepeatFlaw (entries ns)) first c.if-only_texts.false
     (repeated_of c.args.self.now c.deref-4.result.now c.deref-5.result.now c.sort.new.marks.items ns ks first c.deref-4.ensures.value c.deref-5.ensures.value t c.sort.ensures h (s c.if-only_texts.false)))
-    c.first_tie-2.ensures
