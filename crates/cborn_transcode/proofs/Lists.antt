@@ -56,28 +56,28 @@ module _ (order : List ℕ → List ℕ → Ordering) where
   pub all_none : (room : ℕ) (input old : List ℕ) → ItemsTranscoded order room 0 input input old old
   all_none room input old = no_node ([], ([], tt, refl), sym (append-nil old))
 
-  module _ {room n : ℕ} {input mid rest old half new : List ℕ} (s : ItemsTranscoded order room n input mid old half) where
+  module _ {room n : ℕ} {input mid rest half new : List ℕ} (old : List ℕ) (s : ItemsTranscoded order room n input mid old half) where
     pub all_append : (m : ℕ) → ItemsTranscoded order room m mid rest half new → ItemsTranscoded order room (n + m) input rest old new
-    all_append m t = nodes_more s t (appends_both s.holds t.holds (both_encoded s.nodes t.nodes))
+    all_append m t = nodes_more s t (appends_both old s.holds t.holds (both_encoded s.nodes t.nodes))
 
     -- no deeper than an item without children
     pub run_more : (m : ℕ) → ItemsTranscoded order 0 m mid rest half new → ItemsTranscoded order room (n + m) input rest old new
     run_more m t = all_append m (nodes_within (omega arith) t)
 
     pub all_more : ItemTranscoded order room mid rest half new → ItemsTranscoded order room (n + 1) input rest old new
-    all_more t = node_more s t (appends_both s.holds t.holds (more_encoded s.nodes t.node))
+    all_more t = node_more s t (appends_both old s.holds t.holds (more_encoded s.nodes t.node))
 
-  pub array_done : {room n : ℕ} {input rest old mid new : List ℕ} (w : Width) → 1 ≤ room → WidthFits w n → Appends (IsLeastHead 4 n) old mid → ItemsTranscoded order (room - 1) n input rest mid new
+  pub array_done : {room n : ℕ} {input rest mid new : List ℕ} (old : List ℕ) (w : Width) → 1 ≤ room → WidthFits w n → Appends (IsLeastHead 4 n) old mid → ItemsTranscoded order (room - 1) n input rest mid new
       → ItemTranscoded order room (head Array (Given w n) ++ input) rest old new
-  array_done w r h a s = array_read 0 w r h s (appends_both a s.holds (λ x y l e. array_encoded (Fixed w) s.nodes x y (subst (λ k. IsLeastHead 4 k x) (sym s.count) l) e))
+  array_done old w r h a s = array_read 0 w r h s (appends_both old a s.holds (λ x y l e. array_encoded (Fixed w) s.nodes x y (subst (λ k. IsLeastHead 4 k x) (sym s.count) l) e))
 
-  pub endless_array_done : {room n start : ℕ} {input after rest old half new : List ℕ} → 1 ≤ room → start ≡ length old → after ≡ 255 ∷ rest → ItemsTranscoded order (room - 1) n input after (old ++ 0 ∷ []) half → Replaces (IsLeastHead 4 n) start half new
+  pub endless_array_done : {room n start : ℕ} {input after rest half new : List ℕ} (old : List ℕ) → 1 ≤ room → start ≡ length old → after ≡ 255 ∷ rest → ItemsTranscoded order (room - 1) n input after (old ++ 0 ∷ []) half → Replaces (IsLeastHead 4 n) start half new
       → ItemTranscoded order room (head Array Unbounded ++ input) rest old new
-  endless_array_done {old = old} r st e s h =
-      let written : Appends (AreEncodedAs order s.nodes) (old ++ h.0) _ = (s.holds.0, s.holds.1, head_put s.holds.0 st s.holds.2 h) in
-      endless_array_read 0 r e s (appends_both (h.0, h.1, refl) written (λ x y l i. array_encoded Endless s.nodes x y (subst (λ k. IsLeastHead 4 k x) (sym s.count) l) i))
+  endless_array_done old r st e s h =
+      let written : Appends (AreEncodedAs order s.nodes) (old ++ h.0) _ = (s.holds.0, s.holds.1, head_put old s.holds.0 st s.holds.2 h) in
+      endless_array_read 0 r e s (appends_both old (h.0, h.1, refl) written (λ x y l i. array_encoded Endless s.nodes x y (subst (λ k. IsLeastHead 4 k x) (sym s.count) l) i))
 
 pub normalised : (order : List ℕ → List ℕ → Ordering) (limit n : ℕ) (input output : List ℕ) → ItemsTranscoded order limit n input [] [] output → IsTranscoded order limit input output
 normalised order limit n input output s =
     let e : AreEncodedAs order s.nodes output = subst (AreEncodedAs order s.nodes) (sym s.holds.2) s.holds.1 in
-    record { nodes = s.nodes; items = e.0; read = wellformed s; meant = e.1; encoded = e.2 }
+    record { nodes = s.nodes; items = e.0; read = wellformed s refl; meant = e.1; encoded = e.2 }

@@ -61,10 +61,10 @@ module _ (order : List ℕ → List ℕ → Ordering) where
         written = y.2 ∙ ap (λ l. l ++ y.0) (x.2 ∙ ap (λ l. l ++ x.0) s.written) ∙ append_assoc (old ++ joined s.es) x.0 y.0 ∙ append_assoc old (joined s.es) (x.0 ++ y.0) ∙ ap (λ l. old ++ l) (sym (joined_more s.es e));
       }
 
-  pub pairs_more : {room n : ℕ} (spans : List Span) (span : Span) {input half mid rest old some most new : List ℕ} → PairsTranscoded order room n spans input half old some → ItemTranscoded order room half mid some most → ItemTranscoded order room mid rest most new
+  pub pairs_more : {room n : ℕ} (spans : List Span) (span : Span) {input half mid rest : List ℕ} (old some most new : List ℕ) → PairsTranscoded order room n spans input half old some → ItemTranscoded order room half mid some most → ItemTranscoded order room mid rest most new
       → span.start ≡ length some → span.key_len ≡ length most - length some → span.value_len ≡ length new - length most
       → PairsTranscoded order room (n + 1) (spans ++ span ∷ []) input rest old new
-  pairs_more spans span {old = old} {some} {most} {new} s k v o p q = entry_more s k v (written_more spans span s.nodes (k.node, v.node) old some most new s.holds k.holds v.holds o p q)
+  pairs_more spans span old some most new s k v o p q = entry_more s k v (written_more spans span s.nodes (k.node, v.node) old some most new s.holds k.holds v.holds o p q)
 
   -- ---- maps: keys that rise are the same as none of the others
 
@@ -108,27 +108,27 @@ module _ (order : List ℕ → List ℕ → Ordering) where
         (dict (pairs_of e.0), (pairs_of e.0, e.1, new, refl), (h, es, fs, subst (λ k. IsLeastHead 5 k h) count i, e.2, moved, rises, refl))
 
     map_written : (s : Size) (ns : List Pair) (old mid new : List ℕ) → FitsEntries (entries ns) → Short (spelled_entries (entries ns)) → Appends (IsLeastHead 5 (length ns)) old mid → IsMapWritten order mid new ns → Appends (IsEncodedAs order (Pairs 0 s (entries ns))) old new
-    map_written s ns old mid new f l a m = appends_behind (joined m.arranged) a m.written (λ h. map_encoded s ns m.es m.arranged h f l m.encoded m.moved m.rises)
+    map_written s ns old mid new f l a m = appends_behind old (joined m.arranged) a m.written (λ h. map_encoded s ns m.es m.arranged h f l m.encoded m.moved m.rises)
 
-    pub map_done : {room n : ℕ} {input rest old mid new : List ℕ} (w : Width) → 1 ≤ room → Short input → WidthFits w n → Appends (IsLeastHead 5 n) old mid → MapTranscoded order (room - 1) n input rest mid new
+    pub map_done : {room n : ℕ} {input rest mid new : List ℕ} (old : List ℕ) (w : Width) → 1 ≤ room → Short input → WidthFits w n → Appends (IsLeastHead 5 n) old mid → MapTranscoded order (room - 1) n input rest mid new
         → ItemTranscoded order room (head Map (Given w n) ++ input) rest old new
-    map_done {rest = rest} {old} {mid} {new} w r l h a s =
+    map_done {rest = rest} {mid} {new} old w r l h a s =
         let short : Short (spelled_entries (entries s.nodes)) = left (spelled_entries (entries s.nodes)) rest (subst Short s.read l) in
         map_read 0 w r h s (map_written (Fixed w) s.nodes old mid new s.fits short (subst (λ k. Appends (IsLeastHead 5 k) old mid) (sym s.count) a) s.holds)
 
-    pub endless_map_done : {room n start : ℕ} {input after rest old half new : List ℕ} → 1 ≤ room → Short input → start ≡ length old → after ≡ 255 ∷ rest → MapTranscoded order (room - 1) n input after (old ++ 0 ∷ []) half → Replaces (IsLeastHead 5 n) start half new
+    pub endless_map_done : {room n start : ℕ} {input after rest half new : List ℕ} (old : List ℕ) → 1 ≤ room → Short input → start ≡ length old → after ≡ 255 ∷ rest → MapTranscoded order (room - 1) n input after (old ++ 0 ∷ []) half → Replaces (IsLeastHead 5 n) start half new
         → ItemTranscoded order room (head Map Unbounded ++ input) rest old new
-    endless_map_done {after = after} {old = old} {new = new} r l st e s h =
+    endless_map_done {after = after} {new = new} old r l st e s h =
         let m = s.holds in
         let short : Short (spelled_entries (entries s.nodes)) = left (spelled_entries (entries s.nodes)) after (subst Short s.read l) in
         endless_map_read 0 r e s (map_written Endless s.nodes old (old ++ h.0) new s.fits short (h.0, subst (λ k. IsLeastHead 5 k h.0) (sym s.count) h.1, refl)
-        (record { es = m.es; arranged = m.arranged; encoded = m.encoded; moved = m.moved; rises = m.rises; written = head_put (joined m.arranged) st m.written h }))
+        (record { es = m.es; arranged = m.arranged; encoded = m.encoded; moved = m.moved; rises = m.rises; written = head_put old (joined m.arranged) st m.written h }))
 
 -- the pairs, once their entries are so arranged that the keys rise
-pub arranged_map : (order : List ℕ → List ℕ → Ordering) {room n start : ℕ} {spans : List Span} {input rest old half new : List ℕ} → start ≡ length old → PairsTranscoded order room n spans input rest old half
+pub arranged_map : (order : List ℕ → List ℕ → Ordering) {room n start : ℕ} {spans : List Span} {input rest half new : List ℕ} (old : List ℕ) → start ≡ length old → PairsTranscoded order room n spans input rest old half
     → ((es : List Entry) → AreSpans start es spans → drop start half ≡ joined es → (fs : List Entry) × IsPermutation es fs × Rising order (keys fs) × (new ≡ take start half ++ joined fs))
     → MapTranscoded order room n input rest old new
-arranged_map order {start = start} {spans} {old = old} st s f =
+arranged_map order {start = start} {spans} old st s f =
     let es : List Entry = s.holds.es in
     let front : take start _ ≡ old = ap (take start) s.holds.written ∙ take_at old (joined es) start (sym st) in
     let behind : drop start _ ≡ joined es = ap (drop start) s.holds.written ∙ drop_at old (joined es) start (sym st) in

@@ -90,8 +90,8 @@ module _ (order : List ℕ → List ℕ → Ordering) where
   items_more s t = node_more s t (subst (AreEncodedAs order (s.nodes ++ t.node ∷ [])) (sym (spelled_more s.nodes t.node)) (more_encoded order s.nodes t.node (spelled_all (trees s.nodes)) (spelled t.node) s.holds t.holds))
 
   -- what was walked over, when it is copied
-  pub items_copied : {room n : ℕ} {input rest old new : List ℕ} (front : List ℕ) → ItemsWalked order room n input rest → input ≡ front ++ rest → new ≡ old ++ front → ItemsTranscoded order room n input rest old new
-  items_copied {rest = rest} {old} front s e w = nodes_as s (spelled_all (trees s.nodes), s.holds, w ∙ ap (λ l. old ++ l) (append_cancel_right front (spelled_all (trees s.nodes)) rest (sym e ∙ s.read)))
+  pub items_copied : {room n : ℕ} {input rest new : List ℕ} (old front : List ℕ) → ItemsWalked order room n input rest → input ≡ front ++ rest → new ≡ old ++ front → ItemsTranscoded order room n input rest old new
+  items_copied {rest = rest} old front s e w = nodes_as s (spelled_all (trees s.nodes), s.holds, w ∙ ap (λ l. old ++ l) (append_cancel_right front (spelled_all (trees s.nodes)) rest (sym e ∙ s.read)))
 
   -- ---- pairs in any order
 
@@ -128,10 +128,10 @@ module _ (order : List ℕ → List ℕ → Ordering) where
       found_more spans span s k v (p ∙ first) second third
 
   -- the pairs, written so that their keys rise
-  pub map_found : {room n : ℕ} (spans : List Span) {input rest old new : List ℕ} → PairsFound order room n spans input rest
+  pub map_found : {room n : ℕ} (spans : List Span) {input rest new : List ℕ} (old : List ℕ) → PairsFound order room n spans input rest
       → (fs : List Entry) × IsPermutation (all_spanned input spans) fs × Rising order (keys fs) × (new ≡ old ++ joined fs)
       → MapTranscoded order room n input rest old new
-  map_found spans {rest = rest} s a =
+  map_found spans {rest = rest} old s a =
       let p = s.holds in
       let same : all_spanned _ spans ≡ p.es = ap (λ b. all_spanned b spans) (s.read ∙ ap (λ l. l ++ rest) p.written) ∙ spanned_between [] rest p.es spans 0 refl p.laid in
       pairs_as s (record { es = p.es; arranged = a.0; encoded = p.encoded; moved = subst (λ (z : List Entry). IsPermutation z a.0) same a.1; rises = a.2; written = a.3 })
@@ -207,7 +207,7 @@ bignum_found {x} {tail} {content} {rest} {major} {n} h e c r long l b s =
     subst (λ y. BignumWalked y rest) (sym (h.read ∙ ap (λ m. head m (Given (least n) n) ++ tail) e)) read
 
 pub all_walked : (order : List ℕ → List ℕ → Ordering) (limit n : ℕ) (input : List ℕ) → ItemsWalked order limit n input [] → IsTranscoded order limit input input
-all_walked order limit n input s = normalised order limit n input input (items_copied order input s (sym (append-nil input)) refl)
+all_walked order limit n input s = normalised order limit n input input (items_copied order [] input s (sym (append-nil input)) refl)
 
 -- ---- what is left, told by its length
 
@@ -235,16 +235,16 @@ module _ (order : List ℕ → List ℕ → Ordering) {room : ℕ} where
   pub leaf_walked : {x tail : List ℕ} {major : Major} {n left : ℕ} → LeastHeadRead major n x tail → Leaves (WalkedBehind order room major n tail) left → Leaves (ItemWalked order room x) left
   leaf_walked h s = (s.0, s.1, walked_from order h refl s.2)
 
-  pub leaf_found : (at left : ℕ) (x : List ℕ) → at ≤ length x → Leaves (ItemWalked order room (drop at x)) left → ItemWalked order room (drop at x) (drop (length x - left) x)
-  leaf_found at left x a s =
+  pub leaf_found : (at len : ℕ) (x : List ℕ) → at ≤ length x → Leaves (ItemWalked order room (drop at x)) len → ItemWalked order room (drop at x) (drop (length x - len) x)
+  leaf_found at len x a s =
       let item : List ℕ = spelled s.2.node in
       let front : List ℕ = take at x ++ item in
       let whole : x ≡ front ++ s.0 = sym (take-append-drop at x) ∙ ap (λ z. take at x ++ z) s.2.read ∙ sym (append_assoc (take at x) item s.0) in
-      let len : length front ≡ length x - left = omega (arith, ap length whole, length-append front s.0, s.1) in
-      let same : drop (length x - left) x ≡ s.0 = ap (drop (length x - left)) whole ∙ drop_at front s.0 (length x - left) len in
+      let size : length front ≡ length x - len = omega (arith, ap length whole, length-append front s.0, s.1) in
+      let same : drop (length x - len) x ≡ s.0 = ap (drop (length x - len)) whole ∙ drop_at front s.0 (length x - len) size in
       subst (ItemWalked order room (drop at x)) (sym same) s.2
 
-pub leaf_within : (at left : ℕ) (x : List ℕ) → at ≤ length x → ((order : List ℕ → List ℕ → Ordering) (room : ℕ) → Leaves (ItemWalked order room (drop at x)) left) → left ≤ length x
-leaf_within at left x a s =
-    let behind : left ≤ length (drop at x) = item_within (λ y z. Equal) (s (λ y z. Equal) 0) in
+pub leaf_within : (at len : ℕ) (x : List ℕ) → at ≤ length x → ((order : List ℕ → List ℕ → Ordering) (room : ℕ) → Leaves (ItemWalked order room (drop at x)) len) → len ≤ length x
+leaf_within at len x a s =
+    let behind : len ≤ length (drop at x) = item_within (s (λ y z. Equal) 0) in
     omega (arith, behind, length-drop at x)

@@ -32,12 +32,12 @@ put_node-returns-in_ok-put_head-in-Negative g t c =
 pub put_node-returns-in-ByteString : goal.put_node-returns-in-ByteString
 put_node-returns-in-ByteString g t c =
     IfSome_then c.put_string_leaving.result c.put_string_leaving.ensures
-    (λ left s. head_before (λ x rest. ItemTranscoded g.O.KeyOrder.order c.args.room x rest c.args.out.now.items c.put_string_leaving.new.out.items) (take_rest c.args.bytes.now c.in-Full.len) c.in-Full.ensures (sym c.major_type-major.ensures ∙ c.in-ByteString.is) c.in-Given.is (λ fits. (s.0, s.1, bytes_done g.O.KeyOrder.order c.in-Given.field-0 fits s.2)))
+    (λ left s. head_before (λ x rest. ItemTranscoded g.O.KeyOrder.order c.args.room x rest c.args.out.now.items c.put_string_leaving.new.out.items) (take_rest c.args.bytes.now c.in-Full.len) c.in-Full.ensures (sym c.major_type-major.ensures ∙ c.in-ByteString.is) c.in-Given.is (λ fits. (s.0, s.1, bytes_done g.O.KeyOrder.order c.args.out.now.items c.in-Given.field-0 fits s.2)))
 
 pub put_node-returns-in-TextString : goal.put_node-returns-in-TextString
 put_node-returns-in-TextString g t c =
     IfSome_then c.put_string_leaving-in-TextString.result c.put_string_leaving-in-TextString.ensures
-    (λ left s. head_before (λ x rest. ItemTranscoded g.O.KeyOrder.order c.args.room x rest c.args.out.now.items c.put_string_leaving-in-TextString.new.out.items) (take_rest c.args.bytes.now c.in-Full.len) c.in-Full.ensures (sym c.major_type-major.ensures ∙ c.in-TextString.is) c.in-Given.is (λ fits. (s.0, s.1, text_done g.O.KeyOrder.order c.in-Given.field-0 fits s.2)))
+    (λ left s. head_before (λ x rest. ItemTranscoded g.O.KeyOrder.order c.args.room x rest c.args.out.now.items c.put_string_leaving-in-TextString.new.out.items) (take_rest c.args.bytes.now c.in-Full.len) c.in-Full.ensures (sym c.major_type-major.ensures ∙ c.in-TextString.is) c.in-Given.is (λ fits. (s.0, s.1, text_done g.O.KeyOrder.order c.args.out.now.items c.in-Given.field-0 fits s.2)))
 
 pub put_node-returns-in-Array : goal.put_node-returns-in-Array
 put_node-returns-in-Array g t c =
@@ -57,17 +57,17 @@ put_node-returns-in-Tag g t c =
 pub put_node-returns-in_ok-put_simple-in-Other : goal.put_node-returns-in_ok-put_simple-in-Other
 put_node-returns-in_ok-put_simple-in-Other g t c =
     head_alone (λ x rest. ItemTranscoded g.O.KeyOrder.order c.args.room x rest c.args.out.now.items c.put_simple.new.out.items) (take_rest c.args.bytes.now c.in-Full.len) c.in-Full.ensures (sym c.major_type-major.ensures ∙ c.in-Other.is) refl (search rules)
-    (λ fits. simple_done g.O.KeyOrder.order c.in-Full.head.argument c.in_ok-put_simple-in-Other.ensures)
+    (λ fits. simple_done g.O.KeyOrder.order c.args.out.now.items c.in-Full.head.argument c.in_ok-put_simple-in-Other.ensures)
 
 pub put_node-returns-in-ByteString-major : goal.put_node-returns-in-ByteString-major
 put_node-returns-in-ByteString-major g t c =
     IfSome_then c.put_long_string_leaving.result c.put_long_string_leaving.ensures
-    (λ left s. head_before (λ x rest. ItemTranscoded g.O.KeyOrder.order c.args.room x rest c.args.out.now.items c.put_long_string_leaving.new.out.items) (take_rest c.args.bytes.now c.in-Full.len) c.in-Full.ensures (sym c.major_type-major.ensures ∙ c.in-ByteString-major.is) c.in-Endless.is (λ fits. (s.0, s.1, byte_chunks_done g.O.KeyOrder.order s.2)))
+    (λ left s. head_before (λ x rest. ItemTranscoded g.O.KeyOrder.order c.args.room x rest c.args.out.now.items c.put_long_string_leaving.new.out.items) (take_rest c.args.bytes.now c.in-Full.len) c.in-Full.ensures (sym c.major_type-major.ensures ∙ c.in-ByteString-major.is) c.in-Endless.is (λ fits. (s.0, s.1, byte_chunks_done g.O.KeyOrder.order c.args.out.now.items s.2)))
 
 pub put_node-returns-in-TextString-major : goal.put_node-returns-in-TextString-major
 put_node-returns-in-TextString-major g t c =
     IfSome_then c.put_long_string_leaving-in-TextString-major.result c.put_long_string_leaving-in-TextString-major.ensures
-    (λ left s. head_before (λ x rest. ItemTranscoded g.O.KeyOrder.order c.args.room x rest c.args.out.now.items c.put_long_string_leaving-in-TextString-major.new.out.items) (take_rest c.args.bytes.now c.in-Full.len) c.in-Full.ensures (sym c.major_type-major.ensures ∙ c.in-TextString-major.is) c.in-Endless.is (λ fits. (s.0, s.1, text_chunks_done g.O.KeyOrder.order s.2)))
+    (λ left s. head_before (λ x rest. ItemTranscoded g.O.KeyOrder.order c.args.room x rest c.args.out.now.items c.put_long_string_leaving-in-TextString-major.new.out.items) (take_rest c.args.bytes.now c.in-Full.len) c.in-Full.ensures (sym c.major_type-major.ensures ∙ c.in-TextString-major.is) c.in-Endless.is (λ fits. (s.0, s.1, text_chunks_done g.O.KeyOrder.order c.args.out.now.items s.2)))
 
 pub put_items-items-init : goal.put_items-items-init
 put_items-items-init g t c = (all_none g.O.KeyOrder.order c.args.room c.args.bytes.now c.args.out.now.items, omega arith)
@@ -75,23 +75,23 @@ put_items-items-init g t c = (all_none g.O.KeyOrder.order c.args.room c.args.byt
 pub put_items-items-preserved : goal.put_items-items-preserved
 put_items-items-preserved g t c =
     let some : ItemsTranscoded g.O.KeyOrder.order c.args.room (c.items.count + c.in_ok-after.found) c.args.bytes.now c.in_ok-after.after.now c.args.out.now.items c.put_run.new.out.items =
-    run_more g.O.KeyOrder.order c.items.invariant.0 c.in_ok-after.found (c.in_ok-after.ensures.run g.O.KeyOrder.order) in
+    run_more g.O.KeyOrder.order c.args.out.now.items c.items.invariant.0 c.in_ok-after.found (c.in_ok-after.ensures.run g.O.KeyOrder.order) in
     let more : c.items.count + c.in_ok-after.found ≢ c.args.most = c.is_done.ensures c.if-is_done.false in
-    (all_more g.O.KeyOrder.order some c.in_ok-rest.ensures, omega (arith, c.items.invariant.1, c.in_ok-after.ensures.most))
+    (all_more g.O.KeyOrder.order c.args.out.now.items some c.in_ok-rest.ensures, omega (arith, c.items.invariant.1, c.in_ok-after.ensures.most))
 
 pub put_items-returns : goal.put_items-returns
 put_items-returns g t c =
     elim c.items-test.branch [
       | put_items-else-items-test w ↦ rw (w.count-is, w.rest-is, w.out-is) c.items.invariant.0
       | put_items-then-items-test+in_ok-after+then-is_done w ↦ rw (w.count-is, w.rest-is, w.out-is)
-          (run_more g.O.KeyOrder.order c.items.invariant.0 w.in_ok-after.found (w.in_ok-after.ensures.run g.O.KeyOrder.order))
+          (run_more g.O.KeyOrder.order c.args.out.now.items c.items.invariant.0 w.in_ok-after.found (w.in_ok-after.ensures.run g.O.KeyOrder.order))
     ]
 
 pub put_fixed_array-returns : goal.put_fixed_array-returns
 put_fixed_array-returns g t c w h = (
   c.in_ok-rest.rest.now,
   refl,
-  array_done g.O.KeyOrder.order w (omega arith) h c.in_ok-put_head.ensures
+  array_done g.O.KeyOrder.order c.args.out.now.items w (omega arith) h c.in_ok-put_head.ensures
       (subst (λ (k : ℕ). ItemsTranscoded g.O.KeyOrder.order (c.args.room - 1) k c.args.bytes.now c.in_ok-rest.rest.now c.put_head.new.out.items c.put_items.new.out.items) c.if-count-n.false c.in_ok-rest.ensures),
 )
 
@@ -101,7 +101,7 @@ put_endless_array-returns g t c =
     let start : c.len-start.result ≡ length c.args.out.now.items = search rules in (
       c.in_ok-after.after.now,
       search rules,
-      endless_array_done g.O.KeyOrder.order (omega arith) start c.in_ok-after.ensures
+      endless_array_done g.O.KeyOrder.order c.args.out.now.items (omega arith) start c.in_ok-after.ensures
           (subst (λ (l : List ℕ). ItemsTranscoded g.O.KeyOrder.order (c.args.room - 1) c.in_ok-rest.count c.args.bytes.now c.in_ok-rest.rest.now l c.put_items.new.out.items) pushed c.in_ok-rest.ensures) c.in_ok-set_head.ensures.1,
     )
 
@@ -111,10 +111,10 @@ put_fixed_map-returns g t c w h =
     let start : c.len-start.result ≡ length c.put_head.new.out.items = search rules in
     let pairs : PairsTranscoded g.O.KeyOrder.order (c.args.room - 1) c.in_ok-rest.count c.put_pairs.new.spans.items c.args.bytes.now c.in_ok-rest.rest.now c.put_head.new.out.items c.put_pairs.new.out.items = c.in_ok-rest.ensures (search rules) in
     let arranged : MapTranscoded g.O.KeyOrder.order (c.args.room - 1) c.in_ok-rest.count c.args.bytes.now c.in_ok-rest.rest.now c.put_head.new.out.items c.arrange.new.out.items =
-    arranged_map g.O.KeyOrder.order start pairs c.in_ok-arrange.ensures in (
+    arranged_map g.O.KeyOrder.order c.put_head.new.out.items start pairs c.in_ok-arrange.ensures in (
       c.in_ok-rest.rest.now,
       search rules,
-      map_done g.O.KeyOrder.order g.met.O.KeyOrder.laws w (omega arith) short h c.in_ok-put_head.ensures
+      map_done g.O.KeyOrder.order g.met.O.KeyOrder.laws c.args.out.now.items w (omega arith) short h c.in_ok-put_head.ensures
           (subst (λ (k : ℕ). MapTranscoded g.O.KeyOrder.order (c.args.room - 1) k c.args.bytes.now c.in_ok-rest.rest.now c.put_head.new.out.items c.arrange.new.out.items) c.if-count-n.false arranged),
     )
 
@@ -124,7 +124,7 @@ put_fixed_map-returns-in-Some g t c =
     IfSome_then c.put_great.result c.put_great.ensures
     (λ left s w h.
     let found = s (c.args.room - 1) (c.in-Some.ensures (search rules) (c.args.room - 1)) in
-    (found.0, found.1, map_done g.O.KeyOrder.order g.met.O.KeyOrder.laws w (omega arith) short h c.in_ok-put_head.ensures found.2))
+    (found.0, found.1, map_done g.O.KeyOrder.order g.met.O.KeyOrder.laws c.args.out.now.items w (omega arith) short h c.in_ok-put_head.ensures found.2))
 
 pub put_endless_map-returns : goal.put_endless_map-returns
 put_endless_map-returns g t c =
@@ -134,10 +134,10 @@ put_endless_map-returns g t c =
     let start : c.len-start.result ≡ length c.push.new.self.items = search rules in
     let pairs : PairsTranscoded g.O.KeyOrder.order (c.args.room - 1) c.in_ok-rest.count c.put_pairs.new.spans.items c.args.bytes.now c.in_ok-rest.rest.now c.push.new.self.items c.put_pairs.new.out.items = c.in_ok-rest.ensures (search rules) in
     let arranged : MapTranscoded g.O.KeyOrder.order (c.args.room - 1) c.in_ok-rest.count c.args.bytes.now c.in_ok-rest.rest.now c.push.new.self.items c.arrange.new.out.items =
-    arranged_map g.O.KeyOrder.order start pairs c.in_ok-arrange.ensures in (
+    arranged_map g.O.KeyOrder.order c.push.new.self.items start pairs c.in_ok-arrange.ensures in (
       c.in_ok-after.after.now,
       search rules,
-      endless_map_done g.O.KeyOrder.order g.met.O.KeyOrder.laws (omega arith) short head_start c.in_ok-after.ensures
+      endless_map_done g.O.KeyOrder.order g.met.O.KeyOrder.laws c.args.out.now.items (omega arith) short head_start c.in_ok-after.ensures
           (subst (λ (l : List ℕ). MapTranscoded g.O.KeyOrder.order (c.args.room - 1) c.in_ok-rest.count c.args.bytes.now c.in_ok-rest.rest.now l c.arrange.new.out.items) pushed arranged) c.in_ok-set_head.ensures.1,
     )
 
@@ -155,17 +155,17 @@ put_pair-returns g t c n input start s =
     let first : pushed.0.key_len ≡ length c.put_item.new.out.items - length c.args.out.now.items = search rules in
     let second : pushed.0.value_len ≡ length c.put_item-2.new.out.items - length c.put_item.new.out.items = search rules in
     subst (λ (l : List Span). PairsTranscoded g.O.KeyOrder.order c.args.room (n + 1) l input c.in_ok-rest.rest.now start c.put_item-2.new.out.items) (sym pushed.1)
-    (pairs_more g.O.KeyOrder.order c.args.spans.now.items pushed.0 s c.in_ok-after.ensures c.in_ok-rest.ensures (search rules) first second)
+    (pairs_more g.O.KeyOrder.order c.args.spans.now.items pushed.0 start c.args.out.now.items c.put_item.new.out.items c.put_item-2.new.out.items s c.in_ok-after.ensures c.in_ok-rest.ensures (search rules) first second)
 
 pub put_tagged-returns-then-n-eq2 : goal.put_tagged-returns-then-n-eq2
 put_tagged-returns-then-n-eq2 g t c w h =
-    (c.in_ok-rest.rest.now, refl, bignum_done g.O.KeyOrder.order w (omega arith) h (inl (refl, c.if-n-eq2.true)) c.in_ok-rest.ensures)
+    (c.in_ok-rest.rest.now, refl, bignum_done g.O.KeyOrder.order c.args.out.now.items w (omega arith) h (inl (refl, c.if-n-eq2.true)) c.in_ok-rest.ensures)
 
 pub put_tagged-returns-then-n-eq3 : goal.put_tagged-returns-then-n-eq3
 put_tagged-returns-then-n-eq3 g t c w h =
-    (c.in_ok-rest-2.rest.now, refl, bignum_done g.O.KeyOrder.order w (omega arith) h (inr (refl, c.if-n-eq3.true)) c.in_ok-rest-2.ensures)
+    (c.in_ok-rest-2.rest.now, refl, bignum_done g.O.KeyOrder.order c.args.out.now.items w (omega arith) h (inr (refl, c.if-n-eq3.true)) c.in_ok-rest-2.ensures)
 
 pub put_tagged-returns : goal.put_tagged-returns
 put_tagged-returns g t c =
     IfSome_then c.put_node.result c.put_node.ensures
-    (λ left s w h. (s.0, s.1, tagged_done g.O.KeyOrder.order w (omega arith) h c.if-n-eq2.false c.if-n-eq3.false c.in_ok-put_head.ensures s.2))
+    (λ left s w h. (s.0, s.1, tagged_done g.O.KeyOrder.order c.args.out.now.items w (omega arith) h c.if-n-eq2.false c.if-n-eq3.false c.in_ok-put_head.ensures s.2))

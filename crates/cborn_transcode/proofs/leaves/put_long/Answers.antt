@@ -11,4 +11,4 @@ returns c =
     let tag : Appends (IsLeastHead 6 (bignum_tag c.args.negative)) c.args.out.now.items c.put_tag.new.out.items = search rules in
     let len : Appends (IsLeastHead 2 (length m)) c.put_tag.new.out.items c.put_head.new.out.items = search rules in
     let added : c.extend_from_slice.new.self.items ≡ c.put_head.new.out.items ++ m = search rules in
-    appends_both tag (string_written 2 (length m) m _ _ _ len refl added) (λ h x. big_integer c.args.negative m h x c.requires.shortest c.requires.long)
+    appends_both c.args.out.now.items tag (string_written 2 (length m) m c.put_tag.new.out.items c.put_head.new.out.items c.extend_from_slice.new.self.items len refl added) (λ h x. big_integer c.args.negative m h x c.requires.shortest c.requires.long)

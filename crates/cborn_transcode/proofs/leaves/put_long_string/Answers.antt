@@ -7,4 +7,4 @@ returns c =
     let start : c.len-start.result ≡ length c.put_head.new.out.items = search rules in
     let end : c.len.result ≡ length c.put_chunks.new.out.items = search rules in
     let same : c.len.result - c.len-start.result ≡ c.in_ok-n.n = c.if-len-start.false in
-    long_string_taken c.args.major c.in_ok-n.n c.in_ok-put_head.ensures c.in_ok-rest.ensures c.in_ok-after.ensures (omega arith)
+    long_string_taken c.args.major c.in_ok-n.n c.args.out.now.items c.in_ok-put_head.ensures c.in_ok-rest.ensures c.in_ok-after.ensures (omega arith)

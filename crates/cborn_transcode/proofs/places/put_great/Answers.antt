@@ -10,7 +10,7 @@ pub returns-in-All : goal.returns-in-All
 returns-in-All g c room found = (
   found.0,
   found.1,
-  map_found g.O.KeyOrder.order (spans_of c.args.places.now.items) found.2 c.in-All.ensures,
+  map_found g.O.KeyOrder.order (spans_of c.args.places.now.items) c.args.out.now.items found.2 c.in-All.ensures,
 )
 
 pub returns-in-UpToFall : goal.returns-in-UpToFall
