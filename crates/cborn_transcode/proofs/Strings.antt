@@ -51,9 +51,9 @@ long_string_taken major n old {input} {after} {rest} {mid} {new} h s e l =
 -- ---- integers
 
 -- over a byte string of n bytes
-pub fixed_taken : {negative : Bool} {w : Width} {n : ℕ} {input digits new : List ℕ} (old : List ℕ) → AreBytes input → n ≤ length input → WidthFits w n → AreBytes digits → IsShortest digits → big_endian digits ≡ big_endian (take n input) → Appends (IsInteger negative digits) old new
+pub fixed_taken : {negative : Bool} {n : ℕ} {digits new : List ℕ} (old : List ℕ) (w : Width) (input : List ℕ) → AreBytes input → n ≤ length input → WidthFits w n → AreBytes digits → IsShortest digits → big_endian digits ≡ big_endian (take n input) → Appends (IsInteger negative digits) old new
     → BignumTaken negative (head ByteString (Given w n) ++ input) (drop n input) old new
-fixed_taken {w = w} {n} {input} {digits} old b l f bs ss v a = bytes_read 0 w f (string_front n input l b) (digits, (take n input, refl, (digits, bs, ss, v, refl)), a)
+fixed_taken {n = n} {digits} old w input b l f bs ss v a = bytes_read 0 w f (string_front n input l b) (digits, (take n input, refl, (digits, bs, ss, v, refl)), a)
 
 -- over chunks, which were gathered behind what stood there
 pub chunks_taken : {negative : Bool} {start : ℕ} {input after rest digits mid new : List ℕ} (old : List ℕ) → start ≡ length old → ChunksTaken ByteString input after old mid → after ≡ 255 ∷ rest
