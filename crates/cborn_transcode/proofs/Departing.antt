@@ -9,7 +9,6 @@ use Rattle.cborn_model.specs.Placed.{PlacedAll}
 use Rattle.cborn_model.specs.Spelled.{spelled, spelled_all}
 use Rattle.cborn_model.specs.Tree.{Tree, Items, Trees, no_item, more, trees, count}
 use Rattle.cborn_model.specs.Value.{Value, Values, no_values, value}
-use Rattle.cborn_model.proofs.Numbers.OneHead.{append_same}
 use Rattle.cborn_judge.specs.Departures.{FindsDefect}
 use Rattle.cborn_judge.specs.shared.Checked.{DefectIn, DefectInAll}
 use Rattle.cborn_judge.specs.Defects.{DefectAt, SequenceDefect}
@@ -21,13 +20,15 @@ use Rattle.cborn_judge.proofs.Meaning.Placing.{defect_within}
 use Rattle.cborn_judge.proofs.Encoded.Checking.{check_whole}
 use Rattle.cborn_judge.proofs.Meaning.Meanings.{meaning_valid}
 use Rattle.cborn_wire.specs.Places.{placed_from}
+use Rattle.cborn_wire.specs.shared.Parts.{NodeRead}
 use Rattle.cborn_det.specs.Det.{Det}
 use Rattle.cborn_model.specs.Orders.{IsKeyOrder}
 use Rattle.cborn_transcode.specs.Departing.{IsFirstDefectOfItems}
-use Rattle.cborn_transcode.specs.Transcoding.{ItemTranscoded}
+use Rattle.cborn_transcode.specs.Transcoding.{ItemTranscoded, IsEncodedAs}
 use Rattle.cborn_transcode.specs.devices.Departing.{Stands, AllStand, Clears, Stops, StopsBehind, Decides, Leads, LeadsOn}
-use Rattle.cborn_transcode.specs.shared.Walking.{ItemWalked}
-use Rattle.cborn_transcode.proofs.Opening.{behind, opened, one_front, put_there}
+use Rattle.cborn_transcode.specs.shared.Walking.{IsDeterministic, ItemWalked}
+use Rattle.cborn_wire.proofs.Parts.Heads.{behind}
+use Rattle.cborn_transcode.proofs.Opening.{opened, one_front, put_there}
 use Rattle.cborn_transcode.proofs.Placing.{means-from}
 
 -- ---- an array
@@ -103,21 +104,33 @@ module _ (order : List ℕ → List ℕ → Ordering) where
 
   -- ---- what was encoded of the front is the encoding of what the node there means
 
-  pub coded : (room total : ℕ) (t : Tree) (input rest tail out : List ℕ) → Stands total t input rest → ItemTranscoded order room input tail [] out → (rest ≡ tail) × (v : Value) × Means t v × Det order v out × (spelled t ++ tail ≡ input)
-  coded room total t input rest tail out s i =
+  -- the node that stands at the front is the one that was read there, but for its place
+  met : {P : Tree → Type 0} {room : ℕ} (total : ℕ) (t : Tree) (input rest tail : List ℕ) → Stands total t input rest → (i : NodeRead P room input tail) → (rest ≡ tail) × (spelled t ≡ spelled i.node) × ((v : Value) → Means i.node v → Means t v)
+  met total t input rest tail s i =
       let f = one_front t i.node rest tail s.fits i.fits (sym s.read ∙ i.read) in
       let there : placed_from (total - length input) i.node ≡ t = put_there (total - length input) t i.node s.fits i.fits s.placed f.0 in
-      (f.1, i.item, subst (λ z. Means z i.item) there (means-from i.node (total - length input) i.item i.meant), subst (Det order i.item) (sym i.written.2) i.written.1, sym (s.read ∙ ap (λ z. spelled t ++ z) f.1))
+      (f.1, f.0, λ v m. subst (λ z. Means z v) there (means-from i.node (total - length input) v m))
 
-  -- a node that is its own encoding has no defect
-  pub item_clears : IsKeyOrder order → (room total : ℕ) (input after : List ℕ) → length input < 2 ^ 64 → ItemWalked order room input after → Clears order total input after
-  item_clears laws room total input after short w t rest s =
-      let c = coded room total t input rest after w.front s w.item in
-      let same : length (spelled t) ≡ length w.front = omega (arith, ap length c.4, length-append (spelled t) after, ap length w.read, length-append w.front after) in
-      let whole : spelled t ≡ w.front = (append_same (spelled t) w.front after after same (c.4 ∙ w.read)).0 in
+  pub coded : (room total : ℕ) (t : Tree) (input rest tail out : List ℕ) → Stands total t input rest → ItemTranscoded order room input tail [] out → (rest ≡ tail) × IsEncodedAs order t out
+  coded room total t input rest tail out s i =
+      let m = met total t input rest tail s i in
+      let e = i.holds.1 in
+      (m.0, (e.0, m.2 e.0 e.1, subst (Det order e.0) (sym i.holds.2) e.2))
+
+  -- the same of a node that is its own encoding
+  pub own_coded : {room : ℕ} (total : ℕ) (t : Tree) (input rest tail : List ℕ) → Stands total t input rest → ItemWalked order room input tail → (rest ≡ tail) × IsDeterministic order t
+  own_coded total t input rest tail s w =
+      let m = met total t input rest tail s w in
+      (m.0, (w.holds.0, m.2 w.holds.0 w.holds.1, subst (Det order w.holds.0) (sym m.1) w.holds.2))
+
+  -- such a node has no defect
+  pub item_clears : IsKeyOrder order → {room : ℕ} (total : ℕ) (input after : List ℕ) → length input < 2 ^ 64 → ItemWalked order room input after → Clears order total input after
+  item_clears laws total input after short w t rest s =
+      let c = own_coded total t input rest after s w in
+      let v : Value = c.1.0 in
       let below : length (spelled t) < 2 ^ 64 = omega (arith, short, ap length s.read, length-append (spelled t) rest) in
-      let none = check_whole order laws t c.1 s.fits (meaning_valid t c.1 s.fits below c.2) c.2 (subst (Det order c.1) (sym whole) c.3) in
-      (c.0, λ p r d. none p r (c.1, c.2, d.0, d.1, d.2))
+      let none = check_whole order laws t v s.fits (meaning_valid t v s.fits below c.1.1) c.1.1 c.1.2 in
+      (c.0, λ p r d. none p r (v, c.1.1, d.0, d.1, d.2))
 
   module _ (total : ℕ) where
     -- ---- nodes one after another

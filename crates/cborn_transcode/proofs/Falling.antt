@@ -2,6 +2,7 @@
 use Rattle.std.proofs.Common.{◌≡◌, ◌≢◌, ◌^◌, ℕ, suc, ◌+◌, ◌-◌, ◌<◌, ◌≤◌, ◌⊎◌, inl, inr, List, ◌++◌, length, refl, sym, ap, ◌∙◌, subst, arith, append_assoc, append-nil, length-append, Option, None, Some, Bor, Ordering}
 use Rattle.std.specs.Prelude.{◌↔◌}
 use Rattle.std.proofs.Math.Nat.{eq-or-lt_of_le}
+use Rattle.std.proofs.lemmas.List.{append_cancel_right}
 use Rattle.cborn_model.specs.First.{NoLater}
 use Rattle.cborn_model.specs.declared.heads.Major.TheVariants.{Map}
 use Rattle.cborn_model.specs.declared.heads.Size.TheVariants.{Fixed, Endless}
@@ -14,7 +15,6 @@ use Rattle.cborn_model.specs.Spelled.{spelled, spelled_entries}
 use Rattle.cborn_model.specs.Tree.{Tree, Pairs, Entries, no_entry, entry, count_entries, place}
 use Rattle.cborn_model.specs.Valid.{IsProper}
 use Rattle.cborn_model.specs.Value.{Value, Couples, no_pairs, pair}
-use Rattle.cborn_model.proofs.Numbers.OneHead.{append_same}
 use Rattle.cborn_model.proofs.SameItems.Sameness.{same_itself}
 use Rattle.cborn_det.specs.Det.{Det}
 use Rattle.cborn_det.proofs.Canon.{one_of_same}
@@ -32,8 +32,9 @@ use Rattle.cborn_judge.proofs.Meaning.Placing.{defect_within}
 use Rattle.cborn_transcode.specs.devices.Departing.{Stands, PairsStand, Stops, StopsBehind, IsBelowKey, Falls, DefectOn, LeadsPairs, IsFallen, IsAbove, IsNotAbove}
 use Rattle.cborn_transcode.specs.shared.Walking.{ItemWalked}
 use Rattle.cborn_transcode.proofs.Departed.{low_entries}
-use Rattle.cborn_transcode.proofs.Departing.{width_of, number_of, coded, item_clears}
-use Rattle.cborn_transcode.proofs.Opening.{behind, opened, stands}
+use Rattle.cborn_transcode.proofs.Departing.{width_of, number_of, coded, own_coded, item_clears}
+use Rattle.cborn_wire.proofs.Parts.Heads.{behind}
+use Rattle.cborn_transcode.proofs.Opening.{opened, stands}
 
 -- ---- a map
 
@@ -188,10 +189,9 @@ module _ (order : List ℕ → List ℕ → Ordering) where
 
       coded_key : (room : ℕ) (mid y : List ℕ) → ItemWalked order room half mid → half ≡ y ++ mid → IsCode l y
       coded_key room mid y w e =
-          let c = coded order room total l half (spelled v ++ (spelled_entries ws ++ rest)) mid w.front key_stands w.item in
-          let same : length w.front ≡ length y = omega (arith, ap length w.read, length-append w.front mid, ap length e, length-append y mid) in
-          let front : w.front ≡ y = (append_same w.front y mid mid same (sym w.read ∙ e)).0 in
-          record { value = c.1; means = c.2; proper = proper c.1 c.2; det = subst (Det order c.1) front c.3 }
+          let c = own_coded order total l half (spelled v ++ (spelled_entries ws ++ rest)) mid key_stands w in
+          let front : spelled l ≡ y = append_cancel_right (spelled l) y mid (ap (λ z. spelled l ++ z) (sym c.0) ∙ sym key_stands.read ∙ e) in
+          record { value = c.1.0; means = c.1.1; proper = proper c.1.0 c.1.1; det = subst (Det order c.1.0) front c.1.2 }
 
       -- a departure of the key that comes first
       key_stop : (before : Option (Bor (List ℕ))) (r : DefectReason) (left : ℕ) → Stops order half r left → (left ≡ length half) ⊎ IsAbove order before half → FindsDefect (DefectOn order before (entry l v ws)) (Some (record { place = total - left; reason = r }))
@@ -213,7 +213,7 @@ module _ (order : List ℕ → List ℕ → Ordering) where
           over None a d = d
           over (Some x) a d =
               let c = coded order 1024 total l half (spelled v ++ (spelled_entries ws ++ rest)) a.0 a.1 key_stands a.2 in
-              clash (Some x) l a.1 (record { value = c.1; means = c.2; proper = proper c.1 c.2; det = c.3 }) a.3 d
+              clash (Some x) l a.1 (record { value = c.1.0; means = c.1.1; proper = proper c.1.0 c.1.1; det = c.1.2 }) a.3 d
 
           at : (q : ℕ) (t : DefectReason) → t ≡ KeyOrder → q ≡ place l → IsBelowKey order before l → total - length half ≤ total - left → (left ≡ length half) ⊎ IsAbove order before half → NoLater (total - left, defect_rank r) (q, defect_rank t)
           at q t e p d low (inl same) = inr (omega (arith, p, there, same), (let rank : defect_rank t ≡ 4 = ap defect_rank e in omega (arith, rank, rank_most r)))
@@ -237,7 +237,7 @@ module _ (order : List ℕ → List ℕ → Ordering) where
       not_above None a = absurd a
       not_above (Some x) a =
           let c = coded order 1024 total l half (spelled v ++ (spelled_entries ws ++ rest)) a.0 a.1 key_stands a.2 in
-          (c.1, a.1, c.2, c.3, a.3)
+          (c.1.0, a.1, c.1.1, c.1.2, a.3)
 
       key_late : (before : Option (Bor (List ℕ))) (r : DefectReason) (left : ℕ) → Stops order half r left → left ≢ length half → IsNotAbove order before half → FindsDefect (DefectOn order before (entry l v ws)) (Some (record { place = total - length half; reason = KeyOrder }))
       key_late before r left h late a =
@@ -257,14 +257,14 @@ module _ (order : List ℕ → List ℕ → Ordering) where
 
       key_low : (room : ℕ) (mid y : List ℕ) (before : Option (Bor (List ℕ))) → ItemWalked order room half mid → half ≡ y ++ mid → IsFallen order before y → FindsDefect (DefectOn order before (entry l v ws)) (Some (record { place = total - length half; reason = KeyOrder }))
       key_low room mid y before w e f =
-          let clear = item_clears order laws room total half mid short w l (spelled v ++ (spelled_entries ws ++ rest)) key_stands in
+          let clear = item_clears order laws total half mid short w l (spelled v ++ (spelled_entries ws ++ rest)) key_stands in
           key_falls before (fallen before l y (coded_key room mid y w e) f) (λ q t d. absurd (clear.1 q t d))
 
       -- ---- behind a key that is in order
 
       module _ (room : ℕ) (mid y : List ℕ) (before : Option (Bor (List ℕ))) (w : ItemWalked order room half mid) (e : half ≡ y ++ mid) (above : Below order before y) where
         key_clear : (spelled v ++ (spelled_entries ws ++ rest) ≡ mid) × FindsDefect (DefectIn order l) None
-        key_clear = item_clears order laws room total half mid short w l (spelled v ++ (spelled_entries ws ++ rest)) key_stands
+        key_clear = item_clears order laws total half mid short w l (spelled v ++ (spelled_entries ws ++ rest)) key_stands
 
         mid_there : total - length mid ≡ (total - length half) + length (spelled l)
         mid_there = behind total half (spelled l) mid within (key_stands.read ∙ ap (λ z. spelled l ++ z) key_clear.0)
@@ -295,7 +295,7 @@ module _ (order : List ℕ → List ℕ → Ordering) where
         pair_on : (left : ℕ) (key : Bor (List ℕ)) (after : List ℕ) → key.now ≡ y → k ≡ suc left → ItemWalked order room mid after → PairsStand total left ws after rest × ((o : Option Defect) → FindsDefect (DefectOn order (Some key) ws) o → FindsDefect (DefectOn order before (entry l v ws)) o)
         pair_on left key after same n z =
             let m = pair_mean l v ws s.items s.meant in
-            let clear = item_clears order laws room total mid after (omega (arith, short, mid_within)) z v (spelled_entries ws ++ rest) value_stands in
+            let clear = item_clears order laws total mid after (omega (arith, short, mid_within)) z v (spelled_entries ws ++ rest) value_stands in
             let split : mid ≡ spelled v ++ after = value_stands.read ∙ ap (λ x. spelled v ++ x) clear.0 in
             let after_there : total - length after ≡ (total - length mid) + length (spelled v) = behind total mid (spelled v) after (omega (arith, within, mid_within)) split in
             let at : (total - length half) + length (spelled l) + length (spelled v) ≡ total - length after = omega (arith, after_there, mid_there) in

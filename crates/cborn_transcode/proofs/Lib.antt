@@ -1,10 +1,9 @@
 pub mod Closing
 pub mod Lists
 pub mod Pairing
-pub mod Heading
-pub mod Bignums
+pub mod Encoding
+pub mod Strings
 pub mod Keying
-pub mod Iteming
 pub mod Placing
 pub mod Walking
 pub mod Walked

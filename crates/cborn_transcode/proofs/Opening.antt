@@ -21,10 +21,6 @@ use Rattle.cborn_transcode.specs.devices.Departing.{Stands}
 
 -- ---- places
 
--- the place of what follows
-pub behind : (total : ℕ) (input front rest : List ℕ) → length input ≤ total → input ≡ front ++ rest → total - length rest ≡ (total - length input) + length front
-behind total input front rest l e = omega (arith, l, ap length e ∙ length-append front rest)
-
 -- where a node stands
 pub stands : (p : ℕ) (t : Tree) → Placed p t → place t ≡ p
 stands p (Uint q w n) h = h

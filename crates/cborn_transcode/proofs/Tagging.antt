@@ -24,7 +24,8 @@ use Rattle.cborn_transcode.specs.Transcoding.{ItemTranscoded}
 use Rattle.cborn_transcode.specs.devices.Departing.{Stands, Stops, StopsBehind, TellsLoose}
 use Rattle.cborn_transcode.specs.shared.Walking.{LeastHeadRead}
 use Rattle.cborn_transcode.proofs.Departing.{width_of, number_of, coded}
-use Rattle.cborn_transcode.proofs.Opening.{behind, opened, one_argument}
+use Rattle.cborn_wire.proofs.Parts.Heads.{behind}
+use Rattle.cborn_transcode.proofs.Opening.{opened, one_argument}
 
 string_means : (t : Tree) (b : List ℕ) → IsByteString t b → Means t (bytes b)
 string_means (Bytes q w c) b e = ap bytes e
@@ -148,7 +149,7 @@ module _ (order : List ℕ → List ℕ → Ordering) where
 pub content_is : (order : List ℕ → List ℕ → Ordering) (total k : ℕ) (t : Tree) (input rest tail out content b : List ℕ) (m : Major) → Stands total t input rest → IsByteString t b → ItemTranscoded order 0 input tail [] out → LeastHeadRead m k out content → content ≡ b
 content_is order total k t input rest tail out content b m s is i h =
     let c = coded order 0 total t input rest tail out s i in
-    let same : c.1 ≡ bytes b = means_once t c.1 (bytes b) c.2 (string_means t b is) in
-    let d = subst (λ v. Det order v out) same c.3 in
+    let same : c.1.0 ≡ bytes b = means_once t c.1.0 (bytes b) c.1.1 (string_means t b is) in
+    let d = subst (λ v. Det order v out) same c.1.2 in
     let front : d.0 ≡ head ByteString (Given (least (length b)) (length b)) = d.1.1 in
     (one_argument m ByteString (Given (least k) k) (Given (least (length b)) (length b)) content b h.fits d.1.0 (sym h.read ∙ d.2 ∙ ap (λ z. z ++ b) front)).2

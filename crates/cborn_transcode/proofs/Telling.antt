@@ -9,7 +9,8 @@ use Rattle.cborn_model.specs.Heads.{Given, head, least}
 use Rattle.cborn_transcode.specs.declared.departures.Walked.{Walked}
 use Rattle.cborn_transcode.specs.declared.departures.Walked.TheVariants.{Behind, LongHead, EndlessLength, LooseBignum, KeyOrder, Unknown}
 use Rattle.cborn_transcode.specs.devices.Departing.{Tell, Departs, Stops, StopsBehind, Walks, WalksBehind}
-use Rattle.cborn_transcode.specs.shared.Walking.{Leaves, LeastHeadRead, ItemWalked, WalkedBehind}
+use Rattle.cborn_wire.specs.shared.Parts.{Leaves}
+use Rattle.cborn_transcode.specs.shared.Walking.{LeastHeadRead, ItemWalked, WalkedBehind}
 use Rattle.cborn_transcode.proofs.Walking.{walked_from}
 
 module _ (B C : ℕ → Type 0) (S T : DefectReason → ℕ → Type 0) where
@@ -52,6 +53,6 @@ module _ (order : List ℕ → List ℕ → Ordering) (room : ℕ) where
   pub walks_from : (x tail : List ℕ) (major k : Major) (n : ℕ) (w : Walked) → LeastHeadRead major n x tail → major ≡ k → WalksBehind order room k n tail w → Walks order room x w
   walks_from x tail major k n w h e s =
       tell (Leaves (WalkedBehind order room k n tail)) (Leaves (ItemWalked order room x)) (StopsBehind order k n tail) (Stops order x) w
-      (λ left b. (b.0, b.1, walked_from order room x tail b.0 major n k h e b.2))
+      (λ left b. (b.0, b.1, walked_from order h e b.2))
       (λ r left b. subst (λ y. Stops order y r left) (sym h.read) (subst (λ m. Stops order (head m (Given (least n) n) ++ tail) r left) (sym e) (b h.fits)))
       s

@@ -5,7 +5,7 @@ use Rattle.std.proofs.lemmas.Bool.{lt-ltb, le-ltb}
 use Rattle.cborn_model.specs.declared.heads.Width.{Width}
 use Rattle.cborn_model.specs.declared.heads.Width.TheVariants.{Direct, One, Two, Four, Eight}
 use Rattle.cborn_model.specs.Bytes.{AreBytes}
-use Rattle.cborn_model.specs.declared.heads.Major.TheVariants.{Unsigned, Negative, Other}
+use Rattle.cborn_model.specs.declared.heads.Major.TheVariants.{Other}
 use Rattle.cborn_model.specs.Heads.{code, least, major_at}
 use Rattle.cborn_model.proofs.Numbers.Majors.{code_at}
 use Rattle.cborn_wire.specs.declared.heads.Head.{Head}
@@ -16,7 +16,8 @@ use Rattle.cborn_wire.specs.shared.InitialBytes.{Next, info_at}
 use Rattle.cborn_wire.specs.shared.Machine.{width_bytes, number}
 use Rattle.cborn_wire.proofs.HeadReading.HeadFronts.{direct_front, wide_fronts, wide_head}
 use Rattle.cborn_transcode.specs.shared.Walking.{IsIntegerForm, top_of, ItemWalked}
-use Rattle.cborn_transcode.proofs.Walking.{least_read, walked_from, uint_walked, nint_walked}
+use Rattle.cborn_transcode.specs.Transcoding.{IsIntegral}
+use Rattle.cborn_transcode.proofs.Walking.{least_integer}
 
 -- a head of a width, as it is read
 abbrev wide_of : List ℕ → Width → Head
@@ -45,12 +46,12 @@ direct_read x are some low h =
 -- a head whose argument needs its width is walked
 module _ (order : List ℕ → List ℕ → Ordering) (room : ℕ) where
   integer_walked : (x : List ℕ) (w : Width) (n len : ℕ) → get_or x 0 0 / 32 < 2 → IsHeadOf x (record { major = get_or x 0 0 / 32; argument = arguments.Given w n }) len → w ≡ least n → ItemWalked order room x (drop len x)
-  integer_walked x w n len m i l = go (get_or x 0 0 / 32) refl m
+  integer_walked x w n len m i l = least_integer order i (is_integral (get_or x 0 0 / 32) m, l)
     where
-      go : (k : ℕ) → get_or x 0 0 / 32 ≡ k → k < 2 → ItemWalked order room x (drop len x)
-      go zero e b = walked_from order room x (drop len x) (drop len x) (major_at (get_or x 0 0 / 32)) n Unsigned (least_read x (drop len x) (record { major = get_or x 0 0 / 32; argument = arguments.Given w n }) len n w refl i refl l) (ap major_at e) (uint_walked order room n (drop len x))
-      go (suc zero) e b = walked_from order room x (drop len x) (drop len x) (major_at (get_or x 0 0 / 32)) n Negative (least_read x (drop len x) (record { major = get_or x 0 0 / 32; argument = arguments.Given w n }) len n w refl i refl l) (ap major_at e) (nint_walked order room n (drop len x))
-      go (suc (suc k)) e b = absurd (omega arith)
+      is_integral : (q : ℕ) → q < 2 → IsIntegral (major_at q)
+      is_integral zero b = tt
+      is_integral (suc zero) b = tt
+      is_integral (suc (suc k)) b = absurd (omega arith)
 
 least_direct : (n : ℕ) → n < 24 → Direct ≡ least n
 least_direct n p = rw (lt-ltb n 24 p) refl

@@ -5,7 +5,8 @@ ghost use Rattle.std.specs.Prelude.{◌≡◌, ◌-◌, ◌≤◌, ◌++◌, ◌
 ghost use Rattle.std.specs.declared.cmp.Ordering.{Ordering};
 ghost use Rattle.cborn_transcode.specs.declared.places.PairPlace.{PairPlace as PairPlaceSpec};
 ghost use Rattle.cborn_transcode.specs.Transcoding.{MapTranscoded};
-ghost use Rattle.cborn_transcode.specs.shared.Walking.{Leaves, ItemWalked, PairsFound, span_of, spans_of};
+ghost use Rattle.cborn_wire.specs.shared.Parts.{Leaves};
+ghost use Rattle.cborn_transcode.specs.shared.Walking.{ItemWalked, PairsFound, span_of, spans_of};
 ghost use Rattle.cborn_transcode.specs.devices.Placing.{PlacesPut};
 
 use crate::entries::{Span, compare_keys, hint_at, key_in, pair_in, whole};

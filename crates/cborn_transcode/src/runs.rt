@@ -1,8 +1,9 @@
 //! Runs of items that are deterministic as they stand.
 
-ghost use Rattle.std.specs.Prelude.{◌<◌, ◌≤◌, ◌++◌, ℕ, List, length, take, drop, IfSome, IsTrue};
+ghost use Rattle.std.specs.Prelude.{◌<◌, ◌≤◌, ℕ, List, length, drop, IfSome, IsTrue};
 ghost use Rattle.std.specs.declared.cmp.Ordering.{Ordering};
-ghost use Rattle.cborn_transcode.specs.Transcoding.{ItemTranscoded, ItemsTranscoded, IsIntegral, IsLeast};
+ghost use Rattle.cborn_transcode.specs.Transcoding.{ItemsTranscoded, IsIntegral, IsLeast};
+ghost use Rattle.cborn_transcode.specs.shared.Walking.{ItemWalked, ItemsWalked};
 ghost use Rattle.cborn_model.specs.Heads.{major_at};
 
 use cborn_model::{Major, shortest};
@@ -26,7 +27,7 @@ pub(crate) fn put_run<'a>(most: u64, bytes: &'a [u8], out: &mut Vec<u8>) -> Opti
 fn int_run(bytes: &[u8], most: u64) -> (usize, u64)
     ensures len { result.0 ≤ length bytes.now }
     ensures most { result.1 ≤ most }
-    ensures run { (order : List ℕ → List ℕ → Ordering) (old : List ℕ) → ItemsTranscoded order 0 result.1 bytes.now (drop result.0 bytes.now) old (old ++ take result.0 bytes.now) }
+    ensures run { (order : List ℕ → List ℕ → Ordering) → ItemsWalked order 0 result.1 bytes.now (drop result.0 bytes.now) }
 {
     let mut at = 0;
     let mut count = 0;
@@ -48,7 +49,7 @@ fn int_run(bytes: &[u8], most: u64) -> (usize, u64)
 #[inline(always)]
 fn int_len(bytes: &[u8]) -> usize
     ensures len { result ≤ length bytes.now }
-    ensures read { 0 < result → (order : List ℕ → List ℕ → Ordering) (old : List ℕ) → ItemTranscoded order 0 bytes.now (drop result bytes.now) old (old ++ take result bytes.now) }
+    ensures walked { 0 < result → (order : List ℕ → List ℕ → Ordering) → ItemWalked order 0 bytes.now (drop result bytes.now) }
 {
     match read_head(bytes) {
         HeadRead::Full(head, len) => { if is_least_integer(head) { len } else { 0 } }

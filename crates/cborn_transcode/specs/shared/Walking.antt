@@ -1,17 +1,19 @@
 -- A device of the proofs: what a walk finds in place, where the front of its input spells what it encodes, so that it is its own deterministic encoding. No public contract cites it.
-use Rattle.std.specs.Prelude.{◌≡◌, ℕ, ◌+◌, ◌*◌, ◌/◌, ◌%◌, ◌⊎◌, ◌<◌, List, [], ◌++◌, map, length, Option, IsUtf8}
+use Rattle.std.specs.Prelude.{◌≡◌, ℕ, ◌+◌, ◌*◌, ◌/◌, ◌%◌, ◌⊎◌, ◌<◌, List, [], ◌++◌, map, length, Option}
 use Rattle.std.specs.declared.cmp.Ordering.{Ordering}
 use Rattle.std.proofs.Common.{Bor}
-use Rattle.cborn_model.specs.Bytes.{AreBytes, IsShortest}
+use Rattle.cborn_model.specs.Bytes.{IsShortest}
 use Rattle.cborn_model.specs.declared.heads.Major.{Major}
-use Rattle.cborn_model.specs.declared.heads.Major.TheVariants.{ByteString, TextString}
 use Rattle.cborn_model.specs.Heads.{Given, head, WidthFits, least}
 use Rattle.cborn_model.specs.Orders.{Rising}
+use Rattle.cborn_model.specs.Spelled.{spelled, spelled_all, spelled_entries}
+use Rattle.cborn_model.specs.Tree.{Tree, Bytes, trees, entries}
+use Rattle.cborn_wire.specs.shared.Parts.{Pair, StringRead, NodeRead, NodesRead, PairsRead}
 use Rattle.cborn_det.specs.Det.{Entry, joined, keys}
 use Rattle.cborn_det.specs.shared.KeyBefore.{EndsIn}
 use Rattle.cborn_transcode.specs.declared.entries.Span.{Span}
 use Rattle.cborn_transcode.specs.declared.places.PairPlace.{PairPlace}
-use Rattle.cborn_transcode.specs.Transcoding.{ItemTranscoded, ItemsTranscoded, PairsTranscoded, AreSpans}
+use Rattle.cborn_transcode.specs.Transcoding.{IsEncodedAs, AreEncodedAs, ArePairsEncodedAs, ArePairsWritten, IsContent}
 
 -- a place as a span
 abbrev pub span_of : PairPlace → Span
@@ -19,10 +21,6 @@ span_of p = record { hint = p.hint; start = p.start; key_len = p.key_len; value_
 
 abbrev pub spans_of : List PairPlace → List Span
 spans_of = map span_of
-
--- P holds of some rest, which has so many bytes
-abbrev pub Leaves : (List ℕ → Type 0) → ℕ → Type 0
-Leaves P len = (rest : List ℕ) × (length rest ≡ len) × P rest
 
 -- x is the end, so many bytes long, of the input
 abbrev pub IsLast : List ℕ → ℕ → List ℕ → Type 0
@@ -48,51 +46,52 @@ IsIntegerForm first len top =
     ⊎ ((first % 32 ≡ 27) × (len ≡ 9) × (top ≡ 1)))
 
 -- the content of a string of n bytes
-pub record ContentWalked (major : Major) (n : ℕ) (input rest : List ℕ) : Type 0 where
-  pub content : List ℕ
-  pub read : input ≡ content ++ rest
-  pub len : length content ≡ n
-  pub bytes : AreBytes content
-  pub text : major ≡ TextString → IsUtf8 content
+abbrev pub ContentWalked : Major → ℕ → List ℕ → List ℕ → Type 0
+ContentWalked major n input rest = (content : List ℕ) × StringRead n input content rest × IsContent major content
 
 -- the shortest byte string of a number of more than 64 bits, without leading zeros
-pub record BignumWalked (input rest : List ℕ) : Type 0 where
-  pub content : List ℕ
-  pub fits : WidthFits (least (length content)) (length content)
-  pub read : input ≡ head ByteString (Given (least (length content)) (length content)) ++ (content ++ rest)
-  pub bytes : AreBytes content
-  pub shortest : IsShortest content
-  pub long : 8 < length content
+abbrev pub IsLongMagnitude : Tree → Type 0
+IsLongMagnitude t = (m : List ℕ) × (t ≡ Bytes 0 (least (length m)) m) × IsShortest m × (8 < length m)
+
+abbrev pub BignumWalked : List ℕ → List ℕ → Type 0
+BignumWalked = NodeRead IsLongMagnitude 0
+
+module _ (order : List ℕ → List ℕ → Ordering) where
+  -- the node, nodes or pairs are the encoding of what they mean
+  abbrev pub IsDeterministic : Tree → Type 0
+  IsDeterministic t = IsEncodedAs order t (spelled t)
+
+  abbrev pub AreDeterministic : List Tree → Type 0
+  AreDeterministic ts = AreEncodedAs order ts (spelled_all (trees ts))
+
+  -- the same of pairs in any order, which lie where the spans say
+  abbrev pub ArePairsFound : List Span → List Pair → Type 0
+  ArePairsFound spans ns = ArePairsWritten order spans [] (spelled_entries (entries ns)) ns
+
+  -- the same of pairs whose keys rise up to the one before
+  pub record HaveRisingKeys (before : Option (Bor (List ℕ))) (ns : List Pair) : Type 0 where
+    pub es : List Entry
+    pub encoded : ArePairsEncodedAs order ns es
+    pub spells : spelled_entries (entries ns) ≡ joined es
+    pub rises : Rising order (keys es)
+    pub last : EndsIn before (keys es)
 
 module _ (order : List ℕ → List ℕ → Ordering) (room : ℕ) where
   -- the encoding of an item no deeper than the room
-  pub record ItemWalked (input rest : List ℕ) : Type 0 where
-    pub front : List ℕ
-    pub read : input ≡ front ++ rest
-    pub item : ItemTranscoded order room input rest [] front
+  abbrev pub ItemWalked : List ℕ → List ℕ → Type 0
+  ItemWalked = NodeRead (IsDeterministic order) room
 
   -- the encodings of n items one after another
-  pub record ItemsWalked (n : ℕ) (input rest : List ℕ) : Type 0 where
-    pub front : List ℕ
-    pub read : input ≡ front ++ rest
-    pub items : ItemsTranscoded order room n input rest [] front
+  abbrev pub ItemsWalked : ℕ → List ℕ → List ℕ → Type 0
+  ItemsWalked = NodesRead (AreDeterministic order) room
 
   -- the encodings of n pairs one after another, which lie where the spans say, in any order
-  pub record PairsFound (n : ℕ) (spans : List Span) (input rest : List ℕ) : Type 0 where
-    pub front : List ℕ
-    pub read : input ≡ front ++ rest
-    pub pairs : PairsTranscoded order room n spans input rest [] front
+  abbrev pub PairsFound : ℕ → List Span → List ℕ → List ℕ → Type 0
+  PairsFound n spans = PairsRead (ArePairsFound order spans) room n
 
   -- the encodings of n pairs one after another, whose keys rise up to the one before
-  pub record PairsWalked (n : ℕ) (before : Option (Bor (List ℕ))) (input rest : List ℕ) : Type 0 where
-    pub front : List ℕ
-    pub spans : List Span
-    pub es : List Entry
-    pub read : input ≡ front ++ rest
-    pub pairs : PairsTranscoded order room n spans input rest [] front
-    pub laid : AreSpans 0 es spans × (front ≡ joined es)
-    pub rises : Rising order (keys es)
-    pub last : EndsIn before (keys es)
+  abbrev pub PairsWalked : ℕ → Option (Bor (List ℕ)) → List ℕ → List ℕ → Type 0
+  PairsWalked n before = PairsRead (HaveRisingKeys order before) room n
 
   -- what the input has behind the shortest head of this major type with the argument n makes an item of it
   abbrev pub WalkedBehind : Major → ℕ → List ℕ → List ℕ → Type 0

@@ -1,82 +1,73 @@
-use Rattle.cborn_model.specs.declared.heads.Major.TheVariants.{Unsigned, Negative, ByteString, TextString, Array, Map, Tag, Other}
+use Rattle.cborn_model.specs.declared.heads.Major.TheVariants.{Unsigned, Negative}
 use Rattle.std.proofs.Common.{rules, ◌≡◌, ◌≢◌, ◌<◌, ◌+◌, ◌-◌, ◌^◌, ◌++◌, ◌∷◌, [], inl, inr, refl, length, ℕ, List, true, false, subst, sym, arith, ◌∙◌}
 use Rattle.std.proofs.lemmas.List.{take_rest}
-use Rattle.cborn_wire.specs.declared.heads.Argument.TheVariants.{Given, Endless}
+use Rattle.std.proofs.lemmas.Option.{IfSome_then}
+use Rattle.cborn_wire.specs.shared.Parts.{NodeRead}
+use Rattle.cborn_wire.proofs.Parts.Heads.{head_before, head_alone}
+use Rattle.cborn_wire.proofs.Parts.Nodes.{uint_read, nint_read, node_last}
 use Rattle.cborn_transcode.specs.declared.entries.Span.{Span}
-use Rattle.cborn_transcode.specs.Transcoding.{ItemsTranscoded, PairsTranscoded, MapTranscoded}
-use Rattle.cborn_transcode.proofs.Closing.{uint_done, nint_done, bytes_done, text_done, byte_chunks_done, text_chunks_done, simple_done, bignum_done, tagged_done}
+use Rattle.cborn_transcode.specs.Transcoding.{ItemTranscoded, ItemsTranscoded, PairsTranscoded, MapTranscoded}
+use Rattle.cborn_transcode.proofs.Closing.{bytes_done, text_done, byte_chunks_done, text_chunks_done, simple_done, bignum_done, tagged_done}
+use Rattle.cborn_transcode.proofs.Encoding.{uint_encoded, nint_encoded}
 use Rattle.cborn_transcode.proofs.Lists.{all_none, run_more, all_more, array_done, endless_array_done}
-use Rattle.cborn_transcode.proofs.Pairing.{pairs_none, pairs_more, map_fused, endless_map_fused, arranged_map}
-use Rattle.cborn_transcode.proofs.Iteming.{inside, alone, item_last, under}
+use Rattle.cborn_transcode.proofs.Pairing.{pairs_none, pairs_more, map_done, endless_map_done, arranged_map}
 use Rattle.cborn_transcode.proofs.items.+transcoded.Goals.{put_items-else-items-test, put_items-then-items-test+in_ok-after+then-is_done}
 use Rattle.cborn_transcode.proofs.items.+transcoded.Goals as goal
 
 pub put_item-returns : goal.put_item-returns
-put_item-returns g t c =
-    under c.last.result
-    (λ rest e. item_last g.O.KeyOrder.order c.args.room c.args.bytes.now rest.now c.args.out.now.items c.put_node.new.out.items c.in_ok-left.left c.in_ok-left.ensures e)
-    c.last.ensures
+put_item-returns g t c = IfSome_then c.last.result c.last.ensures (λ rest e. node_last c.in_ok-left.ensures e)
 
 pub put_node-returns-in_ok-put_head-in-Unsigned : goal.put_node-returns-in_ok-put_head-in-Unsigned
 put_node-returns-in_ok-put_head-in-Unsigned g t c =
-    alone g.O.KeyOrder.order c.args.room c.args.bytes.now _ c.args.out.now.items c.put_head.new.out.items _ c.in-Full.head c.in-Full.len Unsigned (Given c.in-Given.field-0 c.in-Given.n) (take_rest c.args.bytes.now c.in-Full.len) c.in-Full.ensures (sym c.major_type-major.ensures ∙ c.in-Unsigned.is) c.in-Given.is (search rules)
-    (λ fits. uint_done g.O.KeyOrder.order c.args.room c.in-Given.field-0 c.in-Given.n _ c.args.out.now.items c.put_head.new.out.items fits c.in_ok-put_head-in-Unsigned.ensures)
+    let a = c.in_ok-put_head-in-Unsigned.ensures in
+    head_alone (λ x rest. ItemTranscoded g.O.KeyOrder.order c.args.room x rest c.args.out.now.items c.put_head.new.out.items) (take_rest c.args.bytes.now c.in-Full.len) c.in-Full.ensures (sym c.major_type-major.ensures ∙ c.in-Unsigned.is) c.in-Given.is (search rules)
+    (λ fits. uint_read 0 c.in-Given.field-0 c.in-Given.n fits (a.0, uint_encoded g.O.KeyOrder.order c.in-Given.field-0 c.in-Given.n a.0 fits a.1, a.2))
 
 pub put_node-returns-in_ok-put_head-in-Negative : goal.put_node-returns-in_ok-put_head-in-Negative
 put_node-returns-in_ok-put_head-in-Negative g t c =
-    alone g.O.KeyOrder.order c.args.room c.args.bytes.now _ c.args.out.now.items c.put_head-in-Negative.new.out.items _ c.in-Full.head c.in-Full.len Negative (Given c.in-Given.field-0 c.in-Given.n) (take_rest c.args.bytes.now c.in-Full.len) c.in-Full.ensures (sym c.major_type-major.ensures ∙ c.in-Negative.is) c.in-Given.is (search rules)
-    (λ fits. nint_done g.O.KeyOrder.order c.args.room c.in-Given.field-0 c.in-Given.n _ c.args.out.now.items c.put_head-in-Negative.new.out.items fits c.in_ok-put_head-in-Negative.ensures)
+    let a = c.in_ok-put_head-in-Negative.ensures in
+    head_alone (λ x rest. ItemTranscoded g.O.KeyOrder.order c.args.room x rest c.args.out.now.items c.put_head-in-Negative.new.out.items) (take_rest c.args.bytes.now c.in-Full.len) c.in-Full.ensures (sym c.major_type-major.ensures ∙ c.in-Negative.is) c.in-Given.is (search rules)
+    (λ fits. nint_read 0 c.in-Given.field-0 c.in-Given.n fits (a.0, nint_encoded g.O.KeyOrder.order c.in-Given.field-0 c.in-Given.n a.0 fits a.1, a.2))
 
 pub put_node-returns-in-ByteString : goal.put_node-returns-in-ByteString
 put_node-returns-in-ByteString g t c =
-    under c.put_string_leaving.result
-    (λ left s. inside g.O.KeyOrder.order c.args.room c.args.bytes.now _ c.args.out.now.items c.put_string_leaving.new.out.items _ c.in-Full.head c.in-Full.len ByteString (Given c.in-Given.field-0 c.in-Given.n) (take_rest c.args.bytes.now c.in-Full.len) c.in-Full.ensures (sym c.major_type-major.ensures ∙ c.in-ByteString.is) c.in-Given.is
-    (λ fits. (s.0, s.1, bytes_done g.O.KeyOrder.order c.args.room c.in-Given.field-0 c.in-Given.n _ s.0 c.args.out.now.items c.put_string_leaving.new.out.items fits s.2)))
-    c.put_string_leaving.ensures
+    IfSome_then c.put_string_leaving.result c.put_string_leaving.ensures
+    (λ left s. head_before (λ x rest. ItemTranscoded g.O.KeyOrder.order c.args.room x rest c.args.out.now.items c.put_string_leaving.new.out.items) (take_rest c.args.bytes.now c.in-Full.len) c.in-Full.ensures (sym c.major_type-major.ensures ∙ c.in-ByteString.is) c.in-Given.is (λ fits. (s.0, s.1, bytes_done g.O.KeyOrder.order c.args.out.now.items c.in-Given.field-0 fits s.2)))
 
 pub put_node-returns-in-TextString : goal.put_node-returns-in-TextString
 put_node-returns-in-TextString g t c =
-    under c.put_string_leaving-in-TextString.result
-    (λ left s. inside g.O.KeyOrder.order c.args.room c.args.bytes.now _ c.args.out.now.items c.put_string_leaving-in-TextString.new.out.items _ c.in-Full.head c.in-Full.len TextString (Given c.in-Given.field-0 c.in-Given.n) (take_rest c.args.bytes.now c.in-Full.len) c.in-Full.ensures (sym c.major_type-major.ensures ∙ c.in-TextString.is) c.in-Given.is
-    (λ fits. (s.0, s.1, text_done g.O.KeyOrder.order c.args.room c.in-Given.field-0 c.in-Given.n _ s.0 c.args.out.now.items c.put_string_leaving-in-TextString.new.out.items fits s.2)))
-    c.put_string_leaving-in-TextString.ensures
+    IfSome_then c.put_string_leaving-in-TextString.result c.put_string_leaving-in-TextString.ensures
+    (λ left s. head_before (λ x rest. ItemTranscoded g.O.KeyOrder.order c.args.room x rest c.args.out.now.items c.put_string_leaving-in-TextString.new.out.items) (take_rest c.args.bytes.now c.in-Full.len) c.in-Full.ensures (sym c.major_type-major.ensures ∙ c.in-TextString.is) c.in-Given.is (λ fits. (s.0, s.1, text_done g.O.KeyOrder.order c.args.out.now.items c.in-Given.field-0 fits s.2)))
 
 pub put_node-returns-in-Array : goal.put_node-returns-in-Array
 put_node-returns-in-Array g t c =
-    under c.put_fixed_array.result
-    (λ left s. inside g.O.KeyOrder.order c.args.room c.args.bytes.now _ c.args.out.now.items c.put_fixed_array.new.out.items _ c.in-Full.head c.in-Full.len Array (Given c.in-Given.field-0 c.in-Given.n) (take_rest c.args.bytes.now c.in-Full.len) c.in-Full.ensures (sym c.major_type-major.ensures ∙ c.in-Array.is) c.in-Given.is (λ fits. s c.in-Given.field-0 fits))
-    c.put_fixed_array.ensures
+    IfSome_then c.put_fixed_array.result c.put_fixed_array.ensures
+    (λ left s. head_before (λ x rest. ItemTranscoded g.O.KeyOrder.order c.args.room x rest c.args.out.now.items c.put_fixed_array.new.out.items) (take_rest c.args.bytes.now c.in-Full.len) c.in-Full.ensures (sym c.major_type-major.ensures ∙ c.in-Array.is) c.in-Given.is (λ fits. s c.in-Given.field-0 fits))
 
 pub put_node-returns-in-Map : goal.put_node-returns-in-Map
 put_node-returns-in-Map g t c =
-    under c.put_fixed_map.result
-    (λ left s. inside g.O.KeyOrder.order c.args.room c.args.bytes.now _ c.args.out.now.items c.put_fixed_map.new.out.items _ c.in-Full.head c.in-Full.len Map (Given c.in-Given.field-0 c.in-Given.n) (take_rest c.args.bytes.now c.in-Full.len) c.in-Full.ensures (sym c.major_type-major.ensures ∙ c.in-Map.is) c.in-Given.is (λ fits. s c.in-Given.field-0 fits))
-    c.put_fixed_map.ensures
+    IfSome_then c.put_fixed_map.result c.put_fixed_map.ensures
+    (λ left s. head_before (λ x rest. ItemTranscoded g.O.KeyOrder.order c.args.room x rest c.args.out.now.items c.put_fixed_map.new.out.items) (take_rest c.args.bytes.now c.in-Full.len) c.in-Full.ensures (sym c.major_type-major.ensures ∙ c.in-Map.is) c.in-Given.is (λ fits. s c.in-Given.field-0 fits))
 
 pub put_node-returns-in-Tag : goal.put_node-returns-in-Tag
 put_node-returns-in-Tag g t c =
-    under c.put_tagged.result
-    (λ left s. inside g.O.KeyOrder.order c.args.room c.args.bytes.now _ c.args.out.now.items c.put_tagged.new.out.items _ c.in-Full.head c.in-Full.len Tag (Given c.in-Given.field-0 c.in-Given.n) (take_rest c.args.bytes.now c.in-Full.len) c.in-Full.ensures (sym c.major_type-major.ensures ∙ c.in-Tag.is) c.in-Given.is (λ fits. s c.in-Given.field-0 fits))
-    c.put_tagged.ensures
+    IfSome_then c.put_tagged.result c.put_tagged.ensures
+    (λ left s. head_before (λ x rest. ItemTranscoded g.O.KeyOrder.order c.args.room x rest c.args.out.now.items c.put_tagged.new.out.items) (take_rest c.args.bytes.now c.in-Full.len) c.in-Full.ensures (sym c.major_type-major.ensures ∙ c.in-Tag.is) c.in-Given.is (λ fits. s c.in-Given.field-0 fits))
 
 pub put_node-returns-in_ok-put_simple-in-Other : goal.put_node-returns-in_ok-put_simple-in-Other
 put_node-returns-in_ok-put_simple-in-Other g t c =
-    alone g.O.KeyOrder.order c.args.room c.args.bytes.now _ c.args.out.now.items c.put_simple.new.out.items _ c.in-Full.head c.in-Full.len Other c.in-Full.head.argument (take_rest c.args.bytes.now c.in-Full.len) c.in-Full.ensures (sym c.major_type-major.ensures ∙ c.in-Other.is) refl (search rules)
-    (λ fits. simple_done g.O.KeyOrder.order c.args.room c.in-Full.head.argument _ c.args.out.now.items c.put_simple.new.out.items c.in_ok-put_simple-in-Other.ensures)
+    head_alone (λ x rest. ItemTranscoded g.O.KeyOrder.order c.args.room x rest c.args.out.now.items c.put_simple.new.out.items) (take_rest c.args.bytes.now c.in-Full.len) c.in-Full.ensures (sym c.major_type-major.ensures ∙ c.in-Other.is) refl (search rules)
+    (λ fits. simple_done g.O.KeyOrder.order c.args.out.now.items c.in-Full.head.argument c.in_ok-put_simple-in-Other.ensures)
 
 pub put_node-returns-in-ByteString-major : goal.put_node-returns-in-ByteString-major
 put_node-returns-in-ByteString-major g t c =
-    under c.put_long_string_leaving.result
-    (λ left s. inside g.O.KeyOrder.order c.args.room c.args.bytes.now _ c.args.out.now.items c.put_long_string_leaving.new.out.items _ c.in-Full.head c.in-Full.len ByteString Endless (take_rest c.args.bytes.now c.in-Full.len) c.in-Full.ensures (sym c.major_type-major.ensures ∙ c.in-ByteString-major.is) c.in-Endless.is
-    (λ fits. (s.0, s.1, byte_chunks_done g.O.KeyOrder.order c.args.room _ s.0 c.args.out.now.items c.put_long_string_leaving.new.out.items s.2)))
-    c.put_long_string_leaving.ensures
+    IfSome_then c.put_long_string_leaving.result c.put_long_string_leaving.ensures
+    (λ left s. head_before (λ x rest. ItemTranscoded g.O.KeyOrder.order c.args.room x rest c.args.out.now.items c.put_long_string_leaving.new.out.items) (take_rest c.args.bytes.now c.in-Full.len) c.in-Full.ensures (sym c.major_type-major.ensures ∙ c.in-ByteString-major.is) c.in-Endless.is (λ fits. (s.0, s.1, byte_chunks_done g.O.KeyOrder.order c.args.out.now.items s.2)))
 
 pub put_node-returns-in-TextString-major : goal.put_node-returns-in-TextString-major
 put_node-returns-in-TextString-major g t c =
-    under c.put_long_string_leaving-in-TextString-major.result
-    (λ left s. inside g.O.KeyOrder.order c.args.room c.args.bytes.now _ c.args.out.now.items c.put_long_string_leaving-in-TextString-major.new.out.items _ c.in-Full.head c.in-Full.len TextString Endless (take_rest c.args.bytes.now c.in-Full.len) c.in-Full.ensures (sym c.major_type-major.ensures ∙ c.in-TextString-major.is) c.in-Endless.is
-    (λ fits. (s.0, s.1, text_chunks_done g.O.KeyOrder.order c.args.room _ s.0 c.args.out.now.items c.put_long_string_leaving-in-TextString-major.new.out.items s.2)))
-    c.put_long_string_leaving-in-TextString-major.ensures
+    IfSome_then c.put_long_string_leaving-in-TextString-major.result c.put_long_string_leaving-in-TextString-major.ensures
+    (λ left s. head_before (λ x rest. ItemTranscoded g.O.KeyOrder.order c.args.room x rest c.args.out.now.items c.put_long_string_leaving-in-TextString-major.new.out.items) (take_rest c.args.bytes.now c.in-Full.len) c.in-Full.ensures (sym c.major_type-major.ensures ∙ c.in-TextString-major.is) c.in-Endless.is (λ fits. (s.0, s.1, text_chunks_done g.O.KeyOrder.order c.args.out.now.items s.2)))
 
 pub put_items-items-init : goal.put_items-items-init
 put_items-items-init g t c = (all_none g.O.KeyOrder.order c.args.room c.args.bytes.now c.args.out.now.items, omega arith)
@@ -84,23 +75,23 @@ put_items-items-init g t c = (all_none g.O.KeyOrder.order c.args.room c.args.byt
 pub put_items-items-preserved : goal.put_items-items-preserved
 put_items-items-preserved g t c =
     let some : ItemsTranscoded g.O.KeyOrder.order c.args.room (c.items.count + c.in_ok-after.found) c.args.bytes.now c.in_ok-after.after.now c.args.out.now.items c.put_run.new.out.items =
-    run_more g.O.KeyOrder.order c.args.room c.items.count c.in_ok-after.found c.args.bytes.now c.items.rest.now c.in_ok-after.after.now c.args.out.now.items c.items.out.items c.put_run.new.out.items c.items.invariant.0 (c.in_ok-after.ensures.run g.O.KeyOrder.order) in
+    run_more g.O.KeyOrder.order c.args.out.now.items c.items.invariant.0 c.in_ok-after.found (c.in_ok-after.ensures.run g.O.KeyOrder.order) in
     let more : c.items.count + c.in_ok-after.found ≢ c.args.most = c.is_done.ensures c.if-is_done.false in
-    (all_more g.O.KeyOrder.order c.args.room (c.items.count + c.in_ok-after.found) c.args.bytes.now c.in_ok-after.after.now c.in_ok-rest.rest.now c.args.out.now.items c.put_run.new.out.items c.put_item.new.out.items some c.in_ok-rest.ensures, omega (arith, c.items.invariant.1, c.in_ok-after.ensures.most))
+    (all_more g.O.KeyOrder.order c.args.out.now.items some c.in_ok-rest.ensures, omega (arith, c.items.invariant.1, c.in_ok-after.ensures.most))
 
 pub put_items-returns : goal.put_items-returns
 put_items-returns g t c =
     elim c.items-test.branch [
       | put_items-else-items-test w ↦ rw (w.count-is, w.rest-is, w.out-is) c.items.invariant.0
       | put_items-then-items-test+in_ok-after+then-is_done w ↦ rw (w.count-is, w.rest-is, w.out-is)
-          (run_more g.O.KeyOrder.order c.args.room c.items.count w.in_ok-after.found c.args.bytes.now c.items.rest.now w.in_ok-after.after.now c.args.out.now.items c.items.out.items w.put_run.new.out.items c.items.invariant.0 (w.in_ok-after.ensures.run g.O.KeyOrder.order))
+          (run_more g.O.KeyOrder.order c.args.out.now.items c.items.invariant.0 w.in_ok-after.found (w.in_ok-after.ensures.run g.O.KeyOrder.order))
     ]
 
 pub put_fixed_array-returns : goal.put_fixed_array-returns
 put_fixed_array-returns g t c w h = (
   c.in_ok-rest.rest.now,
   refl,
-  array_done g.O.KeyOrder.order c.args.room w c.args.n c.args.bytes.now c.in_ok-rest.rest.now c.args.out.now.items c.put_head.new.out.items c.put_items.new.out.items (omega arith) h c.in_ok-put_head.ensures
+  array_done g.O.KeyOrder.order c.args.out.now.items w (omega arith) h c.in_ok-put_head.ensures
       (subst (λ (k : ℕ). ItemsTranscoded g.O.KeyOrder.order (c.args.room - 1) k c.args.bytes.now c.in_ok-rest.rest.now c.put_head.new.out.items c.put_items.new.out.items) c.if-count-n.false c.in_ok-rest.ensures),
 )
 
@@ -110,7 +101,7 @@ put_endless_array-returns g t c =
     let start : c.len-start.result ≡ length c.args.out.now.items = search rules in (
       c.in_ok-after.after.now,
       search rules,
-      endless_array_done g.O.KeyOrder.order c.args.room c.in_ok-rest.count c.len-start.result c.args.bytes.now c.in_ok-rest.rest.now c.in_ok-after.after.now c.args.out.now.items c.put_items.new.out.items c.set_head.new.out.items (omega arith) start c.in_ok-after.ensures
+      endless_array_done g.O.KeyOrder.order c.args.out.now.items (omega arith) start c.in_ok-after.ensures
           (subst (λ (l : List ℕ). ItemsTranscoded g.O.KeyOrder.order (c.args.room - 1) c.in_ok-rest.count c.args.bytes.now c.in_ok-rest.rest.now l c.put_items.new.out.items) pushed c.in_ok-rest.ensures) c.in_ok-set_head.ensures.1,
     )
 
@@ -120,25 +111,20 @@ put_fixed_map-returns g t c w h =
     let start : c.len-start.result ≡ length c.put_head.new.out.items = search rules in
     let pairs : PairsTranscoded g.O.KeyOrder.order (c.args.room - 1) c.in_ok-rest.count c.put_pairs.new.spans.items c.args.bytes.now c.in_ok-rest.rest.now c.put_head.new.out.items c.put_pairs.new.out.items = c.in_ok-rest.ensures (search rules) in
     let arranged : MapTranscoded g.O.KeyOrder.order (c.args.room - 1) c.in_ok-rest.count c.args.bytes.now c.in_ok-rest.rest.now c.put_head.new.out.items c.arrange.new.out.items =
-    arranged_map g.O.KeyOrder.order (c.args.room - 1) c.in_ok-rest.count c.len-start.result c.put_pairs.new.spans.items c.args.bytes.now c.in_ok-rest.rest.now c.put_head.new.out.items c.put_pairs.new.out.items c.arrange.new.out.items start
-    pairs c.in_ok-arrange.ensures in (
+    arranged_map g.O.KeyOrder.order c.put_head.new.out.items start pairs c.in_ok-arrange.ensures in (
       c.in_ok-rest.rest.now,
       search rules,
-      map_fused g.O.KeyOrder.order g.met.O.KeyOrder.laws c.args.room w c.args.n c.args.bytes.now c.in_ok-rest.rest.now c.args.out.now.items c.put_head.new.out.items c.arrange.new.out.items (omega arith) short h c.in_ok-put_head.ensures
+      map_done g.O.KeyOrder.order g.met.O.KeyOrder.laws c.args.out.now.items w (omega arith) short h c.in_ok-put_head.ensures
           (subst (λ (k : ℕ). MapTranscoded g.O.KeyOrder.order (c.args.room - 1) k c.args.bytes.now c.in_ok-rest.rest.now c.put_head.new.out.items c.arrange.new.out.items) c.if-count-n.false arranged),
     )
 
 pub put_fixed_map-returns-in-Some : goal.put_fixed_map-returns-in-Some
 put_fixed_map-returns-in-Some g t c =
     let short : length c.args.bytes.now < 2 ^ 64 = omega arith in
-    under c.put_great.result
+    IfSome_then c.put_great.result c.put_great.ensures
     (λ left s w h.
-    let found = s (c.args.room - 1) (c.in-Some.ensures (search rules) (c.args.room - 1)) in (
-      found.0,
-      found.1,
-      map_fused g.O.KeyOrder.order g.met.O.KeyOrder.laws c.args.room w c.args.n c.args.bytes.now found.0 c.args.out.now.items c.put_head.new.out.items c.put_great.new.out.items (omega arith) short h c.in_ok-put_head.ensures found.2,
-    ))
-    c.put_great.ensures
+    let found = s (c.args.room - 1) (c.in-Some.ensures (search rules) (c.args.room - 1)) in
+    (found.0, found.1, map_done g.O.KeyOrder.order g.met.O.KeyOrder.laws c.args.out.now.items w (omega arith) short h c.in_ok-put_head.ensures found.2))
 
 pub put_endless_map-returns : goal.put_endless_map-returns
 put_endless_map-returns g t c =
@@ -148,11 +134,10 @@ put_endless_map-returns g t c =
     let start : c.len-start.result ≡ length c.push.new.self.items = search rules in
     let pairs : PairsTranscoded g.O.KeyOrder.order (c.args.room - 1) c.in_ok-rest.count c.put_pairs.new.spans.items c.args.bytes.now c.in_ok-rest.rest.now c.push.new.self.items c.put_pairs.new.out.items = c.in_ok-rest.ensures (search rules) in
     let arranged : MapTranscoded g.O.KeyOrder.order (c.args.room - 1) c.in_ok-rest.count c.args.bytes.now c.in_ok-rest.rest.now c.push.new.self.items c.arrange.new.out.items =
-    arranged_map g.O.KeyOrder.order (c.args.room - 1) c.in_ok-rest.count c.len-start.result c.put_pairs.new.spans.items c.args.bytes.now c.in_ok-rest.rest.now c.push.new.self.items c.put_pairs.new.out.items c.arrange.new.out.items start
-    pairs c.in_ok-arrange.ensures in (
+    arranged_map g.O.KeyOrder.order c.push.new.self.items start pairs c.in_ok-arrange.ensures in (
       c.in_ok-after.after.now,
       search rules,
-      endless_map_fused g.O.KeyOrder.order g.met.O.KeyOrder.laws c.args.room c.in_ok-rest.count c.len-head_start.result c.args.bytes.now c.in_ok-rest.rest.now c.in_ok-after.after.now c.args.out.now.items c.arrange.new.out.items c.set_head.new.out.items (omega arith) short head_start c.in_ok-after.ensures
+      endless_map_done g.O.KeyOrder.order g.met.O.KeyOrder.laws c.args.out.now.items (omega arith) short head_start c.in_ok-after.ensures
           (subst (λ (l : List ℕ). MapTranscoded g.O.KeyOrder.order (c.args.room - 1) c.in_ok-rest.count c.args.bytes.now c.in_ok-rest.rest.now l c.arrange.new.out.items) pushed arranged) c.in_ok-set_head.ensures.1,
     )
 
@@ -170,18 +155,17 @@ put_pair-returns g t c n input start s =
     let first : pushed.0.key_len ≡ length c.put_item.new.out.items - length c.args.out.now.items = search rules in
     let second : pushed.0.value_len ≡ length c.put_item-2.new.out.items - length c.put_item.new.out.items = search rules in
     subst (λ (l : List Span). PairsTranscoded g.O.KeyOrder.order c.args.room (n + 1) l input c.in_ok-rest.rest.now start c.put_item-2.new.out.items) (sym pushed.1)
-    (pairs_more g.O.KeyOrder.order c.args.room n c.args.spans.now.items pushed.0 input c.args.bytes.now c.in_ok-after.after.now c.in_ok-rest.rest.now start c.args.out.now.items c.put_item.new.out.items c.put_item-2.new.out.items
-    s c.in_ok-after.ensures c.in_ok-rest.ensures (search rules) first second)
+    (pairs_more g.O.KeyOrder.order c.args.spans.now.items pushed.0 start c.args.out.now.items c.put_item.new.out.items c.put_item-2.new.out.items s c.in_ok-after.ensures c.in_ok-rest.ensures (search rules) first second)
 
 pub put_tagged-returns-then-n-eq2 : goal.put_tagged-returns-then-n-eq2
 put_tagged-returns-then-n-eq2 g t c w h =
-    (c.in_ok-rest.rest.now, refl, bignum_done g.O.KeyOrder.order c.args.room w false c.args.n c.args.bytes.now c.in_ok-rest.rest.now c.args.out.now.items c.put_bignum.new.out.items (omega arith) h (inl (refl, c.if-n-eq2.true)) c.in_ok-rest.ensures)
+    (c.in_ok-rest.rest.now, refl, bignum_done g.O.KeyOrder.order c.args.out.now.items w (omega arith) h (inl (refl, c.if-n-eq2.true)) c.in_ok-rest.ensures)
 
 pub put_tagged-returns-then-n-eq3 : goal.put_tagged-returns-then-n-eq3
 put_tagged-returns-then-n-eq3 g t c w h =
-    (c.in_ok-rest-2.rest.now, refl, bignum_done g.O.KeyOrder.order c.args.room w true c.args.n c.args.bytes.now c.in_ok-rest-2.rest.now c.args.out.now.items c.put_bignum-then-n-eq3.new.out.items (omega arith) h (inr (refl, c.if-n-eq3.true)) c.in_ok-rest-2.ensures)
+    (c.in_ok-rest-2.rest.now, refl, bignum_done g.O.KeyOrder.order c.args.out.now.items w (omega arith) h (inr (refl, c.if-n-eq3.true)) c.in_ok-rest-2.ensures)
 
 pub put_tagged-returns : goal.put_tagged-returns
 put_tagged-returns g t c =
-    under c.put_node.result
-    (λ left s w h. (s.0, s.1, tagged_done g.O.KeyOrder.order c.args.room w c.args.n c.args.bytes.now s.0 c.args.out.now.items c.put_head.new.out.items c.put_node.new.out.items (omega arith) h c.if-n-eq2.false c.if-n-eq3.false c.in_ok-put_head.ensures s.2)) c.put_node.ensures
+    IfSome_then c.put_node.result c.put_node.ensures
+    (λ left s w h. (s.0, s.1, tagged_done g.O.KeyOrder.order c.args.out.now.items w (omega arith) h c.if-n-eq2.false c.if-n-eq3.false c.in_ok-put_head.ensures s.2))

@@ -1,9 +1,8 @@
-use Rattle.cborn_transcode.proofs.Heading.{chunks_none, chunks_more}
+use Rattle.cborn_transcode.proofs.Strings.{chunks_none, chunks_more}
 use Rattle.cborn_transcode.proofs.leaves.put_chunks.Goals as goal
 
 pub chunks-init : goal.chunks-init
 chunks-init c = chunks_none c.args.major c.args.bytes.now c.args.out.now.items
 
 pub chunks-preserved : goal.chunks-preserved
-chunks-preserved c =
-    chunks_more c.args.major c.args.bytes.now c.chunks.rest.now c.in_ok-rest.rest.now c.args.out.now.items c.chunks.out.items c.put_chunk.new.out.items c.chunks.invariant c.in_ok-rest.ensures
+chunks-preserved c = chunks_more c.args.out.now.items c.chunks.invariant c.in_ok-rest.ensures

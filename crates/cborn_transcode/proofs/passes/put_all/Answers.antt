@@ -11,4 +11,4 @@ items-init g c =
 pub items-preserved : goal.items-preserved
 items-preserved g c =
     let i = c.items.invariant in
-    (i.0 + 1, all_more g.O.KeyOrder.order c.args.room i.0 c.args.bytes.now c.items.rest.now c.in_ok-rest.rest.now [] c.items.out.items c.put_item.new.out.items i.1 c.in_ok-rest.ensures)
+    (i.0 + 1, all_more g.O.KeyOrder.order [] i.1 c.in_ok-rest.ensures)

@@ -25,7 +25,7 @@ pairs-preserved g c =
       inside = c.in_ok-end.ensures.inside;
       pairs = λ nil room. subst (λ (k : ℕ). PairsFound g.O.KeyOrder.order room k (spans_of c.push_place.new.places.items) c.args.bytes.now (drop c.in_ok-end.end c.args.bytes.now)) more
           (subst (λ (l : List Span). PairsFound g.O.KeyOrder.order room (c.args.n - c.pairs.left + 1) l c.args.bytes.now (drop c.in_ok-end.end c.args.bytes.now)) (sym added)
-          (found_at g.O.KeyOrder.order room (c.args.n - c.pairs.left) c.pairs.at c.in_ok-middle.middle c.in_ok-end.end (spans_of c.pairs.places.items) (span_of pushed.0) c.args.bytes.now i.inside c.in_ok-middle.ensures.inside c.in_ok-end.ensures.inside
+          (found_at g.O.KeyOrder.order c.pairs.at c.in_ok-middle.middle c.in_ok-end.end (spans_of c.pairs.places.items) (span_of pushed.0) c.args.bytes.now i.inside c.in_ok-middle.ensures.inside c.in_ok-end.ensures.inside
           (i.pairs nil room) (c.in_ok-middle.ensures.walked g.O.KeyOrder.order room) (c.in_ok-end.ensures.walked g.O.KeyOrder.order room) pushed.2 pushed.3 pushed.4));
     }
 

@@ -15,7 +15,7 @@ overflow_sub-result c =
     let x : List ℕ = drop c.args.at c.args.bytes.now in
     let read : LeastHeadRead c.in_ok-major.major c.in_ok-major.n x c.in_ok-major.after.now = subst (λ (y : List ℕ). LeastHeadRead c.in_ok-major.major c.in_ok-major.n y c.in_ok-major.after.now) (take_rest c.args.bytes.now c.args.at) c.in_ok-major.ensures in
     leaf_within c.args.at c.in_ok-left.left c.args.bytes.now c.requires
-    (λ order room. leaf_walked order room x c.in_ok-major.after.now c.in_ok-major.major c.in_ok-major.n c.in_ok-left.left read (c.in_ok-left.ensures order room))
+    (λ order room. leaf_walked order read (c.in_ok-left.ensures order room))
 
 pub returns : goal.returns
 returns c =
@@ -23,6 +23,5 @@ returns c =
     let read : LeastHeadRead c.in_ok-major.major c.in_ok-major.n x c.in_ok-major.after.now = subst (λ (y : List ℕ). LeastHeadRead c.in_ok-major.major c.in_ok-major.n y c.in_ok-major.after.now) (take_rest c.args.bytes.now c.args.at) c.in_ok-major.ensures in
     record {
       inside = omega arith;
-      walked = λ order room. leaf_found order room c.args.at c.in_ok-left.left c.args.bytes.now c.requires
-          (leaf_walked order room x c.in_ok-major.after.now c.in_ok-major.major c.in_ok-major.n c.in_ok-left.left read (c.in_ok-left.ensures order room));
+      walked = λ order room. leaf_found order c.args.at c.in_ok-left.left c.args.bytes.now c.requires (leaf_walked order read (c.in_ok-left.ensures order room));
     }

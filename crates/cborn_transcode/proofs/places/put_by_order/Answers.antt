@@ -8,5 +8,5 @@ returns-in-All g c room =
     let found = c.in_ok-left.ensures (search rules) room in (
       found.0,
       found.1,
-      map_found g.O.KeyOrder.order room c.args.n (spans_of c.find_pairs.new.places.items) c.args.bytes.now found.0 c.args.out.now.items c.put_places.new.out.items found.2 c.in-All.ensures,
+      map_found g.O.KeyOrder.order (spans_of c.find_pairs.new.places.items) c.args.out.now.items found.2 c.in-All.ensures,
     )

@@ -8,6 +8,6 @@ pub returns : goal.returns
 returns c = let same : c.in_ok-major.major ≡ ByteString = search rules in (
   c.split_at.result.1.now,
   refl,
-  bignum_found c.args.bytes.now c.in_ok-major.rest.now c.split_at.result.0.now c.split_at.result.1.now c.in_ok-major.major c.in_ok-major.n c.in_ok-major.ensures same c.split_at.ensures.front c.split_at.ensures.back (omega arith) (omega arith)
+  bignum_found c.in_ok-major.ensures same c.split_at.ensures.front c.split_at.ensures.back (omega arith) (omega arith)
       (are_bytes c.args.bytes.now c.type_inv.bytes) (c.has_leading_zero.ensures c.if-has_leading_zero.false),
 )

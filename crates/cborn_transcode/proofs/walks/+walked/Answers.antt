@@ -2,7 +2,10 @@ use Rattle.cborn_model.specs.declared.heads.Major.TheVariants.{Array, Map, Tag}
 use Rattle.std.proofs.Common.{◌≡◌, ◌≢◌, ◌⊎◌, ◌+◌, ◌-◌, ◌<◌, ◌≤◌, ◌^◌, inl, inr, refl, length, length-append, ap, sym, rules, drop, length-drop, Some, None, ℕ, subst, arith, false, true}
 use Rattle.cborn_judge.specs.declared.defects.DefectReason.TheVariants as reasons
 use Rattle.cborn_transcode.specs.devices.Departing.{IsAbove, Stops, StopsBehind, WalksBehind}
-use Rattle.cborn_transcode.specs.shared.Walking.{ItemWalked, ItemsWalked, PairsWalked, Leaves, WalkedBehind}
+use Rattle.cborn_wire.specs.shared.Parts.{Leaves}
+use Rattle.cborn_wire.proofs.Parts.Nodes.{nodes_left}
+use Rattle.cborn_wire.proofs.Parts.Pairs.{pairs_left}
+use Rattle.cborn_transcode.specs.shared.Walking.{ItemWalked, ItemsWalked, PairsWalked, WalkedBehind}
 use Rattle.cborn_transcode.proofs.Departing.{array_stops, item_clears, leads_first, leads_more, leads_stop}
 use Rattle.cborn_transcode.proofs.Falling.{map_stops, pairs_first, pairs_more, stops_in_key, stops_before_key, stops_at_key, stops_in_value}
 use Rattle.cborn_transcode.proofs.Tagging.{tag_stops}
@@ -24,7 +27,7 @@ walk_item-returns-in-Tag g t c = walks_from g.O.KeyOrder.order c.args.room c.arg
 
 pub walk_item-returns-in-Some-walk_leaf : goal.walk_item-returns-in-Some-walk_leaf
 walk_item-returns-in-Some-walk_leaf g t c =
-    leaf_walked g.O.KeyOrder.order c.args.room c.args.bytes.now c.in-Some.rest.now c.in-Some.major c.in-Some.n c.in-Some-walk_leaf.behind c.in-Some.ensures (c.in-Some-walk_leaf.ensures g.O.KeyOrder.order c.args.room)
+    leaf_walked g.O.KeyOrder.order c.in-Some.ensures (c.in-Some-walk_leaf.ensures g.O.KeyOrder.order c.args.room)
 
 pub walk_array-items-init : goal.walk_array-items-init
 walk_array-items-init g t c =
@@ -38,7 +41,7 @@ walk_array-items-init g t c =
 pub walk_array-returns-in_default : goal.walk_array-returns-in_default
 walk_array-returns-in_default g t c =
     let i = c.items.invariant in
-    let within : length c.items.rest.now ≤ length c.args.bytes.now = omega (arith, ap length i.items.read, length-append i.items.front c.items.rest.now) in
+    let within : length c.items.rest.now ≤ length c.args.bytes.now = nodes_left i.items in
     tell_on (Leaves (ItemWalked g.O.KeyOrder.order (c.args.room - 1) c.items.rest.now)) (Leaves (WalkedBehind g.O.KeyOrder.order c.args.room Array c.args.n c.args.bytes.now)) (Stops g.O.KeyOrder.order c.items.rest.now) (StopsBehind g.O.KeyOrder.order Array c.args.n c.args.bytes.now) c.walk_element.result c.in_default.not-Behind
     (λ r left h. array_stops g.O.KeyOrder.order c.args.n c.args.bytes.now r left (leads_stop g.O.KeyOrder.order c.args.n c.items.left c.args.bytes.now c.items.rest.now r left within (omega (arith, c.items-test.true)) i.leads h))
     c.walk_element.ensures
@@ -46,16 +49,16 @@ walk_array-returns-in_default g t c =
 pub walk_array-items-preserved : goal.walk_array-items-preserved
 walk_array-items-preserved g t c =
     let i = c.items.invariant in
-    let within : length c.items.rest.now ≤ length c.args.bytes.now = omega (arith, ap length i.items.read, length-append i.items.front c.items.rest.now) in
+    let within : length c.items.rest.now ≤ length c.args.bytes.now = nodes_left i.items in
     let short : length c.items.rest.now < 2 ^ 64 = omega arith in
-    let walked = item_last g.O.KeyOrder.order (c.args.room - 1) c.items.rest.now c.last-rest.result.now c.in-Behind.behind c.in-Behind.ensures c.last-rest.ensures in
+    let walked = item_last g.O.KeyOrder.order c.in-Behind.ensures c.last-rest.ensures in
     let more : c.args.n - c.items.left + 1 ≡ c.args.n - (c.items.left - 1) = omega (arith, i.most, c.items-test.true) in
     record {
       most = omega (arith, i.most);
       items = subst (λ (k : ℕ). ItemsWalked g.O.KeyOrder.order (c.args.room - 1) k c.args.bytes.now c.last-rest.result.now) more
-          (items_more g.O.KeyOrder.order (c.args.room - 1) (c.args.n - c.items.left) c.args.bytes.now c.items.rest.now c.last-rest.result.now i.items walked);
+          (items_more g.O.KeyOrder.order i.items walked);
       leads = leads_more g.O.KeyOrder.order c.args.n c.items.left (c.items.left - 1) c.args.bytes.now c.items.rest.now c.last-rest.result.now within (omega (arith, c.items-test.true)) i.leads
-          (λ total. item_clears g.O.KeyOrder.order g.met.O.KeyOrder.laws (c.args.room - 1) total c.items.rest.now c.last-rest.result.now short walked);
+          (λ total. item_clears g.O.KeyOrder.order g.met.O.KeyOrder.laws total c.items.rest.now c.last-rest.result.now short walked);
     }
 
 pub walk_array-returns : goal.walk_array-returns
@@ -63,7 +66,7 @@ walk_array-returns g t c =
     let all : c.args.n - c.items.left ≡ c.args.n = omega (arith, c.items-test.false) in (
       c.items.rest.now,
       refl,
-      array_walked g.O.KeyOrder.order c.args.room (omega arith) c.args.n c.args.bytes.now c.items.rest.now
+      array_walked g.O.KeyOrder.order (omega arith) c.args.n c.args.bytes.now c.items.rest.now
           (subst (λ (k : ℕ). ItemsWalked g.O.KeyOrder.order (c.args.room - 1) k c.args.bytes.now c.items.rest.now) all c.items.invariant.items),
     )
 
@@ -77,13 +80,13 @@ walk_map-pairs-init g t c =
     }
 
 pub walk_map-split_before-requires : goal.walk_map-split_before-requires
-walk_map-split_before-requires g t c = item_within g.O.KeyOrder.order (c.args.room - 1) c.pairs.rest.now c.in-Behind.behind c.in-Behind.ensures
+walk_map-split_before-requires g t c = item_within c.in-Behind.ensures
 
 pub walk_map-returns-in_default : goal.walk_map-returns-in_default
 walk_map-returns-in_default g t c =
     let order = g.O.KeyOrder.order in
     let i = c.pairs.invariant in
-    let within : length c.pairs.rest.now ≤ length c.args.bytes.now = omega (arith, ap length i.pairs.read, length-append i.pairs.front c.pairs.rest.now) in
+    let within : length c.pairs.rest.now ≤ length c.args.bytes.now = pairs_left i.pairs in
     let short : length c.args.bytes.now < 2 ^ 64 = omega arith in
     let some : 0 < c.pairs.left = omega (arith, c.pairs-test.true) in
     elim c.key_departure.ensures [
@@ -98,22 +101,22 @@ pub walk_map-returns-then-not-rises_above : goal.walk_map-returns-then-not-rises
 walk_map-returns-then-not-rises_above g t c =
     let order = g.O.KeyOrder.order in
     let i = c.pairs.invariant in
-    let within : length c.pairs.rest.now ≤ length c.args.bytes.now = omega (arith, ap length i.pairs.read, length-append i.pairs.front c.pairs.rest.now) in
+    let within : length c.pairs.rest.now ≤ length c.args.bytes.now = pairs_left i.pairs in
     let short : length c.args.bytes.now < 2 ^ 64 = omega arith in
     let some : 0 < c.pairs.left = omega (arith, c.pairs-test.true) in
     let falls = c.rises_above.ensures.falls (search rules) in
     map_stops order c.args.n c.args.bytes.now reasons.KeyOrder (length c.pairs.rest.now)
     (stops_at_key order g.met.O.KeyOrder.laws c.args.n c.pairs.left c.pairs.before c.args.bytes.now c.pairs.rest.now short within some i.leads (c.args.room - 1) c.split_before.result.1.now c.split_before.result.0.now
-    (item_last order (c.args.room - 1) c.pairs.rest.now c.split_before.result.1.now c.in-Behind.behind c.in-Behind.ensures c.split_before.ensures.last) c.split_before.ensures.parts falls)
+    (item_last order c.in-Behind.ensures c.split_before.ensures.last) c.split_before.ensures.parts falls)
 
 pub walk_map-returns-in_default-walk_item : goal.walk_map-returns-in_default-walk_item
 walk_map-returns-in_default-walk_item g t c =
     let order = g.O.KeyOrder.order in
     let i = c.pairs.invariant in
-    let within : length c.pairs.rest.now ≤ length c.args.bytes.now = omega (arith, ap length i.pairs.read, length-append i.pairs.front c.pairs.rest.now) in
+    let within : length c.pairs.rest.now ≤ length c.args.bytes.now = pairs_left i.pairs in
     let short : length c.args.bytes.now < 2 ^ 64 = omega arith in
     let some : 0 < c.pairs.left = omega (arith, c.pairs-test.true) in
-    let key = item_last order (c.args.room - 1) c.pairs.rest.now c.split_before.result.1.now c.in-Behind.behind c.in-Behind.ensures c.split_before.ensures.last in
+    let key = item_last order c.in-Behind.ensures c.split_before.ensures.last in
     tell_on (Leaves (ItemWalked order (c.args.room - 1) c.split_before.result.1.now)) (Leaves (WalkedBehind g.O.KeyOrder.order c.args.room Map c.args.n c.args.bytes.now)) (Stops order c.split_before.result.1.now) (StopsBehind g.O.KeyOrder.order Map c.args.n c.args.bytes.now) c.walk_item-in-pairs.result c.in_default-walk_item.not-Behind
     (λ r left h. map_stops order c.args.n c.args.bytes.now r left
     (stops_in_value order g.met.O.KeyOrder.laws c.args.n c.pairs.left c.pairs.before c.args.bytes.now c.pairs.rest.now short within some i.leads (c.args.room - 1) c.split_before.result.1.now c.split_before.result.0.now r left
@@ -124,16 +127,16 @@ pub walk_map-pairs-preserved : goal.walk_map-pairs-preserved
 walk_map-pairs-preserved g t c =
     let order = g.O.KeyOrder.order in
     let i = c.pairs.invariant in
-    let within : length c.pairs.rest.now ≤ length c.args.bytes.now = omega (arith, ap length i.pairs.read, length-append i.pairs.front c.pairs.rest.now) in
+    let within : length c.pairs.rest.now ≤ length c.args.bytes.now = pairs_left i.pairs in
     let short : length c.args.bytes.now < 2 ^ 64 = omega arith in
     let more : c.args.n - c.pairs.left + 1 ≡ c.args.n - (c.pairs.left - 1) = omega (arith, i.most, c.pairs-test.true) in
-    let key = item_last order (c.args.room - 1) c.pairs.rest.now c.split_before.result.1.now c.in-Behind.behind c.in-Behind.ensures c.split_before.ensures.last in
-    let value = item_last order (c.args.room - 1) c.split_before.result.1.now c.last-rest.result.now c.in-Behind-walk_item.behind c.in-Behind-walk_item.ensures c.last-rest.ensures in
+    let key = item_last order c.in-Behind.ensures c.split_before.ensures.last in
+    let value = item_last order c.in-Behind-walk_item.ensures c.last-rest.ensures in
     let rises = c.rises_above.ensures.rises c.if-not-rises_above.false in
     record {
       most = omega (arith, i.most);
       pairs = subst (λ (k : ℕ). PairsWalked order (c.args.room - 1) k (Some c.split_before.result.0) c.args.bytes.now c.last-rest.result.now) more
-          (pairs_on order (c.args.room - 1) (c.args.n - c.pairs.left) c.pairs.before c.split_before.result.0 c.args.bytes.now c.pairs.rest.now c.split_before.result.1.now c.last-rest.result.now i.pairs key value c.split_before.ensures.parts rises);
+          (pairs_on order c.pairs.before c.split_before.result.0 i.pairs key value c.split_before.ensures.parts rises);
       leads = pairs_more order g.met.O.KeyOrder.laws (c.args.room - 1) c.args.n c.pairs.left (c.pairs.left - 1) c.pairs.before c.split_before.result.0 c.args.bytes.now c.pairs.rest.now c.split_before.result.1.now c.last-rest.result.now short within (omega (arith, c.pairs-test.true)) i.leads key c.split_before.ensures.parts rises value;
     }
 
@@ -143,14 +146,14 @@ walk_map-returns g t c =
     let short : length c.args.bytes.now < 2 ^ 64 = omega arith in (
       c.pairs.rest.now,
       refl,
-      map_walked g.O.KeyOrder.order c.args.room (omega arith) g.met.O.KeyOrder.laws c.args.n c.pairs.before c.args.bytes.now c.pairs.rest.now short
+      map_walked g.O.KeyOrder.order (omega arith) g.met.O.KeyOrder.laws c.args.n c.pairs.before c.args.bytes.now c.pairs.rest.now short
           (subst (λ (k : ℕ). PairsWalked g.O.KeyOrder.order (c.args.room - 1) k c.pairs.before c.args.bytes.now c.pairs.rest.now) all c.pairs.invariant.pairs),
     )
 
 pub walk_tagged-returns-in-Some : goal.walk_tagged-returns-in-Some
 walk_tagged-returns-in-Some g t c =
     let s = c.in-Some.ensures in
-    (s.0, s.1, bignum_walked g.O.KeyOrder.order c.args.room (omega arith) false c.args.n c.args.bytes.now s.0 c.if-n-eq2.true (inl (refl, c.if-n-eq2.true)) s.2)
+    (s.0, s.1, bignum_walked g.O.KeyOrder.order (omega arith) false c.args.n c.args.bytes.now s.0 c.if-n-eq2.true (inl (refl, c.if-n-eq2.true)) s.2)
 
 pub walk_tagged-returns-in-None : goal.walk_tagged-returns-in-None
 walk_tagged-returns-in-None g t c = c.bignum_departure.ensures c.args.room
@@ -158,7 +161,7 @@ walk_tagged-returns-in-None g t c = c.bignum_departure.ensures c.args.room
 pub walk_tagged-returns-in-Some-walk_bignum : goal.walk_tagged-returns-in-Some-walk_bignum
 walk_tagged-returns-in-Some-walk_bignum g t c =
     let s = c.in-Some-walk_bignum.ensures in
-    (s.0, s.1, bignum_walked g.O.KeyOrder.order c.args.room (omega arith) true c.args.n c.args.bytes.now s.0 c.if-n-eq3.true (inr (refl, c.if-n-eq3.true)) s.2)
+    (s.0, s.1, bignum_walked g.O.KeyOrder.order (omega arith) true c.args.n c.args.bytes.now s.0 c.if-n-eq3.true (inr (refl, c.if-n-eq3.true)) s.2)
 
 pub walk_tagged-returns-in-None-walk_bignum : goal.walk_tagged-returns-in-None-walk_bignum
 walk_tagged-returns-in-None-walk_bignum g t c = c.bignum_departure-in-None-walk_bignum.ensures c.args.room
@@ -166,7 +169,7 @@ walk_tagged-returns-in-None-walk_bignum g t c = c.bignum_departure-in-None-walk_
 pub walk_tagged-returns : goal.walk_tagged-returns
 walk_tagged-returns g t c =
     tell (Leaves (ItemWalked g.O.KeyOrder.order (c.args.room - 1) c.args.bytes.now)) (Leaves (WalkedBehind g.O.KeyOrder.order c.args.room Tag c.args.n c.args.bytes.now)) (Stops g.O.KeyOrder.order c.args.bytes.now) (StopsBehind g.O.KeyOrder.order Tag c.args.n c.args.bytes.now) c.walk_item.result
-    (λ left s. (s.0, s.1, tagged_walked g.O.KeyOrder.order c.args.room (omega arith) c.args.n c.args.bytes.now s.0 c.if-n-eq2.false c.if-n-eq3.false s.2))
+    (λ left s. (s.0, s.1, tagged_walked g.O.KeyOrder.order (omega arith) c.args.n c.args.bytes.now s.0 c.if-n-eq2.false c.if-n-eq3.false s.2))
     (λ r left h. tag_stops g.O.KeyOrder.order c.args.n c.args.bytes.now r left c.if-n-eq2.false c.if-n-eq3.false h)
     c.walk_item.ensures
 
