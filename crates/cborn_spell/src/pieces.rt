@@ -1,7 +1,7 @@
 //! Strings of pieces, of chunks, and of embedded items. A level of a nest of these takes one frame:
 //! what calls on the way to the next level is in line, and is called at one place.
 
-ghost use Rattle.std.specs.Prelude.{◌≡◌, ◌≤◌, ◌-◌, ◌++◌, ◌∷◌, [], ℕ, List, length, drop, IfSome};
+ghost use Rattle.std.specs.Prelude.{◌≡◌, ◌≤◌, length, drop, IfSome};
 ghost use Rattle.cborn_spell.specs.Descent.{kind_at, ItemTaken, PieceTaken, StringTaken, ChunksTaken};
 
 use crate::brackets::{close_chunks, close_string, embed_ending};

@@ -1,4 +1,4 @@
-use Rattle.std.proofs.Common.{◌≡◌, ◌∙◌, sym, subst, drop}
+use Rattle.std.proofs.Common.{◌∙◌, sym, subst, drop}
 use Rattle.std.proofs.lemmas.Option.{IfSome_then}
 use Rattle.cborn_edn.specs.declared.strings.StringKind.{StringKind}
 use Rattle.cborn_spell.specs.Descent.{PieceTaken}
