@@ -1,5 +1,5 @@
 -- Items without children, and tags.
-use Rattle.std.proofs.Common.{◌≢◌, ℕ, ◌-◌, ◌⊎◌, ◌≤◌, ◌≡◌, List, ◌∷◌, ◌++◌, length, Bool, true, false, refl, sym, ap, ◌∙◌, subst, arith, Ordering}
+use Rattle.std.proofs.Common.{◌≢◌, ℕ, ◌-◌, ◌⊎◌, ◌≤◌, ◌≡◌, List, ◌++◌, Bool, true, false, refl, arith, Ordering}
 use Rattle.cborn_model.specs.declared.heads.Width.{Width}
 use Rattle.cborn_model.specs.declared.heads.Major.TheVariants.{ByteString, TextString, Tag, Other}
 use Rattle.cborn_model.specs.Heads.{Given, Unbounded, head, WidthFits, IsLeastHead}

@@ -1,5 +1,5 @@
--- The head with which a node's bytes begin, and the node that stands at the front of bytes, is one.
-use Rattle.std.proofs.Common.{◌≡◌, ℕ, ◌+◌, ◌*◌, ◌-◌, ◌<◌, ◌≤◌, ◌⊎◌, inl, inr, List, [], ◌∷◌, ◌++◌, length, refl, sym, ap, ◌∙◌, subst, arith, append_assoc, append-nil, length-append, get_or}
+-- The head with which a node's bytes begin, and of two nodes at the front of the same bytes.
+use Rattle.std.proofs.Common.{◌≡◌, ℕ, ◌+◌, ◌*◌, ◌-◌, ◌<◌, ◌⊎◌, inl, inr, List, [], ◌∷◌, ◌++◌, length, refl, sym, ap, ◌∙◌, subst, arith, append_assoc, append-nil, get_or}
 use Rattle.std.specs.List.{flat_map}
 use Rattle.cborn_model.specs.declared.heads.Major.{Major}
 use Rattle.cborn_model.specs.declared.heads.Major.TheVariants.{Unsigned, Negative, ByteString, TextString, Array, Map, Tag, Other}
@@ -15,9 +15,8 @@ use Rattle.cborn_model.proofs.Numbers.OneHead.{append_same, one_head}
 use Rattle.cborn_model.proofs.Numbers.Simples.{simple_fits}
 use Rattle.cborn_wire.specs.HeadReading.{ArgumentFits}
 use Rattle.cborn_wire.specs.Places.{placed_from, all_from}
-use Rattle.cborn_wire.proofs.Spelled.AsPlaced.{same-from, same_all-from}
+use Rattle.cborn_wire.proofs.Spelled.AsPlaced.{same_all-from}
 use Rattle.cborn_wire.proofs.Spelled.OneReading.{no_item_begins, one_spelling}
-use Rattle.cborn_transcode.specs.devices.Departing.{Stands}
 
 -- ---- places
 
@@ -166,10 +165,3 @@ pub one_front : (t u : Tree) (x y : List ℕ) → Fits t → Fits u → spelled 
 one_front t u x y f g e =
     let same : spelled t ≡ spelled u = elim (goes_on (spelled t) (spelled u) x y e) [ inl r ↦ shorter t u r.0 f g r.1 | inr r ↦ sym (shorter u t r.0 g f r.1) ] in
     (same, (append_same (spelled t) (spelled u) x y (ap length same) e).1)
-
--- the node that stands at the front is the one that was read there
-pub one_node : (total : ℕ) (t u : Tree) (input rest tail : List ℕ) → Stands total t input rest → Fits u → Placed (total - length input) u → input ≡ spelled u ++ tail → (t ≡ u) × (rest ≡ tail)
-one_node total t u input rest tail s g p e =
-    let f = one_front t u rest tail s.fits g (sym s.read ∙ e) in
-    let there : placed_from (total - length input) t ≡ u = put_there (total - length input) u t g s.fits p (sym f.0) in
-    (sym (same-from t (total - length input) s.placed) ∙ there, f.1)

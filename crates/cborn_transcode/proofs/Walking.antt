@@ -1,5 +1,5 @@
 -- Items that stand as they are encoded.
-use Rattle.std.proofs.Common.{◌≡◌, ◌≢◌, ℕ, suc, ◌+◌, ◌-◌, ◌⊎◌, ◌<◌, ◌≤◌, List, [], ◌∷◌, ◌++◌, length, take, drop, drop_at, IsPermutation, Bool, true, false, refl, sym, ap, ◌∙◌, subst, arith, append_assoc, append-nil, length-append, Option, Some, None, Bor, Ordering, Equal}
+use Rattle.std.proofs.Common.{◌≡◌, ◌≢◌, ℕ, ◌+◌, ◌-◌, ◌⊎◌, ◌<◌, ◌≤◌, List, [], ◌∷◌, ◌++◌, length, take, drop, drop_at, IsPermutation, Bool, true, false, refl, sym, ap, ◌∙◌, subst, arith, append_assoc, append-nil, length-append, Option, Some, None, Bor, Ordering, Equal}
 use Rattle.std.specs.Prelude.{IsTrue}
 use Rattle.std.proofs.lemmas.List.{append_cancel_right, map-append, take-append-drop, length-drop}
 use Rattle.std.proofs.lemmas.List.Concat.{flat_map-append}
@@ -32,7 +32,7 @@ use Rattle.cborn_wire.proofs.Parts.Strings.{string_front, bytes_read, text_read}
 use Rattle.cborn_wire.proofs.Spelled.AllBytes.{bytes-right}
 use Rattle.cborn_transcode.specs.declared.entries.Span.{Span}
 use Rattle.cborn_transcode.specs.Transcoding.{IsEncodedAs, AreEncodedAs, ArePairsWritten, all_spanned, ItemTranscoded, ItemsTranscoded, MapTranscoded, IsTranscoded, IsIntegral, IsLeast}
-use Rattle.cborn_transcode.specs.shared.Walking.{IsLast, LeastHeadRead, ContentWalked, IsLongMagnitude, BignumWalked, IsDeterministic, AreDeterministic, ArePairsFound, HaveRisingKeys, ItemWalked, ItemsWalked, PairsFound, PairsWalked, WalkedBehind}
+use Rattle.cborn_transcode.specs.shared.Walking.{IsLast, LeastHeadRead, ContentWalked, IsLongMagnitude, BignumWalked, IsDeterministic, AreDeterministic, HaveRisingKeys, ItemWalked, ItemsWalked, PairsFound, PairsWalked, WalkedBehind}
 use Rattle.cborn_transcode.proofs.Encoding.{least_head, least_string, big_integer, uint_encoded, nint_encoded, bignum_encoded, tagged_encoded}
 use Rattle.cborn_transcode.proofs.Keying.{joined_more, spanned_between}
 use Rattle.cborn_transcode.proofs.Lists.{more_encoded, array_encoded, normalised}

@@ -1,8 +1,6 @@
-use Rattle.cborn_model.specs.declared.heads.Major.TheVariants.{Unsigned, Negative}
 use Rattle.std.proofs.Common.{rules, ◌≡◌, ◌≢◌, ◌<◌, ◌+◌, ◌-◌, ◌^◌, ◌++◌, ◌∷◌, [], inl, inr, refl, length, ℕ, List, true, false, subst, sym, arith, ◌∙◌}
 use Rattle.std.proofs.lemmas.List.{take_rest}
 use Rattle.std.proofs.lemmas.Option.{IfSome_then}
-use Rattle.cborn_wire.specs.shared.Parts.{NodeRead}
 use Rattle.cborn_wire.proofs.Parts.Heads.{head_before, head_alone}
 use Rattle.cborn_wire.proofs.Parts.Nodes.{uint_read, nint_read, node_last}
 use Rattle.cborn_transcode.specs.declared.entries.Span.{Span}

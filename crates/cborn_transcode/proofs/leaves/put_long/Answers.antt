@@ -1,6 +1,6 @@
 use Rattle.std.proofs.Common.{◌≡◌, ◌++◌, ℕ, List, length, refl, rules}
 use Rattle.cborn_det.specs.Appending.{Appends}
-use Rattle.cborn_det.specs.Det.{IsString, bignum_tag}
+use Rattle.cborn_det.specs.Det.{bignum_tag}
 use Rattle.cborn_model.specs.Heads.{IsLeastHead}
 use Rattle.cborn_transcode.proofs.Encoding.{appends_both, big_integer, string_written}
 use Rattle.cborn_transcode.proofs.leaves.put_long.Goals as goal

@@ -1,5 +1,5 @@
 use Rattle.cborn_model.specs.declared.heads.Major.TheVariants.{Array, Map, Tag}
-use Rattle.std.proofs.Common.{◌≡◌, ◌≢◌, ◌⊎◌, ◌+◌, ◌-◌, ◌<◌, ◌≤◌, ◌^◌, inl, inr, refl, length, length-append, ap, sym, rules, drop, length-drop, Some, None, ℕ, subst, arith, false, true}
+use Rattle.std.proofs.Common.{◌≡◌, ◌≢◌, ◌⊎◌, ◌+◌, ◌-◌, ◌<◌, ◌≤◌, ◌^◌, inl, inr, refl, length, sym, rules, drop, length-drop, Some, None, ℕ, subst, arith, false, true}
 use Rattle.cborn_judge.specs.declared.defects.DefectReason.TheVariants as reasons
 use Rattle.cborn_transcode.specs.devices.Departing.{IsAbove, Stops, StopsBehind, WalksBehind}
 use Rattle.cborn_wire.specs.shared.Parts.{Leaves}

@@ -1,4 +1,4 @@
-use Rattle.std.proofs.Common.{◌≡◌, ◌+◌, ◌-◌, ◌^◌, ◌<◌, ◌≤◌, length, length-append, ap, arith, rules}
+use Rattle.std.proofs.Common.{◌≡◌, ◌+◌, ◌-◌, ◌^◌, ◌<◌, ◌≤◌, length, arith, rules}
 use Rattle.cborn_transcode.specs.devices.Departing.{Stops, Tells}
 use Rattle.cborn_wire.specs.shared.Parts.{Leaves}
 use Rattle.cborn_wire.proofs.Parts.Nodes.{nodes_left}
