@@ -1,17 +1,17 @@
 //! Items, one after another and inside one another.
 
-ghost use Rattle.std.specs.Prelude.{◌≡◌, ◌≢◌, ◌≤◌, ◌++◌, ℕ, List, length, false, codes, OnSome, IfSome};
+ghost use Rattle.std.specs.Prelude.{◌≡◌, ◌≤◌, ◌++◌, ℕ, codes, OnSome, IfSome};
 ghost use Rattle.cborn_model.specs.declared.heads.Major.TheVariants.{Array, Map, Tag};
 ghost use Rattle.cborn_model.specs.Heads.{Given, Unbounded, head, WidthFits};
 ghost use Rattle.cborn_edn.specs.Shown.{mark_for, opened};
 ghost use Rattle.cborn_show.specs.Passed.{NodeShown, NodeLeaves, NextShown, NodesShown, PairShown, PairsShown};
 
-use crate::leaves::{behind_break, put_long_string_leaving, put_simple, put_string_leaving};
+use crate::leaves::{put_long_string_leaving, put_simple, put_string_leaving};
 use crate::numbers::{put_below, put_between, put_indicator, put_number};
 use crate::prospects::Outlook;
 use crate::runs::put_integers;
 use cborn_model::{Major, Width};
-use cborn_wire::{Argument, HeadRead, read_head};
+use cborn_wire::{Argument, HeadRead, behind_break, is_done, last, read_head};
 use std::alloc::Global;
 
 /// Appends the text of the item at the front of `bytes`, which is no deeper than `room`, and
@@ -30,17 +30,6 @@ pub(crate) fn put_item<'a>(
 {
     let left = put_node(alloc, room, outlook, bytes, out)?;
     last(bytes, left)
-}
-
-/// The last `left` bytes.
-#[inline(always)]
-fn last(bytes: &[u8], left: usize) -> Option<&[u8]>
-    ensures { IfSome result (λ rest. (front back : List ℕ) → bytes.now ≡ front ++ back → length back ≡ left → rest.now ≡ back) }
-{
-    if left > bytes.len() {
-        return None;
-    }
-    Some(&bytes[bytes.len() - left..])
 }
 
 /// What `put_item` does; answers how many bytes follow the item, since a number comes back in
@@ -206,14 +195,6 @@ fn put_next<'a>(
 {
     put_between(index, out)?;
     put_item(alloc, room, outlook, bytes, out)
-}
-
-/// Whether no more is to be taken: all that there may be is taken, or a break ends it.
-#[inline(always)]
-fn is_done(count: u64, most: u64, may_end: bool, bytes: &[u8]) -> bool
-    ensures { result ≡ false → count ≢ most }
-{
-    count == most || (may_end && matches!(bytes, [255, ..]))
 }
 
 /// The map of the `n` pairs at the front of `bytes`.

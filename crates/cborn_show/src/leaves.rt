@@ -11,7 +11,7 @@ use crate::numbers::put_indicator;
 use crate::prospects::Outlook;
 use cborn_edn::{push_escaped, push_simple};
 use cborn_model::{Major, Width, is_simple_value, shortest};
-use cborn_wire::{Argument, HeadRead, read_head};
+use cborn_wire::{Argument, HeadRead, behind_break, read_head};
 use std::alloc::Global;
 
 /// The string, a text or not, of the `n` bytes at the front.
@@ -199,17 +199,6 @@ fn put_long_string<'a>(
     let after = behind_break(rest)?;
     out.push(b')').ok()?;
     Some(after)
-}
-
-/// What follows the break at the front.
-#[inline(always)]
-pub(crate) fn behind_break(bytes: &[u8]) -> Option<&[u8]>
-    ensures { IfSome result (λ rest. bytes.now ≡ 255 ∷ rest.now) }
-{
-    match bytes {
-        [255, rest @ ..] => Some(rest),
-        _ => None,
-    }
 }
 
 /// A string without chunks.

@@ -1,20 +1,18 @@
 //! Items, one after another and inside one another.
 
-ghost use Rattle.std.specs.Prelude.{◌≡◌, ◌≢◌, false, ◌≤◌, ◌+◌, ◌++◌, ℕ, List, [], length, IfSome};
+ghost use Rattle.std.specs.Prelude.{◌≡◌, ◌≤◌, ◌+◌, ◌++◌, ℕ, List, [], IfSome};
 ghost use Rattle.cborn_model.specs.declared.heads.Width.{Width};
 ghost use Rattle.cborn_model.specs.declared.heads.Major.TheVariants.{Array, Map, Tag};
 ghost use Rattle.cborn_model.specs.Heads.{Given, Unbounded, head, WidthFits};
 ghost use Rattle.cborn_transcode.specs.Transcoding.{ItemTranscoded, ItemLeaves, ItemsTranscoded, PairsTranscoded};
 
 use crate::entries::{Span, arrange, push_span};
-use crate::leaves::{
-    behind_break, put_bignum, put_long_string_leaving, put_simple, put_string_leaving,
-};
+use crate::leaves::{put_bignum, put_long_string_leaving, put_simple, put_string_leaving};
 use crate::places::{find_pairs, put_great};
 use crate::runs::put_run;
 use cborn_det::{put_head, set_head};
 use cborn_model::{KeyOrder, Major};
-use cborn_wire::{Argument, HeadRead, read_head};
+use cborn_wire::{Argument, HeadRead, behind_break, is_done, last, read_head};
 use std::alloc::Global;
 
 /// Appends the encoding of the item at the front of `bytes`, which is no deeper than `room`, and
@@ -32,17 +30,6 @@ pub(crate) fn put_item<'a, O: KeyOrder>(
 {
     let left = put_node::<O>(alloc, room, bytes, out)?;
     last(bytes, left)
-}
-
-/// The last `left` bytes.
-#[inline(always)]
-fn last(bytes: &[u8], left: usize) -> Option<&[u8]>
-    ensures { IfSome result (λ rest. (front back : List ℕ) → bytes.now ≡ front ++ back → length back ≡ left → rest.now ≡ back) }
-{
-    if left > bytes.len() {
-        return None;
-    }
-    Some(&bytes[bytes.len() - left..])
 }
 
 /// What `put_item` does; answers how many bytes follow the item, since a number comes back in
@@ -163,14 +150,6 @@ fn put_items<'a, O: KeyOrder>(
         count += 1;
     }
     Some((rest, count))
-}
-
-/// Whether no more is to be taken: all that there may be is taken, or a break ends it.
-#[inline(always)]
-fn is_done(count: u64, most: u64, may_end: bool, bytes: &[u8]) -> bool
-    ensures { result ≡ false → count ≢ most }
-{
-    count == most || (may_end && matches!(bytes, [255, ..]))
 }
 
 /// From how many announced pairs on it is tried first to write them from where they stand: fewer

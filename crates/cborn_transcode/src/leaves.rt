@@ -1,6 +1,6 @@
 //! Items without children.
 
-ghost use Rattle.std.specs.Prelude.{◌≡◌, ◌<◌, ◌≤◌, ◌++◌, ◌∷◌, ℕ, List, length, take, drop, IsTrue, IsUtf8, IfSome, OnSome};
+ghost use Rattle.std.specs.Prelude.{◌≡◌, ◌<◌, ◌≤◌, ◌++◌, ℕ, List, length, take, drop, IsTrue, IsUtf8, IfSome, OnSome};
 ghost use Rattle.cborn_model.specs.declared.heads.Width.{Width as WidthSpec};
 ghost use Rattle.cborn_model.specs.declared.heads.Major.TheVariants.{ByteString};
 ghost use Rattle.cborn_model.specs.Bytes.{AreBytes, IsShortest, big_endian};
@@ -12,7 +12,7 @@ ghost use Rattle.cborn_transcode.specs.Transcoding.{ContentTaken, StringTaken, C
 
 use cborn_det::{integer_major, number_of, put_head};
 use cborn_model::{Major, Width, without_zeros};
-use cborn_wire::{Argument, HeadRead, read_head};
+use cborn_wire::{Argument, HeadRead, behind_break, read_head};
 use std::alloc::Global;
 
 /// A string of the major type of `n` bytes.
@@ -88,17 +88,6 @@ pub(crate) fn put_long_string_leaving(
 {
     let rest = put_long_string(major, bytes, out)?;
     Some(rest.len())
-}
-
-/// What follows the break at the front.
-#[inline(always)]
-pub(crate) fn behind_break(bytes: &[u8]) -> Option<&[u8]>
-    ensures { IfSome result (λ rest. bytes.now ≡ 255 ∷ rest.now) }
-{
-    match bytes {
-        [255, rest @ ..] => Some(rest),
-        _ => None,
-    }
 }
 
 /// How many bytes the chunks up to a break hold, for the head that stands before them. What is then

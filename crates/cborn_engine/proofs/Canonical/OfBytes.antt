@@ -129,12 +129,10 @@ module _ (order : List ℕ → List ℕ → Ordering) where
   transcoded_items : (limit : ℕ) (x z old v : List ℕ) → (a : IsCanonical order kind.Wire kind.Wire limit x v) → ItemsTranscoded order limit (length a.held.nodes) (x ++ z) z old (old ++ v)
   transcoded_items limit x z old v a = record {
     nodes = a.held.nodes;
-    items = a.items;
     read = ap (λ l. l ++ z) (sym a.held.spelled.spells);
     fits = a.held.spelled.fit;
     shallow = a.held.spelled.shallow;
-    meant = a.held.meant;
-    written = (v, a.written, refl);
+    holds = (v, (a.items, a.held.meant, a.written), refl);
     count = refl;
   }
 
@@ -143,6 +141,6 @@ module _ (order : List ℕ → List ℕ → Ordering) where
       let n : ℕ = length a.held.nodes in
       let m : ℕ = length b.held.nodes in
       let last : ItemsTranscoded order limit m y [] v (v ++ w) = subst (λ (z : List ℕ). ItemsTranscoded order limit m z [] v (v ++ w)) (append-nil y) (transcoded_items limit y [] v w b) in
-      let all = all_append order limit n m (x ++ y) y [] [] v (v ++ w) (transcoded_items limit x y [] v a) last in
+      let all = all_append order [] (transcoded_items limit x y [] v a) last in
       let t = normalised order limit (n + m) (x ++ y) (v ++ w) all in
       record { items = t.items; held = record { nodes = t.nodes; spelled = t.read; meant = t.meant }; written = t.encoded }

@@ -164,7 +164,7 @@ module _ (order : List ℕ → List ℕ → Ordering) (laws : IsKeyOrder order) 
 -- ---- an encoding at the front
 
 pub encoding_taken : (order : List ℕ → List ℕ → Ordering) (limit : ℕ) (bytes rest x : List ℕ) → ItemTranscoded order limit bytes rest [] x → (v : Value) × Det order v x
-encoding_taken order limit bytes rest x t = (t.item, subst (Det order t.item) (sym t.written.2) t.written.1)
+encoding_taken order limit bytes rest x t = (t.holds.1.0, subst (Det order t.holds.1.0) (sym t.holds.2) t.holds.1.2)
 
 -- ---- items that are the same as those that were compared
 

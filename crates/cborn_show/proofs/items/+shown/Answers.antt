@@ -12,7 +12,7 @@ use Rattle.cborn_show.proofs.items.+shown.Goals.{put_items-else-items-test, put_
 use Rattle.cborn_show.proofs.items.+shown.Goals as goal
 
 pub put_item-returns : goal.put_item-returns
-put_item-returns t c = IfSome_then c.last.result c.last.ensures (λ rest e. node_last c.in_ok-left.ensures e)
+put_item-returns t c = IfSome_then c.last.result c.last.ensures.found (λ rest e. node_last c.in_ok-left.ensures e)
 
 pub put_node-returns-in_ok-put_number-in-Unsigned : goal.put_node-returns-in_ok-put_number-in-Unsigned
 put_node-returns-in_ok-put_number-in-Unsigned t c =
@@ -105,7 +105,7 @@ put_items-items-init t c = (nodes_none c.args.room (codes ", ") c.args.bytes.now
 pub put_items-items-preserved : goal.put_items-items-preserved
 put_items-items-preserved t c =
     let k = c.items.count + c.in_ok-len.more in
-    let more : k ≢ c.args.most = c.is_done.ensures c.if-is_done.false in
+    let more : k ≢ c.args.most = c.if-is_done.ensures in
     let run = c.in_ok-len.ensures.shown c.args.room c.args.bytes.now c.args.out.now.items c.items.invariant.0 in (
       nodes_more c.args.room (codes ", ") k c.args.bytes.now _ c.in_ok-rest.rest.now c.args.out.now.items c.put_integers.new.out.items (c.put_integers.new.out.items ++ between (codes ", ") k) c.put_next.new.out.items
           (subst (λ (l : List ℕ). NodesShown (codes ", ") c.args.room k c.args.bytes.now l c.args.out.now.items c.put_integers.new.out.items) (sym (take_rest c.items.rest.now c.in_ok-len.len)) run) refl c.in_ok-rest.ensures,
@@ -135,7 +135,7 @@ put_pairs-pairs-init t c = (pairs_none c.args.room c.args.bytes.now c.args.out.n
 
 pub put_pairs-pairs-preserved : goal.put_pairs-pairs-preserved
 put_pairs-pairs-preserved t c =
-    let more : c.pairs.count ≢ c.args.most = c.is_done.ensures c.if-is_done.false in
+    let more : c.pairs.count ≢ c.args.most = c.if-is_done.ensures in
     (pairs_more c.args.room c.pairs.count c.args.bytes.now c.pairs.rest.now c.in_ok-rest.rest.now c.args.out.now.items c.pairs.out.items c.put_between.new.out.items c.put_pair.new.out.items c.pairs.invariant.0 c.in_ok-put_between.ensures c.in_ok-rest.ensures, omega (arith, c.pairs.invariant.1))
 
 pub put_tagged-returns : goal.put_tagged-returns

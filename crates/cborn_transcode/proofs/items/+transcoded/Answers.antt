@@ -13,7 +13,7 @@ use Rattle.cborn_transcode.proofs.items.+transcoded.Goals.{put_items-else-items-
 use Rattle.cborn_transcode.proofs.items.+transcoded.Goals as goal
 
 pub put_item-returns : goal.put_item-returns
-put_item-returns g t c = IfSome_then c.last.result c.last.ensures (λ rest e. node_last c.in_ok-left.ensures e)
+put_item-returns g t c = IfSome_then c.last.result c.last.ensures.found (λ rest e. node_last c.in_ok-left.ensures e)
 
 pub put_node-returns-in_ok-put_head-in-Unsigned : goal.put_node-returns-in_ok-put_head-in-Unsigned
 put_node-returns-in_ok-put_head-in-Unsigned g t c =
@@ -74,7 +74,7 @@ pub put_items-items-preserved : goal.put_items-items-preserved
 put_items-items-preserved g t c =
     let some : ItemsTranscoded g.O.KeyOrder.order c.args.room (c.items.count + c.in_ok-after.found) c.args.bytes.now c.in_ok-after.after.now c.args.out.now.items c.put_run.new.out.items =
     run_more g.O.KeyOrder.order c.args.out.now.items c.items.invariant.0 c.in_ok-after.found (c.in_ok-after.ensures.run g.O.KeyOrder.order) in
-    let more : c.items.count + c.in_ok-after.found ≢ c.args.most = c.is_done.ensures c.if-is_done.false in
+    let more : c.items.count + c.in_ok-after.found ≢ c.args.most = c.if-is_done.ensures in
     (all_more g.O.KeyOrder.order c.args.out.now.items some c.in_ok-rest.ensures, omega (arith, c.items.invariant.1, c.in_ok-after.ensures.most))
 
 pub put_items-returns : goal.put_items-returns
@@ -145,7 +145,7 @@ put_pairs-pairs-init g t c =
 
 pub put_pairs-pairs-preserved : goal.put_pairs-pairs-preserved
 put_pairs-pairs-preserved g t c =
-    ((λ nil. c.in_ok-rest.ensures c.pairs.count c.args.bytes.now c.args.out.now.items (c.pairs.invariant.0 nil)), (let more : c.pairs.count ≢ c.args.most = c.is_done.ensures c.if-is_done.false in omega (arith, c.pairs.invariant.1)))
+    ((λ nil. c.in_ok-rest.ensures c.pairs.count c.args.bytes.now c.args.out.now.items (c.pairs.invariant.0 nil)), (let more : c.pairs.count ≢ c.args.most = c.if-is_done.ensures in omega (arith, c.pairs.invariant.1)))
 
 pub put_pair-returns : goal.put_pair-returns
 put_pair-returns g t c n input start s =
