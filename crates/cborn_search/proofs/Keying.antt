@@ -9,7 +9,7 @@ use Rattle.cborn_model.specs.Valid.{IsProper}
 use Rattle.cborn_model.specs.Value.{Value}
 use Rattle.cborn_model.specs.Meaning.{Means}
 use Rattle.cborn_wire.specs.Places.{placed_from}
-use Rattle.cborn_wire.specs.shared.Parts.{NodeRead}
+use Rattle.cborn_wire.specs.Parts.{NodeRead}
 use Rattle.cborn_wire.proofs.Spelled.OneReading.{one_spelling}
 use Rattle.cborn_det.specs.Det.{Det, DetSeq}
 use Rattle.cborn_judge.specs.Flaws.{Flaw}

@@ -9,7 +9,7 @@ use Rattle.cborn_model.specs.Heads.{Given, Unbounded, head, WidthFits}
 use Rattle.cborn_model.specs.Orders.{bytewise}
 use Rattle.cborn_model.specs.Placed.{PlacedEntries}
 use Rattle.cborn_model.specs.Tree.{Tree, Pairs, entries}
-use Rattle.cborn_wire.specs.shared.Parts.{Pair}
+use Rattle.cborn_wire.specs.Parts.{Pair}
 use Rattle.cborn_wire.proofs.Parts.Pairs.{no_pair, entry_more, pairs_as, map_read, endless_map_read}
 use Rattle.cborn_judge.specs.Flaws.{Flaw}
 use Rattle.cborn_judge.specs.shared.Judged.{FlawAmong, RepeatFlaw}

@@ -7,7 +7,7 @@ use Rattle.std.proofs.lemmas.List.{take_all, drop-append-le, take-append-le}
 use Rattle.cborn_model.specs.Tree.{entries}
 use Rattle.cborn_model.specs.Orders.{bytewise}
 use Rattle.cborn_model.specs.shared.OrderLaws.{bytewise_order}
-use Rattle.cborn_wire.specs.shared.Parts.{Pair}
+use Rattle.cborn_wire.specs.Parts.{Pair}
 use Rattle.cborn_judge.specs.Flaws.{HasRepeat, flaw_rank}
 use Rattle.cborn_judge.specs.shared.Judged.{RepeatFlaw}
 use Rattle.cborn_judge.specs.shared.Repeats.{IsOneOf, IsAgain, IsTied, PositionsRise}

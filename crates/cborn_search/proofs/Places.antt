@@ -10,7 +10,7 @@ use Rattle.cborn_model.specs.Placed.{Placed, PlacedAll, PlacedEntries, ChunksPla
 use Rattle.cborn_model.specs.Spelled.{spelled, spelled_all, spelled_entries, chunk_bytes}
 use Rattle.cborn_model.specs.Tree.{Tree, trees, entries, count, count_entries}
 use Rattle.cborn_model.proofs.Listed.Trees.{count-trees, count_entries-entries}
-use Rattle.cborn_wire.specs.shared.Parts.{Pair}
+use Rattle.cborn_wire.specs.Parts.{Pair}
 use Rattle.cborn_wire.proofs.Machine.SoundItems.{placed_chunks-snoc}
 use Rattle.cborn_wire.proofs.Parts.Heads.{behind}
 

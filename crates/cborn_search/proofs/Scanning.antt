@@ -15,7 +15,7 @@ use Rattle.cborn_model.specs.Tree.{Tree, Text, TextChunks, Items, Tagged, trees}
 use Rattle.cborn_wire.specs.declared.heads.Argument.{Argument}
 use Rattle.cborn_wire.specs.declared.heads.Head.{Head}
 use Rattle.cborn_wire.specs.HeadReading.{major_at, IsHeadOf, seen_argument, ArgumentFits}
-use Rattle.cborn_wire.specs.shared.Parts.{StringRead, IsSimpleArgument, Leaves}
+use Rattle.cborn_wire.specs.Parts.{StringRead, IsSimpleArgument, Leaves}
 use Rattle.cborn_wire.proofs.Parts.Heads.{read_from}
 use Rattle.cborn_wire.proofs.Parts.Strings.{bytes_read, text_read, no_chunk, chunk_more, byte_chunks_read, text_chunks_read}
 use Rattle.cborn_wire.proofs.Parts.Nodes.{uint_read, nint_read, simple_read, node_more, array_read, endless_array_read, tagged_read}

@@ -6,7 +6,7 @@ use Rattle.cborn_model.specs.Meaning.{IsByteString}
 use Rattle.cborn_model.specs.Placed.{Placed, PlacedAll, PlacedEntries, ChunksPlaced}
 use Rattle.cborn_model.specs.Tree.{Tree, trees, entries}
 use Rattle.cborn_model.specs.declared.nodes.Chunk.{Chunk}
-use Rattle.cborn_wire.specs.shared.Parts.{Pair, ChunkRead, ChunksRead, NodeRead, NodesRead, PairsRead}
+use Rattle.cborn_wire.specs.Parts.{Pair, ChunkRead, ChunksRead, NodeRead, NodesRead, PairsRead}
 use Rattle.cborn_judge.specs.Flaws.{flaw_rank, Flaw}
 use Rattle.cborn_judge.specs.Earliest.{IsEarliest, Finds}
 use Rattle.cborn_judge.specs.shared.Judged.{FlawIn, FlawAmong, ChunkFlaw}

@@ -8,7 +8,7 @@ ghost use Rattle.std.specs.Prelude.{◌≡◌, ◌≢◌, ◌≤◌, ◌-◌, �
 ghost use Rattle.cborn_model.specs.declared.heads.Width.{Width};
 ghost use Rattle.cborn_model.specs.declared.heads.Major.TheVariants.{Array, Map, Tag};
 ghost use Rattle.cborn_model.specs.Heads.{Given, Unbounded, head, WidthFits};
-ghost use Rattle.cborn_wire.specs.shared.Parts.{Leaves};
+ghost use Rattle.cborn_wire.specs.Parts.{Leaves};
 ghost use Rattle.cborn_search.specs.Flawed.{Scanned, ScannedAll};
 ghost use Rattle.cborn_search.specs.devices.Marks.{MapSeen};
 

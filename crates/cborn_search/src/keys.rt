@@ -7,7 +7,7 @@ ghost use Rattle.cborn_judge.specs.shared.Judged.{RepeatFlaw};
 ghost use Rattle.cborn_transcode.specs.Transcoding.{IsTranscoded};
 ghost use Rattle.cborn_search.specs.Flawed.{Sought, FindsTold, SeenKey, AreSought};
 ghost use Rattle.cborn_search.specs.devices.Marks.{mark_bytes, AreMarked, TakesKey, InPlace, ComesAfter, TieAfter, TieFlaw};
-ghost use Rattle.cborn_wire.specs.shared.Parts.{Pair};
+ghost use Rattle.cborn_wire.specs.Parts.{Pair};
 
 use cborn_judge::{InvalidReason, earliest};
 use cborn_model::{Bytewise, KeyOrder, Limit};

@@ -5,7 +5,7 @@ ghost use Rattle.cborn_model.specs.declared.heads.Width.{Width};
 ghost use Rattle.cborn_model.specs.declared.heads.Major.TheVariants.{ByteString, TextString};
 ghost use Rattle.cborn_model.specs.Heads.{Given, Unbounded, head, WidthFits};
 ghost use Rattle.cborn_wire.specs.HeadReading.{ArgumentFits, seen_argument};
-ghost use Rattle.cborn_wire.specs.shared.Parts.{StringRead, IsSimpleArgument, Leaves};
+ghost use Rattle.cborn_wire.specs.Parts.{StringRead, IsSimpleArgument, Leaves};
 ghost use Rattle.cborn_search.specs.Flawed.{FindsTold, TextFlaw, ChunkSeen, ChunksSeen, Scanned};
 
 use crate::told::Finding;

@@ -13,7 +13,7 @@ use Rattle.cborn_edn.proofs.Shown.Separated.{joined_more, shown_items, shown_pai
 use Rattle.cborn_wire.specs.declared.heads.Argument.TheVariants as arguments
 use Rattle.cborn_wire.specs.declared.heads.Head.{Head}
 use Rattle.cborn_wire.specs.HeadReading.{major_at, IsHeadOf}
-use Rattle.cborn_wire.specs.shared.Parts.{Pair}
+use Rattle.cborn_wire.specs.Parts.{Pair}
 use Rattle.cborn_wire.proofs.Parts.Heads.{read_from}
 use Rattle.cborn_wire.proofs.Parts.Nodes.{uint_read, nint_read, no_node, node_more, array_read, endless_array_read, tagged_read}
 use Rattle.cborn_wire.proofs.Parts.Pairs.{pair_read, no_pair, pair_more, map_read, endless_map_read}

@@ -9,7 +9,7 @@ use Rattle.cborn_edn.specs.shared.Between.{others}
 use Rattle.cborn_edn.specs.Shown.{joined_by, shown_string, shown_chunk, shown_chunks, mark_for, indicator}
 use Rattle.cborn_edn.specs.shared.Texts.{AreTexts}
 use Rattle.cborn_edn.proofs.Shown.Separated.{others_more, enclosed, after_three}
-use Rattle.cborn_wire.specs.shared.Parts.{StringRead, ChunksRead}
+use Rattle.cborn_wire.specs.Parts.{StringRead, ChunksRead}
 use Rattle.cborn_wire.proofs.Parts.Strings.{string_front, no_chunk, chunk_more, chunk_first}
 use Rattle.cborn_show.specs.Passed.{StringShown, ChunkShown, ChunksShown, LongStringShown, ChunksWritten, kind_of, major_of, shown_content}
 

@@ -20,7 +20,7 @@ use Rattle.cborn_edn.specs.Shown.{Shown, joined_by, shown, shown_string, shown_c
 use Rattle.cborn_edn.specs.shared.Texts.{AreTexts, IsShowable, EachShowable, ArePairsShowable}
 use Rattle.cborn_wire.specs.declared.heads.Argument.{Argument}
 use Rattle.cborn_wire.specs.declared.heads.Argument.TheVariants as arguments
-use Rattle.cborn_wire.specs.shared.Parts.{Pair, StringRead, ChunkRead, ChunksRead, NodeRead, NodesRead, PairRead, PairsRead, Leaves}
+use Rattle.cborn_wire.specs.Parts.{Pair, StringRead, ChunkRead, ChunksRead, NodeRead, NodesRead, PairRead, PairsRead, Leaves}
 
 abbrev pub kind_of : Bool → StringKind
 kind_of true = OfText

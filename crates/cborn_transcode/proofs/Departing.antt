@@ -20,7 +20,7 @@ use Rattle.cborn_judge.proofs.Meaning.Placing.{defect_within}
 use Rattle.cborn_judge.proofs.Encoded.Checking.{check_whole}
 use Rattle.cborn_judge.proofs.Meaning.Meanings.{meaning_valid}
 use Rattle.cborn_wire.specs.Places.{placed_from}
-use Rattle.cborn_wire.specs.shared.Parts.{NodeRead}
+use Rattle.cborn_wire.specs.Parts.{NodeRead}
 use Rattle.cborn_det.specs.Det.{Det}
 use Rattle.cborn_model.specs.Orders.{IsKeyOrder}
 use Rattle.cborn_transcode.specs.Departing.{IsFirstDefectOfItems}

@@ -15,7 +15,7 @@ use Rattle.cborn_model.specs.Valid.{IsProper, HasProperPairs, IsNew, HasNewKeys}
 use Rattle.cborn_model.specs.Meaning.{Means, EntriesMean}
 use Rattle.cborn_model.specs.Orders.{IsKeyOrder, Rising}
 use Rattle.cborn_model.proofs.Listed.Trees.{count_entries-entries}
-use Rattle.cborn_wire.specs.shared.Parts.{Pair}
+use Rattle.cborn_wire.specs.Parts.{Pair}
 use Rattle.cborn_wire.proofs.Parts.Pairs.{no_pair, entry_more, pairs_as, map_read, endless_map_read}
 use Rattle.cborn_judge.proofs.Meaning.Meanings.{Short, left, entries_valid}
 use Rattle.cborn_det.specs.Det.{Det, DetPairs, Entry, joined, keys}

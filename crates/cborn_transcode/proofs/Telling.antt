@@ -9,7 +9,7 @@ use Rattle.cborn_model.specs.Heads.{Given, head, least}
 use Rattle.cborn_transcode.specs.declared.departures.Walked.{Walked}
 use Rattle.cborn_transcode.specs.declared.departures.Walked.TheVariants.{Behind, LongHead, EndlessLength, LooseBignum, KeyOrder, Unknown}
 use Rattle.cborn_transcode.specs.devices.Departing.{Tell, Departs, Stops, StopsBehind, Walks, WalksBehind}
-use Rattle.cborn_wire.specs.shared.Parts.{Leaves}
+use Rattle.cborn_wire.specs.Parts.{Leaves}
 use Rattle.cborn_transcode.specs.shared.Walking.{LeastHeadRead, ItemWalked, WalkedBehind}
 use Rattle.cborn_transcode.proofs.Walking.{walked_from}
 

@@ -24,7 +24,7 @@ use Rattle.cborn_wire.specs.declared.heads.Head.{Head}
 use Rattle.cborn_wire.specs.declared.heads.Argument.{Argument}
 use Rattle.cborn_wire.specs.declared.heads.Argument.TheVariants as arguments
 use Rattle.cborn_wire.specs.HeadReading.{major_at, IsHeadOf, seen_argument, ArgumentFits}
-use Rattle.cborn_wire.specs.shared.Parts.{Pair, Leaves, NodeRead, StringRead}
+use Rattle.cborn_wire.specs.Parts.{Pair, Leaves, NodeRead, StringRead}
 use Rattle.cborn_wire.proofs.Parts.Heads.{head_read}
 use Rattle.cborn_wire.proofs.Parts.Nodes.{uint_read, nint_read, simple_read, node_as, node_within, node_left, node_last, no_node, node_more, nodes_as, array_read, tagged_read}
 use Rattle.cborn_wire.proofs.Parts.Pairs.{no_pair, entry_more, pairs_as, map_read}

@@ -15,7 +15,7 @@ use Rattle.cborn_det.specs.Appending.{Appends}
 use Rattle.cborn_transcode.specs.declared.entries.Span.{Span}
 use Rattle.cborn_wire.specs.declared.heads.Argument.{Argument}
 use Rattle.cborn_wire.specs.declared.heads.Argument.TheVariants as arguments
-use Rattle.cborn_wire.specs.shared.Parts.{Pair, Leaves, StringRead, ChunkRead, ChunksRead, NodeRead, NodesRead, PairsRead}
+use Rattle.cborn_wire.specs.Parts.{Pair, Leaves, StringRead, ChunkRead, ChunksRead, NodeRead, NodesRead, PairsRead}
 
 -- ---- what nodes are encoded as
 

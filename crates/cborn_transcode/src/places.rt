@@ -5,7 +5,7 @@ ghost use Rattle.std.specs.Prelude.{◌≡◌, ◌-◌, ◌≤◌, ◌++◌, ◌
 ghost use Rattle.std.specs.declared.cmp.Ordering.{Ordering};
 ghost use Rattle.cborn_transcode.specs.declared.places.PairPlace.{PairPlace as PairPlaceSpec};
 ghost use Rattle.cborn_transcode.specs.Transcoding.{MapTranscoded};
-ghost use Rattle.cborn_wire.specs.shared.Parts.{Leaves};
+ghost use Rattle.cborn_wire.specs.Parts.{Leaves};
 ghost use Rattle.cborn_transcode.specs.shared.Walking.{ItemWalked, PairsFound, span_of, spans_of};
 ghost use Rattle.cborn_transcode.specs.devices.Placing.{PlacesPut};
 

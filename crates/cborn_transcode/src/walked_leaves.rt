@@ -5,7 +5,7 @@ ghost use Rattle.std.specs.declared.cmp.Ordering.{Ordering};
 ghost use Rattle.cborn_det.specs.shared.KeyBefore.{Below};
 ghost use Rattle.cborn_model.specs.Bytes.{IsShortest};
 ghost use Rattle.cborn_transcode.specs.devices.Departing.{IsFallen};
-ghost use Rattle.cborn_wire.specs.shared.Parts.{Leaves};
+ghost use Rattle.cborn_wire.specs.Parts.{Leaves};
 ghost use Rattle.cborn_transcode.specs.shared.Walking.{IsLast, LeastHeadRead, ContentWalked, BignumWalked, WalkedBehind};
 
 use crate::leaves::is_text;

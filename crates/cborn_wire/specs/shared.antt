@@ -2,4 +2,3 @@ pub mod Machine
 pub mod Scanning
 pub mod InitialBytes
 pub mod Ground
-pub mod Parts

@@ -4,7 +4,7 @@ use Rattle.std.specs.List.{AllZip}
 use Rattle.std.specs.declared.cmp.Ordering.TheVariants.{Less}
 use Rattle.cborn_model.specs.Orders.{bytewise}
 use Rattle.cborn_model.specs.Tree.{Tree, entries}
-use Rattle.cborn_wire.specs.shared.Parts.{Pair}
+use Rattle.cborn_wire.specs.Parts.{Pair}
 use Rattle.cborn_judge.specs.shared.Judged.{FlawAmong, RepeatFlaw}
 use Rattle.cborn_judge.specs.shared.Repeats.{IsTied}
 use Rattle.cborn_judge.specs.declared.faults.InvalidReason.{InvalidReason}

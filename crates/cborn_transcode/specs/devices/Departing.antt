@@ -20,7 +20,7 @@ use Rattle.cborn_judge.specs.declared.defects.DefectReason.TheVariants as reason
 use Rattle.cborn_transcode.specs.declared.departures.Walked.{Walked}
 use Rattle.cborn_transcode.specs.declared.departures.Walked.TheVariants.{Behind, LongHead, EndlessLength, LooseBignum, KeyOrder, Unknown}
 use Rattle.cborn_transcode.specs.Transcoding.{ItemTranscoded}
-use Rattle.cborn_wire.specs.shared.Parts.{Leaves}
+use Rattle.cborn_wire.specs.Parts.{Leaves}
 use Rattle.cborn_transcode.specs.shared.Walking.{ItemWalked, WalkedBehind}
 
 -- the node stands at the front of the input, and means an item

@@ -8,7 +8,7 @@ use Rattle.cborn_model.specs.Heads.{Given, head, WidthFits, least}
 use Rattle.cborn_model.specs.Orders.{Rising}
 use Rattle.cborn_model.specs.Spelled.{spelled, spelled_all, spelled_entries}
 use Rattle.cborn_model.specs.Tree.{Tree, Bytes, trees, entries}
-use Rattle.cborn_wire.specs.shared.Parts.{Pair, StringRead, NodeRead, NodesRead, PairsRead}
+use Rattle.cborn_wire.specs.Parts.{Pair, StringRead, NodeRead, NodesRead, PairsRead}
 use Rattle.cborn_det.specs.Det.{Entry, joined, keys}
 use Rattle.cborn_det.specs.shared.KeyBefore.{EndsIn}
 use Rattle.cborn_transcode.specs.declared.entries.Span.{Span}

@@ -8,7 +8,7 @@ use Rattle.cborn_model.specs.Spelled.{ending}
 use Rattle.cborn_wire.specs.declared.heads.Argument.{Argument}
 use Rattle.cborn_wire.specs.declared.heads.Head.{Head}
 use Rattle.cborn_wire.specs.HeadReading.{major_at, IsHeadOf, seen_argument, ArgumentFits}
-use Rattle.cborn_wire.specs.shared.Parts.{Leaves}
+use Rattle.cborn_wire.specs.Parts.{Leaves}
 
 pub head_split : (x : List ℕ) (h : Head) (n : ℕ) → IsHeadOf x h n → x ≡ head (major_at h.major) (seen_argument h.argument) ++ drop n x
 head_split x h n i =

@@ -9,7 +9,7 @@ use Rattle.cborn_model.specs.Tree.{Tree, Uint, Nint, Items, Tagged, Simple, tree
 use Rattle.cborn_model.proofs.Listed.Trees.{count-trees}
 use Rattle.cborn_wire.specs.declared.heads.Argument.{Argument}
 use Rattle.cborn_wire.specs.HeadReading.{seen_argument}
-use Rattle.cborn_wire.specs.shared.Parts.{IsSimpleArgument, NodeRead, NodesRead, Leaves}
+use Rattle.cborn_wire.specs.Parts.{IsSimpleArgument, NodeRead, NodesRead, Leaves}
 use Rattle.cborn_wire.proofs.Parts.Heads.{fixed_split, endless_split}
 use Rattle.cborn_wire.proofs.Spelled.TreeLists.{trees-append, spelled_all-append}
 

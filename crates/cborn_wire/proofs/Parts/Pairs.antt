@@ -7,7 +7,7 @@ use Rattle.cborn_model.specs.Heads.{Given, Unbounded, head, WidthFits}
 use Rattle.cborn_model.specs.Spelled.{spelled, spelled_entries, Fits, FitsEntries}
 use Rattle.cborn_model.specs.Tree.{Tree, Pairs, entries, depth, count_entries, depth_entries}
 use Rattle.cborn_model.proofs.Listed.Trees.{count_entries-entries}
-use Rattle.cborn_wire.specs.shared.Parts.{Pair, NodeRead, PairRead, PairsRead}
+use Rattle.cborn_wire.specs.Parts.{Pair, NodeRead, PairRead, PairsRead}
 use Rattle.cborn_wire.proofs.Parts.Heads.{fixed_split, endless_split}
 
 spelled_more : (ns : List Pair) (p : Pair) → spelled_entries (entries (ns ++ p ∷ [])) ≡ spelled_entries (entries ns) ++ (spelled p.0 ++ spelled p.1)

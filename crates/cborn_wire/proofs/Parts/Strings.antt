@@ -14,7 +14,7 @@ use Rattle.cborn_wire.specs.declared.heads.Argument.{Argument}
 use Rattle.cborn_wire.specs.declared.heads.Argument.TheVariants as arguments
 use Rattle.cborn_wire.specs.declared.heads.Head.{Head}
 use Rattle.cborn_wire.specs.HeadReading.{major_at, IsHeadOf, seen_argument, ArgumentFits}
-use Rattle.cborn_wire.specs.shared.Parts.{StringRead, ChunkRead, ChunksRead, NodeRead}
+use Rattle.cborn_wire.specs.Parts.{StringRead, ChunkRead, ChunksRead, NodeRead}
 use Rattle.cborn_wire.proofs.Machine.SoundItems.{fits_chunks-snoc, chunk_bytes-snoc}
 use Rattle.cborn_wire.proofs.Parts.Heads.{head_read, endless_split}
 use Rattle.cborn_wire.proofs.Spelled.AllBytes.{bytes-left}

@@ -2,7 +2,7 @@ use Rattle.std.proofs.Common.{rules, ◌++◌, ◌+◌, List, ◌≢◌, ◌-◌
 use Rattle.std.proofs.lemmas.List.{take_rest}
 use Rattle.std.proofs.lemmas.Option.{IfSome_then}
 use Rattle.cborn_edn.specs.shared.Between.{between}
-use Rattle.cborn_wire.specs.shared.Parts.{NodeRead}
+use Rattle.cborn_wire.specs.Parts.{NodeRead}
 use Rattle.cborn_wire.proofs.Parts.Heads.{head_before, head_alone}
 use Rattle.cborn_wire.proofs.Parts.Nodes.{uint_read, nint_read, simple_read, node_last}
 use Rattle.cborn_wire.proofs.Parts.Strings.{bytes_read, text_read, byte_chunks_read, text_chunks_read}

@@ -2,7 +2,7 @@ use Rattle.std.proofs.Common.{false, true, subst}
 use Rattle.std.specs.Prelude.{IfSome}
 use Rattle.cborn_model.specs.declared.heads.Major.TheVariants.{Tag}
 use Rattle.cborn_transcode.specs.devices.Departing.{Stops, StopsBehind, TellsLoose}
-use Rattle.cborn_wire.specs.shared.Parts.{Leaves}
+use Rattle.cborn_wire.specs.Parts.{Leaves}
 use Rattle.cborn_transcode.specs.shared.Walking.{WalkedBehind}
 use Rattle.cborn_transcode.proofs.Tagging.{tight_stops, loose_stops}
 use Rattle.cborn_transcode.proofs.Telling.{tell}

@@ -1,6 +1,6 @@
 use Rattle.std.proofs.Common.{◌≡◌, ◌∙◌, ap, length, rules, subst, sym, take, take_at, List, ℕ}
 use Rattle.cborn_transcode.specs.Transcoding.{MapTranscoded}
-use Rattle.cborn_wire.specs.shared.Parts.{Leaves}
+use Rattle.cborn_wire.specs.Parts.{Leaves}
 use Rattle.cborn_transcode.specs.shared.Walking.{spans_of}
 use Rattle.std.proofs.lemmas.Option.{IfSome_then}
 use Rattle.cborn_transcode.proofs.Walking.{map_found}

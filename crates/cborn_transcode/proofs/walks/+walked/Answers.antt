@@ -2,7 +2,7 @@ use Rattle.cborn_model.specs.declared.heads.Major.TheVariants.{Array, Map, Tag}
 use Rattle.std.proofs.Common.{◌≡◌, ◌≢◌, ◌⊎◌, ◌+◌, ◌-◌, ◌<◌, ◌≤◌, ◌^◌, inl, inr, refl, length, sym, rules, drop, length-drop, Some, None, ℕ, subst, arith, false, true}
 use Rattle.cborn_judge.specs.declared.defects.DefectReason.TheVariants as reasons
 use Rattle.cborn_transcode.specs.devices.Departing.{IsAbove, Stops, StopsBehind, WalksBehind}
-use Rattle.cborn_wire.specs.shared.Parts.{Leaves}
+use Rattle.cborn_wire.specs.Parts.{Leaves}
 use Rattle.cborn_wire.proofs.Parts.Nodes.{nodes_left}
 use Rattle.cborn_wire.proofs.Parts.Pairs.{pairs_left}
 use Rattle.cborn_transcode.specs.shared.Walking.{ItemWalked, ItemsWalked, PairsWalked, WalkedBehind}

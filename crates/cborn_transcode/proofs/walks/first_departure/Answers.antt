@@ -1,6 +1,6 @@
 use Rattle.std.proofs.Common.{◌≡◌, ◌+◌, ◌-◌, ◌^◌, ◌<◌, ◌≤◌, length, arith, rules}
 use Rattle.cborn_transcode.specs.devices.Departing.{Stops, Tells}
-use Rattle.cborn_wire.specs.shared.Parts.{Leaves}
+use Rattle.cborn_wire.specs.Parts.{Leaves}
 use Rattle.cborn_wire.proofs.Parts.Nodes.{nodes_left}
 use Rattle.cborn_transcode.specs.shared.Walking.{ItemWalked}
 use Rattle.cborn_transcode.specs.Departing.{IsFirstDefectOfItems}

@@ -1,4 +1,4 @@
--- A device of the proofs: what a walk over bytes reads at the front of its input: a node, nodes or pairs one after another, chunks, the content of a string. No public contract cites it.
+-- What a walk over bytes reads at the front of its input (RFC 8949 section 3): a node, nodes or pairs one after another, chunks, the content of a string.
 -- P is what is found of them. Each crate that walks over bytes says its own there: the place, the meaning or the text of a node, and what was written of it.
 use Rattle.std.specs.Prelude.{◌≡◌, ℕ, ◌≤◌, List, ◌++◌, length}
 use Rattle.std.specs.List.{flat_map}
