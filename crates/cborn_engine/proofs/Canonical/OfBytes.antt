@@ -141,6 +141,6 @@ module _ (order : List ℕ → List ℕ → Ordering) where
       let n : ℕ = length a.held.nodes in
       let m : ℕ = length b.held.nodes in
       let last : ItemsTranscoded order limit m y [] v (v ++ w) = subst (λ (z : List ℕ). ItemsTranscoded order limit m z [] v (v ++ w)) (append-nil y) (transcoded_items limit y [] v w b) in
-      let all = all_append order [] (transcoded_items limit x y [] v a) last in
+      let all = all_append order [] (transcoded_items limit x y [] v a) m last in
       let t = normalised order limit (n + m) (x ++ y) (v ++ w) all in
       record { items = t.items; held = record { nodes = t.nodes; spelled = t.read; meant = t.meant }; written = t.encoded }
