@@ -25,11 +25,11 @@ OWN, OWN_REQUESTS = 200_000, 600
 MOST = 2.5
 # a map's keys are sorted, or searched for one that is repeated
 MOST_OF_MAPS = 6
-# what is known to hold more: lists of keys, 20 bytes of each beside its encoding, and texts that `show` has written when the input turns out to be refused
+# what is known to hold more: lists of keys, and texts that `show` has written when the input turns out to be refused
 HELD = {
-    "map, first key again": 10.1,
-    "map, keys that fall": 10.1,
-    "count of 2^64-1 pairs": 17.5,
+    "map, first key again": 9,
+    "map, keys that fall": 9,
+    "count of 2^64-1 pairs": 14.5,
     "last byte is a break": 7.5,
     "last item is too deep": 4.5,
     "last text isn't UTF-8": 4.5,

@@ -18,8 +18,8 @@ use std::cmp::Ordering;
 /// Where a key's encoding lies among those of the others, and where the key stands.
 #[derive(Clone, Copy)]
 pub(crate) struct Mark {
-    /// The halves of a number that rises with the encoding, as a rule. Nothing but speed rests on it.
-    hint: (u32, u32),
+    /// A number that rises with the encoding, as a rule. Nothing but speed rests on it.
+    hint: u32,
     start: u32,
     len: u32,
     place: u32,
@@ -190,7 +190,7 @@ fn is_falling(bytes: &[u8], marks: &[Mark]) -> bool {
 /// How two marks compare by their bytes, and those of the same bytes by where they begin.
 #[inline(always)]
 fn compare_marks(bytes: &[u8], a: &Mark, b: &Mark) -> Ordering {
-    match whole(a.hint).cmp(&whole(b.hint)) {
+    match a.hint.cmp(&b.hint) {
         Ordering::Equal => compare_bytes(bytes, a, b),
         unequal => unequal,
     }
@@ -204,26 +204,19 @@ fn compare_bytes(bytes: &[u8], a: &Mark, b: &Mark) -> Ordering {
     }
 }
 
-/// The number that has these halves.
-#[inline(always)]
-fn whole(halves: (u32, u32)) -> u64 {
-    (u64::from(halves.0) << 32) | u64::from(halves.1)
-}
-
-/// The halves of the number that the first eight bytes make, with zeros for those that are missing.
-fn hint(encoding: &[u8]) -> (u32, u32) {
-    let front = match encoding.first_chunk::<8>() {
-        Some(bytes) => u64::from_be_bytes(*bytes),
+/// The number that the first four bytes make, with zeros for those that are missing.
+fn hint(encoding: &[u8]) -> u32 {
+    match encoding.first_chunk::<4>() {
+        Some(bytes) => u32::from_be_bytes(*bytes),
         None => short_hint(encoding),
-    };
-    ((front >> 32) as u32, (front & 0xffff_ffff) as u32)
+    }
 }
 
-fn short_hint(encoding: &[u8]) -> u64 {
-    let mut front = [0; 8];
-    let len = encoding.len().min(8);
+fn short_hint(encoding: &[u8]) -> u32 {
+    let mut front = [0; 4];
+    let len = encoding.len().min(4);
     front[..len].copy_from_slice(&encoding[..len]);
-    u64::from_be_bytes(front)
+    u32::from_be_bytes(front)
 }
 
 /// The first of the keys that have the bytes of the one before them. None: the marks are in no

@@ -7,7 +7,7 @@ use Rattle.cborn_search.proofs.Marking.{no_tie, tie-take_more}
 use Rattle.cborn_search.proofs.keys.first_tie.Goals as goal
 
 abbrev none : Mark
-none = record { hint = (0, 0); start = 0; len = 0; place = 0 }
+none = record { hint = 0; start = 0; len = 0; place = 0 }
 
 pub loop-mark-init : goal.loop-mark-init
 loop-mark-init c = no_tie c.args.bytes.now
