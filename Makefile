@@ -78,7 +78,7 @@ BEHIND := library-tests dist-tests vectors ample cost counts explanations tables
 test:
 	rt ci
 	python3 tests/built.py
-	$(MAKE) build library python
+	$(MAKE) build library python completions
 	$(MAKE) --jobs=$(shell nproc) --output-sync=target --keep-going $(BEHIND)
 	$(MAKE) --no-print-directory left-out
 

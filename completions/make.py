@@ -195,7 +195,10 @@ def main():
         return 1
     folder.mkdir(parents=True, exist_ok=True)
     for name, lines in WRITERS.items():
-        folder.joinpath(name).write_text("\n".join(lines(commands, own)) + "\n")
+        text, file = "\n".join(lines(commands, own)) + "\n", folder / name
+        # what is as it should be stays untouched, since others may be reading it
+        if not file.exists() or file.read_text() != text:
+            file.write_text(text)
     return 0
 
 
