@@ -59,7 +59,7 @@ library-tests: build library python
 	cd build/python && $(PYTHON) -m unittest -q test_cborn
 	python3 tests/examples.py build
 	if command -v cargo > /dev/null; then cd bindings/rust && \
-		CBORN_LIBRARY_FOLDER=$(CURDIR)/build cargo test --offline --quiet --target-dir $(CURDIR)/build/rust; \
+		MAKEFLAGS= CBORN_LIBRARY_FOLDER=$(CURDIR)/build cargo test --offline --quiet --target-dir $(CURDIR)/build/rust; \
 	else echo 'cargo is not there: the Rust crate is not tested'; fi
 
 # what a call costs, from C, Rust, Go and Python
