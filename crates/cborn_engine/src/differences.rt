@@ -7,14 +7,13 @@ ghost use Rattle.cborn_engine.specs.devices.Encoding.{IsEncoded};
 
 use cborn_model::{KeyOrder, Limit};
 use cborn_transcode::split_item;
-use std::alloc::{AllocError, Global};
+use std::alloc::AllocError;
 
 /// The difference of what two deterministic encodings hold.
 ///
 /// # Errors
 /// Where memory was refused.
 pub fn difference<O: KeyOrder>(
-    alloc: Global,
     limit: Limit,
     ours: &[u8],
     theirs: &[u8],
@@ -26,7 +25,7 @@ pub fn difference<O: KeyOrder>(
     if ours == theirs {
         return Ok(None);
     }
-    match difference_of_encodings::<O>(alloc, limit, ours, theirs) {
+    match difference_of_encodings::<O>(limit, ours, theirs) {
         Some(index) => Ok(Some(index)),
         None => Err(AllocError),
     }
@@ -34,12 +33,7 @@ pub fn difference<O: KeyOrder>(
 
 /// The index of the first item at which two encodings differ, which aren't equal. None promises
 /// nothing.
-fn difference_of_encodings<O: KeyOrder>(
-    alloc: Global,
-    limit: Limit,
-    ours: &[u8],
-    theirs: &[u8],
-) -> Option<u64>
+fn difference_of_encodings<O: KeyOrder>(limit: Limit, ours: &[u8], theirs: &[u8]) -> Option<u64>
     requires ours { IsEncoded O.order kinds.Wire limit ours.now ours.now }
     requires theirs { IsEncoded O.order kinds.Wire limit theirs.now theirs.now }
     requires apart { ours.now ≢ theirs.now }
@@ -54,7 +48,7 @@ fn difference_of_encodings<O: KeyOrder>(
         if right.is_empty() {
             return Some(index);
         }
-        let (item, rest) = split_item::<O>(alloc, limit, left)?;
+        let (item, rest) = split_item::<O>(limit.get(), left)?;
         left = rest;
         match behind(item, right) {
             Some(rest) => right = rest,

@@ -40,7 +40,7 @@ pub fn read_encoded<O: KeyOrder, R: Source>(
     ensures calls { R.asked reader.new ≤ R.asked reader.old + most_bytes + 1 }
 {
     let input = read_bytes(alloc, MOST, reader)?;
-    if is_own_encoding::<O>(alloc, limit, kind, &input) {
+    if is_own_encoding::<O>(limit, kind, &input) {
         return Ok(input);
     }
     encode_input::<O>(alloc, limit, kind, &input)
@@ -48,10 +48,10 @@ pub fn read_encoded<O: KeyOrder, R: Source>(
 
 /// Whether an input is bytes that are the deterministic encodings of what they hold. No promises
 /// nothing.
-pub fn is_own_encoding<O: KeyOrder>(alloc: Global, limit: Limit, kind: Kind, input: &[u8]) -> bool
+pub fn is_own_encoding<O: KeyOrder>(limit: Limit, kind: Kind, input: &[u8]) -> bool
     ensures { IsTrue result → IsEncoded O.order kind limit input.now input.now }
 {
-    kind == Kind::Wire && is_deterministic::<O>(alloc, limit, input)
+    kind == Kind::Wire && is_deterministic::<O>(limit, input)
 }
 
 /// The deterministic encodings of what an input holds, one after another.
@@ -111,7 +111,7 @@ fn encode_text<O: KeyOrder>(
     let Some(bytes) = bytes_of_text(alloc, limit, profile, input) else {
         return Err(fault_of_text(alloc, limit, profile, input));
     };
-    if is_deterministic::<O>(alloc, limit, &bytes) {
+    if is_deterministic::<O>(limit, &bytes) {
         return Ok(bytes);
     }
     match transcode::<O>(alloc, limit, &bytes) {

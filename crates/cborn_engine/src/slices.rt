@@ -123,7 +123,7 @@ pub fn compare_slices<O: KeyOrder>(
     ensures malformed { length first.now ≤ most_bytes → TellsFirstFault kind_a limit first.now result }
 {
     let (ours, theirs) = encode_both::<O>(alloc, limit, kind_a, first, kind_b, second)?;
-    Ok(difference::<O>(alloc, limit, &ours, &theirs)?)
+    Ok(difference::<O>(limit, &ours, &theirs)?)
 }
 
 /// Whether two inputs hold the same items. They do exactly if their canonical forms are equal. What
@@ -173,7 +173,7 @@ fn encode_slice<'a, O: KeyOrder>(
     if is_too_long(input) {
         return Err(EngineFault::TooLong);
     }
-    if is_own_encoding::<O>(alloc, limit, kind, input) {
+    if is_own_encoding::<O>(limit, kind, input) {
         return Ok(CowSlice::Borrowed(input));
     }
     Ok(CowSlice::Owned(encode_input::<O>(alloc, limit, kind, input)?))

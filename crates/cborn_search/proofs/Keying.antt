@@ -1,52 +1,114 @@
--- What is known of a key that was encoded, and of one that has a flaw.
-use Rattle.std.proofs.Common.{◌≡◌, ℕ, ◌-◌, ◌<◌, ◌^◌, List, [], ◌∷◌, ◌++◌, length, take, Bool, sym, ap, ◌∙◌, subst, arith, append-nil, length-append, Option, Some, Ordering}
-use Rattle.std.specs.List.{AllZip}
-use Rattle.std.proofs.Math.Seq.{take-append_seam}
-use Rattle.cborn_model.specs.Tree.{Tree, no_item, more, trees, count}
-use Rattle.cborn_model.specs.Spelled.{spelled, spelled_all, Fits, FitsAll}
-use Rattle.cborn_model.specs.Placed.{Placed}
-use Rattle.cborn_model.specs.Valid.{IsProper}
+-- A key joins what is known of its map: one that was encoded, and so has no flaw, and one that was searched.
+use Rattle.std.proofs.Common.{◌≡◌, ℕ, suc, ◌-◌, ◌<◌, ◌⊎◌, ◌^◌, inl, inr, List, [], ◌∷◌, ◌++◌, length, Bool, true, refl, sym, ap, ◌∙◌, subst, arith, length-append, Option, None, Some}
+use Rattle.std.specs.Option.{is_some}
+use Rattle.cborn_model.specs.Orders.{bytewise}
+use Rattle.cborn_model.specs.Tree.{Tree}
+use Rattle.cborn_model.specs.Spelled.{spelled}
 use Rattle.cborn_model.specs.Value.{Value}
 use Rattle.cborn_model.specs.Meaning.{Means}
 use Rattle.cborn_wire.specs.Places.{placed_from}
-use Rattle.cborn_wire.specs.Parts.{NodeRead}
-use Rattle.cborn_wire.proofs.Spelled.OneReading.{one_spelling}
-use Rattle.cborn_det.specs.Det.{Det, DetSeq}
+use Rattle.cborn_wire.specs.Parts.{Leaves}
+use Rattle.cborn_wire.proofs.Spelled.AsPlaced.{spelled-from, depth-from, fits-from, placed-from}
+use Rattle.cborn_det.specs.Det.{Det}
 use Rattle.cborn_judge.specs.Flaws.{Flaw}
 use Rattle.cborn_judge.proofs.Meaning.Judging.{no_flaw}
 use Rattle.cborn_judge.proofs.Meaning.Meanings.{meaning_valid, some_bytes}
-use Rattle.cborn_transcode.specs.Transcoding.{IsTranscoded}
-use Rattle.cborn_transcode.proofs.Opening.{put_there}
+use Rattle.cborn_judge.proofs.SameKeys.Pushing.{keys_push, keys_skip}
+use Rattle.cborn_transcode.specs.Transcoding.{ItemTranscoded}
+use Rattle.cborn_transcode.proofs.Opening.{stands}
 use Rattle.cborn_transcode.proofs.Placing.{means-from}
-use Rattle.cborn_search.specs.Flawed.{Told, Sought, FindsTold, NodeAt, Scanned}
+use Rattle.cborn_search.specs.Flawed.{Told, Sought, FindsTold, IsEarliestTold, Searched, SeenKey, seen_bytes, seen_position, seen_place}
+use Rattle.cborn_search.specs.devices.Marks.{AreMarked, KeyTaken, KeyJoined}
+use Rattle.cborn_search.specs.declared.keys.Keys.{Keys}
+use Rattle.cborn_search.specs.declared.searched_maps.SearchedMap.{SearchedMap}
+use Rattle.cborn_search.proofs.Searching.{never, still}
+use Rattle.cborn_search.proofs.Marking.{marked_wider}
 
-module _ (order : List ℕ → List ℕ → Ordering) where
-  -- of nodes that spell what one node spells
-  alone : (p : ℕ) (t : Tree) (us : List Tree) (vs : List Value) (out : List ℕ) → Fits t → Placed p t → FitsAll (trees us) → spelled_all (trees us) ≡ spelled t → AllZip Means us vs → DetSeq order vs out → (v : Value) × Means t v × Det order v out
-  alone p t [] vs out f h g e m d = absurd (omega (arith, some_bytes t, ap length e))
-  alone p t (u ∷ us) [] out f h g e m d = absurd m
-  alone p t (u ∷ []) (v ∷ []) out f h g e m d =
-      let alike : spelled t ≡ spelled u = sym e ∙ append-nil (spelled u) in
-      let there : placed_from p u ≡ t = put_there p t u f g.0 h alike in
-      let whole : out ≡ d.0 = d.4 ∙ ap (λ l. d.0 ++ l) d.3 ∙ append-nil d.0 in
-      (v, subst (λ (z : Tree). Means z v) there (means-from u p v m.0), subst (Det order v) (sym whole) d.2)
-  alone p t (u ∷ []) (v ∷ w ∷ vs) out f h g e m d = absurd m.1
-  alone p t (u ∷ w ∷ us) (v ∷ vs) out f h g e m d =
-      absurd (let l = ap count (one_spelling (more t no_item) (trees (u ∷ w ∷ us)) (f, tt) g (append-nil (spelled t) ∙ sym e) p) in omega arith)
+-- ---- a key that was encoded
 
-  -- a key, and the encoding that was made of its bytes alone
-  pub key_coded : (P : Tree → Type 0) (room limit total : ℕ) (x rest bits out : List ℕ) → length x < 2 ^ 64 → (k : NodeAt P room total x rest) → bits ≡ spelled k.node → IsTranscoded order limit bits out → (v : Value) × IsProper v × Means k.node v × Det order v out
-  key_coded P room limit total x rest bits out short k b e =
-      let below : length (spelled k.node) < 2 ^ 64 = omega (arith, short, ap length k.read ∙ length-append (spelled k.node) rest) in
-      let u = alone (total - length x) k.node e.nodes e.items out k.fits k.holds.0 e.read.fit (e.read.spells ∙ b) e.meant e.encoded in
-      (u.0, meaning_valid k.node u.0 k.fits below u.1, u.1, u.2)
+-- the encoding joins the keys as that of the node, at its place
+pub key_taken : (room total : ℕ) (pairs x rest out : List ℕ) (old new : Keys) → length x < 2 ^ 64 → ItemTranscoded bytewise room x rest [] out
+    → ((ks : List SeenKey) (n : ℕ) → AreMarked total pairs (total - length x) ks old → AreMarked total pairs (suc (total - length x)) (ks ++ (out, n, total - length x) ∷ []) new) → KeyTaken room total pairs x old new rest
+key_taken room total pairs x rest out old new short s marked =
+    let p : ℕ = total - length x in
+    let t : Tree = placed_from p s.node in
+    let item : Value = s.holds.1.0 in
+    let means : Means t item = means-from s.node p item s.holds.1.1 in
+    let read : x ≡ spelled t ++ rest = s.read ∙ ap (λ l. l ++ rest) (sym (spelled-from s.node p)) in
+    let below : length (spelled t) < 2 ^ 64 = omega (arith, short, ap length read ∙ length-append (spelled t) rest) in
+    let encoded : Det bytewise item out = subst (Det bytewise item) (sym s.holds.2) s.holds.1.2 in
+    record {
+      key = record { node = t; read = read; fits = fits-from s.node p s.fits; shallow = omega (arith, depth-from s.node p, s.shallow); holds = (placed-from s.node p, no_flaw t item means) };
+      pushed = λ ks n h. (
+        ks ++ (out, n, p) ∷ [],
+        marked ks n h,
+        λ v ns c are.
+            keys_push seen_bytes seen_position seen_place ns 0 ks (t, v) (out, n, p) item are (omega (arith, c)) (sym (stands p t (placed-from s.node p))) (meaning_valid t item (fits-from s.node p s.fits) below means) means encoded,
+      );
+    }
 
--- the bytes of a node, cut out of the input
-pub cut_out : {P : Tree → Type 0} {room : ℕ} {x rest : List ℕ} (k : NodeRead P room x rest) → take (length x - length rest) x ≡ spelled k.node
-cut_out {x = x} {rest} k =
-    let n : length x - length rest ≡ length (spelled k.node) = omega (arith, ap length k.read ∙ length-append (spelled k.node) rest) in
-    (λ i. take (n i) (k.read i)) ∙ take-append_seam (spelled k.node) rest
+pub some_told : (o : Option Told) → is_some o ≡ true → (f : Told) × (o ≡ Some f)
+some_told None e = absurd (cc)
+some_told (Some f) e = (f, refl)
 
--- a key with a flaw
-pub key_unknown : (only : Bool) (room total : ℕ) (x rest : List ℕ) (s : Bool) (flaw : Option Told) (f : Told) → flaw ≡ Some f → (k : Scanned only room total x rest flaw s) → (v : Value) → Means k.node v → ⊥
-key_unknown only room total x rest s flaw f e k v m = no_flaw k.node v m f.0 f.1 (subst (λ (o : Option Told). FindsTold (Sought only (Flaw k.node)) o) e k.holds.1.0).is.0
+module _ (only : Bool) (room total : ℕ) (pairs x : List ℕ) (old new : SearchedMap) where
+  pub taken_joins : {left : ℕ} → Leaves (KeyTaken room total pairs x old.keys new.keys) left → new.first ≡ old.first → Leaves (KeyJoined only room total pairs x old new) left
+  taken_joins s e = (
+    s.0,
+    s.1,
+    record {
+      flaw = None;
+      key = record { node = s.2.key.node; read = s.2.key.read; fits = s.2.key.fits; shallow = s.2.key.shallow; holds = (s.2.key.holds.0, λ p r f. s.2.key.holds.1 p r f.0) };
+      first = subst (IsEarliestTold old.first None) (sym e) (still old.first);
+      joins = λ ks n h. let m = s.2.pushed ks n h in (m.0, m.1, λ o. m.2);
+    },
+  )
+
+  -- ---- a key that was searched
+
+  -- one with a flaw means nothing
+  unknown : (rest : List ℕ) (s : Bool) (flaw : Option Told) (f : Told) → flaw ≡ Some f → (k : Searched only room total x rest flaw s) → (v : Value) → Means k.node v → ⊥
+  unknown rest s flaw f e k v m = no_flaw k.node v m f.0 f.1 (subst (λ (o : Option Told). FindsTold (Sought only (Flaw k.node)) o) e k.holds.1.0).is.0
+
+  -- it isn't kept, nor is any where texts alone are looked for
+  pub searched_joins : {left : ℕ} (s : Bool) (flaw : Option Told) → Leaves (λ rest. Searched only room total x rest flaw s) left → new.keys ≡ old.keys → IsEarliestTold old.first flaw new.first → (only ≡ true) ⊎ ((f : Told) × (flaw ≡ Some f))
+      → Leaves (KeyJoined only room total pairs x old new) left
+  searched_joins s flaw l e first why = (
+    l.0,
+    l.1,
+    record {
+      flaw = flaw;
+      key = record { node = l.2.node; read = l.2.read; fits = l.2.fits; shallow = l.2.shallow; holds = (l.2.holds.0, l.2.holds.1.0) };
+      first = first;
+      joins = λ ks n h. (
+        ks,
+        marked_wider total pairs (total - length x) (suc (total - length x)) ks new.keys (omega arith) (subst (AreMarked total pairs (total - length x) ks) (sym e) h),
+        λ o v ns c are.
+            elim why [
+              | inl texts ↦ absurd (never only o texts)
+              | inr f ↦ keys_skip seen_bytes seen_position seen_place ns 0 ks (l.2.node, v) are (unknown l.0 s flaw f.0 f.1 l.2)
+            ],
+      );
+    },
+  )
+
+  -- the same from a map that is as this one
+  pub joined_from : {left : ℕ} (same : SearchedMap) → same.keys ≡ old.keys → same.first ≡ old.first → Leaves (KeyJoined only room total pairs x same new) left → Leaves (KeyJoined only room total pairs x old new) left
+  joined_from same e f s = (
+    s.0,
+    s.1,
+    record {
+      flaw = s.2.flaw;
+      key = s.2.key;
+      first = subst (λ (o : Option Told). IsEarliestTold o s.2.flaw new.first) f s.2.first;
+      joins = λ ks n h. s.2.joins ks n (subst (AreMarked total pairs (total - length x) ks) (sym e) h);
+    },
+  )
+
+  -- what is left is what stands behind it
+  pub joined_last : {left : ℕ} {rest : List ℕ} → Leaves (KeyJoined only room total pairs x old new) left → ((front back : List ℕ) → x ≡ front ++ back → length back ≡ left → rest ≡ back) → KeyJoined only room total pairs x old new rest
+  joined_last s last = subst (KeyJoined only room total pairs x old new) (sym (last (spelled s.2.key.node) s.0 s.2.key.read s.1)) s.2
+
+-- something stands there
+pub some_key : (room : ℕ) (x rest out : List ℕ) → ItemTranscoded bytewise room x rest [] out → 0 < length x
+some_key room x rest out s = omega (arith, some_bytes s.node, ap length s.read ∙ length-append (spelled s.node) rest)

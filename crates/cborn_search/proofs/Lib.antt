@@ -1,5 +1,5 @@
 pub mod Places
-pub mod Scanning
+pub mod Searching
 pub mod Keying
 pub mod Mapping
 pub mod Marking

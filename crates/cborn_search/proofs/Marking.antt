@@ -1,8 +1,11 @@
 -- Marks of keys: one more of them, which of them tie once they are sorted, and what that says of the map.
-use Rattle.std.proofs.Common.{◌≡◌, ℕ, suc, ◌+◌, ◌<◌, ◌≤◌, ◌⊎◌, inl, inr, List, [], ◌∷◌, ◌++◌, length, take, drop, get_or, refl, sym, ap, ◌∙◌, subst, arith, length-append, length-drop, Option, None, Some, IsPermutation, Less, Equal}
+use Rattle.std.proofs.Common.{◌≡◌, ℕ, suc, ◌+◌, ◌-◌, ◌<◌, ◌≤◌, ◌^◌, ◌⊎◌, inl, inr, List, [], ◌∷◌, ◌++◌, length, take, drop, get_or, refl, sym, ap, ◌∙◌, subst, arith, w32, append_assoc, append-nil, length-append, length-drop, Option, None, Some, IsPermutation, Less, Equal}
 use Rattle.std.specs.Prelude.{◌↔◌}
 use Rattle.std.specs.List.{AllZip}
-use Rattle.std.proofs.Math.Seq.{drop-append_seam}
+use Rattle.std.specs.Int.{from_be_bytes, to_be_bytes}
+use Rattle.std.proofs.Math.Seq.{drop-append_seam, take-append_seam}
+use Rattle.std.proofs.lemmas.Bool.{lt-ltb, le-ltb}
+use Rattle.std.proofs.lemmas.Nat.{from_be_bytes-to_be_bytes_4}
 use Rattle.std.proofs.lemmas.List.{take_all, drop-append-le, take-append-le}
 use Rattle.cborn_model.specs.Tree.{entries}
 use Rattle.cborn_model.specs.Orders.{bytewise}
@@ -17,25 +20,18 @@ use Rattle.cborn_judge.proofs.Loops.Firsts.{Either}
 use Rattle.cborn_judge.proofs.Loops.Passing.{passed_one}
 use Rattle.cborn_judge.proofs.SameKeys.Repeating.{repeat_again, again_repeat, InOrder, again_tied}
 use Rattle.cborn_search.specs.Flawed.{Told, IsEarliestTold, FindsTold, SeenKey, seen_bytes, seen_position, seen_place, AreSeen}
-use Rattle.cborn_search.specs.devices.Marks.{mark_start, mark_bytes, IsMark, StartsRise, AreMarked, Comes, InPlace, ComesAfter, TieAfter, TieFlaw}
+use Rattle.cborn_search.specs.devices.Marks.{bytes_at, place_at, mark_bytes, mark_place, IsMark, PlacesRise, AreMarked, IsPushed, IsWritten, Comes, InPlace, ComesAfter, TieAfter, TieFlaw}
 use Rattle.cborn_search.specs.declared.keys.Keys.{Keys}
 use Rattle.cborn_search.specs.declared.keys.Mark.{Mark}
-use Rattle.cborn_search.proofs.Scanning.{both_told, alike_told}
+use Rattle.cborn_search.proofs.Searching.{both_told, alike_told}
 
--- ---- one more
+-- ---- what a mark tells
 
--- the bytes of a mark are the same once more bytes follow
-bytes_stay : (whole x : List ℕ) (m : Mark) → m.start + m.len ≤ length whole → mark_bytes (whole ++ x) m ≡ mark_bytes whole m
-bytes_stay whole x m l =
-    let a : drop m.start (whole ++ x) ≡ drop m.start whole ++ x = drop-append-le m.start whole x (omega (arith, l)) in
-    let b : m.len ≤ length (drop m.start whole) = omega (arith, l, length-drop m.start whole) in
-    ap (take m.len) a ∙ take-append-le m.len (drop m.start whole) x b
-
-marks_stay : (whole x : List ℕ) (ms : List Mark) (ks : List SeenKey) → AllZip (IsMark whole) ms ks → AllZip (IsMark (whole ++ x)) ms ks
-marks_stay whole x [] [] h = tt
-marks_stay whole x [] (k ∷ ks) h = absurd h
-marks_stay whole x (m ∷ ms) [] h = absurd h
-marks_stay whole x (m ∷ ms) (k ∷ ks) h = ((bytes_stay whole x m h.0.1 ∙ h.0.0, (let l = h.0.1 in omega (arith, l, length-append whole x)), h.0.2), marks_stay whole x ms ks h.1)
+part_stays : (at len : ℕ) (bytes x : List ℕ) → at + len ≤ length bytes → take len (drop at (bytes ++ x)) ≡ take len (drop at bytes)
+part_stays at len bytes x l =
+    let a : drop at (bytes ++ x) ≡ drop at bytes ++ x = drop-append-le at bytes x (omega (arith, l)) in
+    let b : len ≤ length (drop at bytes) = omega (arith, l, length-drop at bytes) in
+    ap (take len) a ∙ take-append-le len (drop at bytes) x b
 
 zip_more : (R : Mark → SeenKey → Type 0) (ms : List Mark) (ks : List SeenKey) (m : Mark) (k : SeenKey) → AllZip R ms ks → R m k → AllZip R (ms ++ m ∷ []) (ks ++ k ∷ [])
 zip_more R [] [] m k h r = (r, tt)
@@ -43,61 +39,132 @@ zip_more R [] (l ∷ ks) m k h r = absurd h
 zip_more R (n ∷ ms) [] m k h r = absurd h
 zip_more R (n ∷ ms) (l ∷ ks) m k h r = (h.0, zip_more R ms ks m k h.1 r)
 
-rise_more : (n end more : ℕ) (ms : List Mark) (m : Mark) → StartsRise n ms end → m.start ≡ end → end < more → StartsRise n (ms ++ m ∷ []) more
-rise_more n end more [] m h e l = ((omega (arith, h, e)), (omega (arith, l, e)))
-rise_more n end more (k ∷ ms) m h e l = (h.0, rise_more (suc k.start) end more ms m h.1 e l)
+rise_more : (n p : ℕ) (ks : List SeenKey) (k : SeenKey) → PlacesRise n ks p → seen_place k ≡ p → PlacesRise n (ks ++ k ∷ []) (suc p)
+rise_more n p [] k h e = (omega (arith, h, e), omega (arith, e))
+rise_more n p (l ∷ ks) k h e = (h.0, rise_more (suc (seen_place l)) p ks k h.1 e)
 
-pub marked_more : (old new : Keys) (ks : List SeenKey) (x : List ℕ) (n : ℕ) (m : Mark) → AreMarked ks old → new.bytes.items ≡ old.bytes.items ++ x → new.marks.items ≡ old.marks.items ++ m ∷ [] → m.start ≡ length old.bytes.items → m.len ≡ length x → 0 < length x
-    → AreMarked (ks ++ (x, n, m.place) ∷ []) new
-marked_more old new ks x n m h b e s l p =
-    let whole : List ℕ = old.bytes.items ++ x in
-    let here : mark_bytes whole m ≡ x = (λ i. take (l i) (drop (s i) whole)) ∙ ap (take (length x)) (drop-append_seam old.bytes.items x) ∙ take_all (length x) x (omega arith) in
-    let within : m.start + m.len ≤ length whole = omega (arith, s, l, length-append old.bytes.items x) in
-    let zipped : AllZip (IsMark whole) (old.marks.items ++ m ∷ []) (ks ++ (x, n, m.place) ∷ []) = zip_more (IsMark whole) old.marks.items ks m (x, n, m.place) (marks_stay old.bytes.items x old.marks.items ks h.are) (here, within, refl) in
-    let rises : StartsRise 0 (old.marks.items ++ m ∷ []) (length whole) = rise_more 0 (length old.bytes.items) (length whole) old.marks.items m h.rise s (omega (arith, p, length-append old.bytes.items x)) in
-    record {
-      are = subst (λ ms. AllZip (IsMark new.bytes.items) ms (ks ++ (x, n, m.place) ∷ [])) (sym e) (subst (λ w. AllZip (IsMark w) (old.marks.items ++ m ∷ []) (ks ++ (x, n, m.place) ∷ [])) (sym b) zipped);
-      rise = subst (λ ms. StartsRise 0 ms (length new.bytes.items)) (sym e) (subst (λ w. StartsRise 0 (old.marks.items ++ m ∷ []) (length w)) (sym b) rises);
-    }
+rise_wider : (n p q : ℕ) (ks : List SeenKey) → p ≤ q → PlacesRise n ks p → PlacesRise n ks q
+rise_wider n p q [] l h = omega (arith, l, h)
+rise_wider n p q (k ∷ ks) l h = (h.0, rise_wider (suc (seen_place k)) p q ks l h.1)
+
+module _ (total : ℕ) (pairs : List ℕ) where
+  in_pairs : (written : List ℕ) (m : Mark) → m.start < length pairs → (mark_bytes pairs written m ≡ take m.len (drop m.start pairs)) × (mark_place total pairs written m ≡ total - length pairs + m.start)
+  in_pairs written m l = let e = lt-ltb m.start (length pairs) l in (ap (λ b. bytes_at b pairs written m) e, ap (λ b. place_at b total pairs written m) e)
+
+  in_written : (written : List ℕ) (m : Mark) → length pairs ≤ m.start → (mark_bytes pairs written m ≡ take m.len (drop (m.start - length pairs) written)) × (mark_place total pairs written m ≡ from_be_bytes w32 (take 4 (drop (m.start - length pairs + m.len) written)))
+  in_written written m l = let e = le-ltb m.start (length pairs) l in (ap (λ b. bytes_at b pairs written m) e, ap (λ b. place_at b total pairs written m) e)
+
+  -- the same where more is written
+  mark_stays : (written x : List ℕ) (m : Mark) (k : SeenKey) → IsMark total pairs written m k → IsMark total pairs (written ++ x) m k
+  mark_stays written x m k h =
+      elim h.2 [
+        | inl l ↦ (let a = in_pairs written m l in let b = in_pairs (written ++ x) m l in (b.0 ∙ sym a.0 ∙ h.0, b.1 ∙ sym a.1 ∙ h.1, inl l))
+        | inr l ↦ (
+            let low : length pairs ≤ m.start = omega (arith, l.0) in
+            let a = in_written written m low in
+            let b = in_written (written ++ x) m low in
+            let bytes = part_stays (m.start - length pairs) m.len written x (omega (arith, l.0, l.1)) in
+            let place = part_stays (m.start - length pairs + m.len) 4 written x (omega (arith, l.0, l.1)) in
+            (b.0 ∙ bytes ∙ sym a.0 ∙ h.0, b.1 ∙ ap (from_be_bytes w32) place ∙ sym a.1 ∙ h.1, inr (l.0, omega (arith, l.1, length-append written x))))
+      ]
+
+  marks_stay : (written x : List ℕ) (ms : List Mark) (ks : List SeenKey) → AllZip (IsMark total pairs written) ms ks → AllZip (IsMark total pairs (written ++ x)) ms ks
+  marks_stay written x [] [] h = tt
+  marks_stay written x [] (k ∷ ks) h = absurd h
+  marks_stay written x (m ∷ ms) [] h = absurd h
+  marks_stay written x (m ∷ ms) (k ∷ ks) h = (mark_stays written x m k h.0, marks_stay written x ms ks h.1)
+
+  pub none_marked : (end : ℕ) (keys : Keys) → keys.marks.items ≡ [] → AreMarked total pairs end [] keys
+  none_marked end keys e = record { are = subst (λ ms. AllZip (IsMark total pairs keys.written.items) ms []) (sym e) tt; rise = omega arith }
+
+  -- ---- one more
+
+  marked_more : (p : ℕ) (x : List ℕ) (old new : Keys) (ks : List SeenKey) (z : SeenKey) (m : Mark) → AreMarked total pairs p ks old → new.written.items ≡ old.written.items ++ x → new.marks.items ≡ old.marks.items ++ m ∷ [] → IsMark total pairs (old.written.items ++ x) m z → seen_place z ≡ p
+      → AreMarked total pairs (suc p) (ks ++ z ∷ []) new
+  marked_more p x old new ks z m h w e i k =
+      let zipped : AllZip (IsMark total pairs (old.written.items ++ x)) (old.marks.items ++ m ∷ []) (ks ++ z ∷ []) = zip_more (IsMark total pairs (old.written.items ++ x)) old.marks.items ks m z (marks_stay old.written.items x old.marks.items ks h.are) i in
+      record {
+        are = subst (λ ms. AllZip (IsMark total pairs new.written.items) ms (ks ++ z ∷ [])) (sym e) (subst (λ w. AllZip (IsMark total pairs w) (old.marks.items ++ m ∷ []) (ks ++ z ∷ [])) (sym w) zipped);
+        rise = rise_more 0 p ks z h.rise k;
+      }
+
+  pub marked_wider : (p q : ℕ) (ks : List SeenKey) (keys : Keys) → p ≤ q → AreMarked total pairs p ks keys → AreMarked total pairs q ks keys
+  marked_wider p q ks keys l h = record { are = h.are; rise = rise_wider 0 p q ks l h.rise }
+
+  -- a key that stays in the pairs
+  own_mark : (written front input key rest : List ℕ) (m : Mark) (n : ℕ) → length pairs ≤ total → pairs ≡ front ++ input → input ≡ key ++ rest → 0 < length input → m.start ≡ length pairs - length input → m.len ≡ length key → IsMark total pairs written m (key, n, total - length input)
+  own_mark written front input key rest m n l f e some s k =
+      let long : length pairs ≡ length front + length input = ap length f ∙ length-append front input in
+      let start : m.start ≡ length front = omega (arith, s, long) in
+      let inside : m.start < length pairs = omega (arith, start, long, some) in
+      let here = in_pairs written m inside in
+      let behind : drop m.start pairs ≡ input = (λ i. drop (start i) (f i)) ∙ drop-append_seam front input in
+      let bytes : take m.len (drop m.start pairs) ≡ key = (λ i. take (k i) (behind i)) ∙ ap (take (length key)) e ∙ take-append_seam key rest in
+      let place : total - length pairs + m.start ≡ total - length input = omega (arith, start, long, l) in
+      (here.0 ∙ bytes, here.1 ∙ place, inl inside)
+
+  pub own_marked : (front input key rest : List ℕ) (old new : Keys) → length pairs ≤ total → pairs ≡ front ++ input → input ≡ key ++ rest → 0 < length input → IsPushed (length pairs - length input) key old new → (ks : List SeenKey) (n : ℕ) → AreMarked total pairs (total - length input) ks old
+      → AreMarked total pairs (suc (total - length input)) (ks ++ (key, n, total - length input) ∷ []) new
+  own_marked front input key rest old new l f e some u ks n h =
+      marked_more (total - length input) [] old new ks (key, n, total - length input) u.0 h (u.1 ∙ sym (append-nil old.written.items)) u.2 (own_mark (old.written.items ++ []) front input key rest u.0 n l f e some u.3 u.4) refl
+
+  -- a key whose encoding is written
+  written_mark : (written encoding : List ℕ) (m : Mark) (n p : ℕ) → p < 2 ^ 32 → m.start ≡ length pairs + length written → m.len ≡ length encoding → IsMark total pairs ((written ++ encoding) ++ to_be_bytes w32 p) m (encoding, n, p)
+  written_mark written encoding m n p low s k =
+      let four : List ℕ = to_be_bytes w32 p in
+      let whole : List ℕ = (written ++ encoding) ++ four in
+      let long : length (written ++ encoding) ≡ length written + length encoding = length-append written encoding in
+      let at : m.start - length pairs ≡ length written = omega (arith, s) in
+      let behind : m.start - length pairs + m.len ≡ length (written ++ encoding) = omega (arith, s, k, long) in
+      let here = in_written whole m (omega (arith, s)) in
+      let bytes : take m.len (drop (m.start - length pairs) whole) ≡ encoding = (λ i. take (k i) (drop (at i) (append_assoc written encoding four i))) ∙ ap (take (length encoding)) (drop-append_seam written (encoding ++ four)) ∙ take-append_seam encoding four in
+      let place : take 4 (drop (m.start - length pairs + m.len) whole) ≡ four = (λ i. take 4 (drop (behind i) whole)) ∙ ap (take 4) (drop-append_seam (written ++ encoding) four) ∙ take_all 4 four (omega arith) in
+      (here.0 ∙ bytes, here.1 ∙ ap (from_be_bytes w32) place ∙ from_be_bytes-to_be_bytes_4 p low, inr (omega (arith, s), omega (arith, s, k, long, length-append (written ++ encoding) four)))
+
+  pub written_marked : (p : ℕ) (encoding : List ℕ) (old new : Keys) → IsWritten p (length pairs) encoding old new → (ks : List SeenKey) (n : ℕ) → AreMarked total pairs p ks old → AreMarked total pairs (suc p) (ks ++ (encoding, n, p) ∷ []) new
+  written_marked p encoding old new u ks n h =
+      let behind : (old.written.items ++ encoding) ++ to_be_bytes w32 p ≡ old.written.items ++ (encoding ++ to_be_bytes w32 p) = append_assoc old.written.items encoding (to_be_bytes w32 p) in
+      marked_more p (encoding ++ to_be_bytes w32 p) old new ks (encoding, n, p) u.0 h (u.2 ∙ behind) u.3 (subst (λ w. IsMark total pairs w u.0 (encoding, n, p)) behind (written_mark old.written.items encoding u.0 n p u.1 u.4 u.5)) refl
 
 -- ---- marks and keys are repeated alike
 
-module _ (whole : List ℕ) where
-  one_marked : (ms : List Mark) (ks : List SeenKey) (z : SeenKey) → AllZip (IsMark whole) ms ks → IsOneOf z ks → (m : Mark) × IsOneOf m ms × IsMark whole m z
+module _ (total : ℕ) (pairs written : List ℕ) where
+  one_marked : (ms : List Mark) (ks : List SeenKey) (z : SeenKey) → AllZip (IsMark total pairs written) ms ks → IsOneOf z ks → (m : Mark) × IsOneOf m ms × IsMark total pairs written m z
   one_marked [] [] z h i = absurd i
   one_marked [] (k ∷ ks) z h i = absurd h
   one_marked (m ∷ ms) [] z h i = absurd i
-  one_marked (m ∷ ms) (k ∷ ks) z h (inl e) = (m, inl refl, subst (IsMark whole m) (sym e) h.0)
+  one_marked (m ∷ ms) (k ∷ ks) z h (inl e) = (m, inl refl, subst (IsMark total pairs written m) (sym e) h.0)
   one_marked (m ∷ ms) (k ∷ ks) z h (inr i) = let u = one_marked ms ks z h.1 i in (u.0, inr u.1, u.2)
 
-  marked_one : (ms : List Mark) (ks : List SeenKey) (m : Mark) → AllZip (IsMark whole) ms ks → IsOneOf m ms → (z : SeenKey) × IsOneOf z ks × IsMark whole m z
+  marked_one : (ms : List Mark) (ks : List SeenKey) (m : Mark) → AllZip (IsMark total pairs written) ms ks → IsOneOf m ms → (z : SeenKey) × IsOneOf z ks × IsMark total pairs written m z
   marked_one [] [] m h i = absurd i
   marked_one [] (k ∷ ks) m h i = absurd i
   marked_one (n ∷ ms) [] m h i = absurd h
-  marked_one (n ∷ ms) (k ∷ ks) m h (inl e) = (k, inl refl, subst (λ z. IsMark whole z k) (sym e) h.0)
+  marked_one (n ∷ ms) (k ∷ ks) m h (inl e) = (k, inl refl, subst (λ z. IsMark total pairs written z k) (sym e) h.0)
   marked_one (n ∷ ms) (k ∷ ks) m h (inr i) = let u = marked_one ms ks m h.1 i in (u.0, inr u.1, u.2)
 
-  again_marked : (ms : List Mark) (ks : List SeenKey) (z : SeenKey) → AllZip (IsMark whole) ms ks → IsAgain seen_bytes ks z → (m : Mark) × IsAgain (mark_bytes whole) ms m × IsMark whole m z
+  again_marked : (ms : List Mark) (ks : List SeenKey) (z : SeenKey) → AllZip (IsMark total pairs written) ms ks → IsAgain seen_bytes ks z → (m : Mark) × IsAgain (mark_bytes pairs written) ms m × IsMark total pairs written m z
   again_marked [] [] z h i = absurd i
   again_marked [] (k ∷ ks) z h i = absurd h
   again_marked (m ∷ ms) [] z h i = absurd i
   again_marked (m ∷ ms) (k ∷ ks) z h (inl i) = let u = one_marked ms ks z h.1 i.0 in (u.0, inl (u.1, h.0.0 ∙ i.1 ∙ sym u.2.0), u.2)
   again_marked (m ∷ ms) (k ∷ ks) z h (inr i) = let u = again_marked ms ks z h.1 i in (u.0, inr u.1, u.2)
 
-  marked_again : (ms : List Mark) (ks : List SeenKey) (m : Mark) → AllZip (IsMark whole) ms ks → IsAgain (mark_bytes whole) ms m → (z : SeenKey) × IsAgain seen_bytes ks z × IsMark whole m z
+  marked_again : (ms : List Mark) (ks : List SeenKey) (m : Mark) → AllZip (IsMark total pairs written) ms ks → IsAgain (mark_bytes pairs written) ms m → (z : SeenKey) × IsAgain seen_bytes ks z × IsMark total pairs written m z
   marked_again [] [] m h i = absurd i
   marked_again [] (k ∷ ks) m h i = absurd i
   marked_again (n ∷ ms) [] m h i = absurd h
   marked_again (n ∷ ms) (k ∷ ks) m h (inl i) = let u = marked_one ms ks m h.1 i.0 in (u.0, inl (u.1, sym h.0.0 ∙ i.1 ∙ u.2.0), u.2)
   marked_again (n ∷ ms) (k ∷ ks) m h (inr i) = let u = marked_again ms ks m h.1 i in (u.0, inr u.1, u.2)
 
-  rise_of : (n end : ℕ) (ms : List Mark) → StartsRise n ms end → PositionsRise (mark_bytes whole) mark_start n ms
-  rise_of n end [] h = tt
-  rise_of n end (m ∷ ms) h = ((let l = h.0 in omega (arith, l)), rise_of (suc m.start) end ms h.1)
+  rise_of : (n end : ℕ) (ms : List Mark) (ks : List SeenKey) → AllZip (IsMark total pairs written) ms ks → PlacesRise n ks end → PositionsRise (mark_bytes pairs written) (mark_place total pairs written) n ms
+  rise_of n end [] ks h r = tt
+  rise_of n end (m ∷ ms) [] h r = absurd h
+  rise_of n end (m ∷ ms) (k ∷ ks) h r = ((let l = r.0 in omega (arith, l, h.0.1)), rise_of (suc (mark_place total pairs written m)) end ms ks h.1 (subst (λ p. PlacesRise (suc p) ks end) (sym h.0.1) r.1))
 
   -- ---- ties, as a loop meets them
 
-  in_order : (ms : List Mark) → InPlace whole ms → InOrder (mark_bytes whole) mark_start ms
+  in_order : (ms : List Mark) → InPlace total pairs written ms → InOrder (mark_bytes pairs written) (mark_place total pairs written) ms
   in_order [] h = tt
   in_order (m ∷ []) h = tt
   in_order (m ∷ n ∷ ms) h = (h.0, in_order (n ∷ ms) h.1)
@@ -109,16 +176,16 @@ module _ (whole : List ℕ) where
 
   -- these marks are in order, and this is their first tie
   pub record Ties (ms : List Mark) (before : Option Mark) (first : Option Told) : Type 0 where
-    pub ordered : InPlace whole ms
+    pub ordered : InPlace total pairs written ms
     pub ends : EndsAt ms before
-    pub found : FindsTold (TieFlaw whole ms) first
+    pub found : FindsTold (TieFlaw total pairs written ms) first
 
-  ordered_more : (ys : List Mark) (w m : Mark) → InPlace whole (ys ++ w ∷ []) → Comes whole w m → InPlace whole ((ys ++ w ∷ []) ++ m ∷ [])
+  ordered_more : (ys : List Mark) (w m : Mark) → InPlace total pairs written (ys ++ w ∷ []) → Comes total pairs written w m → InPlace total pairs written ((ys ++ w ∷ []) ++ m ∷ [])
   ordered_more [] w m h c = (c, tt)
   ordered_more (y ∷ []) w m h c = (h.0, (c, tt))
   ordered_more (y ∷ z ∷ ys) w m h c = (h.0, ordered_more (z ∷ ys) w m h.1 c)
 
-  tied_after : (ys : List Mark) (w m z : Mark) → IsTied (mark_bytes whole) ((ys ++ w ∷ []) ++ m ∷ []) z → IsTied (mark_bytes whole) (ys ++ w ∷ []) z ⊎ ((m ≡ z) × (mark_bytes whole w ≡ mark_bytes whole m))
+  tied_after : (ys : List Mark) (w m z : Mark) → IsTied (mark_bytes pairs written) ((ys ++ w ∷ []) ++ m ∷ []) z → IsTied (mark_bytes pairs written) (ys ++ w ∷ []) z ⊎ ((m ≡ z) × (mark_bytes pairs written w ≡ mark_bytes pairs written m))
   tied_after [] w m z (inl t) = inr t
   tied_after [] w m z (inr t) = absurd t
   tied_after (y ∷ []) w m z (inl t) = inl (inl t)
@@ -127,54 +194,54 @@ module _ (whole : List ℕ) where
   tied_after (y ∷ x ∷ ys) w m z (inl t) = inl (inl t)
   tied_after (y ∷ x ∷ ys) w m z (inr t) = elim (tied_after (x ∷ ys) w m z t) [ inl u ↦ inl (inr u) | inr u ↦ inr u ]
 
-  tied_before : (ys : List Mark) (w m z : Mark) → IsTied (mark_bytes whole) (ys ++ w ∷ []) z → IsTied (mark_bytes whole) ((ys ++ w ∷ []) ++ m ∷ []) z
+  tied_before : (ys : List Mark) (w m z : Mark) → IsTied (mark_bytes pairs written) (ys ++ w ∷ []) z → IsTied (mark_bytes pairs written) ((ys ++ w ∷ []) ++ m ∷ []) z
   tied_before [] w m z t = absurd t
   tied_before (y ∷ []) w m z (inl t) = inl t
   tied_before (y ∷ []) w m z (inr t) = absurd t
   tied_before (y ∷ x ∷ ys) w m z (inl t) = inl t
   tied_before (y ∷ x ∷ ys) w m z (inr t) = inr (tied_before (x ∷ ys) w m z t)
 
-  tied_last : (ys : List Mark) (w m : Mark) → mark_bytes whole w ≡ mark_bytes whole m → IsTied (mark_bytes whole) ((ys ++ w ∷ []) ++ m ∷ []) m
+  tied_last : (ys : List Mark) (w m : Mark) → mark_bytes pairs written w ≡ mark_bytes pairs written m → IsTied (mark_bytes pairs written) ((ys ++ w ∷ []) ++ m ∷ []) m
   tied_last [] w m e = inl (refl, e)
   tied_last (y ∷ []) w m e = inr (inl (refl, e))
   tied_last (y ∷ x ∷ ys) w m e = inr (tied_last (x ∷ ys) w m e)
 
-  one_tie : (ys : List Mark) (w m : Mark) (p : ℕ) (r : InvalidReason) → Either (TieFlaw whole (ys ++ w ∷ [])) (TieAfter whole (Some w) m) p r ↔ TieFlaw whole ((ys ++ w ∷ []) ++ m ∷ []) p r
+  one_tie : (ys : List Mark) (w m : Mark) (p : ℕ) (r : InvalidReason) → Either (TieFlaw total pairs written (ys ++ w ∷ [])) (TieAfter total pairs written (Some w) m) p r ↔ TieFlaw total pairs written ((ys ++ w ∷ []) ++ m ∷ []) p r
   one_tie ys w m p r = (to, from)
     where
-      to : Either (TieFlaw whole (ys ++ w ∷ [])) (TieAfter whole (Some w) m) p r → TieFlaw whole ((ys ++ w ∷ []) ++ m ∷ []) p r
+      to : Either (TieFlaw total pairs written (ys ++ w ∷ [])) (TieAfter total pairs written (Some w) m) p r → TieFlaw total pairs written ((ys ++ w ∷ []) ++ m ∷ []) p r
       to (inl t) = (t.0, t.1, tied_before ys w m t.1 t.2, t.3)
       to (inr t) = (t.0, m, tied_last ys w m t.2, t.1)
 
-      from : TieFlaw whole ((ys ++ w ∷ []) ++ m ∷ []) p r → Either (TieFlaw whole (ys ++ w ∷ [])) (TieAfter whole (Some w) m) p r
-      from t = elim (tied_after ys w m t.1 t.2) [ inl u ↦ inl (t.0, t.1, u, t.3) | inr u ↦ inr (t.0, ap (λ (z : Mark). z.place) u.0 ∙ t.3, u.1) ]
+      from : TieFlaw total pairs written ((ys ++ w ∷ []) ++ m ∷ []) p r → Either (TieFlaw total pairs written (ys ++ w ∷ [])) (TieAfter total pairs written (Some w) m) p r
+      from t = elim (tied_after ys w m t.1 t.2) [ inl u ↦ inl (t.0, t.1, u, t.3) | inr u ↦ inr (t.0, ap (mark_place total pairs written) u.0 ∙ t.3, u.1) ]
 
-  first_tie : (m : Mark) (p : ℕ) (r : InvalidReason) → Either (TieFlaw whole []) (TieAfter whole None m) p r ↔ TieFlaw whole (m ∷ []) p r
+  first_tie : (m : Mark) (p : ℕ) (r : InvalidReason) → Either (TieFlaw total pairs written []) (TieAfter total pairs written None m) p r ↔ TieFlaw total pairs written (m ∷ []) p r
   first_tie m p r = ((λ t. elim t [ inl u ↦ absurd u.2 | inr u ↦ absurd u ]), (λ t. absurd t.2))
 
   pub no_tie : Ties [] None None
   no_tie = record { ordered = tt; ends = refl; found = λ p r t. t.2 }
 
-  tie_more : (ms : List Mark) (before : Option Mark) (m : Mark) (first next o : Option Told) → Ties ms before first → ComesAfter whole before m → FindsTold (TieAfter whole before m) next → IsEarliestTold first next o → Ties (ms ++ m ∷ []) (Some m) o
+  tie_more : (ms : List Mark) (before : Option Mark) (m : Mark) (first next o : Option Told) → Ties ms before first → ComesAfter total pairs written before m → FindsTold (TieAfter total pairs written before m) next → IsEarliestTold first next o → Ties (ms ++ m ∷ []) (Some m) o
   tie_more ms None m first next o h c f e =
       let none : ms ≡ [] = h.ends in
       subst (λ l. Ties (l ++ m ∷ []) (Some m) o) (sym none) (record {
         ordered = tt;
         ends = ([], refl);
-        found = alike_told (Either (TieFlaw whole []) (TieAfter whole None m)) (TieFlaw whole (m ∷ [])) o (first_tie m)
-            (both_told (TieFlaw whole []) (TieAfter whole None m) first next o (subst (λ l. FindsTold (TieFlaw whole l) first) none h.found) f e);
+        found = alike_told (Either (TieFlaw total pairs written []) (TieAfter total pairs written None m)) (TieFlaw total pairs written (m ∷ [])) o (first_tie m)
+            (both_told (TieFlaw total pairs written []) (TieAfter total pairs written None m) first next o (subst (λ l. FindsTold (TieFlaw total pairs written l) first) none h.found) f e);
       })
   tie_more ms (Some w) m first next o h c f e =
       let ys : List Mark = h.ends.0 in
       let is : ms ≡ ys ++ w ∷ [] = h.ends.1 in
       subst (λ l. Ties (l ++ m ∷ []) (Some m) o) (sym is) (record {
-        ordered = ordered_more ys w m (subst (InPlace whole) is h.ordered) c;
+        ordered = ordered_more ys w m (subst (InPlace total pairs written) is h.ordered) c;
         ends = (ys ++ w ∷ [], refl);
-        found = alike_told (Either (TieFlaw whole (ys ++ w ∷ [])) (TieAfter whole (Some w) m)) (TieFlaw whole ((ys ++ w ∷ []) ++ m ∷ [])) o (one_tie ys w m)
-            (both_told (TieFlaw whole (ys ++ w ∷ [])) (TieAfter whole (Some w) m) first next o (subst (λ l. FindsTold (TieFlaw whole l) first) is h.found) f e);
+        found = alike_told (Either (TieFlaw total pairs written (ys ++ w ∷ [])) (TieAfter total pairs written (Some w) m)) (TieFlaw total pairs written ((ys ++ w ∷ []) ++ m ∷ [])) o (one_tie ys w m)
+            (both_told (TieFlaw total pairs written (ys ++ w ∷ [])) (TieAfter total pairs written (Some w) m) first next o (subst (λ l. FindsTold (TieFlaw total pairs written l) first) is h.found) f e);
       })
 
-  pub tie-take_more : (xs : List Mark) (i : ℕ) (m : Mark) (before : Option Mark) (first next o : Option Told) → i < length xs → m ≡ get_or xs i m → Ties (take i xs) before first → ComesAfter whole before m → FindsTold (TieAfter whole before m) next → IsEarliestTold first next o
+  pub tie-take_more : (xs : List Mark) (i : ℕ) (m : Mark) (before : Option Mark) (first next o : Option Told) → i < length xs → m ≡ get_or xs i m → Ties (take i xs) before first → ComesAfter total pairs written before m → FindsTold (TieAfter total pairs written before m) next → IsEarliestTold first next o
       → Ties (take (i + 1) xs) (Some m) o
   tie-take_more xs i m before first next o l e h c f k = subst (λ t. Ties t (Some m) o) (sym (passed_one xs i m l e)) (tie_more (take i xs) before m first next o h c f k)
 
@@ -183,16 +250,16 @@ module _ (whole : List ℕ) where
 rank_of : (r s : InvalidReason) → r ≡ s → flaw_rank r ≤ flaw_rank s
 rank_of r s e = let f : flaw_rank r ≡ flaw_rank s = ap flaw_rank e in omega arith
 
-pub tie_less : (whole : List ℕ) (before : Option Mark) (w m : Mark) → before ≡ Some w → bytewise (mark_bytes whole w) (mark_bytes whole m) ≡ Less → ComesAfter whole before m × FindsTold (TieAfter whole before m) None
-tie_less whole before w m e l = subst (λ (b : Option Mark). ComesAfter whole b m × FindsTold (TieAfter whole b m) None) (sym e) (inl l, λ p r t. apart (mark_bytes whole w) (mark_bytes whole m) t.2 l)
+pub tie_less : (total : ℕ) (pairs written : List ℕ) (before : Option Mark) (w m : Mark) → before ≡ Some w → bytewise (mark_bytes pairs written w) (mark_bytes pairs written m) ≡ Less → ComesAfter total pairs written before m × FindsTold (TieAfter total pairs written before m) None
+tie_less total pairs written before w m e l = subst (λ (b : Option Mark). ComesAfter total pairs written b m × FindsTold (TieAfter total pairs written b m) None) (sym e) (inl l, λ p r t. apart (mark_bytes pairs written w) (mark_bytes pairs written m) t.2 l)
   where
     apart : (x y : List ℕ) → x ≡ y → bytewise x y ≡ Less → ⊥
     apart x y f k = let g : bytewise x x ≡ Equal = bytewise_order.itself x in let h : bytewise x x ≡ Less = subst (λ z. bytewise x z ≡ Less) (sym f) k in cc
 
-pub tie_equal : (whole : List ℕ) (before : Option Mark) (w m : Mark) (q : ℕ) → before ≡ Some w → bytewise (mark_bytes whole w) (mark_bytes whole m) ≡ Equal → w.start < m.start → q ≡ m.place → ComesAfter whole before m × FindsTold (TieAfter whole before m) (Some (q, DuplicateKey))
-tie_equal whole before w m q e l s p =
-    let same : mark_bytes whole w ≡ mark_bytes whole m = bytewise_order.exact (mark_bytes whole w) (mark_bytes whole m) l in
-    subst (λ (b : Option Mark). ComesAfter whole b m × FindsTold (TieAfter whole b m) (Some (q, DuplicateKey))) (sym e)
+pub tie_equal : (total : ℕ) (pairs written : List ℕ) (before : Option Mark) (w m : Mark) (q : ℕ) → before ≡ Some w → bytewise (mark_bytes pairs written w) (mark_bytes pairs written m) ≡ Equal → mark_place total pairs written w < mark_place total pairs written m → q ≡ mark_place total pairs written m → ComesAfter total pairs written before m × FindsTold (TieAfter total pairs written before m) (Some (q, DuplicateKey))
+tie_equal total pairs written before w m q e l s p =
+    let same : mark_bytes pairs written w ≡ mark_bytes pairs written m = bytewise_order.exact (mark_bytes pairs written w) (mark_bytes pairs written m) l in
+    subst (λ (b : Option Mark). ComesAfter total pairs written b m × FindsTold (TieAfter total pairs written b m) (Some (q, DuplicateKey))) (sym e)
     (inr (same, s), record { is = (refl, sym p, same); first = λ k r t. inr (p ∙ t.1, rank_of DuplicateKey r (sym t.0)) })
 
 -- ---- the first key that is repeated
@@ -200,33 +267,33 @@ tie_equal whole before w m q e l s p =
 pub no_repeat : (r : InvalidReason) → r ≡ DuplicateKey → r ≡ NotUtf8 → ⊥
 no_repeat r e f = cc
 
-pub first_repeated : (keys : Keys) (ms : List Mark) (ns : List Pair) (ks : List SeenKey) (o : Option Told) → AreMarked ks keys → AreSeen ks ns → IsPermutation keys.marks.items ms → InPlace keys.bytes.items ms → FindsTold (TieFlaw keys.bytes.items ms) o
-    → FindsTold (RepeatFlaw (entries ns)) o
-first_repeated keys ms ns ks o h s p i f = alike_told (TieFlaw whole ms) (RepeatFlaw (entries ns)) o both f
+pub first_repeated : (total end : ℕ) (pairs : List ℕ) (keys : Keys) (ms : List Mark) (ns : List Pair) (ks : List SeenKey) (o : Option Told) → AreMarked total pairs end ks keys → AreSeen ks ns → IsPermutation keys.marks.items ms → InPlace total pairs keys.written.items ms
+    → FindsTold (TieFlaw total pairs keys.written.items ms) o → FindsTold (RepeatFlaw (entries ns)) o
+first_repeated total end pairs keys ms ns ks o h s p i f = alike_told (TieFlaw total pairs written ms) (RepeatFlaw (entries ns)) o both f
   where
-    whole : List ℕ
-    whole = keys.bytes.items
+    written : List ℕ
+    written = keys.written.items
 
-    tied : (m : Mark) → IsAgain (mark_bytes whole) keys.marks.items m ↔ IsTied (mark_bytes whole) ms m
-    tied m = again_tied (mark_bytes whole) mark_start 0 keys.marks.items ms m (rise_of whole 0 (length whole) keys.marks.items h.rise) p (in_order whole ms i)
+    tied : (m : Mark) → IsAgain (mark_bytes pairs written) keys.marks.items m ↔ IsTied (mark_bytes pairs written) ms m
+    tied m = again_tied (mark_bytes pairs written) (mark_place total pairs written) 0 keys.marks.items ms m (rise_of total pairs written 0 end keys.marks.items ks h.are h.rise) p (in_order total pairs written ms i)
 
-    both : (q : ℕ) (r : InvalidReason) → TieFlaw whole ms q r ↔ RepeatFlaw (entries ns) q r
+    both : (q : ℕ) (r : InvalidReason) → TieFlaw total pairs written ms q r ↔ RepeatFlaw (entries ns) q r
     both q r = (to, from)
       where
-        to : TieFlaw whole ms q r → RepeatFlaw (entries ns) q r
+        to : TieFlaw total pairs written ms q r → RepeatFlaw (entries ns) q r
         to t =
-            let u = marked_again whole keys.marks.items ks t.1 h.are ((tied t.1).1 t.2) in
-            (t.0, subst (HasRepeat (entries ns)) (sym u.2.2 ∙ t.3) (again_repeat seen_bytes seen_position seen_place (entries ns) 0 ks u.0 s u.1))
+            let u = marked_again total pairs written keys.marks.items ks t.1 h.are ((tied t.1).1 t.2) in
+            (t.0, subst (HasRepeat (entries ns)) (sym u.2.1 ∙ t.3) (again_repeat seen_bytes seen_position seen_place (entries ns) 0 ks u.0 s u.1))
 
-        from : RepeatFlaw (entries ns) q r → TieFlaw whole ms q r
+        from : RepeatFlaw (entries ns) q r → TieFlaw total pairs written ms q r
         from t =
             let z = repeat_again seen_bytes seen_position seen_place (entries ns) 0 ks q s t.1 in
-            let u = again_marked whole keys.marks.items ks z.0 h.are z.1 in
-            (t.0, u.0, (tied u.0).0 u.1, u.2.2 ∙ z.2)
+            let u = again_marked total pairs written keys.marks.items ks z.0 h.are z.1 in
+            (t.0, u.0, (tied u.0).0 u.1, u.2.1 ∙ z.2)
 
 -- as the search answers it, of lists that are those of the keys
-pub repeated_of : (keys : Keys) (whole : List ℕ) (seen ms : List Mark) (ns : List Pair) (ks : List SeenKey) (o : Option Told) → whole ≡ keys.bytes.items → seen ≡ ms → InPlace whole seen × FindsTold (TieFlaw whole seen) o → IsPermutation keys.marks.items ms → AreMarked ks keys → AreSeen ks ns
-    → FindsTold (RepeatFlaw (entries ns)) o
-repeated_of keys whole seen ms ns ks o e f t p h s =
-    let u : InPlace keys.bytes.items ms × FindsTold (TieFlaw keys.bytes.items ms) o = subst (λ w. InPlace w ms × FindsTold (TieFlaw w ms) o) e (subst (λ l. InPlace whole l × FindsTold (TieFlaw whole l) o) f t) in
-    first_repeated keys ms ns ks o h s p u.0 u.1
+pub repeated_of : (total end : ℕ) (pairs : List ℕ) (keys : Keys) (written : List ℕ) (seen ms : List Mark) (ns : List Pair) (ks : List SeenKey) (o : Option Told) → written ≡ keys.written.items → seen ≡ ms → InPlace total pairs written seen × FindsTold (TieFlaw total pairs written seen) o
+    → IsPermutation keys.marks.items ms → AreMarked total pairs end ks keys → AreSeen ks ns → FindsTold (RepeatFlaw (entries ns)) o
+repeated_of total end pairs keys written seen ms ns ks o e f t p h s =
+    let u : InPlace total pairs keys.written.items ms × FindsTold (TieFlaw total pairs keys.written.items ms) o = subst (λ w. InPlace total pairs w ms × FindsTold (TieFlaw total pairs w ms) o) e (subst (λ l. InPlace total pairs written l × FindsTold (TieFlaw total pairs written l) o) f t) in
+    first_repeated total end pairs keys ms ns ks o h s p u.0 u.1

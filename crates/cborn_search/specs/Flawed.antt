@@ -64,19 +64,26 @@ ChunksSeen major total input rest flaw = ChunksRead (λ cs. ChunksPlaced major (
 abbrev pub IsKind : Bool → Tree → Type 0
 IsKind is_string t = MatchBool is_string ((b : List ℕ) × IsByteString t b) ((b : List ℕ) → IsByteString t b → ⊥)
 
+-- it has no flaw
+abbrev pub IsSound : Tree → Type 0
+IsSound t = (p : ℕ) (r : InvalidReason) → Flaw t p r → ⊥
+
+abbrev pub FlawFound : Bool → Option Told → Tree → Type 0
+FlawFound only_texts flaw t = FindsTold (Sought only_texts (Flaw t)) flaw
+
 abbrev pub HasFlaw : Bool → Option Told → Bool → Tree → Type 0
-HasFlaw only_texts flaw is_string t = FindsTold (Sought only_texts (Flaw t)) flaw × IsKind is_string t
+HasFlaw only_texts flaw is_string t = FlawFound only_texts flaw t × IsKind is_string t
 
 -- a node, its first flaw, and whether it is a byte string
-abbrev pub Scanned : Bool → ℕ → ℕ → List ℕ → List ℕ → Option Told → Bool → Type 0
-Scanned only_texts room total input rest flaw is_string = NodeAt (HasFlaw only_texts flaw is_string) room total input rest
+abbrev pub Searched : Bool → ℕ → ℕ → List ℕ → List ℕ → Option Told → Bool → Type 0
+Searched only_texts room total input rest flaw is_string = NodeAt (HasFlaw only_texts flaw is_string) room total input rest
 
 abbrev pub HaveFlaw : Bool → Option Told → List Tree → Type 0
 HaveFlaw only_texts flaw ts = FindsTold (Sought only_texts (FlawIn (trees ts))) flaw
 
 -- n nodes one after another, and their first flaw
-abbrev pub ScannedAll : Bool → ℕ → ℕ → ℕ → List ℕ → List ℕ → Option Told → Type 0
-ScannedAll only_texts room total n input rest flaw = NodesAt (HaveFlaw only_texts flaw) room total n input rest
+abbrev pub SearchedAll : Bool → ℕ → ℕ → ℕ → List ℕ → List ℕ → Option Told → Type 0
+SearchedAll only_texts room total n input rest flaw = NodesAt (HaveFlaw only_texts flaw) room total n input rest
 
 -- a key that means something: its encoding, its position in the map, and its place
 abbrev pub SeenKey : Type 0

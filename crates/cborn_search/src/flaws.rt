@@ -4,28 +4,29 @@
 //! registers, and writes what it found to one place that all share: so the frames of a deep nest
 //! stay small.
 
-ghost use Rattle.std.specs.Prelude.{◌≡◌, ◌≢◌, ◌≤◌, ◌-◌, ◌++◌, ◌∷◌, ◌⊎◌, ℕ, false, length, IfSome};
+ghost use Rattle.std.specs.Prelude.{◌≡◌, ◌≢◌, ◌≤◌, ◌-◌, ◌++◌, ◌∷◌, ◌⊎◌, ℕ, List, false, length, IfSome};
 ghost use Rattle.cborn_model.specs.declared.heads.Width.{Width};
 ghost use Rattle.cborn_model.specs.declared.heads.Major.TheVariants.{Array, Map, Tag};
 ghost use Rattle.cborn_model.specs.Heads.{Given, Unbounded, head, WidthFits};
 ghost use Rattle.cborn_wire.specs.Parts.{Leaves};
-ghost use Rattle.cborn_search.specs.Flawed.{Scanned, ScannedAll};
-ghost use Rattle.cborn_search.specs.devices.Marks.{MapSeen};
+ghost use Rattle.cborn_search.specs.Flawed.{Searched, SearchedAll};
+ghost use Rattle.cborn_search.specs.devices.Marks.{KeyJoined, MapSeen};
 
+use crate::finding::Finding;
+use crate::keys::Taken;
 use crate::leaves::{
-    integer_len, is_bignum, is_simple, is_sound, scan_long_bytes, scan_long_text, scan_text,
+    integer_len, is_bignum, is_simple, is_sound, search_long_bytes, search_long_text, search_text,
     string_at,
 };
-use crate::scanned_maps::SpareMaps;
-use crate::told::Finding;
+use crate::searched_maps::{SearchedMap, SpareMaps};
 use cborn_judge::{InvalidReason, earliest};
 use cborn_model::Major;
 use cborn_wire::{Argument, HeadRead, behind_break, is_done, last, read_head};
 
 /// The item at the front of `bytes`, the last of `total`: what follows it. None promises nothing.
-#[cycle(scanned)]
+#[cycle(searched)]
 #[inline(always)]
-pub(crate) fn scan_item<'a>(
+pub(crate) fn search_item<'a>(
     maps: &mut SpareMaps,
     only_texts: bool,
     room: u64,
@@ -35,16 +36,16 @@ pub(crate) fn scan_item<'a>(
 ) -> Option<&'a [u8]>
     requires room { room ≤ 1024 }
     requires within { length bytes.now ≤ total }
-    ensures { IfSome result (λ rest. Scanned only_texts room total bytes.now rest.now found.new.flaw found.new.is_string) }
+    ensures { IfSome result (λ rest. Searched only_texts room total bytes.now rest.now found.new.flaw found.new.is_string) }
 {
-    let left = scan_node(maps, only_texts, room, total, bytes, found)?;
+    let left = search_node(maps, only_texts, room, total, bytes, found)?;
     last(bytes, left)
 }
 
-/// What `scan_item` does; answers how many bytes follow the item.
-#[cycle(scanned)]
+/// What `search_item` does; answers how many bytes follow the item.
+#[cycle(searched)]
 #[inline(never)]
-fn scan_node(
+fn search_node(
     maps: &mut SpareMaps,
     only_texts: bool,
     room: u64,
@@ -54,7 +55,7 @@ fn scan_node(
 ) -> Option<usize>
     requires room { room ≤ 1024 }
     requires within { length bytes.now ≤ total }
-    ensures { IfSome result (Leaves (λ rest. Scanned only_texts room total bytes.now rest found.new.flaw found.new.is_string)) }
+    ensures { IfSome result (Leaves (λ rest. Searched only_texts room total bytes.now rest found.new.flaw found.new.is_string)) }
 {
     let HeadRead::Full(head, len) = read_head(bytes) else {
         return None;
@@ -75,14 +76,14 @@ fn scan_node(
                 found.is_string = true;
                 Some(after.len())
             }
-            Major::TextString => scan_text(place, n, rest, found),
-            Major::Array => scan_fixed_array(maps, only_texts, room, total, n, rest, found),
-            Major::Map => scan_fixed_map(maps, only_texts, room, total, n, rest, found),
+            Major::TextString => search_text(place, n, rest, found),
+            Major::Array => search_fixed_array(maps, only_texts, room, total, n, rest, found),
+            Major::Map => search_fixed_map(maps, only_texts, room, total, n, rest, found),
             Major::Tag => {
                 if is_bignum(n) {
-                    scan_bignum(maps, only_texts, room, total, place, rest, found)
+                    search_bignum(maps, only_texts, room, total, place, rest, found)
                 } else {
-                    scan_tagged(maps, only_texts, room, total, rest, found)
+                    search_tagged(maps, only_texts, room, total, rest, found)
                 }
             }
             Major::Other => {
@@ -94,19 +95,19 @@ fn scan_node(
             }
         },
         Argument::Endless => match major {
-            Major::ByteString => scan_long_bytes(total, rest, found),
-            Major::TextString => scan_long_text(total, rest, found),
-            Major::Array => scan_endless_array(maps, only_texts, room, total, rest, found),
-            Major::Map => scan_endless_map(maps, only_texts, room, total, rest, found),
+            Major::ByteString => search_long_bytes(total, rest, found),
+            Major::TextString => search_long_text(total, rest, found),
+            Major::Array => search_endless_array(maps, only_texts, room, total, rest, found),
+            Major::Map => search_endless_map(maps, only_texts, room, total, rest, found),
             _ => None,
         },
     }
 }
 
 /// The array of the `n` items at the front.
-#[cycle(scanned)]
+#[cycle(searched)]
 #[inline(never)]
-fn scan_fixed_array(
+fn search_fixed_array(
     maps: &mut SpareMaps,
     only_texts: bool,
     room: u64,
@@ -117,12 +118,12 @@ fn scan_fixed_array(
 ) -> Option<usize>
     requires room { room ≤ 1024 }
     requires within { length bytes.now ≤ total }
-    ensures { IfSome result (λ left. (w : Width) → WidthFits w n → length (head Array (Given w n) ++ bytes.now) ≤ total → Leaves (λ rest. Scanned only_texts room total (head Array (Given w n) ++ bytes.now) rest found.new.flaw found.new.is_string) left) }
+    ensures { IfSome result (λ left. (w : Width) → WidthFits w n → length (head Array (Given w n) ++ bytes.now) ≤ total → Leaves (λ rest. Searched only_texts room total (head Array (Given w n) ++ bytes.now) rest found.new.flaw found.new.is_string) left) }
 {
     if room == 0 {
         return None;
     }
-    let (rest, count, flaw) = scan_items(
+    let (rest, count, flaw) = search_items(
         maps,
         only_texts,
         room - 1,
@@ -143,9 +144,9 @@ fn scan_fixed_array(
 }
 
 /// The array of the items at the front, up to a break.
-#[cycle(scanned)]
+#[cycle(searched)]
 #[inline(never)]
-fn scan_endless_array(
+fn search_endless_array(
     maps: &mut SpareMaps,
     only_texts: bool,
     room: u64,
@@ -155,12 +156,12 @@ fn scan_endless_array(
 ) -> Option<usize>
     requires room { room ≤ 1024 }
     requires within { length bytes.now ≤ total }
-    ensures { IfSome result (λ left. length (head Array Unbounded ++ bytes.now) ≤ total → Leaves (λ rest. Scanned only_texts room total (head Array Unbounded ++ bytes.now) rest found.new.flaw found.new.is_string) left) }
+    ensures { IfSome result (λ left. length (head Array Unbounded ++ bytes.now) ≤ total → Leaves (λ rest. Searched only_texts room total (head Array Unbounded ++ bytes.now) rest found.new.flaw found.new.is_string) left) }
 {
     if room == 0 {
         return None;
     }
-    let (rest, _, flaw) = scan_items(
+    let (rest, _, flaw) = search_items(
         maps,
         only_texts,
         room - 1,
@@ -180,9 +181,9 @@ fn scan_endless_array(
 
 /// The items at the front, at most `most`, and where there may be an end up to a break: what
 /// follows them, how many they are, and their first flaw.
-#[cycle(scanned)]
+#[cycle(searched)]
 #[inline(always)]
-fn scan_items<'a>(
+fn search_items<'a>(
     maps: &mut SpareMaps,
     only_texts: bool,
     room: u64,
@@ -194,7 +195,7 @@ fn scan_items<'a>(
 ) -> Option<(&'a [u8], u64, Option<(u64, InvalidReason)>)>
     requires room { room ≤ 1024 }
     requires within { length bytes.now ≤ total }
-    ensures { IfSome result (λ r. ScannedAll only_texts room total r.1 bytes.now r.0.now r.2) }
+    ensures { IfSome result (λ r. SearchedAll only_texts room total r.1 bytes.now r.0.now r.2) }
 {
     let mut rest = bytes;
     let mut count = 0;
@@ -208,7 +209,7 @@ fn scan_items<'a>(
             count += 1;
             continue;
         }
-        rest = scan_item(maps, only_texts, room, total, rest, found)?;
+        rest = search_item(maps, only_texts, room, total, rest, found)?;
         first = earliest(first, found.flaw);
         count += 1;
     }
@@ -216,9 +217,9 @@ fn scan_items<'a>(
 }
 
 /// The map of the `n` pairs at the front.
-#[cycle(scanned)]
+#[cycle(searched)]
 #[inline(never)]
-fn scan_fixed_map(
+fn search_fixed_map(
     maps: &mut SpareMaps,
     only_texts: bool,
     room: u64,
@@ -229,12 +230,12 @@ fn scan_fixed_map(
 ) -> Option<usize>
     requires room { room ≤ 1024 }
     requires within { length bytes.now ≤ total }
-    ensures { IfSome result (λ left. (w : Width) → WidthFits w n → length (head Map (Given w n) ++ bytes.now) ≤ total → Leaves (λ rest. Scanned only_texts room total (head Map (Given w n) ++ bytes.now) rest found.new.flaw found.new.is_string) left) }
+    ensures { IfSome result (λ left. (w : Width) → WidthFits w n → length (head Map (Given w n) ++ bytes.now) ≤ total → Leaves (λ rest. Searched only_texts room total (head Map (Given w n) ++ bytes.now) rest found.new.flaw found.new.is_string) left) }
 {
     if room == 0 {
         return None;
     }
-    let (rest, count) = scan_pairs(maps, only_texts, room - 1, total, n, false, bytes, found)?;
+    let (rest, count) = search_pairs(maps, only_texts, room - 1, total, n, false, bytes, found)?;
     if count != n {
         return None;
     }
@@ -242,9 +243,9 @@ fn scan_fixed_map(
 }
 
 /// The map of the pairs at the front, up to a break.
-#[cycle(scanned)]
+#[cycle(searched)]
 #[inline(never)]
-fn scan_endless_map(
+fn search_endless_map(
     maps: &mut SpareMaps,
     only_texts: bool,
     room: u64,
@@ -254,12 +255,12 @@ fn scan_endless_map(
 ) -> Option<usize>
     requires room { room ≤ 1024 }
     requires within { length bytes.now ≤ total }
-    ensures { IfSome result (λ left. length (head Map Unbounded ++ bytes.now) ≤ total → Leaves (λ rest. Scanned only_texts room total (head Map Unbounded ++ bytes.now) rest found.new.flaw found.new.is_string) left) }
+    ensures { IfSome result (λ left. length (head Map Unbounded ++ bytes.now) ≤ total → Leaves (λ rest. Searched only_texts room total (head Map Unbounded ++ bytes.now) rest found.new.flaw found.new.is_string) left) }
 {
     if room == 0 {
         return None;
     }
-    let (rest, _) = scan_pairs(
+    let (rest, _) = search_pairs(
         maps,
         only_texts,
         room - 1,
@@ -273,11 +274,11 @@ fn scan_endless_map(
     Some(after.len())
 }
 
-/// The pairs at the front, as `scan_items` takes items; the flaw is the first of the map that they
+/// The pairs at the front, as `search_items` takes items; the flaw is the first of the map that they
 /// are. What is known of the map is on the heap, out of the frames of a deep nest.
-#[cycle(scanned)]
+#[cycle(searched)]
 #[inline(always)]
-fn scan_pairs<'a>(
+fn search_pairs<'a>(
     maps: &mut SpareMaps,
     only_texts: bool,
     room: u64,
@@ -298,21 +299,77 @@ fn scan_pairs<'a>(
         if is_done(count, most, may_end, rest) {
             break;
         }
-        let middle = scan_item(maps, only_texts, room, total, rest, found)?;
-        map.take_key(maps.alloc(), only_texts, total, rest, middle, found)?;
-        rest = scan_item(maps, only_texts, room, total, middle, found)?;
+        let middle = search_key(maps, &mut *map, only_texts, room, total, bytes, rest, found)?;
+        rest = search_value(maps, only_texts, room, total, middle, found)?;
         map.note(found.flaw);
         count += 1;
     }
-    map.conclude(only_texts, found)?;
+    map.conclude(only_texts, total, bytes, found)?;
     maps.put_back(map);
     Some((rest, count))
 }
 
+/// The key at the front of `bytes`, which `pairs` end with. It joins what is known of its map: what
+/// follows it.
+#[cycle(searched)]
+#[inline(always)]
+fn search_key<'a>(
+    maps: &mut SpareMaps,
+    map: &mut SearchedMap,
+    only_texts: bool,
+    room: u64,
+    total: u64,
+    pairs: &[u8],
+    bytes: &'a [u8],
+    found: &mut Finding,
+) -> Option<&'a [u8]>
+    requires room { room ≤ 1024 }
+    requires within { length pairs.now ≤ total }
+    requires behind { (front : List ℕ) × (pairs.now ≡ front ++ bytes.now) }
+    ensures { IfSome result (λ rest. KeyJoined only_texts room total pairs.now bytes.now map.old map.new rest.now) }
+{
+    match map.take(maps, only_texts, room, total, pairs, bytes) {
+        Taken::Behind(left) => last(bytes, left),
+        Taken::Not => {
+            let left = search_node(maps, only_texts, room, total, bytes, found)?;
+            let behind = map.take_searched(
+                maps, only_texts, room, total, pairs, bytes, left, found,
+            )?;
+            last(bytes, behind)
+        }
+        Taken::Unknown => None,
+    }
+}
+
+/// What `search_item` does, quicker where an integer comes first.
+#[cycle(searched)]
+#[inline(always)]
+fn search_value<'a>(
+    maps: &mut SpareMaps,
+    only_texts: bool,
+    room: u64,
+    total: u64,
+    bytes: &'a [u8],
+    found: &mut Finding,
+) -> Option<&'a [u8]>
+    requires room { room ≤ 1024 }
+    requires within { length bytes.now ≤ total }
+    ensures { IfSome result (λ rest. Searched only_texts room total bytes.now rest.now found.new.flaw found.new.is_string) }
+{
+    if let Some(len) = integer_len(bytes) {
+        *found = Finding {
+            flaw: None,
+            is_string: false,
+        };
+        return Some(&bytes[len..]);
+    }
+    search_item(maps, only_texts, room, total, bytes, found)
+}
+
 /// The bignum at `place` over the item at the front, which has to be a byte string.
-#[cycle(scanned)]
+#[cycle(searched)]
 #[inline(never)]
-fn scan_bignum(
+fn search_bignum(
     maps: &mut SpareMaps,
     only_texts: bool,
     room: u64,
@@ -323,12 +380,12 @@ fn scan_bignum(
 ) -> Option<usize>
     requires room { room ≤ 1024 }
     requires within { length bytes.now ≤ total }
-    ensures { IfSome result (λ left. (w : Width) (n : ℕ) → (n ≡ 2) ⊎ (n ≡ 3) → WidthFits w n → length (head Tag (Given w n) ++ bytes.now) ≤ total → place ≡ total - length (head Tag (Given w n) ++ bytes.now) → Leaves (λ rest. Scanned only_texts room total (head Tag (Given w n) ++ bytes.now) rest found.new.flaw found.new.is_string) left) }
+    ensures { IfSome result (λ left. (w : Width) (n : ℕ) → (n ≡ 2) ⊎ (n ≡ 3) → WidthFits w n → length (head Tag (Given w n) ++ bytes.now) ≤ total → place ≡ total - length (head Tag (Given w n) ++ bytes.now) → Leaves (λ rest. Searched only_texts room total (head Tag (Given w n) ++ bytes.now) rest found.new.flaw found.new.is_string) left) }
 {
     if room == 0 {
         return None;
     }
-    let left = scan_node(maps, only_texts, room - 1, total, bytes, found)?;
+    let left = search_node(maps, only_texts, room - 1, total, bytes, found)?;
     if is_sound(only_texts, found.is_string) {
         found.is_string = false;
         return Some(left);
@@ -343,9 +400,9 @@ fn scan_bignum(
 }
 
 /// Another tag over the item at the front.
-#[cycle(scanned)]
+#[cycle(searched)]
 #[inline(never)]
-fn scan_tagged(
+fn search_tagged(
     maps: &mut SpareMaps,
     only_texts: bool,
     room: u64,
@@ -355,12 +412,12 @@ fn scan_tagged(
 ) -> Option<usize>
     requires room { room ≤ 1024 }
     requires within { length bytes.now ≤ total }
-    ensures { IfSome result (λ left. (w : Width) (n : ℕ) → n ≢ 2 → n ≢ 3 → WidthFits w n → length (head Tag (Given w n) ++ bytes.now) ≤ total → Leaves (λ rest. Scanned only_texts room total (head Tag (Given w n) ++ bytes.now) rest found.new.flaw found.new.is_string) left) }
+    ensures { IfSome result (λ left. (w : Width) (n : ℕ) → n ≢ 2 → n ≢ 3 → WidthFits w n → length (head Tag (Given w n) ++ bytes.now) ≤ total → Leaves (λ rest. Searched only_texts room total (head Tag (Given w n) ++ bytes.now) rest found.new.flaw found.new.is_string) left) }
 {
     if room == 0 {
         return None;
     }
-    let left = scan_node(maps, only_texts, room - 1, total, bytes, found)?;
+    let left = search_node(maps, only_texts, room - 1, total, bytes, found)?;
     found.is_string = false;
     Some(left)
 }

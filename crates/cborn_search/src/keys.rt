@@ -1,53 +1,68 @@
 //! The keys of a map.
 
-ghost use Rattle.std.specs.Prelude.{◌≡◌, ◌≤◌, ◌-◌, ◌∷◌, ◌++◌, ℕ, List, [], length, take, IfSome, OnSome, IsPermutation};
-ghost use Rattle.cborn_model.specs.Orders.{bytewise};
+ghost use Rattle.std.specs.Prelude.{◌≡◌, ◌≤◌, ◌++◌, ℕ, List, [], length, take, drop, IfSome, OnSome, IsPermutation};
 ghost use Rattle.cborn_model.specs.Tree.{entries};
 ghost use Rattle.cborn_judge.specs.shared.Judged.{RepeatFlaw};
-ghost use Rattle.cborn_transcode.specs.Transcoding.{IsTranscoded};
 ghost use Rattle.cborn_search.specs.Flawed.{Sought, FindsTold, SeenKey, AreSought};
-ghost use Rattle.cborn_search.specs.devices.Marks.{mark_bytes, AreMarked, TakesKey, InPlace, ComesAfter, TieAfter, TieFlaw};
+ghost use Rattle.cborn_search.specs.devices.Marks.{mark_bytes, mark_place, AreMarked, IsPushed, IsWritten, Takes, InPlace, ComesAfter, TieAfter, TieFlaw};
 ghost use Rattle.cborn_wire.specs.Parts.{Pair};
 
 use cborn_judge::{InvalidReason, earliest};
-use cborn_model::{Bytewise, KeyOrder, Limit};
-use cborn_transcode::{is_deterministic, transcode};
+use cborn_model::{Bytewise, KeyOrder};
+use cborn_transcode::{split_item, transcode_item};
 use std::alloc::Global;
 use std::cmp::Ordering;
+use std::mem;
 
-/// Where a key's encoding lies among those of the others, and where the key stands.
+/// Where the encoding of a key lies.
 #[derive(Clone, Copy)]
 pub(crate) struct Mark {
     /// A number that rises with the encoding, as a rule. Nothing but speed rests on it.
-    hint: u32,
+    hint: u64,
+    /// Where it begins in the pairs of the map; or behind these, in what was written.
     start: u32,
+    /// Its length in bytes.
     len: u32,
-    place: u32,
 }
 
-/// The deterministic encodings of the keys of a map that mean something, one after another.
+/// What became of a key before it was searched. Each case has at most one number, so that it comes
+/// back in registers.
+#[derive(Clone, Copy)]
+pub(crate) enum Taken {
+    /// It means something, and is taken in; so many bytes follow it.
+    Behind(usize),
+    /// It isn't taken in: it means nothing, it wasn't tried, or memory was refused.
+    Not,
+    /// Nothing is promised: memory was refused, or a mark has no room for where it lies.
+    Unknown,
+}
+
+/// The deterministic encodings of the keys of a map that mean something. A key that is its own
+/// encoding stays in the pairs of the map, which are told at each call: the bytes from the first pair
+/// on to the end of the input. The encodings of the others are written, and behind each the place of
+/// its key, in 4 bytes.
 #[derive(Drop)]
 pub(crate) struct Keys {
-    bytes: Vec<u8>,
+    written: Vec<u8>,
     marks: Vec<Mark>,
 }
 
 impl Keys {
     /// No keys.
     pub(crate) fn new(alloc: Global) -> Keys
-        ensures { AreMarked [] result }
+        ensures { result.marks.items ≡ [] }
     {
         Keys {
-            bytes: Vec::new(alloc),
+            written: Vec::new(alloc),
             marks: Vec::new(alloc),
         }
     }
 
     /// No keys, in the same room.
     pub(crate) fn clear(&mut self)
-        ensures { AreMarked [] self.new }
+        ensures { self.new.marks.items ≡ [] }
     {
-        self.bytes.clear();
+        self.written.clear();
         self.marks.clear();
     }
 
@@ -56,63 +71,65 @@ impl Keys {
         self.marks.len()
     }
 
-    /// Takes in the key at the front of `bytes`, the last of `total`, up to `rest`, unless it has a
-    /// flaw. None promises nothing.
+    /// Takes in the key at the front of `bytes`, which `pairs` end with, the last of `total`, if it is
+    /// no deeper than `room` and means something. Where it isn't its own encoding, that is made in
+    /// `encoding`, whose room serves one key after another.
     #[inline(never)]
     pub(crate) fn take(
         &mut self,
         alloc: Global,
-        only_texts: bool,
+        encoding: &mut Vec<u8>,
+        room: u64,
         total: u64,
+        pairs: &[u8],
         bytes: &[u8],
-        rest: &[u8],
-        flaw: Option<(u64, InvalidReason)>,
-    ) -> Option<()>
-        requires { length bytes.now ≤ total }
-        ensures { OnSome result (TakesKey only_texts total bytes.now rest.now flaw self.old self.new) }
+    ) -> Taken
+        requires room { room ≤ 1024 }
+        requires within { length pairs.now ≤ total }
+        requires behind { (front : List ℕ) × (pairs.now ≡ front ++ bytes.now) }
+        ensures { Takes room total pairs.now bytes.now self.old self.new result }
     {
-        if only_texts {
-            return Some(());
+        if let Some((key, rest)) = split_item::<Bytewise>(room, bytes) {
+            let start = (pairs.len() - bytes.len()) as u64;
+            return match self.push(start, key) {
+                Some(_) => Taken::Behind(rest.len()),
+                None => Taken::Unknown,
+            };
         }
-        match flaw {
-            Some(_) => Some(()),
-            None => {
-                let key = before(bytes, rest)?;
-                self.take_sound(alloc, key, total - bytes.len() as u64)?;
-                Some(())
-            }
+        encoding.clear();
+        let Some(rest) = transcode_item::<Bytewise>(alloc, room, bytes, encoding) else {
+            return Taken::Not;
+        };
+        match self.write(total - bytes.len() as u64, pairs, encoding) {
+            Some(_) => Taken::Behind(rest.len()),
+            None => Taken::Unknown,
         }
     }
 
-    /// Takes in the key at `place`, which has no flaw: its own bytes, where they are its encoding.
-    fn take_sound(&mut self, alloc: Global, key: &[u8], place: u64) -> Option<()>
-        ensures { OnSome result ((encoding : List ℕ) × IsTranscoded bytewise 1024 key.now encoding × ((ks : List SeenKey) (n : ℕ) → AreMarked ks self.old → AreMarked (ks ++ (encoding, n, place) ∷ []) self.new)) }
+    /// Marks the encoding of the key at `place`, and keeps it. Where none was written before, it isn't
+    /// copied. None promises nothing.
+    fn write(&mut self, place: u64, pairs: &[u8], encoding: &mut Vec<u8>) -> Option<()>
+        ensures { OnSome result (IsWritten place (length pairs.now) encoding.old.items self.old self.new) }
     {
-        let limit = Limit::new(1024)?;
-        if is_deterministic::<Bytewise>(alloc, limit, key) {
-            return self.push(key, place);
-        }
-        let encoding = transcode::<Bytewise>(alloc, limit, key)?;
-        self.push(&encoding, place)?;
-        Some(())
-    }
-
-    /// Takes in the key at `place` that has this encoding.
-    fn push(&mut self, encoding: &[u8], place: u64) -> Option<()>
-        ensures { OnSome result ((ks : List SeenKey) (n : ℕ) → AreMarked ks self.old → AreMarked (ks ++ (encoding.now, n, place) ∷ []) self.new) }
-    {
-        if encoding.is_empty() {
-            return None;
-        }
-        let start = narrow(self.bytes.len() as u64)?;
-        let len = narrow(encoding.len() as u64)?;
         let place = narrow(place)?;
-        self.bytes.extend_from_slice(encoding).ok()?;
+        let start = (pairs.len() as u64).checked_add(self.written.len() as u64)?;
+        self.push(start, encoding)?;
+        if self.written.is_empty() {
+            mem::swap(&mut self.written, encoding);
+        } else {
+            self.written.extend_from_slice(encoding).ok()?;
+        }
+        self.written.extend_from_slice(&place.to_be_bytes()).ok()
+    }
+
+    /// Marks the encoding that begins at `start`. None promises nothing.
+    fn push(&mut self, start: u64, encoding: &[u8]) -> Option<()>
+        ensures { OnSome result (IsPushed start encoding.now self.old self.new) }
+    {
         let mark = Mark {
             hint: hint(encoding),
-            start,
-            len,
-            place,
+            start: narrow(start)?,
+            len: narrow(encoding.len() as u64)?,
         };
         self.marks.push(mark).ok()?;
         Some(())
@@ -120,28 +137,23 @@ impl Keys {
 
     /// The first key that is the same as an earlier one. None promises nothing.
     #[inline(never)]
-    pub(crate) fn first_repeat(&mut self, only_texts: bool) -> Option<Option<(u64, InvalidReason)>>
-        ensures { IfSome result (λ first. (ns : List Pair) (ks : List SeenKey) → AreMarked ks self.old → AreSought only_texts ks ns → FindsTold (Sought only_texts (RepeatFlaw (entries ns))) first) }
+    pub(crate) fn first_repeat(
+        &mut self,
+        only_texts: bool,
+        total: u64,
+        pairs: &[u8],
+    ) -> Option<Option<(u64, InvalidReason)>>
+        ensures { IfSome result (λ first. (ns : List Pair) (ks : List SeenKey) (end : ℕ) → AreMarked total pairs.now end ks self.old → AreSought only_texts ks ns → FindsTold (Sought only_texts (RepeatFlaw (entries ns))) first) }
     {
         if only_texts {
             return Some(None);
         }
-        if let Some(first) = first_tie(&self.bytes, &self.marks) {
+        if let Some(first) = first_tie(total, pairs, &self.written, &self.marks) {
             return Some(first);
         }
-        sort(&self.bytes, &mut self.marks);
-        first_tie(&self.bytes, &self.marks)
+        sort(total, pairs, &self.written, &mut self.marks);
+        first_tie(total, pairs, &self.written, &self.marks)
     }
-}
-
-/// The bytes of which `rest` are the last, without these. None promises nothing.
-fn before<'a>(bytes: &'a [u8], rest: &[u8]) -> Option<&'a [u8]>
-    ensures { IfSome result (λ front. front.now ≡ take (length bytes.now - length rest.now) bytes.now) }
-{
-    if rest.len() > bytes.len() {
-        return None;
-    }
-    Some(&bytes[..bytes.len() - rest.len()])
 }
 
 /// The number, where it fits 32 bits.
@@ -151,12 +163,10 @@ fn narrow(n: u64) -> Option<u32>
     u32::try_from(n).ok()
 }
 
-/// The bytes that are marked.
-fn bytes_of<'a>(bytes: &'a [u8], mark: &Mark) -> &'a [u8]
-    ensures { result.now ≡ mark_bytes bytes.now mark.now }
+/// As many as `len` of the bytes from `start` on.
+fn part(bytes: &[u8], start: usize, len: usize) -> &[u8]
+    ensures { result.now ≡ take len (drop start bytes.now) }
 {
-    let start = mark.start as usize;
-    let len = mark.len as usize;
     if start > bytes.len() {
         return &[];
     }
@@ -168,66 +178,103 @@ fn bytes_of<'a>(bytes: &'a [u8], mark: &Mark) -> &'a [u8]
     found
 }
 
-/// Arranges the marks by their bytes, and those of the same bytes by where they begin. Where the
-/// last comes before the first they are turned round at first, since keys that fall then rise.
-fn sort(bytes: &[u8], marks: &mut Vec<Mark>)
+/// The bytes that are marked.
+fn bytes_of<'a>(pairs: &'a [u8], written: &'a [u8], mark: &Mark) -> &'a [u8]
+    ensures { result.now ≡ mark_bytes pairs.now written.now mark.now }
+{
+    let start = mark.start as usize;
+    let len = mark.len as usize;
+    if start < pairs.len() {
+        part(pairs, start, len)
+    } else {
+        part(written, start - pairs.len(), len)
+    }
+}
+
+/// The place of the key that is marked. None promises nothing.
+fn place_of(total: u64, pairs: &[u8], written: &[u8], mark: &Mark) -> Option<u64>
+    ensures { IfSome result (λ place. place ≡ mark_place total pairs.now written.now mark.now) }
+{
+    let start = mark.start as usize;
+    if start < pairs.len() {
+        return total
+            .checked_sub(pairs.len() as u64)?
+            .checked_add(start as u64);
+    }
+    let behind = (start - pairs.len()).checked_add(mark.len as usize)?;
+    let place = part(written, behind, 4).first_chunk::<4>()?;
+    Some(u64::from(u32::from_be_bytes(*place)))
+}
+
+/// Arranges the marks by their bytes, and those of the same bytes by the places of the keys. Where
+/// the last comes before the first they are turned round at first, since keys that fall then rise.
+fn sort(total: u64, pairs: &[u8], written: &[u8], marks: &mut Vec<Mark>)
     ensures { IsPermutation marks.old.items marks.new.items }
 {
-    if is_falling(bytes, marks) {
+    if is_falling(pairs, written, marks) {
         marks.reverse();
     }
-    marks.sort_unstable_by(|a, b| compare_marks(bytes, a, b));
+    marks.sort_unstable_by(|a, b| compare_marks(total, pairs, written, a, b));
 }
 
 /// Whether the last mark comes before the first.
-fn is_falling(bytes: &[u8], marks: &[Mark]) -> bool {
+fn is_falling(pairs: &[u8], written: &[u8], marks: &[Mark]) -> bool {
     match marks {
-        [first, .., last] => compare_marks(bytes, last, first).is_lt(),
+        [first, .., last] => bytes_of(pairs, written, last) < bytes_of(pairs, written, first),
         _ => false,
     }
 }
 
-/// How two marks compare by their bytes, and those of the same bytes by where they begin.
+/// How two marks compare by their bytes, and those of the same bytes by the places of the keys.
 #[inline(always)]
-fn compare_marks(bytes: &[u8], a: &Mark, b: &Mark) -> Ordering {
+fn compare_marks(total: u64, pairs: &[u8], written: &[u8], a: &Mark, b: &Mark) -> Ordering {
     match a.hint.cmp(&b.hint) {
-        Ordering::Equal => compare_bytes(bytes, a, b),
+        Ordering::Equal => compare_bytes(total, pairs, written, a, b),
         unequal => unequal,
     }
 }
 
-/// The same of marks with one hint.
-fn compare_bytes(bytes: &[u8], a: &Mark, b: &Mark) -> Ordering {
-    match bytes_of(bytes, a).cmp(bytes_of(bytes, b)) {
-        Ordering::Equal => a.start.cmp(&b.start),
+/// The same of marks with one hint. It stands out of line, so that a sort has little code at each of
+/// its comparisons.
+#[inline(never)]
+fn compare_bytes(total: u64, pairs: &[u8], written: &[u8], a: &Mark, b: &Mark) -> Ordering {
+    match bytes_of(pairs, written, a).cmp(bytes_of(pairs, written, b)) {
+        Ordering::Equal => {
+            place_of(total, pairs, written, a).cmp(&place_of(total, pairs, written, b))
+        }
         unequal => unequal,
     }
 }
 
-/// The number that the first four bytes make, with zeros for those that are missing.
-fn hint(encoding: &[u8]) -> u32 {
-    match encoding.first_chunk::<4>() {
-        Some(bytes) => u32::from_be_bytes(*bytes),
+/// The number that the first eight bytes make, with zeros for those that are missing.
+fn hint(encoding: &[u8]) -> u64 {
+    match encoding.first_chunk::<8>() {
+        Some(bytes) => u64::from_be_bytes(*bytes),
         None => short_hint(encoding),
     }
 }
 
-fn short_hint(encoding: &[u8]) -> u32 {
-    let mut front = [0; 4];
-    let len = encoding.len().min(4);
+fn short_hint(encoding: &[u8]) -> u64 {
+    let mut front = [0; 8];
+    let len = encoding.len().min(8);
     front[..len].copy_from_slice(&encoding[..len]);
-    u32::from_be_bytes(front)
+    u64::from_be_bytes(front)
 }
 
 /// The first of the keys that have the bytes of the one before them. None: the marks are in no
 /// order.
-fn first_tie(bytes: &[u8], marks: &[Mark]) -> Option<Option<(u64, InvalidReason)>>
-    ensures { IfSome result (λ first. InPlace bytes.now marks.now × FindsTold (TieFlaw bytes.now marks.now) first) }
+fn first_tie(
+    total: u64,
+    pairs: &[u8],
+    written: &[u8],
+    marks: &[Mark],
+) -> Option<Option<(u64, InvalidReason)>>
+    ensures { IfSome result (λ first. InPlace total pairs.now written.now marks.now × FindsTold (TieFlaw total pairs.now written.now marks.now) first) }
 {
     let mut first: Option<(u64, InvalidReason)> = None;
     let mut before: Option<Mark> = None;
     for mark in marks {
-        let next = tie_with(bytes, before, mark)?;
+        let next = tie_with(total, pairs, written, before, mark)?;
         first = earliest(first, next);
         before = Some(*mark);
     }
@@ -235,19 +282,30 @@ fn first_tie(bytes: &[u8], marks: &[Mark]) -> Option<Option<(u64, InvalidReason)
 }
 
 /// The flaw of a key that has the bytes of the one before it. None: it doesn't come behind that.
-fn tie_with(bytes: &[u8], before: Option<Mark>, mark: &Mark) -> Option<Option<(u64, InvalidReason)>>
-    ensures { IfSome result (λ next. ComesAfter bytes.now before mark.now × FindsTold (TieAfter bytes.now before mark.now) next) }
+fn tie_with(
+    total: u64,
+    pairs: &[u8],
+    written: &[u8],
+    before: Option<Mark>,
+    mark: &Mark,
+) -> Option<Option<(u64, InvalidReason)>>
+    ensures { IfSome result (λ next. ComesAfter total pairs.now written.now before mark.now × FindsTold (TieAfter total pairs.now written.now before mark.now) next) }
 {
     let Some(before) = before else {
         return Some(None);
     };
-    match Bytewise::compare(bytes_of(bytes, &before), bytes_of(bytes, mark)) {
+    match Bytewise::compare(
+        bytes_of(pairs, written, &before),
+        bytes_of(pairs, written, mark),
+    ) {
         Ordering::Less => Some(None),
         Ordering::Equal => {
-            if before.start >= mark.start {
+            let earlier = place_of(total, pairs, written, &before)?;
+            let place = place_of(total, pairs, written, mark)?;
+            if earlier >= place {
                 return None;
             }
-            Some(Some((u64::from(mark.place), InvalidReason::DuplicateKey)))
+            Some(Some((place, InvalidReason::DuplicateKey)))
         }
         Ordering::Greater => None,
     }

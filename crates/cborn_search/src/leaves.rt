@@ -6,9 +6,9 @@ ghost use Rattle.cborn_model.specs.declared.heads.Major.TheVariants.{ByteString,
 ghost use Rattle.cborn_model.specs.Heads.{Given, Unbounded, head, WidthFits};
 ghost use Rattle.cborn_wire.specs.HeadReading.{ArgumentFits, seen_argument};
 ghost use Rattle.cborn_wire.specs.Parts.{StringRead, IsSimpleArgument, Leaves};
-ghost use Rattle.cborn_search.specs.Flawed.{FindsTold, TextFlaw, ChunkSeen, ChunksSeen, Scanned};
+ghost use Rattle.cborn_search.specs.Flawed.{FindsTold, TextFlaw, ChunkSeen, ChunksSeen, Searched};
 
-use crate::told::Finding;
+use crate::finding::Finding;
 use cborn_judge::{InvalidReason, earliest};
 use cborn_model::{Major, is_simple_value, shortest};
 use cborn_wire::{Argument, HeadRead, behind_break, read_head, read_mixed_head};
@@ -34,7 +34,7 @@ pub(crate) fn is_sound(only_texts: bool, is_string: bool) -> bool
 #[inline(always)]
 pub(crate) fn integer_len(bytes: &[u8]) -> Option<usize>
     ensures len { IfSome result (λ len. len ≤ length bytes.now) }
-    ensures integer { IfSome result (λ len. (only : Bool) (room total : ℕ) → Scanned only room total bytes.now (drop len bytes.now) None false) }
+    ensures integer { IfSome result (λ len. (only : Bool) (room total : ℕ) → Searched only room total bytes.now (drop len bytes.now) None false) }
 {
     let [0..64, ..] = bytes else {
         return None;
@@ -89,7 +89,7 @@ pub(crate) fn is_simple(argument: Argument) -> bool
 }
 
 /// Chunks up to a break: what follows them, and of a text their first flaw.
-pub(crate) fn scan_chunks(
+pub(crate) fn search_chunks(
     major: Major,
     total: u64,
     bytes: &[u8],
@@ -103,7 +103,7 @@ pub(crate) fn scan_chunks(
         if let [255, ..] = rest {
             break;
         }
-        let (after, flaw) = scan_chunk(major, total, rest)?;
+        let (after, flaw) = search_chunk(major, total, rest)?;
         rest = after;
         first = earliest(first, flaw);
     }
@@ -111,7 +111,7 @@ pub(crate) fn scan_chunks(
 }
 
 /// A chunk.
-fn scan_chunk(
+fn search_chunk(
     major: Major,
     total: u64,
     bytes: &[u8],
@@ -149,8 +149,8 @@ fn chunk_flaw(major: Major, place: u64, bytes: &[u8]) -> Option<(u64, InvalidRea
 
 /// The text of `n` bytes at the front, whose head is at `place`; answers how many bytes follow it.
 #[inline(never)]
-pub(crate) fn scan_text(place: u64, n: u64, bytes: &[u8], found: &mut Finding) -> Option<usize>
-    ensures { IfSome result (λ left. (only : Bool) (room total : ℕ) (w : Width) → WidthFits w n → place ≡ total - length (head TextString (Given w n) ++ bytes.now) → Leaves (λ rest. Scanned only room total (head TextString (Given w n) ++ bytes.now) rest found.new.flaw found.new.is_string) left) }
+pub(crate) fn search_text(place: u64, n: u64, bytes: &[u8], found: &mut Finding) -> Option<usize>
+    ensures { IfSome result (λ left. (only : Bool) (room total : ℕ) (w : Width) → WidthFits w n → place ≡ total - length (head TextString (Given w n) ++ bytes.now) → Leaves (λ rest. Searched only room total (head TextString (Given w n) ++ bytes.now) rest found.new.flaw found.new.is_string) left) }
 {
     let (content, after) = string_at(n, bytes)?;
     let flaw = text_flaw(place, content);
@@ -163,11 +163,11 @@ pub(crate) fn scan_text(place: u64, n: u64, bytes: &[u8], found: &mut Finding) -
 
 /// The chunks at the front of a byte string, and its break; answers how many bytes follow it.
 #[inline(never)]
-pub(crate) fn scan_long_bytes(total: u64, bytes: &[u8], found: &mut Finding) -> Option<usize>
+pub(crate) fn search_long_bytes(total: u64, bytes: &[u8], found: &mut Finding) -> Option<usize>
     requires { length bytes.now ≤ total }
-    ensures { IfSome result (λ left. (only : Bool) (room : ℕ) → length (head ByteString Unbounded ++ bytes.now) ≤ total → Leaves (λ rest. Scanned only room total (head ByteString Unbounded ++ bytes.now) rest found.new.flaw found.new.is_string) left) }
+    ensures { IfSome result (λ left. (only : Bool) (room : ℕ) → length (head ByteString Unbounded ++ bytes.now) ≤ total → Leaves (λ rest. Searched only room total (head ByteString Unbounded ++ bytes.now) rest found.new.flaw found.new.is_string) left) }
 {
-    let (after, _) = scan_chunks(Major::ByteString, total, bytes)?;
+    let (after, _) = search_chunks(Major::ByteString, total, bytes)?;
     let end = behind_break(after)?;
     *found = Finding {
         flaw: None,
@@ -178,11 +178,11 @@ pub(crate) fn scan_long_bytes(total: u64, bytes: &[u8], found: &mut Finding) -> 
 
 /// The chunks at the front of a text, and its break; answers how many bytes follow it.
 #[inline(never)]
-pub(crate) fn scan_long_text(total: u64, bytes: &[u8], found: &mut Finding) -> Option<usize>
+pub(crate) fn search_long_text(total: u64, bytes: &[u8], found: &mut Finding) -> Option<usize>
     requires { length bytes.now ≤ total }
-    ensures { IfSome result (λ left. (only : Bool) (room : ℕ) → length (head TextString Unbounded ++ bytes.now) ≤ total → Leaves (λ rest. Scanned only room total (head TextString Unbounded ++ bytes.now) rest found.new.flaw found.new.is_string) left) }
+    ensures { IfSome result (λ left. (only : Bool) (room : ℕ) → length (head TextString Unbounded ++ bytes.now) ≤ total → Leaves (λ rest. Searched only room total (head TextString Unbounded ++ bytes.now) rest found.new.flaw found.new.is_string) left) }
 {
-    let (after, flaw) = scan_chunks(Major::TextString, total, bytes)?;
+    let (after, flaw) = search_chunks(Major::TextString, total, bytes)?;
     let end = behind_break(after)?;
     *found = Finding {
         flaw,

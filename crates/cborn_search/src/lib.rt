@@ -1,18 +1,19 @@
 //! The first flaw of the items that bytes hold, without a tree.
 //!
 //! [`first_flaw`] tells why bytes that are well-formed hold no items, or that they do. It goes
-//! through the bytes once, writes nothing, and keeps no more than the encodings of the keys of the
-//! maps that it is in. [`first_bad_text`] is the same search for texts that aren't UTF-8 alone, which
-//! keeps nothing.
+//! through the bytes once. Of the keys of the maps that it is in it keeps where they lie, and the
+//! encodings of those that aren't their own. A key is taken in before it is searched, since one that
+//! has an encoding has no flaw; only a key that has none is searched, with all that it holds.
+//! [`first_bad_text`] is the same search for texts that aren't UTF-8 alone, which keeps nothing.
 //!
 //! A reader of the definitions starts at `specs/Searching.antt`.
 #![tactic(auto)]
 
+mod finding;
 mod flaws;
 mod keys;
 mod leaves;
-mod scanned_maps;
+mod searched_maps;
 mod sequences;
-mod told;
 
 pub use sequences::{Validity, first_bad_text, first_flaw};

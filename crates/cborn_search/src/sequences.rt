@@ -6,9 +6,9 @@ ghost use Rattle.cborn_model.specs.Spelled.{Wellformed};
 ghost use Rattle.cborn_model.specs.Tree.{Trees};
 ghost use Rattle.cborn_search.specs.Searching.{IsValidity, IsFirstBadText};
 
-use crate::flaws::scan_item;
-use crate::scanned_maps::SpareMaps;
-use crate::told::Finding;
+use crate::finding::Finding;
+use crate::flaws::search_item;
+use crate::searched_maps::SpareMaps;
 use cborn_judge::{InvalidReason, earliest};
 use cborn_model::Limit;
 use std::alloc::Global;
@@ -33,8 +33,7 @@ pub enum Validity {
 /// and 5.6); or that each item means something.
 ///
 /// It takes memory only for the keys of maps. Nothing is known where the bytes aren't well-formed
-/// under the limit, where memory was refused, and where a key holds what `cborn_transcode` doesn't
-/// encode.
+/// under the limit, and where memory was refused. Of an input of 4 GB and more nothing is promised.
 pub fn first_flaw(alloc: Global, limit: Limit, bytes: &[u8]) -> Validity
     ensures { IsValidity limit bytes.now result }
 {
@@ -51,7 +50,7 @@ pub fn first_flaw(alloc: Global, limit: Limit, bytes: &[u8]) -> Validity
         if rest.is_empty() {
             break;
         }
-        let Some(behind) = scan_item(&mut maps, false, room, total, rest, &mut found) else {
+        let Some(behind) = search_item(&mut maps, false, room, total, rest, &mut found) else {
             return Validity::Unknown;
         };
         rest = behind;
@@ -85,7 +84,7 @@ pub fn first_bad_text(alloc: Global, limit: Limit, bytes: &[u8]) -> Option<u64>
         if rest.is_empty() {
             break;
         }
-        rest = scan_item(&mut maps, true, room, total, rest, &mut found)?;
+        rest = search_item(&mut maps, true, room, total, rest, &mut found)?;
         first = earliest(first, found.flaw);
     }
     if !rest.is_empty() {

@@ -103,10 +103,13 @@ pub(crate) fn head_departure(bytes: &[u8]) -> Walked
 
 /// Where a bignum departs, whose content at the front isn't the shortest, or is loose.
 #[inline(never)]
-pub(crate) fn bignum_departure<O: KeyOrder>(alloc: Global, n: u64, bytes: &[u8]) -> Walked
+pub(crate) fn bignum_departure<O: KeyOrder>(alloc: Option<Global>, n: u64, bytes: &[u8]) -> Walked
     requires { (n ≡ 2) ⊎ (n ≡ 3) }
     ensures { (room : ℕ) → WalksBehind O.order room Tag n bytes.now result }
 {
+    let Some(alloc) = alloc else {
+        return Walked::Unknown;
+    };
     match is_loose::<O>(alloc, bytes) {
         Some(true) => Walked::LooseBignum(bytes.len() + 1),
         Some(false) => head_departure(bytes),
@@ -129,13 +132,16 @@ fn is_loose<O: KeyOrder>(alloc: Global, bytes: &[u8]) -> Option<bool>
 /// key `before`: a key that isn't above the one before it departs at its own place.
 #[inline(never)]
 pub(crate) fn key_departure<O: KeyOrder>(
-    alloc: Global,
+    alloc: Option<Global>,
     before: Option<&[u8]>,
     bytes: &[u8],
     found: Walked,
 ) -> Walked
     ensures { KeyStops O.order before.entry bytes.now found result }
 {
+    let Some(alloc) = alloc else {
+        return Walked::Unknown;
+    };
     let Some(left) = found.left() else {
         return Walked::Unknown;
     };

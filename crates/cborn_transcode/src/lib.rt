@@ -26,7 +26,8 @@
 //!
 //! [`first_departure`] walks over bytes up to where they first aren't deterministic: the same
 //! anatomy, with nothing written. `walks` has what holds other items, `walked_leaves` the rest, and
-//! `departures` what is told where it stops.
+//! `departures` what is told where it stops. Where it is asked only whether bytes depart, as
+//! [`is_deterministic`] and [`split_item`] ask, nothing is encoded to tell where.
 #![tactic(auto)]
 
 mod departures;
@@ -41,5 +42,5 @@ mod walked_leaves;
 mod walks;
 
 pub use departures::Departure;
-pub use passes::transcode;
+pub use passes::{transcode, transcode_item};
 pub use walks::{first_departure, is_deterministic, split_item};

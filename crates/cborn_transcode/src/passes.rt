@@ -1,7 +1,7 @@
 //! A whole input.
 
 ghost use Rattle.std.specs.Prelude.{ℕ, ◌≤◌, [], IfSome};
-ghost use Rattle.cborn_transcode.specs.Transcoding.{ItemsTranscoded, IsTranscoded};
+ghost use Rattle.cborn_transcode.specs.Transcoding.{ItemTranscoded, ItemsTranscoded, IsTranscoded};
 
 use crate::items::put_item;
 use cborn_model::{KeyOrder, Limit};
@@ -14,6 +14,22 @@ pub fn transcode<O: KeyOrder>(alloc: Global, limit: Limit, bytes: &[u8]) -> Opti
     ensures { IfSome result (λ out. IsTranscoded O.order limit bytes.now out.items) }
 {
     put_all::<O>(alloc, limit.get(), bytes)
+}
+
+/// Appends the deterministic encoding of the item at the front of the bytes, which is no deeper than
+/// `room`, the keys of maps in the order `O` (RFC 8949 section 4.2); answers what follows it, which
+/// isn't looked at. None promises nothing, nor of what `out` then holds: no item stands there, or
+/// memory was refused.
+pub fn transcode_item<'a, O: KeyOrder>(
+    alloc: Global,
+    room: u64,
+    bytes: &'a [u8],
+    out: &mut Vec<u8>,
+) -> Option<&'a [u8]>
+    requires { room ≤ 1024 }
+    ensures { IfSome result (λ rest. ItemTranscoded O.order room bytes.now rest.now out.old.items out.new.items) }
+{
+    put_item::<O>(alloc, room, bytes, out)
 }
 
 /// The encodings of the items, none deeper than `room`, up to the end.

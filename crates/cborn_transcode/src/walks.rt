@@ -17,13 +17,12 @@ use std::alloc::Global;
 /// another, none deeper than `limit`, the keys of maps in the order `O` (RFC 8949 section 4.2).
 /// False promises nothing: `first_departure`, `transcode`, or the reader that keeps a tree, tells
 /// more.
-pub fn is_deterministic<O: KeyOrder>(alloc: Global, limit: Limit, bytes: &[u8]) -> bool
+///
+/// The bytes are walked over once, in place, up to where they aren't. No memory is taken.
+pub fn is_deterministic<O: KeyOrder>(limit: Limit, bytes: &[u8]) -> bool
     ensures { IsTrue result → IsTranscoded O.order limit bytes.now bytes.now }
 {
-    matches!(
-        first_departure::<O>(alloc, limit, bytes),
-        Departure::Deterministic
-    )
+    matches!(departure::<O>(None, limit, bytes), Departure::Deterministic)
 }
 
 /// Where the bytes first depart from the deterministic encodings of the items that they hold, one
@@ -34,6 +33,14 @@ pub fn is_deterministic<O: KeyOrder>(alloc: Global, limit: Limit, bytes: &[u8]) 
 /// looked at, so that a departure promises nothing of bytes that hold no items. Memory is taken only
 /// where a bignum or a key departs, for its encoding.
 pub fn first_departure<O: KeyOrder>(alloc: Global, limit: Limit, bytes: &[u8]) -> Departure
+    ensures { IsFirstDeparture O.order limit bytes.now result }
+{
+    departure::<O>(Some(alloc), limit, bytes)
+}
+
+/// What both ask. Without `alloc` it is asked only whether the bytes depart: where a bignum or a key
+/// does, the answer is unknown.
+fn departure<O: KeyOrder>(alloc: Option<Global>, limit: Limit, bytes: &[u8]) -> Departure
     ensures { IsFirstDeparture O.order limit bytes.now result }
 {
     let room = limit.get();
@@ -59,14 +66,15 @@ pub fn first_departure<O: KeyOrder>(alloc: Global, limit: Limit, bytes: &[u8]) -
 }
 
 /// The item at the front of the bytes, which is its own deterministic encoding, no deeper than
-/// `limit`, the keys of maps in the order `O` (RFC 8949 section 4.2); and what follows it, which
+/// `room`, the keys of maps in the order `O` (RFC 8949 section 4.2); and what follows it, which
 /// isn't looked at. None promises nothing: the item may depart from that encoding, or there may be
-/// none.
-pub fn split_item<O: KeyOrder>(alloc: Global, limit: Limit, bytes: &[u8]) -> Option<(&[u8], &[u8])>
+/// none. No memory is taken.
+pub fn split_item<O: KeyOrder>(room: u64, bytes: &[u8]) -> Option<(&[u8], &[u8])>
+    requires { room ≤ 1024 }
     ensures parts { IfSome result (λ r. bytes.now ≡ r.0.now ++ r.1.now) }
-    ensures item { IfSome result (λ r. ItemTranscoded O.order limit bytes.now r.1.now [] r.0.now) }
+    ensures item { IfSome result (λ r. ItemTranscoded O.order room bytes.now r.1.now [] r.0.now) }
 {
-    let Walked::Behind(behind) = walk_item::<O>(alloc, limit.get(), bytes) else {
+    let Walked::Behind(behind) = walk_item::<O>(None, room, bytes) else {
         return None;
     };
     Some(split_before(bytes, behind))
@@ -76,7 +84,7 @@ pub fn split_item<O: KeyOrder>(alloc: Global, limit: Limit, bytes: &[u8]) -> Opt
 /// departs.
 #[cycle(walked)]
 #[inline(always)]
-fn walk_item<O: KeyOrder>(alloc: Global, room: u64, bytes: &[u8]) -> Walked
+fn walk_item<O: KeyOrder>(alloc: Option<Global>, room: u64, bytes: &[u8]) -> Walked
     requires { room ≤ 1024 }
     ensures { Walks O.order room bytes.now result }
 {
@@ -97,7 +105,7 @@ fn walk_item<O: KeyOrder>(alloc: Global, room: u64, bytes: &[u8]) -> Walked
 /// The same of the `n` items of an array, from behind its head.
 #[cycle(walked)]
 #[inline(never)]
-fn walk_array<O: KeyOrder>(alloc: Global, room: u64, n: u64, bytes: &[u8]) -> Walked
+fn walk_array<O: KeyOrder>(alloc: Option<Global>, room: u64, n: u64, bytes: &[u8]) -> Walked
     requires { room ≤ 1024 }
     ensures { WalksBehind O.order room Array n bytes.now result }
 {
@@ -119,7 +127,7 @@ fn walk_array<O: KeyOrder>(alloc: Global, room: u64, n: u64, bytes: &[u8]) -> Wa
 /// The same as `walk_item`, quicker where an integer comes first.
 #[cycle(walked)]
 #[inline(always)]
-fn walk_element<O: KeyOrder>(alloc: Global, room: u64, bytes: &[u8]) -> Walked
+fn walk_element<O: KeyOrder>(alloc: Option<Global>, room: u64, bytes: &[u8]) -> Walked
     requires { room ≤ 1024 }
     ensures { Walks O.order room bytes.now result }
 {
@@ -133,7 +141,7 @@ fn walk_element<O: KeyOrder>(alloc: Global, room: u64, bytes: &[u8]) -> Walked
 /// The same of the `n` pairs of a map, from behind its head.
 #[cycle(walked)]
 #[inline(never)]
-fn walk_map<O: KeyOrder>(alloc: Global, room: u64, n: u64, bytes: &[u8]) -> Walked
+fn walk_map<O: KeyOrder>(alloc: Option<Global>, room: u64, n: u64, bytes: &[u8]) -> Walked
     requires { room ≤ 1024 }
     ensures { WalksBehind O.order room Map n bytes.now result }
 {
@@ -166,7 +174,7 @@ fn walk_map<O: KeyOrder>(alloc: Global, room: u64, n: u64, bytes: &[u8]) -> Walk
 /// The same of the item under the tag `n`, from behind that.
 #[cycle(walked)]
 #[inline(never)]
-fn walk_tagged<O: KeyOrder>(alloc: Global, room: u64, n: u64, bytes: &[u8]) -> Walked
+fn walk_tagged<O: KeyOrder>(alloc: Option<Global>, room: u64, n: u64, bytes: &[u8]) -> Walked
     requires { room ≤ 1024 }
     ensures { WalksBehind O.order room Tag n bytes.now result }
 {

@@ -7,18 +7,18 @@ use Rattle.cborn_search.proofs.Marking.{no_tie, tie-take_more}
 use Rattle.cborn_search.proofs.keys.first_tie.Goals as goal
 
 abbrev none : Mark
-none = record { hint = 0; start = 0; len = 0; place = 0 }
+none = record { hint = 0; start = 0; len = 0 }
 
 pub loop-mark-init : goal.loop-mark-init
-loop-mark-init c = no_tie c.args.bytes.now
+loop-mark-init c = no_tie c.args.total c.args.pairs.now c.args.written.now
 
 pub loop-mark-preserved : goal.loop-mark-preserved
 loop-mark-preserved c =
     let i = c.loop-mark.mark-index in
     let m : Mark = get_or c.args.marks.now i none in
-    tie-take_more c.args.bytes.now c.args.marks.now i m c.loop-mark.before c.loop-mark.first c.in_ok-next.next c.earliest-first.result c.loop-mark-test.true (get_or_default c.args.marks.now i none m c.loop-mark-test.true) c.loop-mark.invariant c.in_ok-next.ensures.0 c.in_ok-next.ensures.1 c.earliest-first.ensures
+    tie-take_more c.args.total c.args.pairs.now c.args.written.now c.args.marks.now i m c.loop-mark.before c.loop-mark.first c.in_ok-next.next c.earliest-first.result c.loop-mark-test.true (get_or_default c.args.marks.now i none m c.loop-mark-test.true) c.loop-mark.invariant c.in_ok-next.ensures.0 c.in_ok-next.ensures.1 c.earliest-first.ensures
 
 pub returns : goal.returns
 returns c =
     let i = c.loop-mark.invariant in
-    subst (λ (l : List Mark). InPlace c.args.bytes.now l × FindsTold (TieFlaw c.args.bytes.now l) c.loop-mark.first) (take_all c.loop-mark.mark-index c.args.marks.now c.loop-mark-test.false) (i.ordered, i.found)
+    subst (λ (l : List Mark). InPlace c.args.total c.args.pairs.now c.args.written.now l × FindsTold (TieFlaw c.args.total c.args.pairs.now c.args.written.now l) c.loop-mark.first) (take_all c.loop-mark.mark-index c.args.marks.now c.loop-mark-test.false) (i.ordered, i.found)

@@ -1,5 +1,5 @@
 use Rattle.std.proofs.Common.{◌≡◌, ◌+◌, ℕ, length, rules, arith, subst, false}
-use Rattle.cborn_search.specs.Flawed.{Scanned}
+use Rattle.cborn_search.specs.Flawed.{Searched}
 use Rattle.cborn_search.specs.Searching.{IsFirstFlawOf}
 use Rattle.cborn_wire.proofs.Parts.Nodes.{node_left}
 use Rattle.cborn_search.proofs.Sequencing.{none_judged, judged_more, flaw_found}
@@ -12,9 +12,9 @@ pub items-preserved : goal.items-preserved
 items-preserved c =
     let i = c.items.invariant in
     let total : ℕ = length c.args.bytes.now in
-    let x : Scanned false c.get-room.result total c.items.rest.now c.in-Some.behind.now c.scan_item.new.found.flaw c.scan_item.new.found.is_string = c.in-Some.ensures in (
+    let x : Searched false c.get-room.result total c.items.rest.now c.in-Some.behind.now c.search_item.new.found.flaw c.search_item.new.found.is_string = c.in-Some.ensures in (
       i.0 + 1,
-      judged_more c.get-room.result total i.0 c.args.bytes.now c.items.rest.now c.in-Some.behind.now c.items.first c.scan_item.new.found.flaw c.or-first.result c.scan_item.new.found.is_string (omega arith) i.1 x c.or-first.ensures,
+      judged_more c.get-room.result total i.0 c.args.bytes.now c.items.rest.now c.in-Some.behind.now c.items.first c.search_item.new.found.flaw c.or-first.result c.search_item.new.found.is_string (omega arith) i.1 x c.or-first.ensures,
       omega (arith, node_left x, i.2),
     )
 

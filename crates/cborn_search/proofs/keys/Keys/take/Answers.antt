@@ -1,21 +1,33 @@
-use Rattle.std.proofs.Common.{◌<◌, ◌-◌, ◌^◌, ◌++◌, ◌∷◌, [], ℕ, List, length, take, arith, subst}
+use Rattle.std.proofs.Common.{ℕ, ◌-◌, ◌<◌, ◌^◌, List, [], length, refl, subst, arith, ap, ◌∙◌, length-append}
 use Rattle.cborn_model.specs.Orders.{bytewise}
-use Rattle.cborn_transcode.specs.Transcoding.{IsTranscoded}
-use Rattle.cborn_search.specs.Flawed.{HasFlaw}
-use Rattle.cborn_search.proofs.Scanning.{never}
-use Rattle.cborn_search.proofs.Mapping.{skips, joins}
+use Rattle.cborn_transcode.specs.Transcoding.{ItemTranscoded}
+use Rattle.cborn_search.proofs.Keying.{key_taken, some_key}
+use Rattle.cborn_search.proofs.Marking.{own_marked, written_marked}
 use Rattle.cborn_search.proofs.keys.Keys.take.Goals as goal
 
-pub returns-then-only_texts : goal.returns-then-only_texts
-returns-then-only_texts c room s k ks n h = (ks, h, (λ e. absurd (never c.args.only_texts e c.if-only_texts.true)))
-
-pub returns-in-Some : goal.returns-in-Some
-returns-in-Some c room s k ks n h = (ks, h, (λ e. skips c.args.only_texts room c.args.total n c.args.bytes.now c.args.rest.now s c.args.flaw c.in-Some.field-0 ks c.in-Some.is k))
-
-pub returns-in_ok-take_sound-in-None : goal.returns-in_ok-take_sound-in-None
-returns-in_ok-take_sound-in-None c room s k ks n h =
+pub returns-in-Some-push : goal.returns-in-Some-push
+returns-in-Some-push c =
     let x : List ℕ = c.args.bytes.now in
-    let taken = c.in_ok-take_sound-in-None.ensures in
-    let coded : IsTranscoded bytewise 1024 (take (length x - length c.args.rest.now) x) taken.0 = subst (λ (l : List ℕ). IsTranscoded bytewise 1024 l taken.0) c.in_ok-key-in-None.ensures taken.1 in
-    let short : length x < 2 ^ 64 = omega (arith, c.requires, c.ranges.total.fits) in
-    (ks ++ (taken.0, n, c.args.total - length x) ∷ [], taken.2 ks n h, (λ e. joins (HasFlaw c.args.only_texts c.args.flaw s) room 1024 c.args.total n x c.args.rest.now taken.0 ks short k coded))
+    let pairs : List ℕ = c.args.pairs.now in
+    let front : List ℕ = c.requires.behind.0 in
+    let short : length x < 2 ^ 64 = omega (arith, c.requires.within, c.ranges.total.fits, ap length c.requires.behind.1 ∙ length-append front x) in
+    let some = some_key c.args.room x c.in-Some.rest.now c.in-Some.key.now c.in-Some.ensures.item in (
+      c.in-Some.rest.now,
+      refl,
+      key_taken c.args.room c.args.total pairs x c.in-Some.rest.now c.in-Some.key.now c.args.self.now c.push.new.self short c.in-Some.ensures.item
+          (own_marked c.args.total pairs front x c.in-Some.key.now c.in-Some.rest.now c.args.self.now c.push.new.self c.requires.within c.requires.behind.1 c.in-Some.ensures.parts some c.in-Some-push.ensures),
+    )
+
+pub returns-in-Some-write : goal.returns-in-Some-write
+returns-in-Some-write c =
+    let x : List ℕ = c.args.bytes.now in
+    let pairs : List ℕ = c.args.pairs.now in
+    let front : List ℕ = c.requires.behind.0 in
+    let short : length x < 2 ^ 64 = omega (arith, c.requires.within, c.ranges.total.fits, ap length c.requires.behind.1 ∙ length-append front x) in
+    let rest : List ℕ = c.in-Some-transcode_item.rest.now in
+    let coded : ItemTranscoded bytewise c.args.room x rest [] c.transcode_item.new.out.items = subst (λ (l : List ℕ). ItemTranscoded bytewise c.args.room x rest l c.transcode_item.new.out.items) c.clear.ensures.items c.in-Some-transcode_item.ensures in (
+      rest,
+      refl,
+      key_taken c.args.room c.args.total pairs x rest c.transcode_item.new.out.items c.args.self.now c.write.new.self short coded
+          (written_marked c.args.total pairs (c.args.total - length x) c.transcode_item.new.out.items c.args.self.now c.write.new.self c.in-Some-write.ensures),
+    )

@@ -1,7 +1,7 @@
 use Rattle.std.proofs.Common.{rules, ◌≡◌, ◌-◌, length, refl, sym, ◌∙◌}
 use Rattle.std.proofs.lemmas.List.{take_rest}
 use Rattle.cborn_wire.proofs.Parts.Strings.{chunk_read}
-use Rattle.cborn_search.proofs.leaves.scan_chunk.Goals as goal
+use Rattle.cborn_search.proofs.leaves.search_chunk.Goals as goal
 
 pub returns-in_ok-content-in-Given : goal.returns-in_ok-content-in-Given
 returns-in_ok-content-in-Given c =

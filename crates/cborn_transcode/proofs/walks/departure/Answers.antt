@@ -7,7 +7,7 @@ use Rattle.cborn_transcode.specs.Departing.{IsFirstDefectOfItems}
 use Rattle.cborn_transcode.proofs.Departing.{item_clears, on_first, on_more, on_end}
 use Rattle.cborn_transcode.proofs.Telling.{told_both}
 use Rattle.cborn_transcode.proofs.Walking.{items_none, items_more, item_last}
-use Rattle.cborn_transcode.proofs.walks.first_departure.Goals as goal
+use Rattle.cborn_transcode.proofs.walks.departure.Goals as goal
 
 pub items-init : goal.items-init
 items-init g c = ((0, items_none g.O.KeyOrder.order c.get-room.result c.args.bytes.now), on_first g.O.KeyOrder.order c.args.bytes.now)

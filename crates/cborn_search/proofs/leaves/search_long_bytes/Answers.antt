@@ -1,6 +1,6 @@
 use Rattle.std.proofs.Common.{rules}
-use Rattle.cborn_search.proofs.Scanning.{byte_chunks_seen}
-use Rattle.cborn_search.proofs.leaves.scan_long_bytes.Goals as goal
+use Rattle.cborn_search.proofs.Searching.{byte_chunks_seen}
+use Rattle.cborn_search.proofs.leaves.search_long_bytes.Goals as goal
 
 pub returns : goal.returns
 returns c only room l =

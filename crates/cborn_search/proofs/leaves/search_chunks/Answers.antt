@@ -1,8 +1,8 @@
 use Rattle.std.proofs.Common.{arith}
 use Rattle.cborn_search.specs.Flawed.{ChunksSeen}
 use Rattle.cborn_wire.proofs.Parts.Strings.{chunks_left}
-use Rattle.cborn_search.proofs.Scanning.{chunks_none, chunks_more}
-use Rattle.cborn_search.proofs.leaves.scan_chunks.Goals as goal
+use Rattle.cborn_search.proofs.Searching.{chunks_none, chunks_more}
+use Rattle.cborn_search.proofs.leaves.search_chunks.Goals as goal
 
 pub chunks-init : goal.chunks-init
 chunks-init c = (chunks_none c.args.major c.args.total c.args.bytes.now, c.requires)

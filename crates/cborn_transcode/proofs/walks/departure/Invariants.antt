@@ -1,7 +1,7 @@
 use Rattle.std.proofs.Common.{ℕ}
 use Rattle.cborn_transcode.specs.devices.Departing.{LeadsOn}
 use Rattle.cborn_transcode.specs.shared.Walking.{ItemsWalked}
-use Rattle.cborn_transcode.proofs.walks.first_departure.Given as goal
+use Rattle.cborn_transcode.proofs.walks.departure.Given as goal
 
 -- the items so far
 abbrev pub invariant-items : goal.invariant-items

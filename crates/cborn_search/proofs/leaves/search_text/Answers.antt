@@ -1,6 +1,6 @@
 use Rattle.std.proofs.Common.{rules}
-use Rattle.cborn_search.proofs.Scanning.{text_seen}
-use Rattle.cborn_search.proofs.leaves.scan_text.Goals as goal
+use Rattle.cborn_search.proofs.Searching.{text_seen}
+use Rattle.cborn_search.proofs.leaves.search_text.Goals as goal
 
 pub returns : goal.returns
 returns c only room total w h e =
