@@ -58,8 +58,20 @@ def shapes(n):
         "map, repeated key last": head(5, len(keys) + 1) + pairs + keys[0] + b"\x00",
         "nests": (b"\x81" * 100 + b"\x00") * (n // 101),
         "chunked bignum last": head(4, n) + b"\x01" * (n - 1) + b"\xc2\x5f\x41\x01\xff",
+        **nests_of_keys(n),
         "text in chunks, bad one last": b"\x7f" + b"\x61a" * (n // 2) + b"\x61\xff\xff",
         "nest, repeated key last": (b"\x81" * 100 + b"\xa2\x00\x00\x01\x00") * (n // 105) + b"\x81" * 100 + b"\xa2\x00\x00\x00\x00",
+    }
+
+
+def nests_of_keys(n):
+    """Keys of about n bytes, 100 maps in one another: each map is the only key of the one around it."""
+    integers = head(4, n) + b"\x01" * n
+    return {
+        "keys in keys, long head last": b"\xa1" * 100 + b"\x82" + integers + b"\x18\x01" + b"\x00" * 100,
+        "keys in keys, long heads": b"\xb8\x01" * 100 + integers + b"\x00" * 100,
+        "keys in keys, indefinite lengths": b"\xbf" * 100 + integers + b"\x00\xff" * 100,
+        "keys in keys, bad text last": b"\xa1" * 100 + b"\x82" + integers + b"\x61\xff" + b"\x00" * 100,
     }
 
 

@@ -22,7 +22,7 @@ MOST, STEP = 16 * 1024, 16
 
 # What opens and closes a level: in bytes, in their deterministic encoding, and in notation.
 Nest = collections.namedtuple("Nest", "name opening closing shortest_opening shortest_closing text_opening text_closing")
-Case = collections.namedtuple("Case", "command nest words inputs output status")
+Case = collections.namedtuple("Case", "command nest words inputs output status complaint", defaults=[b""])
 NESTS = [
     Nest("arrays", "81", "", "81", "", "[", "]"),
     Nest("indefinite arrays", "9f", "ff", "81", "", "[_ ", "]"),
@@ -34,9 +34,9 @@ NESTS = [
 ]
 
 
-def nested(opening, closing):
-    """LEVELS levels around the number 0."""
-    return bytes.fromhex(opening * LEVELS + "00" + closing * LEVELS)
+def nested(opening, closing, item="00"):
+    """LEVELS levels around an item, which is the number 0 if no other is given."""
+    return bytes.fromhex(opening * LEVELS + item + closing * LEVELS)
 
 
 def noted(nest):
@@ -89,6 +89,10 @@ def cases():
         ]:
             yield Case(words, nest.name, words.split(), inputs, output, 0)
         yield Case("check", nest.name, ["check"], [wire], defect, 0 if wire == shortest else 1)
+        bad = nested(nest.opening, nest.closing, "61ff")
+        complaint = f"cborn: offset {len(bytes.fromhex(nest.opening)) * LEVELS}: not UTF-8\n".encode()
+        for words in ["show", "normalise", "check"]:
+            yield Case(words, f"{nest.name} around bad text", [words], [bad], b"", 2, complaint)
     wire = embedded()
     for name, opening in [("embedded items", b"<<"), ("embedded items behind a piece", b"''<<"), ("embedded items behind none", b"<<>><<")]:
         text = opening * LEVELS + b"0" + b">>" * LEVELS
@@ -114,7 +118,7 @@ def is_answered(program, case, kilobytes):
             name.write_bytes(content)
         command = [program, *case.words, "--depth", str(LEVELS), *map(str, names)]
         done = subprocess.run(command, capture_output=True, timeout=60, check=False, preexec_fn=limit_stack)
-    return (done.stdout, done.stderr, done.returncode) == (case.output, b"", case.status)
+    return (done.stdout, done.stderr, done.returncode) == (case.output, case.complaint, case.status)
 
 
 def least_stack(program, case):
