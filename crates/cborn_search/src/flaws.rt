@@ -295,10 +295,7 @@ fn search_pairs<'a>(
     let mut map = maps.take()?;
     let mut rest = bytes;
     let mut count = 0;
-    'pairs: for _ in 0..bytes.len() {
-        if is_done(count, most, may_end, rest) {
-            break;
-        }
+    'pairs: while !is_done(count, most, may_end, rest) {
         let middle = search_key(maps, &mut *map, only_texts, room, total, bytes, rest, found)?;
         rest = search_value(maps, only_texts, room, total, middle, found)?;
         map.note(found.flaw);

@@ -37,6 +37,9 @@ decreases-search_endless_map l = 8 * l.room + 0
 abbrev pub decreases-search_pairs : goal.decreases-search_pairs
 decreases-search_pairs l = 8 * l.room + 4
 
+abbrev pub decreases-search_pairs-pairs : goal.decreases-search_pairs-pairs
+decreases-search_pairs-pairs l = length l.rest
+
 -- the pairs so far, and their keys
 abbrev pub invariant-search_pairs-pairs : goal.invariant-search_pairs-pairs
 invariant-search_pairs-pairs l = (ks : List SeenKey) × PairsSeen l.only_texts l.room l.total l.count l.bytes l.rest l.map.value.first ks × AreMarked l.total l.bytes (l.total - length l.rest) ks l.map.value.keys × (l.count ≤ l.most) × (length l.rest ≤ l.total)
