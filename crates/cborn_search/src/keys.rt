@@ -96,7 +96,9 @@ impl Keys {
                 None => Taken::Unknown,
             };
         }
-        encoding.clear();
+        let Some(_) = make_room(bytes.len(), encoding) else {
+            return Taken::Unknown;
+        };
         let Some(rest) = transcode_item::<Bytewise>(alloc, room, bytes, encoding) else {
             return Taken::Not;
         };
@@ -106,15 +108,15 @@ impl Keys {
         }
     }
 
-    /// Marks the encoding of the key at `place`, and keeps it. Where none was written before, it isn't
-    /// copied. None promises nothing.
+    /// Marks the encoding of the key at `place`, and keeps it. A long one isn't copied, where none was
+    /// written before. None promises nothing.
     fn write(&mut self, place: u64, pairs: &[u8], encoding: &mut Vec<u8>) -> Option<()>
         ensures { OnSome result (IsWritten place (length pairs.now) encoding.old.items self.old self.new) }
     {
         let place = narrow(place)?;
         let start = (pairs.len() as u64).checked_add(self.written.len() as u64)?;
         self.push(start, encoding)?;
-        if self.written.is_empty() {
+        if self.written.is_empty() && encoding.len() >= encoding.capacity() / 2 {
             mem::swap(&mut self.written, encoding);
         } else {
             self.written.extend_from_slice(encoding).ok()?;
@@ -154,6 +156,18 @@ impl Keys {
         sort(total, pairs, &self.written, &mut self.marks);
         first_tie(total, pairs, &self.written, &self.marks)
     }
+}
+
+/// Empties the list. One without room gets it for `most` bytes, so that it needn't grow: while it
+/// does, it may be in memory twice. None: memory was refused.
+fn make_room(most: usize, bytes: &mut Vec<u8>) -> Option<()>
+    ensures { OnSome result (bytes.new.items ≡ []) }
+{
+    bytes.clear();
+    if bytes.capacity() == 0 {
+        bytes.reserve(most).ok()?;
+    }
+    Some(())
 }
 
 /// The number, where it fits 32 bits.

@@ -25,7 +25,7 @@ returns-in-Some-write c =
     let front : List ℕ = c.requires.behind.0 in
     let short : length x < 2 ^ 64 = omega (arith, c.requires.within, c.ranges.total.fits, ap length c.requires.behind.1 ∙ length-append front x) in
     let rest : List ℕ = c.in-Some-transcode_item.rest.now in
-    let coded : ItemTranscoded bytewise c.args.room x rest [] c.transcode_item.new.out.items = subst (λ (l : List ℕ). ItemTranscoded bytewise c.args.room x rest l c.transcode_item.new.out.items) c.clear.ensures.items c.in-Some-transcode_item.ensures in (
+    let coded : ItemTranscoded bytewise c.args.room x rest [] c.transcode_item.new.out.items = subst (λ (l : List ℕ). ItemTranscoded bytewise c.args.room x rest l c.transcode_item.new.out.items) c.in-Some-make_room.ensures c.in-Some-transcode_item.ensures in (
       rest,
       refl,
       key_taken c.args.room c.args.total pairs x rest c.transcode_item.new.out.items c.args.self.now c.write.new.self short coded
