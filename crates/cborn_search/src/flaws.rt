@@ -325,13 +325,16 @@ fn search_key<'a>(
     requires behind { (front : List ℕ) × (pairs.now ≡ front ++ bytes.now) }
     ensures { IfSome result (λ rest. KeyJoined only_texts room total pairs.now bytes.now map.old map.new rest.now) }
 {
-    match map.take(maps, only_texts, room, total, pairs, bytes) {
+    match map.take(maps, room, total, pairs, bytes) {
         Taken::Behind(left) => last(bytes, left),
         Taken::Not => {
             let left = search_node(maps, only_texts, room, total, bytes, found)?;
-            let behind = map.take_searched(
-                maps, only_texts, room, total, pairs, bytes, left, found,
-            )?;
+            if only_texts || found.flaw.is_some() {
+                maps.leave(bytes.len());
+                map.note(found.flaw);
+                return last(bytes, left);
+            }
+            let behind = map.take_sound(maps, room, total, pairs, bytes)?;
             last(bytes, behind)
         }
         Taken::Unknown => None,

@@ -2,13 +2,16 @@
 
 ghost use Rattle.std.specs.Prelude.{◌≡◌, ◌≤◌, ◌++◌, ℕ, List, None, [], false, length, IfSome, OnSome};
 ghost use Rattle.cborn_wire.specs.Parts.{Leaves};
-ghost use Rattle.cborn_search.specs.Flawed.{IsEarliestTold, Searched};
-ghost use Rattle.cborn_search.specs.devices.Marks.{Concludes, KeyJoined, Takes};
+ghost use Rattle.cborn_search.specs.Flawed.{IsEarliestTold};
+ghost use Rattle.cborn_search.specs.devices.Marks.{Concludes, KeyTaken, Takes};
 
 use crate::finding::Finding;
 use crate::keys::{Keys, Taken};
 use cborn_judge::{InvalidReason, earliest};
 use std::alloc::Global;
+
+/// Where texts alone are looked for, no key is taken in.
+const NO_KEYS: usize = usize::MAX;
 
 /// A map of more keys gives its room back once it is done with.
 const MOST_KEPT: usize = 1000;
@@ -41,13 +44,13 @@ impl SearchedMap {
         self.first = None;
     }
 
-    /// Takes in the key at the front of `bytes`, which `pairs` end with, before it is searched. It isn't tried where texts alone are looked for, nor inside a key that
-    /// wasn't taken in: else a nest of keys would be read again at each of its levels.
+    /// Takes in the key at the front of `bytes`, which `pairs` end with, before it is searched. It
+    /// isn't tried where texts alone are looked for, nor inside a key that wasn't taken in: else a nest
+    /// of keys would be read again at each of its levels.
     #[inline(never)]
     pub(crate) fn take(
         &mut self,
         maps: &mut SpareMaps,
-        only_texts: bool,
         room: u64,
         total: u64,
         pairs: &[u8],
@@ -59,7 +62,7 @@ impl SearchedMap {
         ensures keys { Takes room total pairs.now bytes.now self.old.keys self.new.keys result }
         ensures first { self.new.first ≡ self.old.first }
     {
-        if only_texts || maps.flawed > 0 {
+        if maps.flawed > 0 {
             return Taken::Not;
         }
         let taken = self
@@ -71,42 +74,32 @@ impl SearchedMap {
         taken
     }
 
-    /// Takes in the key at the front of `bytes` after it was searched: this was found, and `left`
-    /// bytes follow. Answers how many bytes follow the key. None promises nothing: memory was refused
-    /// where the key has no flaw, and couldn't be taken in before.
+    /// Takes in the key at the front of `bytes`, which `pairs` end with, after it was searched: it has
+    /// no flaw. Answers how many bytes follow it. None promises nothing: memory was refused, where it
+    /// couldn't be taken in before.
     #[inline(never)]
-    pub(crate) fn take_searched(
+    pub(crate) fn take_sound(
         &mut self,
         maps: &mut SpareMaps,
-        only_texts: bool,
         room: u64,
         total: u64,
         pairs: &[u8],
         bytes: &[u8],
-        left: usize,
-        found: &Finding,
     ) -> Option<usize>
         requires room { room ≤ 1024 }
         requires within { length pairs.now ≤ total }
         requires behind { (front : List ℕ) × (pairs.now ≡ front ++ bytes.now) }
-        ensures { IfSome result (λ behind. Leaves (λ rest. Searched only_texts room total bytes.now rest found.now.flaw found.now.is_string) left → Leaves (KeyJoined only_texts room total pairs.now bytes.now self.old self.new) behind) }
+        ensures key { IfSome result (Leaves (KeyTaken room total pairs.now bytes.now self.old.keys self.new.keys)) }
+        ensures first { self.new.first ≡ self.old.first }
     {
-        let was_tried = maps.flawed == bytes.len();
-        if was_tried {
-            maps.flawed = 0;
-        }
-        if only_texts || found.flaw.is_some() {
-            self.note(found.flaw);
-            return Some(left);
-        }
-        if was_tried {
+        if maps.leave(bytes.len()) {
             return None;
         }
         match self
             .keys
             .take(maps.alloc, &mut maps.encoding, room, total, pairs, bytes)
         {
-            Taken::Behind(behind) => Some(behind),
+            Taken::Behind(left) => Some(left),
             _ => None,
         }
     }
@@ -152,19 +145,30 @@ pub(crate) struct SpareMaps {
     /// Room for the encoding of a key.
     encoding: Vec<u8>,
     /// How many bytes there are from the outermost key on that wasn't taken in and is being searched;
-    /// 0 where there is none.
+    /// 0 where there is none. No key has as many as `NO_KEYS`.
     flawed: usize,
 }
 
 impl SpareMaps {
     /// None yet.
-    pub(crate) fn new(alloc: Global) -> SpareMaps {
+    pub(crate) fn new(alloc: Global, only_texts: bool) -> SpareMaps {
         SpareMaps {
             alloc,
             spare: Vec::new(alloc),
             encoding: Vec::new(alloc),
-            flawed: 0,
+            flawed: if only_texts { NO_KEYS } else { 0 },
         }
+    }
+
+    /// Leaves the key with so many bytes from there on, which was searched: whether it is the outermost
+    /// that wasn't taken in.
+    #[inline(always)]
+    pub(crate) fn leave(&mut self, left: usize) -> bool {
+        let is_outermost = self.flawed == left;
+        if is_outermost {
+            self.flawed = 0;
+        }
+        is_outermost
     }
 
     /// A map before its first pair. None where memory was refused.

@@ -39,7 +39,7 @@ pub fn first_flaw(alloc: Global, limit: Limit, bytes: &[u8]) -> Validity
 {
     let total = bytes.len() as u64;
     let room = limit.get();
-    let mut maps = SpareMaps::new(alloc);
+    let mut maps = SpareMaps::new(alloc, false);
     let mut rest = bytes;
     let mut first: Option<(u64, InvalidReason)> = None;
     let mut found = Finding {
@@ -73,7 +73,7 @@ pub fn first_bad_text(alloc: Global, limit: Limit, bytes: &[u8]) -> Option<u64>
 {
     let total = bytes.len() as u64;
     let room = limit.get();
-    let mut maps = SpareMaps::new(alloc);
+    let mut maps = SpareMaps::new(alloc, true);
     let mut found = Finding {
         flaw: None,
         is_string: false,
