@@ -292,7 +292,7 @@ fn search_pairs<'a>(
     requires within { length bytes.now ≤ total }
     ensures { IfSome result (λ r. MapSeen only_texts room total r.1 bytes.now r.0.now found.new.flaw × (found.new.is_string ≡ false)) }
 {
-    let mut map = maps.take()?;
+    let mut map = maps.map()?;
     let mut rest = bytes;
     let mut count = 0;
     'pairs: while !is_done(count, most, may_end, rest) {
@@ -307,7 +307,7 @@ fn search_pairs<'a>(
 }
 
 /// The key at the front of `bytes`, which `pairs` end with. It joins what is known of its map: what
-/// follows it.
+/// follows it. None promises nothing: where it wasn't taken in and has no flaw, memory was refused.
 #[cycle(searched)]
 #[inline(always)]
 fn search_key<'a>(
@@ -329,13 +329,11 @@ fn search_key<'a>(
         Taken::Behind(left) => last(bytes, left),
         Taken::Not => {
             let left = search_node(maps, only_texts, room, total, bytes, found)?;
-            if only_texts || found.flaw.is_some() {
-                maps.leave(bytes.len());
-                map.note(found.flaw);
-                return last(bytes, left);
+            if !only_texts && found.flaw.is_none() {
+                return None;
             }
-            let behind = map.take_sound(maps, room, total, pairs, bytes)?;
-            last(bytes, behind)
+            map.note(found.flaw);
+            last(bytes, left)
         }
         Taken::Unknown => None,
     }

@@ -9,7 +9,7 @@ ghost use Rattle.cborn_wire.specs.Parts.{Pair};
 
 use cborn_judge::{InvalidReason, earliest};
 use cborn_model::{Bytewise, KeyOrder};
-use cborn_transcode::{split_item, transcode_item};
+use cborn_transcode::{OpenKeys, split_item, transcode_item};
 use std::alloc::Global;
 use std::cmp::Ordering;
 use std::mem;
@@ -31,7 +31,7 @@ pub(crate) struct Mark {
 pub(crate) enum Taken {
     /// It means something, and is taken in; so many bytes follow it.
     Behind(usize),
-    /// It isn't taken in: it means nothing, it wasn't tried, or memory was refused.
+    /// It isn't taken in: it wasn't tried, it has a flaw, or memory was refused.
     Not,
     /// Nothing is promised: memory was refused, or a mark has no room for where it lies.
     Unknown,
@@ -73,11 +73,13 @@ impl Keys {
 
     /// Takes in the key at the front of `bytes`, which `pairs` end with, the last of `total`, if it is
     /// no deeper than `room` and means something. Where it isn't its own encoding, that is made in
-    /// `encoding`, whose room serves one key after another.
+    /// `encoding`, whose room serves one key after another. Where it has none, `open` has the keys in
+    /// it that hold its flaw.
     #[inline(never)]
     pub(crate) fn take(
         &mut self,
         alloc: Global,
+        open: &mut OpenKeys,
         encoding: &mut Vec<u8>,
         room: u64,
         total: u64,
@@ -99,7 +101,7 @@ impl Keys {
         let Some(_) = make_room(bytes.len(), encoding) else {
             return Taken::Unknown;
         };
-        let Some(rest) = transcode_item::<Bytewise>(alloc, room, bytes, encoding) else {
+        let Some(rest) = transcode_item::<Bytewise>(alloc, open, room, bytes, encoding) else {
             return Taken::Not;
         };
         match self.write(total - bytes.len() as u64, pairs, encoding) {

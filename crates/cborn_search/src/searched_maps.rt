@@ -1,17 +1,14 @@
 //! What a search for flaws knows of a map, and the maps that it is done with.
 
 ghost use Rattle.std.specs.Prelude.{◌≡◌, ◌≤◌, ◌++◌, ℕ, List, None, [], false, length, IfSome, OnSome};
-ghost use Rattle.cborn_wire.specs.Parts.{Leaves};
 ghost use Rattle.cborn_search.specs.Flawed.{IsEarliestTold};
-ghost use Rattle.cborn_search.specs.devices.Marks.{Concludes, KeyTaken, Takes};
+ghost use Rattle.cborn_search.specs.devices.Marks.{Concludes, Takes};
 
 use crate::finding::Finding;
 use crate::keys::{Keys, Taken};
 use cborn_judge::{InvalidReason, earliest};
+use cborn_transcode::OpenKeys;
 use std::alloc::Global;
-
-/// Where texts alone are looked for, no key is taken in.
-const NO_KEYS: usize = usize::MAX;
 
 /// A map of more keys gives its room back once it is done with.
 const MOST_KEPT: usize = 1000;
@@ -44,9 +41,9 @@ impl SearchedMap {
         self.first = None;
     }
 
-    /// Takes in the key at the front of `bytes`, which `pairs` end with, before it is searched. It
-    /// isn't tried where texts alone are looked for, nor inside a key that wasn't taken in: else a nest
-    /// of keys would be read again at each of its levels.
+    /// Takes in the key at the front of `bytes`, which `pairs` end with, if it has no flaw. It isn't tried
+    /// where texts alone are looked for, nor where it is known to hold the flaw of a key around it: so
+    /// no byte is tried again at each level of a nest of keys.
     #[inline(never)]
     pub(crate) fn take(
         &mut self,
@@ -62,46 +59,18 @@ impl SearchedMap {
         ensures keys { Takes room total pairs.now bytes.now self.old.keys self.new.keys result }
         ensures first { self.new.first ≡ self.old.first }
     {
-        if maps.flawed > 0 {
+        if maps.only_texts || maps.flawed.holds(bytes.len()) {
             return Taken::Not;
         }
-        let taken = self
-            .keys
-            .take(maps.alloc, &mut maps.encoding, room, total, pairs, bytes);
-        if let Taken::Not = taken {
-            maps.flawed = bytes.len();
-        }
-        taken
-    }
-
-    /// Takes in the key at the front of `bytes`, which `pairs` end with, after it was searched: it has
-    /// no flaw. Answers how many bytes follow it. None promises nothing: memory was refused, where it
-    /// couldn't be taken in before.
-    #[inline(never)]
-    pub(crate) fn take_sound(
-        &mut self,
-        maps: &mut SpareMaps,
-        room: u64,
-        total: u64,
-        pairs: &[u8],
-        bytes: &[u8],
-    ) -> Option<usize>
-        requires room { room ≤ 1024 }
-        requires within { length pairs.now ≤ total }
-        requires behind { (front : List ℕ) × (pairs.now ≡ front ++ bytes.now) }
-        ensures key { IfSome result (Leaves (KeyTaken room total pairs.now bytes.now self.old.keys self.new.keys)) }
-        ensures first { self.new.first ≡ self.old.first }
-    {
-        if maps.leave(bytes.len()) {
-            return None;
-        }
-        match self
-            .keys
-            .take(maps.alloc, &mut maps.encoding, room, total, pairs, bytes)
-        {
-            Taken::Behind(left) => Some(left),
-            _ => None,
-        }
+        self.keys.take(
+            maps.alloc,
+            &mut maps.flawed,
+            &mut maps.encoding,
+            room,
+            total,
+            pairs,
+            bytes,
+        )
     }
 
     /// Takes in the flaw of a key or of a value, which has none as a rule.
@@ -144,9 +113,10 @@ pub(crate) struct SpareMaps {
     spare: Vec<Box<SearchedMap>>,
     /// Room for the encoding of a key.
     encoding: Vec<u8>,
-    /// How many bytes there are from the outermost key on that wasn't taken in and is being searched;
-    /// 0 where there is none. No key has as many as `NO_KEYS`.
-    flawed: usize,
+    /// The keys inside a key that wasn't taken in that weren't whole where that was found.
+    flawed: OpenKeys,
+    /// Texts alone are looked for.
+    only_texts: bool,
 }
 
 impl SpareMaps {
@@ -156,24 +126,14 @@ impl SpareMaps {
             alloc,
             spare: Vec::new(alloc),
             encoding: Vec::new(alloc),
-            flawed: if only_texts { NO_KEYS } else { 0 },
+            flawed: OpenKeys::kept(alloc),
+            only_texts,
         }
-    }
-
-    /// Leaves the key with so many bytes from there on, which was searched: whether it is the outermost
-    /// that wasn't taken in.
-    #[inline(always)]
-    pub(crate) fn leave(&mut self, left: usize) -> bool {
-        let is_outermost = self.flawed == left;
-        if is_outermost {
-            self.flawed = 0;
-        }
-        is_outermost
     }
 
     /// A map before its first pair. None where memory was refused.
     #[inline(never)]
-    pub(crate) fn take(&mut self) -> Option<Box<SearchedMap>>
+    pub(crate) fn map(&mut self) -> Option<Box<SearchedMap>>
         ensures { IfSome result (λ map. (map.value.keys.marks.items ≡ []) × (map.value.first ≡ None)) }
     {
         match self.spare.pop() {

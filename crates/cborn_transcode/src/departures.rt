@@ -7,6 +7,7 @@ ghost use Rattle.cborn_model.specs.declared.heads.Major.TheVariants.{Tag};
 ghost use Rattle.cborn_transcode.specs.devices.Departing.{Departs, Halts, KeyStops, Tells, TellsLoose, WalksBehind};
 
 use crate::items::put_item;
+use crate::open_keys::OpenKeys;
 use crate::walked_leaves::read_least;
 use cborn_judge::{Defect, DefectReason, loose_defect};
 use cborn_model::{KeyOrder, Major, shortest};
@@ -123,7 +124,7 @@ fn is_loose<O: KeyOrder>(alloc: Global, bytes: &[u8]) -> Option<bool>
     ensures { IfSome result (TellsLoose bytes.now) }
 {
     let mut out = Vec::new(alloc);
-    put_item::<O>(alloc, 0, bytes, &mut out)?;
+    put_item::<O>(alloc, &mut OpenKeys::unkept(alloc), 0, bytes, &mut out)?;
     let (_, _, content) = read_least(&out)?;
     Some(loose_defect(0, content).is_some())
 }
@@ -152,7 +153,7 @@ pub(crate) fn key_departure<O: KeyOrder>(
         return found;
     };
     let mut out = Vec::new(alloc);
-    if put_item::<O>(alloc, 1024, bytes, &mut out).is_none() {
+    if put_item::<O>(alloc, &mut OpenKeys::unkept(alloc), 1024, bytes, &mut out).is_none() {
         return Walked::Unknown;
     }
     if O::compare(before, &out).is_lt() {

@@ -8,6 +8,7 @@ ghost use Rattle.cborn_transcode.specs.Transcoding.{ItemTranscoded, ItemLeaves, 
 
 use crate::entries::{Span, arrange, push_span};
 use crate::leaves::{put_bignum, put_long_string_leaving, put_simple, put_string_leaving};
+use crate::open_keys::OpenKeys;
 use crate::places::{find_pairs, put_great};
 use crate::runs::put_run;
 use cborn_det::{put_head, set_head};
@@ -21,6 +22,7 @@ use std::alloc::Global;
 #[inline(always)]
 pub(crate) fn put_item<'a, O: KeyOrder>(
     alloc: Global,
+    keys: &mut OpenKeys,
     room: u64,
     bytes: &'a [u8],
     out: &mut Vec<u8>,
@@ -28,7 +30,7 @@ pub(crate) fn put_item<'a, O: KeyOrder>(
     requires { room ≤ 1024 }
     ensures { IfSome result (λ rest. ItemTranscoded O.order room bytes.now rest.now out.old.items out.new.items) }
 {
-    let left = put_node::<O>(alloc, room, bytes, out)?;
+    let left = put_node::<O>(alloc, keys, room, bytes, out)?;
     last(bytes, left)
 }
 
@@ -36,7 +38,13 @@ pub(crate) fn put_item<'a, O: KeyOrder>(
 /// registers, and keeps the frames of a deep nest small.
 #[cycle(transcoded)]
 #[inline(never)]
-fn put_node<O: KeyOrder>(alloc: Global, room: u64, bytes: &[u8], out: &mut Vec<u8>) -> Option<usize>
+fn put_node<O: KeyOrder>(
+    alloc: Global,
+    keys: &mut OpenKeys,
+    room: u64,
+    bytes: &[u8],
+    out: &mut Vec<u8>,
+) -> Option<usize>
     requires { room ≤ 1024 }
     ensures { IfSome result (λ left. ItemLeaves O.order room bytes.now left out.old.items out.new.items) }
 {
@@ -57,9 +65,9 @@ fn put_node<O: KeyOrder>(alloc: Global, room: u64, bytes: &[u8], out: &mut Vec<u
             }
             Major::ByteString => put_string_leaving(Major::ByteString, n, rest, out),
             Major::TextString => put_string_leaving(Major::TextString, n, rest, out),
-            Major::Array => put_fixed_array::<O>(alloc, room, n, rest, out),
-            Major::Map => put_fixed_map::<O>(alloc, room, n, rest, out),
-            Major::Tag => put_tagged::<O>(alloc, room, n, rest, out),
+            Major::Array => put_fixed_array::<O>(alloc, keys, room, n, rest, out),
+            Major::Map => put_fixed_map::<O>(alloc, keys, room, n, rest, out),
+            Major::Tag => put_tagged::<O>(alloc, keys, room, n, rest, out),
             Major::Other => {
                 put_simple(head.argument, out)?;
                 Some(rest.len())
@@ -68,8 +76,8 @@ fn put_node<O: KeyOrder>(alloc: Global, room: u64, bytes: &[u8], out: &mut Vec<u
         Argument::Endless => match major {
             Major::ByteString => put_long_string_leaving(Major::ByteString, rest, out),
             Major::TextString => put_long_string_leaving(Major::TextString, rest, out),
-            Major::Array => put_endless_array::<O>(alloc, room, rest, out),
-            Major::Map => put_endless_map::<O>(alloc, room, rest, out),
+            Major::Array => put_endless_array::<O>(alloc, keys, room, rest, out),
+            Major::Map => put_endless_map::<O>(alloc, keys, room, rest, out),
             _ => None,
         },
     }
@@ -80,6 +88,7 @@ fn put_node<O: KeyOrder>(alloc: Global, room: u64, bytes: &[u8], out: &mut Vec<u
 #[inline(never)]
 fn put_fixed_array<O: KeyOrder>(
     alloc: Global,
+    keys: &mut OpenKeys,
     room: u64,
     n: u64,
     bytes: &[u8],
@@ -92,7 +101,7 @@ fn put_fixed_array<O: KeyOrder>(
         return None;
     }
     put_head(Major::Array, n, out)?;
-    let (rest, count) = put_items::<O>(alloc, room - 1, n, false, bytes, out)?;
+    let (rest, count) = put_items::<O>(alloc, keys, room - 1, n, false, bytes, out)?;
     if count != n {
         return None;
     }
@@ -104,6 +113,7 @@ fn put_fixed_array<O: KeyOrder>(
 #[inline(never)]
 fn put_endless_array<O: KeyOrder>(
     alloc: Global,
+    keys: &mut OpenKeys,
     room: u64,
     bytes: &[u8],
     out: &mut Vec<u8>,
@@ -116,7 +126,7 @@ fn put_endless_array<O: KeyOrder>(
     }
     let start = out.len();
     out.push(0).ok()?;
-    let (rest, count) = put_items::<O>(alloc, room - 1, u64::MAX, true, bytes, out)?;
+    let (rest, count) = put_items::<O>(alloc, keys, room - 1, u64::MAX, true, bytes, out)?;
     let after = behind_break(rest)?;
     set_head(alloc, Major::Array, count, start, out)?;
     Some(after.len())
@@ -128,6 +138,7 @@ fn put_endless_array<O: KeyOrder>(
 #[inline(always)]
 fn put_items<'a, O: KeyOrder>(
     alloc: Global,
+    keys: &mut OpenKeys,
     room: u64,
     most: u64,
     may_end: bool,
@@ -146,7 +157,7 @@ fn put_items<'a, O: KeyOrder>(
         if is_done(count, most, may_end, rest) {
             break;
         }
-        rest = put_item::<O>(alloc, room, rest, out)?;
+        rest = put_item::<O>(alloc, keys, room, rest, out)?;
         count += 1;
     }
     Some((rest, count))
@@ -161,6 +172,7 @@ const GREAT: u64 = 1000;
 #[inline(never)]
 fn put_fixed_map<O: KeyOrder>(
     alloc: Global,
+    keys: &mut OpenKeys,
     room: u64,
     n: u64,
     bytes: &[u8],
@@ -182,7 +194,7 @@ fn put_fixed_map<O: KeyOrder>(
         }
     }
     let mut spans = Vec::with_capacity(alloc, n.min(64) as usize).ok()?;
-    let (rest, count) = put_pairs::<O>(alloc, room - 1, n, false, bytes, out, &mut spans)?;
+    let (rest, count) = put_pairs::<O>(alloc, keys, room - 1, n, false, bytes, out, &mut spans)?;
     if count != n {
         return None;
     }
@@ -195,6 +207,7 @@ fn put_fixed_map<O: KeyOrder>(
 #[inline(never)]
 fn put_endless_map<O: KeyOrder>(
     alloc: Global,
+    keys: &mut OpenKeys,
     room: u64,
     bytes: &[u8],
     out: &mut Vec<u8>,
@@ -210,7 +223,7 @@ fn put_endless_map<O: KeyOrder>(
     let start = out.len();
     let mut spans = Vec::new(alloc);
     let most = bytes.len() as u64;
-    let (rest, count) = put_pairs::<O>(alloc, room - 1, most, true, bytes, out, &mut spans)?;
+    let (rest, count) = put_pairs::<O>(alloc, keys, room - 1, most, true, bytes, out, &mut spans)?;
     let after = behind_break(rest)?;
     arrange::<O>(alloc, &mut spans, start, out)?;
     set_head(alloc, Major::Map, count, head_start, out)?;
@@ -223,6 +236,7 @@ fn put_endless_map<O: KeyOrder>(
 #[inline(always)]
 fn put_pairs<'a, O: KeyOrder>(
     alloc: Global,
+    keys: &mut OpenKeys,
     room: u64,
     most: u64,
     may_end: bool,
@@ -239,7 +253,7 @@ fn put_pairs<'a, O: KeyOrder>(
         if is_done(count, most, may_end, rest) {
             break;
         }
-        rest = put_pair::<O>(alloc, room, rest, out, spans)?;
+        rest = put_pair::<O>(alloc, keys, room, rest, out, spans)?;
         count += 1;
     }
     Some((rest, count))
@@ -250,6 +264,7 @@ fn put_pairs<'a, O: KeyOrder>(
 #[inline(always)]
 fn put_pair<'a, O: KeyOrder>(
     alloc: Global,
+    keys: &mut OpenKeys,
     room: u64,
     bytes: &'a [u8],
     out: &mut Vec<u8>,
@@ -259,9 +274,11 @@ fn put_pair<'a, O: KeyOrder>(
     ensures { IfSome result (λ rest. (n : ℕ) (input start : List ℕ) → PairsTranscoded O.order room n spans.old.items input bytes.now start out.old.items → PairsTranscoded O.order room (n + 1) spans.new.items input rest.now start out.new.items) }
 {
     let start = out.len();
-    let after = put_item::<O>(alloc, room, bytes, out)?;
+    keys.enter(bytes.len())?;
+    let after = put_item::<O>(alloc, keys, room, bytes, out)?;
+    keys.leave();
     let middle = out.len();
-    let rest = put_item::<O>(alloc, room, after, out)?;
+    let rest = put_item::<O>(alloc, keys, room, after, out)?;
     push_span::<O>(start, middle, out, spans)?;
     Some(rest)
 }
@@ -271,6 +288,7 @@ fn put_pair<'a, O: KeyOrder>(
 #[inline(never)]
 fn put_tagged<O: KeyOrder>(
     alloc: Global,
+    keys: &mut OpenKeys,
     room: u64,
     n: u64,
     bytes: &[u8],
@@ -291,5 +309,5 @@ fn put_tagged<O: KeyOrder>(
         return Some(rest.len());
     }
     put_head(Major::Tag, n, out)?;
-    put_node::<O>(alloc, room - 1, bytes, out)
+    put_node::<O>(alloc, keys, room - 1, bytes, out)
 }

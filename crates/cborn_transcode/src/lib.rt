@@ -34,6 +34,7 @@ mod departures;
 mod entries;
 mod items;
 mod leaves;
+mod open_keys;
 mod passes;
 mod places;
 mod runs;
@@ -42,5 +43,6 @@ mod walked_leaves;
 mod walks;
 
 pub use departures::Departure;
+pub use open_keys::OpenKeys;
 pub use passes::{transcode, transcode_item};
 pub use walks::{first_departure, is_deterministic, split_item};

@@ -15,7 +15,7 @@ use Rattle.cborn_search.specs.devices.Marks.{AreMarked, MapSeen}
 use Rattle.cborn_search.proofs.Mapping.{pairs_none, pairs_more, map_of, map_seen, endless_map_seen}
 use Rattle.cborn_search.proofs.Searching.{still, seen_from, uint_seen, nint_seen, bytes_seen, simple_seen, all_more, array_seen, endless_array_seen, tagged_seen, bignum_seen, bad_bignum_seen}
 use Rattle.cborn_search.proofs.flaws.+searched.Goals as goal
-use Rattle.cborn_search.proofs.flaws.+searched.Goals.{search_key-then-only_texts-via-then-only_texts, search_key-then-only_texts-via-else-only_texts+then-is_some}
+use Rattle.cborn_search.proofs.flaws.+searched.Goals.{search_key-else-not-only_texts-via-then-not-only_texts+else-is_none, search_key-else-not-only_texts-via-else-not-only_texts}
 
 pub search_item-returns : goal.search_item-returns
 search_item-returns t c = IfSome_then c.last.result c.last.ensures.found (λ rest e. node_last c.in_ok-left.ensures e)
@@ -195,19 +195,13 @@ search_key-returns-in-Behind t c =
     let joined = taken_joins c.args.only_texts c.args.room c.args.total c.args.pairs.now c.args.bytes.now c.args.map.now c.take.new.self c.in-Behind.ensures.keys c.in-Behind.ensures.first in
     IfSome_then c.last.result c.last.ensures.found (λ rest e. joined_last c.args.only_texts c.args.room c.args.total c.args.pairs.now c.args.bytes.now c.args.map.now c.take.new.self joined e)
 
-pub search_key-returns-then-only_texts : goal.search_key-returns-then-only_texts
-search_key-returns-then-only_texts t c =
+pub search_key-returns-else-not-only_texts : goal.search_key-returns-else-not-only_texts
+search_key-returns-else-not-only_texts t c =
     let found = c.search_node.new.found in
     let searched = searched_joins c.args.only_texts c.args.room c.args.total c.args.pairs.now c.args.bytes.now c.take.new.self c.note.new.self found.is_string found.flaw c.in_ok-left-in-Not.ensures c.note.ensures.keys c.note.ensures.first
-    (elim c.then-only_texts.branch [
-      | search_key-then-only_texts-via-then-only_texts w ↦ inl w.if-only_texts.true
-      | search_key-then-only_texts-via-else-only_texts+then-is_some w ↦ inr (some_told found.flaw (sym w.if-is_some.ensures))
+    (elim c.else-not-only_texts.branch [
+      | search_key-else-not-only_texts-via-then-not-only_texts+else-is_none w ↦ inr (some_told found.flaw (search rules))
+      | search_key-else-not-only_texts-via-else-not-only_texts w ↦ inl (search rules)
     ]) in
     let joined = joined_from c.args.only_texts c.args.room c.args.total c.args.pairs.now c.args.bytes.now c.args.map.now c.note.new.self c.take.new.self c.in-Not.ensures.keys c.in-Not.ensures.first searched in
-    IfSome_then c.last-then-only_texts.result c.last-then-only_texts.ensures.found (λ rest e. joined_last c.args.only_texts c.args.room c.args.total c.args.pairs.now c.args.bytes.now c.args.map.now c.note.new.self joined e)
-
-pub search_key-returns-in_ok-behind-in-Not : goal.search_key-returns-in_ok-behind-in-Not
-search_key-returns-in_ok-behind-in-Not t c =
-    let taken = taken_joins c.args.only_texts c.args.room c.args.total c.args.pairs.now c.args.bytes.now c.take.new.self c.take_sound.new.self c.in_ok-behind-in-Not.ensures.key c.in_ok-behind-in-Not.ensures.first in
-    let joined = joined_from c.args.only_texts c.args.room c.args.total c.args.pairs.now c.args.bytes.now c.args.map.now c.take_sound.new.self c.take.new.self c.in-Not.ensures.keys c.in-Not.ensures.first taken in
-    IfSome_then c.last-in-Not.result c.last-in-Not.ensures.found (λ rest e. joined_last c.args.only_texts c.args.room c.args.total c.args.pairs.now c.args.bytes.now c.args.map.now c.take_sound.new.self joined e)
+    IfSome_then c.last-in-Not.result c.last-in-Not.ensures.found (λ rest e. joined_last c.args.only_texts c.args.room c.args.total c.args.pairs.now c.args.bytes.now c.args.map.now c.note.new.self joined e)

@@ -1,0 +1,82 @@
+//! The keys that a pass is inside of.
+
+use std::alloc::Global;
+
+/// The keys of maps that a pass is inside of, where they are kept: behind a pass that gave no answer,
+/// those that hold the place where it gave up. Nothing but speed rests on them.
+#[derive(Drop)]
+pub struct OpenKeys {
+    /// Of each how many bytes there are from there on, the outermost first.
+    lefts: Vec<usize>,
+    /// How many of them the caller has come past.
+    passed: usize,
+    are_kept: bool,
+}
+
+impl OpenKeys {
+    /// They aren't kept.
+    pub fn unkept(alloc: Global) -> OpenKeys {
+        OpenKeys {
+            lefts: Vec::new(alloc),
+            passed: 0,
+            are_kept: false,
+        }
+    }
+
+    /// They are kept.
+    pub fn kept(alloc: Global) -> OpenKeys {
+        OpenKeys {
+            lefts: Vec::new(alloc),
+            passed: 0,
+            are_kept: true,
+        }
+    }
+
+    /// Whether a pass gave up inside the key with `left` bytes from there on. Who asks goes over the
+    /// input from the front to the end, and asks of each key before those behind it.
+    #[inline(always)]
+    pub fn holds(&mut self, left: usize) -> bool {
+        !self.lefts.is_empty() && self.come_to(left)
+    }
+
+    /// The same, where there are any.
+    #[inline(never)]
+    fn come_to(&mut self, left: usize) -> bool {
+        for at in self.passed..self.lefts.len() {
+            let open = self.lefts[at];
+            if open < left {
+                self.passed = at;
+                return false;
+            }
+            if open == left {
+                self.passed = at + 1;
+                return true;
+            }
+        }
+        self.lefts.clear();
+        self.passed = 0;
+        false
+    }
+
+    /// The key with `left` bytes from there on begins. None: memory was refused.
+    #[inline(always)]
+    pub(crate) fn enter(&mut self, left: usize) -> Option<()> {
+        if !self.are_kept {
+            return Some(());
+        }
+        self.keep(left)
+    }
+
+    #[inline(never)]
+    fn keep(&mut self, left: usize) -> Option<()> {
+        self.lefts.push(left).ok()
+    }
+
+    /// The key that was entered last ends.
+    #[inline(always)]
+    pub(crate) fn leave(&mut self) {
+        if self.are_kept {
+            self.lefts.pop();
+        }
+    }
+}
