@@ -7,6 +7,7 @@ ghost use Rattle.cborn_search.specs.devices.Marks.{Concludes, Takes};
 use crate::finding::Finding;
 use crate::keys::{Keys, Taken};
 use cborn_judge::{InvalidReason, earliest};
+use cborn_model::Bytewise;
 use cborn_transcode::OpenKeys;
 use std::alloc::Global;
 
@@ -114,7 +115,7 @@ pub(crate) struct SpareMaps {
     /// Room for the encoding of a key.
     encoding: Vec<u8>,
     /// The keys inside a key that wasn't taken in that weren't whole where that was found.
-    flawed: OpenKeys,
+    flawed: OpenKeys<'static, Bytewise>,
     /// Texts alone are looked for.
     only_texts: bool,
 }
@@ -126,7 +127,7 @@ impl SpareMaps {
             alloc,
             spare: Vec::new(alloc),
             encoding: Vec::new(alloc),
-            flawed: OpenKeys::kept(alloc),
+            flawed: OpenKeys::noted(alloc),
             only_texts,
         }
     }

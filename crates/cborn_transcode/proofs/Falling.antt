@@ -17,7 +17,7 @@ use Rattle.cborn_model.specs.Valid.{IsProper}
 use Rattle.cborn_model.specs.Value.{Value, Couples, no_pairs, pair}
 use Rattle.cborn_model.proofs.SameItems.Sameness.{same_itself}
 use Rattle.cborn_det.specs.Det.{Det}
-use Rattle.cborn_det.proofs.Canon.{one_of_same}
+use Rattle.cborn_det.proofs.Canon.{det_exists, one_of_same}
 use Rattle.cborn_det.specs.shared.KeyBefore.{Below}
 use Rattle.cborn_judge.specs.Departures.{FindsDefect}
 use Rattle.cborn_judge.specs.shared.Checked.{DefectIn, DefectAmong, MapDefect}
@@ -30,9 +30,10 @@ use Rattle.cborn_judge.proofs.FirstDefect.Departing.{alike}
 use Rattle.cborn_judge.proofs.Meaning.Meanings.{means_once, meaning_valid, some_bytes}
 use Rattle.cborn_judge.proofs.Meaning.Placing.{defect_within}
 use Rattle.cborn_transcode.specs.devices.Departing.{Stands, PairsStand, Stops, StopsBehind, IsBelowKey, Falls, DefectOn, LeadsPairs, IsFallen, IsAbove, IsNotAbove}
+use Rattle.cborn_transcode.specs.Transcoding.{IsEncodedAs}
 use Rattle.cborn_transcode.specs.shared.Walking.{ItemWalked}
 use Rattle.cborn_transcode.proofs.Departed.{low_entries}
-use Rattle.cborn_transcode.proofs.Departing.{width_of, number_of, coded, own_coded, item_clears}
+use Rattle.cborn_transcode.proofs.Departing.{width_of, number_of, own_coded, item_clears}
 use Rattle.cborn_wire.proofs.Parts.Heads.{behind}
 use Rattle.cborn_transcode.proofs.Opening.{opened, stands}
 
@@ -124,7 +125,7 @@ module _ (order : List ℕ → List ℕ → Ordering) where
   descends_low k (entry l v ws) p q h (inr d) = omega (arith, descends_low l ws (p + length (spelled l) + length (spelled v)) q h.2 d)
 
   module _ (laws : IsKeyOrder order) where
-    one_code : (k : Tree) (a b : Value) (x y : List ℕ) → IsProper a → Means k a → Means k b → Det order a x → Det order b y → x ≡ y
+    pub one_code : (k : Tree) (a b : Value) (x y : List ℕ) → IsProper a → Means k a → Means k b → Det order a x → Det order b y → x ≡ y
     one_code k a b x y g m n d e =
         let same : b ≡ a = means_once k b a n m in
         one_of_same order laws a a x y g g (same_itself a) d (subst (λ z. Det order z y) same e)
@@ -211,9 +212,7 @@ module _ (order : List ℕ → List ℕ → Ordering) where
         where
           over : (before : Option (Bor (List ℕ))) → IsAbove order before half → IsBelowKey order before l → ⊥
           over None a d = d
-          over (Some x) a d =
-              let c = coded order 1024 total l half (spelled v ++ (spelled_entries ws ++ rest)) a.0 a.1 key_stands a.2 in
-              clash (Some x) l a.1 (record { value = c.1.0; means = c.1.1; proper = proper c.1.0 c.1.1; det = c.1.2 }) a.3 d
+          over (Some x) a d = d.4 ((a total l (spelled v ++ (spelled_entries ws ++ rest)) d.1 key_stands (d.0, d.2, d.3)).0 refl)
 
           at : (q : ℕ) (t : DefectReason) → t ≡ KeyOrder → q ≡ place l → IsBelowKey order before l → total - length half ≤ total - left → (left ≡ length half) ⊎ IsAbove order before half → NoLater (total - left, defect_rank r) (q, defect_rank t)
           at q t e p d low (inl same) = inr (omega (arith, p, there, same), (let rank : defect_rank t ≡ 4 = ap defect_rank e in omega (arith, rank, rank_most r)))
@@ -236,8 +235,9 @@ module _ (order : List ℕ → List ℕ → Ordering) where
       not_above : (before : Option (Bor (List ℕ))) → IsNotAbove order before half → IsBelowKey order before l
       not_above None a = absurd a
       not_above (Some x) a =
-          let c = coded order 1024 total l half (spelled v ++ (spelled_entries ws ++ rest)) a.0 a.1 key_stands a.2 in
-          (c.1.0, a.1, c.1.1, c.1.2, a.3)
+          let y = det_exists order laws key_stands.item (proper key_stands.item key_stands.meant) in
+          let means : IsEncodedAs order l y.0 = (key_stands.item, key_stands.meant, y.1) in
+          (key_stands.item, y.0, key_stands.meant, y.1, λ less. (let above = (a total l (spelled v ++ (spelled_entries ws ++ rest)) y.0 key_stands means).1 less in absurd cc))
 
       key_late : (before : Option (Bor (List ℕ))) (r : DefectReason) (left : ℕ) → Stops order half r left → left ≢ length half → IsNotAbove order before half → FindsDefect (DefectOn order before (entry l v ws)) (Some (record { place = total - length half; reason = KeyOrder }))
       key_late before r left h late a =

@@ -12,4 +12,5 @@ pub mod Departing
 pub mod Departed
 pub mod Telling
 pub mod Falling
+pub mod Settling
 pub mod Tagging

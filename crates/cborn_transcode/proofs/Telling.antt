@@ -48,6 +48,14 @@ told_both A B S U (LooseBignum n) g u h = g reasons.LooseBignum n h u
 told_both A B S U (KeyOrder n) g u h = g reasons.KeyOrder n h u
 told_both A B S U Unknown g u h = absurd u
 
+pub departs_on : (S T : DefectReason → ℕ → Type 0) (w : Walked) → ((r : DefectReason) (n : ℕ) → S r n → T r n) → Departs S w → Departs T w
+departs_on S T (Behind n) g h = absurd h
+departs_on S T (LongHead n) g h = g reasons.LongHead n h
+departs_on S T (EndlessLength n) g h = g reasons.EndlessLength n h
+departs_on S T (LooseBignum n) g h = g reasons.LooseBignum n h
+departs_on S T (KeyOrder n) g h = g reasons.KeyOrder n h
+departs_on S T Unknown g h = absurd h
+
 module _ (order : List ℕ → List ℕ → Ordering) (room : ℕ) where
   -- what stands behind the head at the front
   pub walks_from : (x tail : List ℕ) (major k : Major) (n : ℕ) (w : Walked) → LeastHeadRead major n x tail → major ≡ k → WalksBehind order room k n tail w → Walks order room x w

@@ -6,7 +6,7 @@ ghost use Rattle.std.specs.declared.cmp.Ordering.{Ordering};
 ghost use Rattle.cborn_model.specs.declared.heads.Major.TheVariants.{Tag};
 ghost use Rattle.cborn_transcode.specs.devices.Departing.{Departs, Halts, KeyStops, Tells, TellsLoose, WalksBehind};
 
-use crate::items::put_item;
+use crate::items::{put_item, put_key};
 use crate::open_keys::OpenKeys;
 use crate::walked_leaves::read_least;
 use cborn_judge::{Defect, DefectReason, loose_defect};
@@ -104,14 +104,18 @@ pub(crate) fn head_departure(bytes: &[u8]) -> Walked
 
 /// Where a bignum departs, whose content at the front isn't the shortest, or is loose.
 #[inline(never)]
-pub(crate) fn bignum_departure<O: KeyOrder>(alloc: Option<Global>, n: u64, bytes: &[u8]) -> Walked
+pub(crate) fn bignum_departure<O: KeyOrder>(
+    keys: &Option<OpenKeys<O>>,
+    n: u64,
+    bytes: &[u8],
+) -> Walked
     requires { (n ≡ 2) ⊎ (n ≡ 3) }
     ensures { (room : ℕ) → WalksBehind O.order room Tag n bytes.now result }
 {
-    let Some(alloc) = alloc else {
+    let Some(keys) = keys else {
         return Walked::Unknown;
     };
-    match is_loose::<O>(alloc, bytes) {
+    match is_loose::<O>(keys.alloc(), bytes) {
         Some(true) => Walked::LooseBignum(bytes.len() + 1),
         Some(false) => head_departure(bytes),
         None => Walked::Unknown,
@@ -124,26 +128,28 @@ fn is_loose<O: KeyOrder>(alloc: Global, bytes: &[u8]) -> Option<bool>
     ensures { IfSome result (TellsLoose bytes.now) }
 {
     let mut out = Vec::new(alloc);
-    put_item::<O>(alloc, &mut OpenKeys::unkept(alloc), 0, bytes, &mut out)?;
+    put_item::<O>(alloc, &mut OpenKeys::unnoted(alloc), 0, bytes, &mut out)?;
     let (_, _, content) = read_least(&out)?;
     Some(loose_defect(0, content).is_some())
 }
 
 /// Where a map departs at the key at the front, in which `found` is the first departure, after the
-/// key `before`: a key that isn't above the one before it departs at its own place.
+/// key `before`: a key that isn't above the one before it departs at its own place. As long as that
+/// isn't known, the key waits, and the answer is unknown.
 #[inline(never)]
-pub(crate) fn key_departure<O: KeyOrder>(
-    alloc: Option<Global>,
-    before: Option<&[u8]>,
-    bytes: &[u8],
+pub(crate) fn key_departure<'a, O: KeyOrder>(
+    keys: &mut Option<OpenKeys<'a, O>>,
+    before: Option<&'a [u8]>,
+    bytes: &'a [u8],
     found: Walked,
 ) -> Walked
     ensures { KeyStops O.order before.entry bytes.now found result }
 {
-    let Some(alloc) = alloc else {
+    let Some(keys) = keys else {
         return Walked::Unknown;
     };
     let Some(left) = found.left() else {
+        keys.wait_around(before, bytes);
         return Walked::Unknown;
     };
     if left == bytes.len() {
@@ -152,12 +158,27 @@ pub(crate) fn key_departure<O: KeyOrder>(
     let Some(before) = before else {
         return found;
     };
+    match keys.is_above(before, bytes) {
+        Some(true) => found,
+        Some(false) => Walked::KeyOrder(bytes.len()),
+        None => {
+            keys.wait(before, bytes);
+            Walked::Unknown
+        }
+    }
+}
+
+/// Settles the keys that wait, if there are any: the outermost is encoded, and with it those inside.
+/// Whether that was done.
+#[inline(never)]
+pub(crate) fn settle<O: KeyOrder>(keys: &mut Option<OpenKeys<O>>) -> bool {
+    let Some(keys) = keys else {
+        return false;
+    };
+    let Some(bytes) = keys.outermost() else {
+        return false;
+    };
+    let alloc = keys.alloc();
     let mut out = Vec::new(alloc);
-    if put_item::<O>(alloc, &mut OpenKeys::unkept(alloc), 1024, bytes, &mut out).is_none() {
-        return Walked::Unknown;
-    }
-    if O::compare(before, &out).is_lt() {
-        return found;
-    }
-    Walked::KeyOrder(bytes.len())
+    put_key::<O>(alloc, keys, 1024, bytes, &mut out).is_some()
 }

@@ -22,7 +22,7 @@ use std::alloc::Global;
 #[inline(always)]
 pub(crate) fn put_item<'a, O: KeyOrder>(
     alloc: Global,
-    keys: &mut OpenKeys,
+    keys: &mut OpenKeys<O>,
     room: u64,
     bytes: &'a [u8],
     out: &mut Vec<u8>,
@@ -40,7 +40,7 @@ pub(crate) fn put_item<'a, O: KeyOrder>(
 #[inline(never)]
 fn put_node<O: KeyOrder>(
     alloc: Global,
-    keys: &mut OpenKeys,
+    keys: &mut OpenKeys<O>,
     room: u64,
     bytes: &[u8],
     out: &mut Vec<u8>,
@@ -88,7 +88,7 @@ fn put_node<O: KeyOrder>(
 #[inline(never)]
 fn put_fixed_array<O: KeyOrder>(
     alloc: Global,
-    keys: &mut OpenKeys,
+    keys: &mut OpenKeys<O>,
     room: u64,
     n: u64,
     bytes: &[u8],
@@ -113,7 +113,7 @@ fn put_fixed_array<O: KeyOrder>(
 #[inline(never)]
 fn put_endless_array<O: KeyOrder>(
     alloc: Global,
-    keys: &mut OpenKeys,
+    keys: &mut OpenKeys<O>,
     room: u64,
     bytes: &[u8],
     out: &mut Vec<u8>,
@@ -138,7 +138,7 @@ fn put_endless_array<O: KeyOrder>(
 #[inline(always)]
 fn put_items<'a, O: KeyOrder>(
     alloc: Global,
-    keys: &mut OpenKeys,
+    keys: &mut OpenKeys<O>,
     room: u64,
     most: u64,
     may_end: bool,
@@ -172,7 +172,7 @@ const GREAT: u64 = 1000;
 #[inline(never)]
 fn put_fixed_map<O: KeyOrder>(
     alloc: Global,
-    keys: &mut OpenKeys,
+    keys: &mut OpenKeys<O>,
     room: u64,
     n: u64,
     bytes: &[u8],
@@ -207,7 +207,7 @@ fn put_fixed_map<O: KeyOrder>(
 #[inline(never)]
 fn put_endless_map<O: KeyOrder>(
     alloc: Global,
-    keys: &mut OpenKeys,
+    keys: &mut OpenKeys<O>,
     room: u64,
     bytes: &[u8],
     out: &mut Vec<u8>,
@@ -236,7 +236,7 @@ fn put_endless_map<O: KeyOrder>(
 #[inline(always)]
 fn put_pairs<'a, O: KeyOrder>(
     alloc: Global,
-    keys: &mut OpenKeys,
+    keys: &mut OpenKeys<O>,
     room: u64,
     most: u64,
     may_end: bool,
@@ -264,7 +264,7 @@ fn put_pairs<'a, O: KeyOrder>(
 #[inline(always)]
 fn put_pair<'a, O: KeyOrder>(
     alloc: Global,
-    keys: &mut OpenKeys,
+    keys: &mut OpenKeys<O>,
     room: u64,
     bytes: &'a [u8],
     out: &mut Vec<u8>,
@@ -274,13 +274,34 @@ fn put_pair<'a, O: KeyOrder>(
     ensures { IfSome result (λ rest. (n : ℕ) (input start : List ℕ) → PairsTranscoded O.order room n spans.old.items input bytes.now start out.old.items → PairsTranscoded O.order room (n + 1) spans.new.items input rest.now start out.new.items) }
 {
     let start = out.len();
-    keys.enter(bytes.len())?;
-    let after = put_item::<O>(alloc, keys, room, bytes, out)?;
-    keys.leave();
+    let after = put_key::<O>(alloc, keys, room, bytes, out)?;
     let middle = out.len();
     let rest = put_item::<O>(alloc, keys, room, after, out)?;
     push_span::<O>(start, middle, out, spans)?;
     Some(rest)
+}
+
+/// The key at the front of `bytes`, of which may be noted what is asked.
+#[cycle(transcoded)]
+#[inline(always)]
+pub(crate) fn put_key<'a, O: KeyOrder>(
+    alloc: Global,
+    keys: &mut OpenKeys<O>,
+    room: u64,
+    bytes: &'a [u8],
+    out: &mut Vec<u8>,
+) -> Option<&'a [u8]>
+    requires { room ≤ 1024 }
+    ensures { IfSome result (λ rest. ItemTranscoded O.order room bytes.now rest.now out.old.items out.new.items) }
+{
+    if keys.are_unnoted() {
+        return put_item::<O>(alloc, keys, room, bytes, out);
+    }
+    let start = out.len();
+    keys.enter(bytes.len())?;
+    let after = put_item::<O>(alloc, keys, room, bytes, out)?;
+    keys.leave(bytes, after.len(), &out[start..])?;
+    Some(after)
 }
 
 /// The tag `n` over the item at the front of `bytes`.
@@ -288,7 +309,7 @@ fn put_pair<'a, O: KeyOrder>(
 #[inline(never)]
 fn put_tagged<O: KeyOrder>(
     alloc: Global,
-    keys: &mut OpenKeys,
+    keys: &mut OpenKeys<O>,
     room: u64,
     n: u64,
     bytes: &[u8],

@@ -38,6 +38,7 @@ mod open_keys;
 mod passes;
 mod places;
 mod runs;
+mod settled_keys;
 mod walked_integers;
 mod walked_leaves;
 mod walks;

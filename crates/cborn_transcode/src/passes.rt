@@ -20,10 +20,10 @@ pub fn transcode<O: KeyOrder>(alloc: Global, limit: Limit, bytes: &[u8]) -> Opti
 /// Appends the deterministic encoding of the item at the front of the bytes, which is no deeper than
 /// `room`, the keys of maps in the order `O` (RFC 8949 section 4.2); answers what follows it, which
 /// isn't looked at. None promises nothing, nor of what `out` then holds: no item stands there, or
-/// memory was refused. Then `keys`, if they are kept, are those that hold the place where it gave up.
+/// memory was refused. Then `keys` may tell those that hold the place where it gave up.
 pub fn transcode_item<'a, O: KeyOrder>(
     alloc: Global,
-    keys: &mut OpenKeys,
+    keys: &mut OpenKeys<O>,
     room: u64,
     bytes: &'a [u8],
     out: &mut Vec<u8>,
@@ -39,7 +39,7 @@ fn put_all<O: KeyOrder>(alloc: Global, room: u64, bytes: &[u8]) -> Option<Vec<u8
     requires { room ≤ 1024 }
     ensures { IfSome result (λ out. (n : ℕ) × ItemsTranscoded O.order room n bytes.now [] [] out.items) }
 {
-    let mut keys = OpenKeys::unkept(alloc);
+    let mut keys = OpenKeys::unnoted(alloc);
     let mut out = Vec::with_capacity(alloc, bytes.len()).ok()?;
     let mut rest = bytes;
     'items: for _ in 0..bytes.len() {

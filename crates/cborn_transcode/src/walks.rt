@@ -7,7 +7,10 @@ ghost use Rattle.cborn_transcode.specs.Departing.{IsFirstDeparture};
 ghost use Rattle.cborn_transcode.specs.Transcoding.{ItemTranscoded, IsTranscoded};
 ghost use Rattle.cborn_transcode.specs.devices.Departing.{Walks, WalksBehind};
 
-use crate::departures::{Departure, Walked, bignum_departure, head_departure, key_departure};
+use crate::departures::{
+    Departure, Walked, bignum_departure, head_departure, key_departure, settle,
+};
+use crate::open_keys::OpenKeys;
 use crate::walked_integers::int_len;
 use crate::walked_leaves::{last, read_least, rises_above, split_before, walk_bignum, walk_leaf};
 use cborn_model::{KeyOrder, Limit, Major};
@@ -22,7 +25,8 @@ use std::alloc::Global;
 pub fn is_deterministic<O: KeyOrder>(limit: Limit, bytes: &[u8]) -> bool
     ensures { IsTrue result → IsTranscoded O.order limit bytes.now bytes.now }
 {
-    matches!(departure::<O>(None, limit, bytes), Departure::Deterministic)
+    let found = departure::<O>(&mut None, limit, bytes);
+    matches!(found, Departure::Deterministic)
 }
 
 /// Where the bytes first depart from the deterministic encodings of the items that they hold, one
@@ -35,12 +39,16 @@ pub fn is_deterministic<O: KeyOrder>(limit: Limit, bytes: &[u8]) -> bool
 pub fn first_departure<O: KeyOrder>(alloc: Global, limit: Limit, bytes: &[u8]) -> Departure
     ensures { IsFirstDeparture O.order limit bytes.now result }
 {
-    departure::<O>(Some(alloc), limit, bytes)
+    departure::<O>(&mut Some(OpenKeys::ordered(alloc)), limit, bytes)
 }
 
-/// What both ask. Without `alloc` it is asked only whether the bytes depart: where a bignum or a key
+/// What both ask. Without `keys` it is asked only whether the bytes depart: where a bignum or a key
 /// does, the answer is unknown.
-fn departure<O: KeyOrder>(alloc: Option<Global>, limit: Limit, bytes: &[u8]) -> Departure
+fn departure<'a, O: KeyOrder>(
+    keys: &mut Option<OpenKeys<'a, O>>,
+    limit: Limit,
+    bytes: &'a [u8],
+) -> Departure
     ensures { IsFirstDeparture O.order limit bytes.now result }
 {
     let room = limit.get();
@@ -49,10 +57,11 @@ fn departure<O: KeyOrder>(alloc: Option<Global>, limit: Limit, bytes: &[u8]) -> 
         if rest.is_empty() {
             break;
         }
-        match walk_item::<O>(alloc, room, rest) {
+        match walk_item::<O>(keys, room, rest) {
             Walked::Behind(behind) => rest = last(rest, behind),
             stop => {
-                return match stop.defect(bytes.len()) {
+                let settled = walk_settled::<O>(keys, room, rest, stop);
+                return match settled.defect(bytes.len()) {
                     Some(defect) => Departure::First(defect),
                     None => Departure::Unknown,
                 };
@@ -65,6 +74,25 @@ fn departure<O: KeyOrder>(alloc: Option<Global>, limit: Limit, bytes: &[u8]) -> 
     Departure::Deterministic
 }
 
+/// Where the item at the front first departs, in which a walk stopped there. Where it stopped in keys
+/// that wait, these are settled, and it is walked over once more.
+#[inline(never)]
+fn walk_settled<'a, O: KeyOrder>(
+    keys: &mut Option<OpenKeys<'a, O>>,
+    room: u64,
+    bytes: &'a [u8],
+    stop: Walked,
+) -> Walked
+    requires room { room ≤ 1024 }
+    requires stop { Walks O.order room bytes.now stop }
+    ensures { Walks O.order room bytes.now result }
+{
+    if settle::<O>(keys) {
+        return walk_item::<O>(keys, room, bytes);
+    }
+    stop
+}
+
 /// The item at the front of the bytes, which is its own deterministic encoding, no deeper than
 /// `room`, the keys of maps in the order `O` (RFC 8949 section 4.2); and what follows it, which
 /// isn't looked at. None promises nothing: the item may depart from that encoding, or there may be
@@ -74,7 +102,7 @@ pub fn split_item<O: KeyOrder>(room: u64, bytes: &[u8]) -> Option<(&[u8], &[u8])
     ensures parts { IfSome result (λ r. bytes.now ≡ r.0.now ++ r.1.now) }
     ensures item { IfSome result (λ r. ItemTranscoded O.order room bytes.now r.1.now [] r.0.now) }
 {
-    let Walked::Behind(behind) = walk_item::<O>(None, room, bytes) else {
+    let Walked::Behind(behind) = walk_item::<O>(&mut None, room, bytes) else {
         return None;
     };
     Some(split_before(bytes, behind))
@@ -84,7 +112,11 @@ pub fn split_item<O: KeyOrder>(room: u64, bytes: &[u8]) -> Option<(&[u8], &[u8])
 /// departs.
 #[cycle(walked)]
 #[inline(always)]
-fn walk_item<O: KeyOrder>(alloc: Option<Global>, room: u64, bytes: &[u8]) -> Walked
+fn walk_item<'a, O: KeyOrder>(
+    keys: &mut Option<OpenKeys<'a, O>>,
+    room: u64,
+    bytes: &'a [u8],
+) -> Walked
     requires { room ≤ 1024 }
     ensures { Walks O.order room bytes.now result }
 {
@@ -92,9 +124,9 @@ fn walk_item<O: KeyOrder>(alloc: Option<Global>, room: u64, bytes: &[u8]) -> Wal
         return head_departure(bytes);
     };
     match major {
-        Major::Array => walk_array::<O>(alloc, room, n, rest),
-        Major::Map => walk_map::<O>(alloc, room, n, rest),
-        Major::Tag => walk_tagged::<O>(alloc, room, n, rest),
+        Major::Array => walk_array::<O>(keys, room, n, rest),
+        Major::Map => walk_map::<O>(keys, room, n, rest),
+        Major::Tag => walk_tagged::<O>(keys, room, n, rest),
         _ => match walk_leaf(major, n, rest) {
             Some(behind) => Walked::Behind(behind),
             None => Walked::Unknown,
@@ -105,7 +137,12 @@ fn walk_item<O: KeyOrder>(alloc: Option<Global>, room: u64, bytes: &[u8]) -> Wal
 /// The same of the `n` items of an array, from behind its head.
 #[cycle(walked)]
 #[inline(never)]
-fn walk_array<O: KeyOrder>(alloc: Option<Global>, room: u64, n: u64, bytes: &[u8]) -> Walked
+fn walk_array<'a, O: KeyOrder>(
+    keys: &mut Option<OpenKeys<'a, O>>,
+    room: u64,
+    n: u64,
+    bytes: &'a [u8],
+) -> Walked
     requires { room ≤ 1024 }
     ensures { WalksBehind O.order room Array n bytes.now result }
 {
@@ -115,7 +152,7 @@ fn walk_array<O: KeyOrder>(alloc: Option<Global>, room: u64, n: u64, bytes: &[u8
     let mut rest = bytes;
     let mut left = n;
     'items: while left > 0 {
-        match walk_element::<O>(alloc, room - 1, rest) {
+        match walk_element::<O>(keys, room - 1, rest) {
             Walked::Behind(behind) => rest = last(rest, behind),
             stop => return stop,
         }
@@ -127,7 +164,11 @@ fn walk_array<O: KeyOrder>(alloc: Option<Global>, room: u64, n: u64, bytes: &[u8
 /// The same as `walk_item`, quicker where an integer comes first.
 #[cycle(walked)]
 #[inline(always)]
-fn walk_element<O: KeyOrder>(alloc: Option<Global>, room: u64, bytes: &[u8]) -> Walked
+fn walk_element<'a, O: KeyOrder>(
+    keys: &mut Option<OpenKeys<'a, O>>,
+    room: u64,
+    bytes: &'a [u8],
+) -> Walked
     requires { room ≤ 1024 }
     ensures { Walks O.order room bytes.now result }
 {
@@ -135,13 +176,18 @@ fn walk_element<O: KeyOrder>(alloc: Option<Global>, room: u64, bytes: &[u8]) -> 
     if len > 0 {
         return Walked::Behind(bytes.len() - len);
     }
-    walk_item::<O>(alloc, room, bytes)
+    walk_item::<O>(keys, room, bytes)
 }
 
 /// The same of the `n` pairs of a map, from behind its head.
 #[cycle(walked)]
 #[inline(never)]
-fn walk_map<O: KeyOrder>(alloc: Option<Global>, room: u64, n: u64, bytes: &[u8]) -> Walked
+fn walk_map<'a, O: KeyOrder>(
+    keys: &mut Option<OpenKeys<'a, O>>,
+    room: u64,
+    n: u64,
+    bytes: &'a [u8],
+) -> Walked
     requires { room ≤ 1024 }
     ensures { WalksBehind O.order room Map n bytes.now result }
 {
@@ -153,16 +199,16 @@ fn walk_map<O: KeyOrder>(alloc: Option<Global>, room: u64, n: u64, bytes: &[u8])
     let mut before: Option<&[u8]> = None;
     let mut left = n;
     'pairs: while left > 0 {
-        let behind = match walk_item::<O>(alloc, room - 1, rest) {
+        let behind = match walk_item::<O>(keys, room - 1, rest) {
             Walked::Behind(behind) => behind,
-            stop => return key_departure::<O>(alloc, before, rest, stop),
+            stop => return key_departure::<O>(keys, before, rest, stop),
         };
         let (key, after) = split_before(rest, behind);
         if !rises_above::<O>(before, key) {
             return Walked::KeyOrder(rest.len());
         }
         before = Some(key);
-        match walk_item::<O>(alloc, room - 1, after) {
+        match walk_item::<O>(keys, room - 1, after) {
             Walked::Behind(behind) => rest = last(after, behind),
             stop => return stop,
         }
@@ -174,7 +220,12 @@ fn walk_map<O: KeyOrder>(alloc: Option<Global>, room: u64, n: u64, bytes: &[u8])
 /// The same of the item under the tag `n`, from behind that.
 #[cycle(walked)]
 #[inline(never)]
-fn walk_tagged<O: KeyOrder>(alloc: Option<Global>, room: u64, n: u64, bytes: &[u8]) -> Walked
+fn walk_tagged<'a, O: KeyOrder>(
+    keys: &mut Option<OpenKeys<'a, O>>,
+    room: u64,
+    n: u64,
+    bytes: &'a [u8],
+) -> Walked
     requires { room ≤ 1024 }
     ensures { WalksBehind O.order room Tag n bytes.now result }
 {
@@ -184,14 +235,14 @@ fn walk_tagged<O: KeyOrder>(alloc: Option<Global>, room: u64, n: u64, bytes: &[u
     if n == 2 {
         return match walk_bignum(bytes) {
             Some(behind) => Walked::Behind(behind),
-            None => bignum_departure::<O>(alloc, n, bytes),
+            None => bignum_departure::<O>(keys, n, bytes),
         };
     }
     if n == 3 {
         return match walk_bignum(bytes) {
             Some(behind) => Walked::Behind(behind),
-            None => bignum_departure::<O>(alloc, n, bytes),
+            None => bignum_departure::<O>(keys, n, bytes),
         };
     }
-    walk_item::<O>(alloc, room - 1, bytes)
+    walk_item::<O>(keys, room - 1, bytes)
 }

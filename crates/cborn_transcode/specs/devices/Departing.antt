@@ -1,5 +1,5 @@
 -- A device of the proofs: what a walk knows that stops at the first departure of bytes that hold items. It speaks of any nodes that the bytes may spell. No public contract cites it.
-use Rattle.std.specs.Prelude.{◌≡◌, ◌≢◌, ◌⊎◌, ◌↔◌, ℕ, ◌-◌, ◌≤◌, List, [], ◌++◌, length, Bool, IsTrue, Option, None, Some, ⊤}
+use Rattle.std.specs.Prelude.{◌≡◌, ◌≢◌, ◌⊎◌, ◌↔◌, ℕ, ◌-◌, ◌≤◌, List, [], ◌++◌, length, Bool, true, false, IsTrue, Option, None, Some, ⊤}
 use Rattle.std.specs.declared.cmp.Ordering.{Ordering}
 use Rattle.std.specs.declared.cmp.Ordering.TheVariants.{Less}
 use Rattle.std.proofs.Common.{Bor}
@@ -19,7 +19,7 @@ use Rattle.cborn_judge.specs.declared.defects.DefectReason.{DefectReason}
 use Rattle.cborn_judge.specs.declared.defects.DefectReason.TheVariants as reasons
 use Rattle.cborn_transcode.specs.declared.departures.Walked.{Walked}
 use Rattle.cborn_transcode.specs.declared.departures.Walked.TheVariants.{Behind, LongHead, EndlessLength, LooseBignum, KeyOrder, Unknown}
-use Rattle.cborn_transcode.specs.Transcoding.{ItemTranscoded}
+use Rattle.cborn_transcode.specs.Transcoding.{IsEncodedAs}
 use Rattle.cborn_wire.specs.Parts.{Leaves}
 use Rattle.cborn_transcode.specs.shared.Walking.{ItemWalked, WalkedBehind}
 
@@ -128,14 +128,18 @@ module _ (order : List ℕ → List ℕ → Ordering) where
   IsFallen None y = ⊥
   IsFallen (Some x) y = order x.now y ≢ Less
 
-  -- the encoding of the item at the front is above the key before, or isn't
+  -- whether the encoding of what the node at the front means is above the key x
+  abbrev pub KeyIs : List ℕ → List ℕ → Bool → Type 0
+  KeyIs x input above = (total : ℕ) (t : Tree) (rest y : List ℕ) → Stands total t input rest → IsEncodedAs order t y → IsTrue above ↔ (order x y ≡ Less)
+
+  -- the key at the front is above the one before, if there is one, or isn't
   abbrev pub IsAbove : Option (Bor (List ℕ)) → List ℕ → Type 0
   IsAbove None input = ⊤
-  IsAbove (Some x) input = (rest y : List ℕ) × ItemTranscoded order 1024 input rest [] y × (order x.now y ≡ Less)
+  IsAbove (Some x) input = KeyIs x.now input true
 
   abbrev pub IsNotAbove : Option (Bor (List ℕ)) → List ℕ → Type 0
   IsNotAbove None input = ⊥
-  IsNotAbove (Some x) input = (rest y : List ℕ) × ItemTranscoded order 1024 input rest [] y × (order x.now y ≢ Less)
+  IsNotAbove (Some x) input = KeyIs x.now input false
 
   -- where a map departs at the key at the front, in which this was found first
   abbrev pub KeyStops : Option (Bor (List ℕ)) → List ℕ → Walked → Walked → Type 0

@@ -150,10 +150,10 @@ put_pairs-pairs-preserved g t c =
 pub put_pair-returns : goal.put_pair-returns
 put_pair-returns g t c n input start s =
     let pushed = c.in_ok-push_span.ensures in
-    let first : pushed.0.key_len ≡ length c.put_item.new.out.items - length c.args.out.now.items = search rules in
-    let second : pushed.0.value_len ≡ length c.put_item-2.new.out.items - length c.put_item.new.out.items = search rules in
-    subst (λ (l : List Span). PairsTranscoded g.O.KeyOrder.order c.args.room (n + 1) l input c.in_ok-rest.rest.now start c.put_item-2.new.out.items) (sym pushed.1)
-    (pairs_more g.O.KeyOrder.order c.args.spans.now.items pushed.0 start c.args.out.now.items c.put_item.new.out.items c.put_item-2.new.out.items s c.in_ok-after.ensures c.in_ok-rest.ensures (search rules) first second)
+    let first : pushed.0.key_len ≡ length c.put_key.new.out.items - length c.args.out.now.items = search rules in
+    let second : pushed.0.value_len ≡ length c.put_item.new.out.items - length c.put_key.new.out.items = search rules in
+    subst (λ (l : List Span). PairsTranscoded g.O.KeyOrder.order c.args.room (n + 1) l input c.in_ok-rest.rest.now start c.put_item.new.out.items) (sym pushed.1)
+    (pairs_more g.O.KeyOrder.order c.args.spans.now.items pushed.0 start c.args.out.now.items c.put_key.new.out.items c.put_item.new.out.items s c.in_ok-after.ensures c.in_ok-rest.ensures (search rules) first second)
 
 pub put_tagged-returns-then-n-eq2 : goal.put_tagged-returns-then-n-eq2
 put_tagged-returns-then-n-eq2 g t c w h =

@@ -24,10 +24,13 @@ abbrev pub decreases-put_endless_map : goal.decreases-put_endless_map
 decreases-put_endless_map g l = 8 * l.room + 0
 
 abbrev pub decreases-put_pairs : goal.decreases-put_pairs
-decreases-put_pairs g l = 8 * l.room + 4
+decreases-put_pairs g l = 8 * l.room + 5
 
 abbrev pub decreases-put_pair : goal.decreases-put_pair
-decreases-put_pair g l = 8 * l.room + 3
+decreases-put_pair g l = 8 * l.room + 4
+
+abbrev pub decreases-put_key : goal.decreases-put_key
+decreases-put_key g l = 8 * l.room + 3
 
 abbrev pub decreases-put_tagged : goal.decreases-put_tagged
 decreases-put_tagged g l = 8 * l.room + 0

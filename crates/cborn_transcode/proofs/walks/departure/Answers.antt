@@ -17,10 +17,10 @@ returns-in-Some g c =
     let i = c.items.invariant in
     let some : 0 < length c.items.rest.now = search rules in
     let within : length c.items.rest.now ≤ length c.args.bytes.now = nodes_left i.0.1 in
-    let told : Tells (length c.args.bytes.now) c.walk_item.result c.in-Some.defect = search rules in
-    told_both (IsFirstDefectOfItems g.O.KeyOrder.order c.args.limit c.args.bytes.now c.in-Some.defect) (Leaves (ItemWalked g.O.KeyOrder.order c.get-room.result c.items.rest.now)) (Stops g.O.KeyOrder.order c.items.rest.now) (λ r left. (left ≤ length c.args.bytes.now) × (c.in-Some.defect.place ≡ length c.args.bytes.now - left) × (c.in-Some.defect.reason ≡ r)) c.walk_item.result
+    let told : Tells (length c.args.bytes.now) c.walk_settled-settled.result c.in-Some.defect = search rules in
+    told_both (IsFirstDefectOfItems g.O.KeyOrder.order c.args.limit c.args.bytes.now c.in-Some.defect) (Leaves (ItemWalked g.O.KeyOrder.order c.get-room.result c.items.rest.now)) (Stops g.O.KeyOrder.order c.items.rest.now) (λ r left. (left ≤ length c.args.bytes.now) × (c.in-Some.defect.place ≡ length c.args.bytes.now - left) × (c.in-Some.defect.reason ≡ r)) c.walk_settled-settled.result
     (λ r left stop tells. on_end g.O.KeyOrder.order c.args.limit c.args.bytes.now c.items.rest.now r left c.in-Some.defect within some i.1 stop tells.1 tells.2)
-    told c.walk_item.ensures
+    told c.walk_settled-settled.ensures
 
 pub items-preserved : goal.items-preserved
 items-preserved g c =
