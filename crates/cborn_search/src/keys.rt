@@ -75,7 +75,7 @@ impl Keys {
     /// no deeper than `room` and means something. Where it isn't its own encoding, that is made in
     /// `encoding`, whose room serves one key after another. Where it has none, `open` has the keys in
     /// it that hold its flaw.
-    #[inline(never)]
+    #[inline(always)]
     pub(crate) fn take(
         &mut self,
         alloc: Global,

@@ -4,7 +4,7 @@
 ghost use Rattle.std.specs.Prelude.{◌≡◌, ◌⊎◌, ◌-◌, ◌≤◌, ℕ, List, IfSome};
 ghost use Rattle.std.specs.declared.cmp.Ordering.{Ordering};
 ghost use Rattle.cborn_model.specs.declared.heads.Major.TheVariants.{Tag};
-ghost use Rattle.cborn_transcode.specs.devices.Departing.{Departs, Halts, KeyStops, Tells, TellsLoose, WalksBehind};
+ghost use Rattle.cborn_transcode.specs.devices.Departing.{Departs, Halts, KeyIs, KeyStops, Tells, TellsLoose, WalksBehind};
 
 use crate::items::{put_item, put_key};
 use crate::open_keys::OpenKeys;
@@ -23,6 +23,64 @@ pub enum Departure {
     First(Defect),
     /// Nothing is promised: the bytes may hold no items, or memory was refused.
     Unknown,
+}
+
+/// What a walk is asked.
+#[derive(Drop)]
+pub(crate) struct Asked<'a, O: KeyOrder> {
+    /// None where it is asked only whether the bytes depart: where a bignum or a key does, the answer
+    /// is unknown then.
+    alloc: Option<Global>,
+    /// The keys around the departure that have to wait until they are encoded, if there are any.
+    keys: Option<Box<OpenKeys<'a, O>>>,
+}
+
+impl<'a, O: KeyOrder> Asked<'a, O> {
+    /// Whether the bytes depart.
+    #[inline(always)]
+    pub(crate) fn whether() -> Asked<'a, O> {
+        Asked {
+            alloc: None,
+            keys: None,
+        }
+    }
+
+    /// Where they first depart.
+    pub(crate) fn place(alloc: Global) -> Asked<'a, O> {
+        Asked {
+            alloc: Some(alloc),
+            keys: None,
+        }
+    }
+
+    /// Whether the key at the front of `bytes` is above the one before. None promises nothing.
+    fn is_above(&mut self, before: &[u8], bytes: &[u8]) -> Option<bool>
+        ensures { IfSome result (KeyIs O.order before.now bytes.now) }
+    {
+        let keys = self.keys.as_mut()?;
+        keys.is_above(before, bytes)
+    }
+
+    /// The key at the front of `bytes`, which holds a departure, waits. None: memory was refused.
+    fn wait(&mut self, before: &'a [u8], bytes: &'a [u8]) -> Option<()> {
+        if self.keys.is_none() {
+            let alloc = self.alloc?;
+            self.keys = Some(Box::new(alloc, OpenKeys::ordered(alloc)).ok()?);
+        }
+        let keys = self.keys.as_mut()?;
+        keys.wait(before, bytes)
+    }
+
+    /// The same of the key around one that waits. The first of a map doesn't wait.
+    fn wait_around(&mut self, before: Option<&'a [u8]>, bytes: &'a [u8]) -> Option<()> {
+        if self.keys.is_none() {
+            return Some(());
+        }
+        match before {
+            Some(before) => self.wait(before, bytes),
+            None => Some(()),
+        }
+    }
 }
 
 /// What a walk finds of an item. Each case has at most one number, so that it comes back in
@@ -104,18 +162,14 @@ pub(crate) fn head_departure(bytes: &[u8]) -> Walked
 
 /// Where a bignum departs, whose content at the front isn't the shortest, or is loose.
 #[inline(never)]
-pub(crate) fn bignum_departure<O: KeyOrder>(
-    keys: &Option<OpenKeys<O>>,
-    n: u64,
-    bytes: &[u8],
-) -> Walked
+pub(crate) fn bignum_departure<O: KeyOrder>(asked: &Asked<O>, n: u64, bytes: &[u8]) -> Walked
     requires { (n ≡ 2) ⊎ (n ≡ 3) }
     ensures { (room : ℕ) → WalksBehind O.order room Tag n bytes.now result }
 {
-    let Some(keys) = keys else {
+    let Some(alloc) = asked.alloc else {
         return Walked::Unknown;
     };
-    match is_loose::<O>(keys.alloc(), bytes) {
+    match is_loose::<O>(alloc, bytes) {
         Some(true) => Walked::LooseBignum(bytes.len() + 1),
         Some(false) => head_departure(bytes),
         None => Walked::Unknown,
@@ -138,18 +192,18 @@ fn is_loose<O: KeyOrder>(alloc: Global, bytes: &[u8]) -> Option<bool>
 /// isn't known, the key waits, and the answer is unknown.
 #[inline(never)]
 pub(crate) fn key_departure<'a, O: KeyOrder>(
-    keys: &mut Option<OpenKeys<'a, O>>,
+    asked: &mut Asked<'a, O>,
     before: Option<&'a [u8]>,
     bytes: &'a [u8],
     found: Walked,
 ) -> Walked
     ensures { KeyStops O.order before.entry bytes.now found result }
 {
-    let Some(keys) = keys else {
+    if asked.alloc.is_none() {
         return Walked::Unknown;
-    };
+    }
     let Some(left) = found.left() else {
-        keys.wait_around(before, bytes);
+        asked.wait_around(before, bytes);
         return Walked::Unknown;
     };
     if left == bytes.len() {
@@ -158,11 +212,11 @@ pub(crate) fn key_departure<'a, O: KeyOrder>(
     let Some(before) = before else {
         return found;
     };
-    match keys.is_above(before, bytes) {
+    match asked.is_above(before, bytes) {
         Some(true) => found,
         Some(false) => Walked::KeyOrder(bytes.len()),
         None => {
-            keys.wait(before, bytes);
+            asked.wait(before, bytes);
             Walked::Unknown
         }
     }
@@ -171,14 +225,16 @@ pub(crate) fn key_departure<'a, O: KeyOrder>(
 /// Settles the keys that wait, if there are any: the outermost is encoded, and with it those inside.
 /// Whether that was done.
 #[inline(never)]
-pub(crate) fn settle<O: KeyOrder>(keys: &mut Option<OpenKeys<O>>) -> bool {
-    let Some(keys) = keys else {
+pub(crate) fn settle<O: KeyOrder>(asked: &mut Asked<O>) -> bool {
+    let Some(alloc) = asked.alloc else {
+        return false;
+    };
+    let Some(keys) = &mut asked.keys else {
         return false;
     };
     let Some(bytes) = keys.outermost() else {
         return false;
     };
-    let alloc = keys.alloc();
     let mut out = Vec::new(alloc);
     put_key::<O>(alloc, keys, 1024, bytes, &mut out).is_some()
 }

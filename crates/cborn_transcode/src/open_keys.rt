@@ -22,7 +22,6 @@ enum Noting {
 /// these may be those that hold the place where it gave up: nothing but speed rests on them.
 #[derive(Drop)]
 pub struct OpenKeys<'k, O: KeyOrder> {
-    alloc: Global,
     noting: Noting,
     /// Of each open key how many bytes there are from there on, the outermost first.
     lefts: Vec<usize>,
@@ -40,7 +39,6 @@ pub struct OpenKeys<'k, O: KeyOrder> {
 impl<'k, O: KeyOrder> OpenKeys<'k, O> {
     fn new(alloc: Global, noting: Noting) -> OpenKeys<'k, O> {
         OpenKeys {
-            alloc,
             noting,
             lefts: Vec::new(alloc),
             passed: 0,
@@ -89,10 +87,6 @@ impl<'k, O: KeyOrder> OpenKeys<'k, O> {
         self.lefts.clear();
         self.passed = 0;
         false
-    }
-
-    pub(crate) fn alloc(&self) -> Global {
-        self.alloc
     }
 
     /// Whether nothing is noted.
@@ -146,17 +140,6 @@ impl<'k, O: KeyOrder> OpenKeys<'k, O> {
             self.waiting.push((bytes, before)).ok()?;
         }
         Some(())
-    }
-
-    /// The same, where one inside it waits. A key that is the first of its map doesn't wait.
-    pub(crate) fn wait_around(&mut self, before: Option<&'k [u8]>, bytes: &'k [u8]) -> Option<()> {
-        if self.waiting.is_empty() {
-            return Some(());
-        }
-        match before {
-            Some(before) => self.wait(before, bytes),
-            None => Some(()),
-        }
     }
 
     /// The outermost key that waits, from there on to the end of the input; none where all are settled.

@@ -8,9 +8,8 @@ ghost use Rattle.cborn_transcode.specs.Transcoding.{ItemTranscoded, IsTranscoded
 ghost use Rattle.cborn_transcode.specs.devices.Departing.{Walks, WalksBehind};
 
 use crate::departures::{
-    Departure, Walked, bignum_departure, head_departure, key_departure, settle,
+    Asked, Departure, Walked, bignum_departure, head_departure, key_departure, settle,
 };
-use crate::open_keys::OpenKeys;
 use crate::walked_integers::int_len;
 use crate::walked_leaves::{last, read_least, rises_above, split_before, walk_bignum, walk_leaf};
 use cborn_model::{KeyOrder, Limit, Major};
@@ -25,7 +24,7 @@ use std::alloc::Global;
 pub fn is_deterministic<O: KeyOrder>(limit: Limit, bytes: &[u8]) -> bool
     ensures { IsTrue result → IsTranscoded O.order limit bytes.now bytes.now }
 {
-    let found = departure::<O>(&mut None, limit, bytes);
+    let found = departure::<O>(&mut Asked::whether(), limit, bytes);
     matches!(found, Departure::Deterministic)
 }
 
@@ -39,16 +38,11 @@ pub fn is_deterministic<O: KeyOrder>(limit: Limit, bytes: &[u8]) -> bool
 pub fn first_departure<O: KeyOrder>(alloc: Global, limit: Limit, bytes: &[u8]) -> Departure
     ensures { IsFirstDeparture O.order limit bytes.now result }
 {
-    departure::<O>(&mut Some(OpenKeys::ordered(alloc)), limit, bytes)
+    departure::<O>(&mut Asked::place(alloc), limit, bytes)
 }
 
-/// What both ask. Without `keys` it is asked only whether the bytes depart: where a bignum or a key
-/// does, the answer is unknown.
-fn departure<'a, O: KeyOrder>(
-    keys: &mut Option<OpenKeys<'a, O>>,
-    limit: Limit,
-    bytes: &'a [u8],
-) -> Departure
+/// What both ask.
+fn departure<'a, O: KeyOrder>(asked: &mut Asked<'a, O>, limit: Limit, bytes: &'a [u8]) -> Departure
     ensures { IsFirstDeparture O.order limit bytes.now result }
 {
     let room = limit.get();
@@ -57,10 +51,10 @@ fn departure<'a, O: KeyOrder>(
         if rest.is_empty() {
             break;
         }
-        match walk_item::<O>(keys, room, rest) {
+        match walk_item::<O>(asked, room, rest) {
             Walked::Behind(behind) => rest = last(rest, behind),
             stop => {
-                let settled = walk_settled::<O>(keys, room, rest, stop);
+                let settled = walk_settled::<O>(asked, room, rest, stop);
                 return match settled.defect(bytes.len()) {
                     Some(defect) => Departure::First(defect),
                     None => Departure::Unknown,
@@ -78,7 +72,7 @@ fn departure<'a, O: KeyOrder>(
 /// that wait, these are settled, and it is walked over once more.
 #[inline(never)]
 fn walk_settled<'a, O: KeyOrder>(
-    keys: &mut Option<OpenKeys<'a, O>>,
+    asked: &mut Asked<'a, O>,
     room: u64,
     bytes: &'a [u8],
     stop: Walked,
@@ -87,8 +81,8 @@ fn walk_settled<'a, O: KeyOrder>(
     requires stop { Walks O.order room bytes.now stop }
     ensures { Walks O.order room bytes.now result }
 {
-    if settle::<O>(keys) {
-        return walk_item::<O>(keys, room, bytes);
+    if settle::<O>(asked) {
+        return walk_item::<O>(asked, room, bytes);
     }
     stop
 }
@@ -102,7 +96,7 @@ pub fn split_item<O: KeyOrder>(room: u64, bytes: &[u8]) -> Option<(&[u8], &[u8])
     ensures parts { IfSome result (λ r. bytes.now ≡ r.0.now ++ r.1.now) }
     ensures item { IfSome result (λ r. ItemTranscoded O.order room bytes.now r.1.now [] r.0.now) }
 {
-    let Walked::Behind(behind) = walk_item::<O>(&mut None, room, bytes) else {
+    let Walked::Behind(behind) = walk_item::<O>(&mut Asked::whether(), room, bytes) else {
         return None;
     };
     Some(split_before(bytes, behind))
@@ -112,11 +106,7 @@ pub fn split_item<O: KeyOrder>(room: u64, bytes: &[u8]) -> Option<(&[u8], &[u8])
 /// departs.
 #[cycle(walked)]
 #[inline(always)]
-fn walk_item<'a, O: KeyOrder>(
-    keys: &mut Option<OpenKeys<'a, O>>,
-    room: u64,
-    bytes: &'a [u8],
-) -> Walked
+fn walk_item<'a, O: KeyOrder>(asked: &mut Asked<'a, O>, room: u64, bytes: &'a [u8]) -> Walked
     requires { room ≤ 1024 }
     ensures { Walks O.order room bytes.now result }
 {
@@ -124,9 +114,9 @@ fn walk_item<'a, O: KeyOrder>(
         return head_departure(bytes);
     };
     match major {
-        Major::Array => walk_array::<O>(keys, room, n, rest),
-        Major::Map => walk_map::<O>(keys, room, n, rest),
-        Major::Tag => walk_tagged::<O>(keys, room, n, rest),
+        Major::Array => walk_array::<O>(asked, room, n, rest),
+        Major::Map => walk_map::<O>(asked, room, n, rest),
+        Major::Tag => walk_tagged::<O>(asked, room, n, rest),
         _ => match walk_leaf(major, n, rest) {
             Some(behind) => Walked::Behind(behind),
             None => Walked::Unknown,
@@ -138,7 +128,7 @@ fn walk_item<'a, O: KeyOrder>(
 #[cycle(walked)]
 #[inline(never)]
 fn walk_array<'a, O: KeyOrder>(
-    keys: &mut Option<OpenKeys<'a, O>>,
+    asked: &mut Asked<'a, O>,
     room: u64,
     n: u64,
     bytes: &'a [u8],
@@ -152,7 +142,7 @@ fn walk_array<'a, O: KeyOrder>(
     let mut rest = bytes;
     let mut left = n;
     'items: while left > 0 {
-        match walk_element::<O>(keys, room - 1, rest) {
+        match walk_element::<O>(asked, room - 1, rest) {
             Walked::Behind(behind) => rest = last(rest, behind),
             stop => return stop,
         }
@@ -164,11 +154,7 @@ fn walk_array<'a, O: KeyOrder>(
 /// The same as `walk_item`, quicker where an integer comes first.
 #[cycle(walked)]
 #[inline(always)]
-fn walk_element<'a, O: KeyOrder>(
-    keys: &mut Option<OpenKeys<'a, O>>,
-    room: u64,
-    bytes: &'a [u8],
-) -> Walked
+fn walk_element<'a, O: KeyOrder>(asked: &mut Asked<'a, O>, room: u64, bytes: &'a [u8]) -> Walked
     requires { room ≤ 1024 }
     ensures { Walks O.order room bytes.now result }
 {
@@ -176,18 +162,13 @@ fn walk_element<'a, O: KeyOrder>(
     if len > 0 {
         return Walked::Behind(bytes.len() - len);
     }
-    walk_item::<O>(keys, room, bytes)
+    walk_item::<O>(asked, room, bytes)
 }
 
 /// The same of the `n` pairs of a map, from behind its head.
 #[cycle(walked)]
 #[inline(never)]
-fn walk_map<'a, O: KeyOrder>(
-    keys: &mut Option<OpenKeys<'a, O>>,
-    room: u64,
-    n: u64,
-    bytes: &'a [u8],
-) -> Walked
+fn walk_map<'a, O: KeyOrder>(asked: &mut Asked<'a, O>, room: u64, n: u64, bytes: &'a [u8]) -> Walked
     requires { room ≤ 1024 }
     ensures { WalksBehind O.order room Map n bytes.now result }
 {
@@ -199,16 +180,16 @@ fn walk_map<'a, O: KeyOrder>(
     let mut before: Option<&[u8]> = None;
     let mut left = n;
     'pairs: while left > 0 {
-        let behind = match walk_item::<O>(keys, room - 1, rest) {
+        let behind = match walk_item::<O>(asked, room - 1, rest) {
             Walked::Behind(behind) => behind,
-            stop => return key_departure::<O>(keys, before, rest, stop),
+            stop => return key_departure::<O>(asked, before, rest, stop),
         };
         let (key, after) = split_before(rest, behind);
         if !rises_above::<O>(before, key) {
             return Walked::KeyOrder(rest.len());
         }
         before = Some(key);
-        match walk_item::<O>(keys, room - 1, after) {
+        match walk_item::<O>(asked, room - 1, after) {
             Walked::Behind(behind) => rest = last(after, behind),
             stop => return stop,
         }
@@ -221,7 +202,7 @@ fn walk_map<'a, O: KeyOrder>(
 #[cycle(walked)]
 #[inline(never)]
 fn walk_tagged<'a, O: KeyOrder>(
-    keys: &mut Option<OpenKeys<'a, O>>,
+    asked: &mut Asked<'a, O>,
     room: u64,
     n: u64,
     bytes: &'a [u8],
@@ -235,14 +216,14 @@ fn walk_tagged<'a, O: KeyOrder>(
     if n == 2 {
         return match walk_bignum(bytes) {
             Some(behind) => Walked::Behind(behind),
-            None => bignum_departure::<O>(keys, n, bytes),
+            None => bignum_departure::<O>(asked, n, bytes),
         };
     }
     if n == 3 {
         return match walk_bignum(bytes) {
             Some(behind) => Walked::Behind(behind),
-            None => bignum_departure::<O>(keys, n, bytes),
+            None => bignum_departure::<O>(asked, n, bytes),
         };
     }
-    walk_item::<O>(keys, room - 1, bytes)
+    walk_item::<O>(asked, room - 1, bytes)
 }
