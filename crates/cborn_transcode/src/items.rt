@@ -9,7 +9,7 @@ ghost use Rattle.cborn_transcode.specs.Transcoding.{ItemTranscoded, ItemLeaves, 
 use crate::entries::{Span, arrange, push_span};
 use crate::leaves::{put_bignum, put_long_string_leaving, put_simple, put_string_leaving};
 use crate::open_keys::OpenKeys;
-use crate::places::{find_pairs, put_great};
+use crate::places::{Great, put_great};
 use crate::runs::put_run;
 use cborn_det::{put_head, set_head};
 use cborn_model::{KeyOrder, Major};
@@ -163,10 +163,6 @@ fn put_items<'a, O: KeyOrder>(
     Some((rest, count))
 }
 
-/// From how many announced pairs on it is tried first to write them from where they stand: fewer
-/// need little room either way.
-const GREAT: u64 = 1000;
-
 /// The map of the `n` pairs at the front of `bytes`.
 #[cycle(transcoded)]
 #[inline(never)]
@@ -186,13 +182,12 @@ fn put_fixed_map<O: KeyOrder>(
         return None;
     }
     put_head(Major::Map, n, out)?;
-    let start = out.len();
-    if n >= GREAT {
-        let mut places = Vec::new(alloc);
-        if let Some(left) = find_pairs::<O>(n, bytes, &mut places) {
-            return put_great::<O>(n, left, bytes, &mut places, out);
-        }
+    match put_great::<O>(alloc, n, bytes, out) {
+        Great::Behind(left) => return Some(left),
+        Great::Stuck => return None,
+        Great::Unfit => {}
     }
+    let start = out.len();
     let mut spans = Vec::with_capacity(alloc, n.min(64) as usize).ok()?;
     let (rest, count) = put_pairs::<O>(alloc, keys, room - 1, n, false, bytes, out, &mut spans)?;
     if count != n {

@@ -7,12 +7,13 @@ ghost use Rattle.cborn_transcode.specs.declared.places.PairPlace.{PairPlace as P
 ghost use Rattle.cborn_transcode.specs.Transcoding.{MapTranscoded};
 ghost use Rattle.cborn_wire.specs.Parts.{Leaves};
 ghost use Rattle.cborn_transcode.specs.shared.Walking.{ItemWalked, PairsFound, span_of, spans_of};
-ghost use Rattle.cborn_transcode.specs.devices.Placing.{PlacesPut};
+ghost use Rattle.cborn_transcode.specs.devices.Placing.{GreatPut, PlacesPut};
 
 use crate::entries::{Span, compare_keys, hint_at, key_in, pair_in, whole};
 use crate::walked_integers::int_len;
 use crate::walked_leaves::{read_least, rises_above, walk_leaf};
 use cborn_model::KeyOrder;
+use std::alloc::Global;
 use std::cmp::Ordering;
 
 /// Where a short pair lies in the input: a span in 16 bytes, since all of them are kept until the
@@ -51,12 +52,7 @@ const STEP: usize = 1024;
 /// lies joins `places`. None where a key or a value is long, isn't in its deterministic encoding,
 /// or holds other items, which aren't walked: else a nest would be walked again at each of its
 /// levels.
-#[inline(never)]
-pub(crate) fn find_pairs<O: KeyOrder>(
-    n: u64,
-    bytes: &[u8],
-    places: &mut Vec<PairPlace>,
-) -> Option<usize>
+fn find_pairs<O: KeyOrder>(n: u64, bytes: &[u8], places: &mut Vec<PairPlace>) -> Option<usize>
     ensures { IfSome result (λ left. places.old.items ≡ [] → (room : ℕ) → Leaves (PairsFound O.order room n (spans_of places.new.items) bytes.now) left) }
 {
     let mut at = 0;
@@ -122,12 +118,58 @@ fn short_length(start: usize, end: usize) -> Option<u16>
     u16::try_from(end - start).ok()
 }
 
+/// From how many announced pairs on it is tried first to write them from where they stand: fewer
+/// need little room either way.
+const GREAT: u64 = 1000;
+
+/// What became of the pairs of a map that may be great.
+#[derive(Clone, Copy)]
+pub(crate) enum Great {
+    /// They are written; so many bytes follow them.
+    Behind(usize),
+    /// They aren't many, or some don't suit. Nothing is written.
+    Unfit,
+    /// Nothing is promised: two keys are equal, or memory was refused.
+    Stuck,
+}
+
+/// Appends the `n` pairs at the front of `bytes` straight from there, so arranged that their keys
+/// rise, if they are many, and none is long, out of its deterministic encoding, or holds other items.
+#[inline(always)]
+pub(crate) fn put_great<O: KeyOrder>(
+    alloc: Global,
+    n: u64,
+    bytes: &[u8],
+    out: &mut Vec<u8>,
+) -> Great
+    ensures { GreatPut O.order n bytes.now out.old.items out.new.items result }
+{
+    if n < GREAT {
+        return Great::Unfit;
+    }
+    put_many::<O>(alloc, n, bytes, out)
+}
+
+/// The same of any number of pairs.
+#[inline(never)]
+fn put_many<O: KeyOrder>(alloc: Global, n: u64, bytes: &[u8], out: &mut Vec<u8>) -> Great
+    ensures { GreatPut O.order n bytes.now out.old.items out.new.items result }
+{
+    let mut places = Vec::new(alloc);
+    let Some(left) = find_pairs::<O>(n, bytes, &mut places) else {
+        return Great::Unfit;
+    };
+    match put_found::<O>(n, left, bytes, &mut places, out) {
+        Some(after) => Great::Behind(after),
+        None => Great::Stuck,
+    }
+}
+
 /// Appends the `n` pairs at the front of `bytes`, which lie at `places`, straight from there, so
 /// arranged that their keys rise; answers how many bytes follow them, which are `left`. Where the
 /// hints turn out not to suit the order, the pairs are found once more, and sorted by the order
 /// alone. None where two keys are equal, or memory was refused.
-#[inline(never)]
-pub(crate) fn put_great<O: KeyOrder>(
+fn put_found<O: KeyOrder>(
     n: u64,
     left: usize,
     bytes: &[u8],
@@ -147,7 +189,7 @@ pub(crate) fn put_great<O: KeyOrder>(
     }
 }
 
-/// What `put_great` does, where the hints don't suit the order.
+/// What `put_found` does, where the hints don't suit the order.
 fn put_by_order<O: KeyOrder>(
     n: u64,
     bytes: &[u8],

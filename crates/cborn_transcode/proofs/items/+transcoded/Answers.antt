@@ -106,23 +106,21 @@ put_endless_array-returns g t c =
 pub put_fixed_map-returns : goal.put_fixed_map-returns
 put_fixed_map-returns g t c w h =
     let short : length c.args.bytes.now < 2 ^ 64 = omega arith in
-    let start : c.len-start.result ≡ length c.put_head.new.out.items = search rules in
-    let pairs : PairsTranscoded g.O.KeyOrder.order (c.args.room - 1) c.in_ok-rest.count c.put_pairs.new.spans.items c.args.bytes.now c.in_ok-rest.rest.now c.put_head.new.out.items c.put_pairs.new.out.items = c.in_ok-rest.ensures (search rules) in
-    let arranged : MapTranscoded g.O.KeyOrder.order (c.args.room - 1) c.in_ok-rest.count c.args.bytes.now c.in_ok-rest.rest.now c.put_head.new.out.items c.arrange.new.out.items =
-    arranged_map g.O.KeyOrder.order c.put_head.new.out.items start pairs c.in_ok-arrange.ensures in (
-      c.in_ok-rest.rest.now,
-      search rules,
-      map_done g.O.KeyOrder.order g.met.O.KeyOrder.laws c.args.out.now.items w (omega arith) short h c.in_ok-put_head.ensures
-          (subst (λ (k : ℕ). MapTranscoded g.O.KeyOrder.order (c.args.room - 1) k c.args.bytes.now c.in_ok-rest.rest.now c.put_head.new.out.items c.arrange.new.out.items) c.if-count-n.false arranged),
-    )
+    let same : c.put_great.new.out.items ≡ c.put_head.new.out.items = c.in-Unfit.ensures in
+    let start : c.len-start.result ≡ length c.put_great.new.out.items = search rules in
+    let pairs : PairsTranscoded g.O.KeyOrder.order (c.args.room - 1) c.in_ok-rest.count c.put_pairs.new.spans.items c.args.bytes.now c.in_ok-rest.rest.now c.put_great.new.out.items c.put_pairs.new.out.items = c.in_ok-rest.ensures (search rules) in
+    let arranged : MapTranscoded g.O.KeyOrder.order (c.args.room - 1) c.in_ok-rest.count c.args.bytes.now c.in_ok-rest.rest.now c.put_great.new.out.items c.arrange.new.out.items =
+    arranged_map g.O.KeyOrder.order c.put_great.new.out.items start pairs c.in_ok-arrange.ensures in
+    let whole : MapTranscoded g.O.KeyOrder.order (c.args.room - 1) c.args.n c.args.bytes.now c.in_ok-rest.rest.now c.put_head.new.out.items c.arrange.new.out.items =
+    subst (λ (l : List ℕ). MapTranscoded g.O.KeyOrder.order (c.args.room - 1) c.args.n c.args.bytes.now c.in_ok-rest.rest.now l c.arrange.new.out.items) same
+    (subst (λ (k : ℕ). MapTranscoded g.O.KeyOrder.order (c.args.room - 1) k c.args.bytes.now c.in_ok-rest.rest.now c.put_great.new.out.items c.arrange.new.out.items) c.if-count-n.false arranged) in
+    (c.in_ok-rest.rest.now, search rules, map_done g.O.KeyOrder.order g.met.O.KeyOrder.laws c.args.out.now.items w (omega arith) short h c.in_ok-put_head.ensures whole)
 
-pub put_fixed_map-returns-in-Some : goal.put_fixed_map-returns-in-Some
-put_fixed_map-returns-in-Some g t c =
+pub put_fixed_map-returns-in-Behind : goal.put_fixed_map-returns-in-Behind
+put_fixed_map-returns-in-Behind g t c w h =
     let short : length c.args.bytes.now < 2 ^ 64 = omega arith in
-    IfSome_then c.put_great.result c.put_great.ensures
-    (λ left s w h.
-    let found = s (c.args.room - 1) (c.in-Some.ensures (search rules) (c.args.room - 1)) in
-    (found.0, found.1, map_done g.O.KeyOrder.order g.met.O.KeyOrder.laws c.args.out.now.items w (omega arith) short h c.in_ok-put_head.ensures found.2))
+    let found = c.in-Behind.ensures (c.args.room - 1) in
+    (found.0, found.1, map_done g.O.KeyOrder.order g.met.O.KeyOrder.laws c.args.out.now.items w (omega arith) short h c.in_ok-put_head.ensures found.2)
 
 pub put_endless_map-returns : goal.put_endless_map-returns
 put_endless_map-returns g t c =

@@ -4,7 +4,7 @@ use Rattle.cborn_wire.specs.Parts.{Leaves}
 use Rattle.cborn_transcode.specs.shared.Walking.{spans_of}
 use Rattle.std.proofs.lemmas.Option.{IfSome_then}
 use Rattle.cborn_transcode.proofs.Walking.{map_found}
-use Rattle.cborn_transcode.proofs.places.put_great.Goals as goal
+use Rattle.cborn_transcode.proofs.places.put_found.Goals as goal
 
 pub returns-in-All : goal.returns-in-All
 returns-in-All g c room found = (
