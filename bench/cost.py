@@ -65,13 +65,17 @@ def shapes(n):
 
 
 def nests_of_keys(n):
-    """Keys of about n bytes, 100 maps in one another: each map is the only key of the one around it."""
+    """Keys of about n bytes, 100 maps in one another: each map is a key of the one around it."""
     integers = head(4, n) + b"\x01" * n
+    long = b"\xb8\x01" * 100 + integers + b"\x00" * 100
     return {
         "keys in keys, long head last": b"\xa1" * 100 + b"\x82" + integers + b"\x18\x01" + b"\x00" * 100,
-        "keys in keys, long heads": b"\xb8\x01" * 100 + integers + b"\x00" * 100,
+        "keys in keys, long heads": long,
         "keys in keys, indefinite lengths": b"\xbf" * 100 + integers + b"\x00\xff" * 100,
         "keys in keys, bad text last": b"\xa1" * 100 + b"\x82" + integers + b"\x61\xff" + b"\x00" * 100,
+        "keys in keys, long heads, bad text behind": b"\xa1\x82" + long + b"\x61\xff\x00",
+        "keys in keys, repeated key behind": b"\xa1\x82" + long + b"\xa2\x00\x00\x00\x00\x00",
+        "second keys in second keys, long head last": b"\xa2\x00\x00" * 100 + b"\x82" + integers + b"\x18\x01" + b"\x00" * 100,
     }
 
 

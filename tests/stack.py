@@ -30,6 +30,7 @@ NESTS = [
     Nest("indefinite maps by value", "bf00", "ff", "a100", "", "{_ 0: ", "}"),
     Nest("maps by key", "a1", "00", "a1", "00", "{", ": 0}"),
     Nest("indefinite maps by key", "bf", "00ff", "a1", "00", "{_ ", ": 0}"),
+    Nest("maps by second key", "a20000", "00", "a20000", "00", "{0: 0, ", ": 0}"),
     Nest("tags", "c1", "", "c1", "", "1(", ")"),
 ]
 
@@ -89,8 +90,11 @@ def cases():
         ]:
             yield Case(words, nest.name, words.split(), inputs, output, 0)
         yield Case("check", nest.name, ["check"], [wire], defect, 0 if wire == shortest else 1)
+        place = len(bytes.fromhex(nest.opening)) * LEVELS
+        if wire == shortest:
+            yield Case("check", f"{nest.name} around a long head", ["check"], [nested(nest.opening, nest.closing, "1801")], f"offset {place}: long head\n".encode(), 1)
         bad = nested(nest.opening, nest.closing, "61ff")
-        complaint = f"cborn: offset {len(bytes.fromhex(nest.opening)) * LEVELS}: not UTF-8\n".encode()
+        complaint = f"cborn: offset {place}: not UTF-8\n".encode()
         for words in ["show", "normalise", "check"]:
             yield Case(words, f"{nest.name} around bad text", [words], [bad], b"", 2, complaint)
     wire = embedded()

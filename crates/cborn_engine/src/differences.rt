@@ -12,7 +12,8 @@ use std::alloc::AllocError;
 /// The difference of what two deterministic encodings hold.
 ///
 /// # Errors
-/// Where memory was refused.
+/// Where `split_item` answers none. Of such encodings it answers always, which the tests hold and no
+/// proof does.
 pub fn difference<O: KeyOrder>(
     limit: Limit,
     ours: &[u8],

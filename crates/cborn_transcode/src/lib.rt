@@ -22,6 +22,8 @@
 //! * `entries`: the pairs of a map, and their order.
 //! * `places`: the pairs of a great map, by where they stand in the input.
 //! * `items`: what holds other items, which calls itself for each level.
+//! * `open_keys`: what is noted of keys on the way; `settled_keys` has those of which it is known
+//!   whether they are in order.
 //! * `passes`: a whole input.
 //!
 //! [`first_departure`] walks over bytes up to where they first aren't deterministic: the same

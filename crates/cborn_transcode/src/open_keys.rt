@@ -48,17 +48,17 @@ impl<'k, O: KeyOrder> OpenKeys<'k, O> {
         }
     }
 
-    /// Nothing is noted.
+    /// For a pass that is to note nothing.
     pub(crate) fn unnoted(alloc: Global) -> OpenKeys<'k, O> {
         OpenKeys::new(alloc, Noting::Nothing)
     }
 
-    /// It is noted which keys are open.
+    /// For a pass that is to note which keys are open.
     pub fn noted(alloc: Global) -> OpenKeys<'k, O> {
         OpenKeys::new(alloc, Noting::Open)
     }
 
-    /// It is noted which of the keys that wait are above the key before.
+    /// For a walk, whose keys wait until it is known which of them are above the key before.
     pub(crate) fn ordered(alloc: Global) -> OpenKeys<'k, O> {
         OpenKeys::new(alloc, Noting::Order)
     }

@@ -34,7 +34,8 @@ pub fn is_deterministic<O: KeyOrder>(limit: Limit, bytes: &[u8]) -> bool
 ///
 /// The bytes are walked over once, in place, up to the departure. What stands behind it isn't
 /// looked at, so that a departure promises nothing of bytes that hold no items. Memory is taken only
-/// where a bignum or a key departs, for its encoding.
+/// where a bignum or a key departs, for its encoding; where a key does that isn't the first of its
+/// map, the item is walked over once more.
 pub fn first_departure<O: KeyOrder>(alloc: Global, limit: Limit, bytes: &[u8]) -> Departure
     ensures { IsFirstDeparture O.order limit bytes.now result }
 {
