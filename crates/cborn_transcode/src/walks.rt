@@ -92,6 +92,7 @@ fn walk_settled<'a, O: KeyOrder>(
 /// `room`, the keys of maps in the order `O` (RFC 8949 section 4.2); and what follows it, which
 /// isn't looked at. None promises nothing: the item may depart from that encoding, or there may be
 /// none. No memory is taken.
+#[inline(always)]
 pub fn split_item<O: KeyOrder>(room: u64, bytes: &[u8]) -> Option<(&[u8], &[u8])>
     requires { room ≤ 1024 }
     ensures parts { IfSome result (λ r. bytes.now ≡ r.0.now ++ r.1.now) }
