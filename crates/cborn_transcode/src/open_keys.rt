@@ -19,7 +19,7 @@ enum Noting {
 }
 
 /// What a pass notes of the keys of maps that it is inside of. Behind a pass that gave no answer,
-/// these may be those that hold the place where it gave up: nothing but speed rests on them.
+/// these are those that hold the place where it gave up; tests hold that, and no clause does.
 #[derive(Drop)]
 pub struct OpenKeys<'k, O: KeyOrder> {
     noting: Noting,
