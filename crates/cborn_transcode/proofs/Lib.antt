@@ -14,3 +14,4 @@ pub mod Telling
 pub mod Falling
 pub mod Settling
 pub mod Tagging
+pub mod Halves

@@ -6,7 +6,8 @@ ghost use Rattle.cborn_model.specs.declared.heads.Major.TheVariants.{Array, Map,
 ghost use Rattle.cborn_model.specs.Heads.{Given, Unbounded, head, WidthFits};
 ghost use Rattle.cborn_transcode.specs.Transcoding.{ItemTranscoded, ItemLeaves, ItemsTranscoded, PairsTranscoded};
 
-use crate::entries::{Span, arrange, push_span};
+use crate::arranging::arrange;
+use crate::entries::{Span, push_span};
 use crate::leaves::{put_bignum, put_long_string_leaving, put_simple, put_string_leaving};
 use crate::open_keys::OpenKeys;
 use crate::places::{Great, put_great};

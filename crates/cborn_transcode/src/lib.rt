@@ -6,11 +6,11 @@
 //! announces is written with the shortest head at once, unless its length is known only behind its
 //! contents: then a byte holds the head's place, and the head is set there later. The pairs of a
 //! map are written as they come; where their keys don't rise, the map's part of the buffer is
-//! arranged anew. Where a map of many pairs holds nothing but items without children, all in order
-//! as they stand, its pairs are written from the input, in their order, and nothing is moved. Pairs
-//! are sorted by hints, and by the order itself where it isn't that of the hints. How they are
-//! sorted is of no account, as long as none is lost: what came out is tested, key by key, and equal
-//! keys have no answer.
+//! arranged anew, and of a long one no more than half is copied at a time. Where a map of many
+//! pairs holds nothing but items without children, all in order as they stand, its pairs are
+//! written from the input, in their order, and nothing is moved. Pairs are sorted by hints, and by
+//! the order itself where it isn't that of the hints. How they are sorted is of no account, as long
+//! as none is lost: what came out is tested, key by key, and equal keys have no answer.
 //!
 //! An answer is always right: the contract says that the bytes spell items, and that the answer is
 //! their encoding. No answer promises nothing. But the pass takes every form of what is valid, in
@@ -19,7 +19,8 @@
 //!
 //! * `leaves`: strings, chunks, bignums and simple values.
 //! * `runs`: integers that are copied as they stand.
-//! * `entries`: the pairs of a map, and their order.
+//! * `entries`: where the pairs of a map lie, and how two of them compare.
+//! * `arranging`: the pairs of a map, so arranged that their keys rise.
 //! * `places`: the pairs of a great map, by where they stand in the input.
 //! * `items`: what holds other items, which calls itself for each level.
 //! * `open_keys`: what is noted of keys on the way; `settled_keys` has those of which it is known
@@ -32,6 +33,7 @@
 //! [`is_deterministic`] and [`split_item`] ask, nothing is encoded to tell where.
 #![tactic(auto)]
 
+mod arranging;
 mod departures;
 mod entries;
 mod items;

@@ -3,7 +3,7 @@ use Rattle.cborn_model.specs.Orders.{Rising}
 use Rattle.cborn_det.specs.Det.{keys}
 use Rattle.cborn_det.specs.shared.KeyBefore.{EndsIn}
 use Rattle.cborn_transcode.specs.Transcoding.{all_spanned}
-use Rattle.cborn_transcode.proofs.entries.are_rising.Given as goal
+use Rattle.cborn_transcode.proofs.arranging.are_rising.Given as goal
 
 -- the keys so far rise
 abbrev pub invariant-loop-span : goal.invariant-loop-span

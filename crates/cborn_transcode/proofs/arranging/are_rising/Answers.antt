@@ -3,8 +3,8 @@ use Rattle.cborn_det.proofs.Cutting.{below_last, below_none}
 use Rattle.cborn_det.specs.shared.KeyBefore.{Below}
 use Rattle.cborn_transcode.specs.declared.entries.Span.{Span}
 use Rattle.cborn_transcode.proofs.Keying.{rise_on}
-use Rattle.cborn_transcode.proofs.entries.are_rising.Goals.{in-Some-before+else-not-is_lt, in_default-before}
-use Rattle.cborn_transcode.proofs.entries.are_rising.Goals as goal
+use Rattle.cborn_transcode.proofs.arranging.are_rising.Goals.{in-Some-before+else-not-is_lt, in_default-before}
+use Rattle.cborn_transcode.proofs.arranging.are_rising.Goals as goal
 
 none : Span
 none = record { hint = (0, 0); start = 0; key_len = 0; value_len = 0 }
