@@ -74,3 +74,35 @@ fn arranges_great_maps(rt: HostRuntime) -> Result<(), Fail> {
     }
     Ok(())
 }
+
+/// A map of the keys 100 to 163, from either end. A value is an array of one string, of `len` bytes,
+/// or of `middle` where the key is 130.
+fn long_pairs(alloc: Global, rising: bool, len: u16, middle: u16) -> Result<Vec<u8>, AllocError> {
+    let mut out = Vec::from_slice(alloc, b"\xb8\x40")?;
+    for n in 0..64u8 {
+        let key = if rising { 100 + n } else { 163 - n };
+        let len = if key == 130 { middle } else { len };
+        let [high, low] = len.to_be_bytes();
+        out.extend_from_slice(&[0x18, key, 0x81, 0x59, high, low])?;
+        for _ in 0..len {
+            out.push(key)?;
+        }
+    }
+    Ok(out)
+}
+
+/// The same of many bytes, which are arranged half by half: all pairs are as long, or one is longer
+/// than the others together.
+#[test]
+fn arranges_long_maps(rt: HostRuntime) -> Result<(), Fail> {
+    for (len, middle) in [(2000, 2000), (500, 50_000)] {
+        let bytes = long_pairs(rt.alloc(), true, len, middle)?;
+        let want = long_pairs(rt.alloc(), false, len, middle)?;
+        let answer = transcode::<Backwards>(rt.alloc(), Limit::USUAL, &bytes);
+        assert!(rt;
+            answer.as_deref() == Some(want.as_slice()),
+            "{len} {middle}"
+        );
+    }
+    Ok(())
+}
