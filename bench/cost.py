@@ -59,6 +59,7 @@ def shapes(n):
         "nests": (b"\x81" * 100 + b"\x00") * (n // 101),
         "chunked bignum last": head(4, n) + b"\x01" * (n - 1) + b"\xc2\x5f\x41\x01\xff",
         **nests_of_keys(n),
+        **maps_out_of_order(n),
         "text in chunks, bad one last": b"\x7f" + b"\x61a" * (n // 2) + b"\x61\xff\xff",
         "nest, repeated key last": (b"\x81" * 100 + b"\xa2\x00\x00\x01\x00") * (n // 105) + b"\x81" * 100 + b"\xa2\x00\x00\x00\x00",
     }
@@ -76,6 +77,20 @@ def nests_of_keys(n):
         "keys in keys, long heads, bad text behind": b"\xa1\x82" + long + b"\x61\xff\x00",
         "keys in keys, repeated key behind": b"\xa1\x82" + long + b"\xa2\x00\x00\x00\x00\x00",
         "second keys in second keys, long head last": b"\xa2\x00\x00" * 100 + b"\x82" + integers + b"\x18\x01" + b"\x00" * 100,
+    }
+
+
+def maps_out_of_order(n):
+    """Maps of about n bytes whose keys fall, of pairs of 1 KB and of one that is nearly all, where nothing of them is written."""
+    count = n // 1000
+    row = head(4, 990) + b"\x01" * 990
+    even = head(5, count) + b"".join(head(0, key) + row for key in range(count, 0, -1))
+    uneven = head(5, 2) + b"\x01" + head(4, n) + b"\x01" * n + b"\x00\x00"
+    return {
+        "map out of order, bad text behind": b"\x82" + even + b"\x61\xff",
+        "key is a map out of order": b"\xa1" + even + b"\x00",
+        "great pair out of order, bad text behind": b"\x82" + uneven + b"\x61\xff",
+        "key is a map with a great pair": b"\xa1" + uneven + b"\x00",
     }
 
 
