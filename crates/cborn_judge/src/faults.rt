@@ -52,7 +52,7 @@ impl<T: Drop> From<AllocFailed<T>> for Invalid {
 }
 
 /// Where something is wrong, and what.
-#[derive(Clone, Copy, PartialEq, Eq, Debug)]
+#[derive(Clone, Copy)]
 pub(crate) struct Flaw {
     pub place: u64,
     pub reason: InvalidReason,

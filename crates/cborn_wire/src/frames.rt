@@ -10,7 +10,7 @@ use cborn_model::{Chunk, Form, Node, Size, Width, push_doubling};
 use std::alloc::Global;
 
 /// The two kinds of string.
-#[derive(Clone, Copy, PartialEq, Eq, Debug)]
+#[derive(Clone, Copy)]
 pub(crate) enum StringKind {
     Bytes,
     Text,

@@ -10,7 +10,7 @@ use crate::frames::StringKind;
 use crate::refusals::Slot;
 
 /// An array, a map, a tag or an indefinite string that has begun, and what is missing.
-#[derive(Clone, Copy, PartialEq, Eq, Debug)]
+#[derive(Clone, Copy)]
 pub(crate) enum Level {
     /// An array in which so many items are missing.
     Array(u64),

@@ -14,7 +14,7 @@ use crate::nests::Nest;
 use cborn_model::Major;
 
 /// Where a head stands, as far as that tells which may stand there.
-#[derive(Clone, Copy, PartialEq, Eq, Debug)]
+#[derive(Clone, Copy)]
 pub(crate) enum Slot {
     /// Where an item has to stand.
     Item,

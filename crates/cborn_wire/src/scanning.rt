@@ -19,7 +19,7 @@ use crate::{Argument, Head, HeadRead, WireReason, read_head};
 use cborn_model::{Limit, Major};
 
 /// What a step of a scan came to.
-#[derive(Clone, Copy, PartialEq, Eq, Debug)]
+#[derive(Clone, Copy)]
 pub(crate) enum Step {
     /// So many bytes were taken.
     Taken(usize),
