@@ -292,7 +292,7 @@ fn search_pairs<'a>(
     requires within { length bytes.now ≤ total }
     ensures { IfSome result (λ r. MapSeen only_texts room total r.1 bytes.now r.0.now found.new.flaw × (found.new.is_string ≡ false)) }
 {
-    let mut map = maps.map()?;
+    let mut map = maps.fresh_map()?;
     let mut rest = bytes;
     let mut count = 0;
     'pairs: while !is_done(count, most, may_end, rest) {

@@ -79,7 +79,7 @@ impl Keys {
     pub(crate) fn take(
         &mut self,
         alloc: Global,
-        open: &mut OpenKeys<Bytewise>,
+        open: &mut OpenKeys,
         encoding: &mut Vec<u8>,
         room: u64,
         total: u64,

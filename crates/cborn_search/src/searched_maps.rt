@@ -7,7 +7,6 @@ ghost use Rattle.cborn_search.specs.devices.Marks.{Concludes, Takes};
 use crate::finding::Finding;
 use crate::keys::{Keys, Taken};
 use cborn_judge::{InvalidReason, earliest};
-use cborn_model::Bytewise;
 use cborn_transcode::OpenKeys;
 use std::alloc::Global;
 
@@ -60,7 +59,7 @@ impl SearchedMap {
         ensures keys { Takes room total pairs.now bytes.now self.old.keys self.new.keys result }
         ensures first { self.new.first ≡ self.old.first }
     {
-        if maps.only_texts || maps.flawed.holds(bytes.len()) {
+        if maps.only_texts || maps.flawed.has_key(bytes.len()) {
             return Taken::Not;
         }
         self.keys.take(
@@ -114,8 +113,8 @@ pub(crate) struct SpareMaps {
     spare: Vec<Box<SearchedMap>>,
     /// Room for the encoding of a key.
     encoding: Vec<u8>,
-    /// The keys inside a key that wasn't taken in that weren't whole where that was found.
-    flawed: OpenKeys<'static, Bytewise>,
+    /// Of a key that wasn't taken in, the keys inside it that hold its flaw.
+    flawed: OpenKeys,
     /// Texts alone are looked for.
     only_texts: bool,
 }
@@ -127,14 +126,14 @@ impl SpareMaps {
             alloc,
             spare: Vec::new(alloc),
             encoding: Vec::new(alloc),
-            flawed: OpenKeys::noted(alloc),
+            flawed: OpenKeys::new(alloc),
             only_texts,
         }
     }
 
     /// A map before its first pair. None where memory was refused.
     #[inline(never)]
-    pub(crate) fn map(&mut self) -> Option<Box<SearchedMap>>
+    pub(crate) fn fresh_map(&mut self) -> Option<Box<SearchedMap>>
         ensures { IfSome result (λ map. (map.value.keys.marks.items ≡ []) × (map.value.first ≡ None)) }
     {
         match self.spare.pop() {

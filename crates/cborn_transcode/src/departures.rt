@@ -7,7 +7,8 @@ ghost use Rattle.cborn_model.specs.declared.heads.Major.TheVariants.{Tag};
 ghost use Rattle.cborn_transcode.specs.devices.Departing.{Departs, Halts, KeyIs, KeyStops, Tells, TellsLoose, WalksBehind};
 
 use crate::items::{put_item, put_key};
-use crate::open_keys::OpenKeys;
+use crate::noting::Nothing;
+use crate::waiting_keys::WaitingKeys;
 use crate::walked_leaves::read_least;
 use cborn_judge::{Defect, DefectReason, loose_defect};
 use cborn_model::{KeyOrder, Major, shortest};
@@ -32,7 +33,7 @@ pub(crate) struct Asked<'a, O: KeyOrder> {
     /// is unknown then.
     alloc: Option<Global>,
     /// The keys around the departure that have to wait until they are encoded, if there are any.
-    keys: Option<Box<OpenKeys<'a, O>>>,
+    waiting: Option<Box<WaitingKeys<'a, O>>>,
 }
 
 impl<'a, O: KeyOrder> Asked<'a, O> {
@@ -41,7 +42,7 @@ impl<'a, O: KeyOrder> Asked<'a, O> {
     pub(crate) fn whether() -> Asked<'a, O> {
         Asked {
             alloc: None,
-            keys: None,
+            waiting: None,
         }
     }
 
@@ -49,7 +50,7 @@ impl<'a, O: KeyOrder> Asked<'a, O> {
     pub(crate) fn place(alloc: Global) -> Asked<'a, O> {
         Asked {
             alloc: Some(alloc),
-            keys: None,
+            waiting: None,
         }
     }
 
@@ -57,23 +58,23 @@ impl<'a, O: KeyOrder> Asked<'a, O> {
     fn is_above(&mut self, before: &[u8], bytes: &[u8]) -> Option<bool>
         ensures { IfSome result (KeyIs O.order before.now bytes.now) }
     {
-        let keys = self.keys.as_mut()?;
+        let keys = self.waiting.as_mut()?;
         keys.is_above(before, bytes)
     }
 
     /// The key at the front of `bytes`, which holds a departure, waits. None: memory was refused.
     fn wait(&mut self, before: &'a [u8], bytes: &'a [u8]) -> Option<()> {
-        if self.keys.is_none() {
+        if self.waiting.is_none() {
             let alloc = self.alloc?;
-            self.keys = Some(Box::new(alloc, OpenKeys::ordered(alloc)).ok()?);
+            self.waiting = Some(Box::new(alloc, WaitingKeys::new(alloc)).ok()?);
         }
-        let keys = self.keys.as_mut()?;
+        let keys = self.waiting.as_mut()?;
         keys.wait(before, bytes)
     }
 
     /// The same of the key around one that waits. The first of a map doesn't wait.
     fn wait_around(&mut self, before: Option<&'a [u8]>, bytes: &'a [u8]) -> Option<()> {
-        if self.keys.is_none() {
+        if self.waiting.is_none() {
             return Some(());
         }
         match before {
@@ -182,7 +183,7 @@ fn is_loose<O: KeyOrder>(alloc: Global, bytes: &[u8]) -> Option<bool>
     ensures { IfSome result (TellsLoose bytes.now) }
 {
     let mut out = Vec::new(alloc);
-    put_item::<O>(alloc, &mut OpenKeys::unnoted(alloc), 0, bytes, &mut out)?;
+    put_item::<O, Nothing>(alloc, &mut Nothing, 0, bytes, &mut out)?;
     let (_, _, content) = read_least(&out)?;
     Some(loose_defect(0, content).is_some())
 }
@@ -229,12 +230,12 @@ pub(crate) fn settle<O: KeyOrder>(asked: &mut Asked<O>) -> bool {
     let Some(alloc) = asked.alloc else {
         return false;
     };
-    let Some(keys) = &mut asked.keys else {
+    let Some(keys) = &mut asked.waiting else {
         return false;
     };
     let Some(bytes) = keys.outermost() else {
         return false;
     };
     let mut out = Vec::new(alloc);
-    put_key::<O>(alloc, keys, 1024, bytes, &mut out).is_some()
+    put_key::<O, WaitingKeys<O>>(alloc, keys, 1024, bytes, &mut out).is_some()
 }

@@ -9,7 +9,7 @@ ghost use Rattle.cborn_transcode.specs.Transcoding.{ItemTranscoded, ItemLeaves, 
 use crate::arranging::arrange;
 use crate::entries::{Span, push_span};
 use crate::leaves::{put_bignum, put_long_string_leaving, put_simple, put_string_leaving};
-use crate::open_keys::OpenKeys;
+use crate::noting::Noting;
 use crate::places::{Great, put_great};
 use crate::runs::put_run;
 use cborn_det::{put_head, set_head};
@@ -21,9 +21,9 @@ use std::alloc::Global;
 /// answers what follows it.
 #[cycle(transcoded)]
 #[inline(always)]
-pub(crate) fn put_item<'a, O: KeyOrder>(
+pub(crate) fn put_item<'a, O: KeyOrder, N: Noting<O>>(
     alloc: Global,
-    keys: &mut OpenKeys<O>,
+    noting: &mut N,
     room: u64,
     bytes: &'a [u8],
     out: &mut Vec<u8>,
@@ -31,7 +31,7 @@ pub(crate) fn put_item<'a, O: KeyOrder>(
     requires { room ≤ 1024 }
     ensures { IfSome result (λ rest. ItemTranscoded O.order room bytes.now rest.now out.old.items out.new.items) }
 {
-    let left = put_node::<O>(alloc, keys, room, bytes, out)?;
+    let left = put_node::<O, N>(alloc, noting, room, bytes, out)?;
     last(bytes, left)
 }
 
@@ -39,9 +39,9 @@ pub(crate) fn put_item<'a, O: KeyOrder>(
 /// registers, and keeps the frames of a deep nest small.
 #[cycle(transcoded)]
 #[inline(never)]
-fn put_node<O: KeyOrder>(
+fn put_node<O: KeyOrder, N: Noting<O>>(
     alloc: Global,
-    keys: &mut OpenKeys<O>,
+    noting: &mut N,
     room: u64,
     bytes: &[u8],
     out: &mut Vec<u8>,
@@ -66,9 +66,9 @@ fn put_node<O: KeyOrder>(
             }
             Major::ByteString => put_string_leaving(Major::ByteString, n, rest, out),
             Major::TextString => put_string_leaving(Major::TextString, n, rest, out),
-            Major::Array => put_fixed_array::<O>(alloc, keys, room, n, rest, out),
-            Major::Map => put_fixed_map::<O>(alloc, keys, room, n, rest, out),
-            Major::Tag => put_tagged::<O>(alloc, keys, room, n, rest, out),
+            Major::Array => put_fixed_array::<O, N>(alloc, noting, room, n, rest, out),
+            Major::Map => put_fixed_map::<O, N>(alloc, noting, room, n, rest, out),
+            Major::Tag => put_tagged::<O, N>(alloc, noting, room, n, rest, out),
             Major::Other => {
                 put_simple(head.argument, out)?;
                 Some(rest.len())
@@ -77,8 +77,8 @@ fn put_node<O: KeyOrder>(
         Argument::Endless => match major {
             Major::ByteString => put_long_string_leaving(Major::ByteString, rest, out),
             Major::TextString => put_long_string_leaving(Major::TextString, rest, out),
-            Major::Array => put_endless_array::<O>(alloc, keys, room, rest, out),
-            Major::Map => put_endless_map::<O>(alloc, keys, room, rest, out),
+            Major::Array => put_endless_array::<O, N>(alloc, noting, room, rest, out),
+            Major::Map => put_endless_map::<O, N>(alloc, noting, room, rest, out),
             _ => None,
         },
     }
@@ -87,9 +87,9 @@ fn put_node<O: KeyOrder>(
 /// The array of the `n` items at the front of `bytes`.
 #[cycle(transcoded)]
 #[inline(never)]
-fn put_fixed_array<O: KeyOrder>(
+fn put_fixed_array<O: KeyOrder, N: Noting<O>>(
     alloc: Global,
-    keys: &mut OpenKeys<O>,
+    noting: &mut N,
     room: u64,
     n: u64,
     bytes: &[u8],
@@ -102,7 +102,7 @@ fn put_fixed_array<O: KeyOrder>(
         return None;
     }
     put_head(Major::Array, n, out)?;
-    let (rest, count) = put_items::<O>(alloc, keys, room - 1, n, false, bytes, out)?;
+    let (rest, count) = put_items::<O, N>(alloc, noting, room - 1, n, false, bytes, out)?;
     if count != n {
         return None;
     }
@@ -112,9 +112,9 @@ fn put_fixed_array<O: KeyOrder>(
 /// The array of the items at the front of `bytes`, up to a break.
 #[cycle(transcoded)]
 #[inline(never)]
-fn put_endless_array<O: KeyOrder>(
+fn put_endless_array<O: KeyOrder, N: Noting<O>>(
     alloc: Global,
-    keys: &mut OpenKeys<O>,
+    noting: &mut N,
     room: u64,
     bytes: &[u8],
     out: &mut Vec<u8>,
@@ -127,7 +127,7 @@ fn put_endless_array<O: KeyOrder>(
     }
     let start = out.len();
     out.push(0).ok()?;
-    let (rest, count) = put_items::<O>(alloc, keys, room - 1, u64::MAX, true, bytes, out)?;
+    let (rest, count) = put_items::<O, N>(alloc, noting, room - 1, u64::MAX, true, bytes, out)?;
     let after = behind_break(rest)?;
     set_head(alloc, Major::Array, count, start, out)?;
     Some(after.len())
@@ -137,9 +137,9 @@ fn put_endless_array<O: KeyOrder>(
 /// answers what follows them, and how many they are.
 #[cycle(transcoded)]
 #[inline(always)]
-fn put_items<'a, O: KeyOrder>(
+fn put_items<'a, O: KeyOrder, N: Noting<O>>(
     alloc: Global,
-    keys: &mut OpenKeys<O>,
+    noting: &mut N,
     room: u64,
     most: u64,
     may_end: bool,
@@ -158,7 +158,7 @@ fn put_items<'a, O: KeyOrder>(
         if is_done(count, most, may_end, rest) {
             break;
         }
-        rest = put_item::<O>(alloc, keys, room, rest, out)?;
+        rest = put_item::<O, N>(alloc, noting, room, rest, out)?;
         count += 1;
     }
     Some((rest, count))
@@ -167,9 +167,9 @@ fn put_items<'a, O: KeyOrder>(
 /// The map of the `n` pairs at the front of `bytes`.
 #[cycle(transcoded)]
 #[inline(never)]
-fn put_fixed_map<O: KeyOrder>(
+fn put_fixed_map<O: KeyOrder, N: Noting<O>>(
     alloc: Global,
-    keys: &mut OpenKeys<O>,
+    noting: &mut N,
     room: u64,
     n: u64,
     bytes: &[u8],
@@ -190,7 +190,16 @@ fn put_fixed_map<O: KeyOrder>(
     }
     let start = out.len();
     let mut spans = Vec::with_capacity(alloc, n.min(64) as usize).ok()?;
-    let (rest, count) = put_pairs::<O>(alloc, keys, room - 1, n, false, bytes, out, &mut spans)?;
+    let (rest, count) = put_pairs::<O, N>(
+        alloc,
+        noting,
+        room - 1,
+        n,
+        false,
+        bytes,
+        out,
+        &mut spans,
+    )?;
     if count != n {
         return None;
     }
@@ -201,9 +210,9 @@ fn put_fixed_map<O: KeyOrder>(
 /// The map of the pairs at the front of `bytes`, up to a break.
 #[cycle(transcoded)]
 #[inline(never)]
-fn put_endless_map<O: KeyOrder>(
+fn put_endless_map<O: KeyOrder, N: Noting<O>>(
     alloc: Global,
-    keys: &mut OpenKeys<O>,
+    noting: &mut N,
     room: u64,
     bytes: &[u8],
     out: &mut Vec<u8>,
@@ -219,7 +228,16 @@ fn put_endless_map<O: KeyOrder>(
     let start = out.len();
     let mut spans = Vec::new(alloc);
     let most = bytes.len() as u64;
-    let (rest, count) = put_pairs::<O>(alloc, keys, room - 1, most, true, bytes, out, &mut spans)?;
+    let (rest, count) = put_pairs::<O, N>(
+        alloc,
+        noting,
+        room - 1,
+        most,
+        true,
+        bytes,
+        out,
+        &mut spans,
+    )?;
     let after = behind_break(rest)?;
     arrange::<O>(alloc, &mut spans, start, out)?;
     set_head(alloc, Major::Map, count, head_start, out)?;
@@ -230,9 +248,9 @@ fn put_endless_map<O: KeyOrder>(
 /// `spans`.
 #[cycle(transcoded)]
 #[inline(always)]
-fn put_pairs<'a, O: KeyOrder>(
+fn put_pairs<'a, O: KeyOrder, N: Noting<O>>(
     alloc: Global,
-    keys: &mut OpenKeys<O>,
+    noting: &mut N,
     room: u64,
     most: u64,
     may_end: bool,
@@ -249,7 +267,7 @@ fn put_pairs<'a, O: KeyOrder>(
         if is_done(count, most, may_end, rest) {
             break;
         }
-        rest = put_pair::<O>(alloc, keys, room, rest, out, spans)?;
+        rest = put_pair::<O, N>(alloc, noting, room, rest, out, spans)?;
         count += 1;
     }
     Some((rest, count))
@@ -258,9 +276,9 @@ fn put_pairs<'a, O: KeyOrder>(
 /// The pair at the front of `bytes`, as `put_pairs` takes more.
 #[cycle(transcoded)]
 #[inline(always)]
-fn put_pair<'a, O: KeyOrder>(
+fn put_pair<'a, O: KeyOrder, N: Noting<O>>(
     alloc: Global,
-    keys: &mut OpenKeys<O>,
+    noting: &mut N,
     room: u64,
     bytes: &'a [u8],
     out: &mut Vec<u8>,
@@ -270,9 +288,9 @@ fn put_pair<'a, O: KeyOrder>(
     ensures { IfSome result (λ rest. (n : ℕ) (input start : List ℕ) → PairsTranscoded O.order room n spans.old.items input bytes.now start out.old.items → PairsTranscoded O.order room (n + 1) spans.new.items input rest.now start out.new.items) }
 {
     let start = out.len();
-    let after = put_key::<O>(alloc, keys, room, bytes, out)?;
+    let after = put_key::<O, N>(alloc, noting, room, bytes, out)?;
     let middle = out.len();
-    let rest = put_item::<O>(alloc, keys, room, after, out)?;
+    let rest = put_item::<O, N>(alloc, noting, room, after, out)?;
     push_span::<O>(start, middle, out, spans)?;
     Some(rest)
 }
@@ -280,9 +298,9 @@ fn put_pair<'a, O: KeyOrder>(
 /// The key at the front of `bytes`, of which may be noted what is asked.
 #[cycle(transcoded)]
 #[inline(always)]
-pub(crate) fn put_key<'a, O: KeyOrder>(
+pub(crate) fn put_key<'a, O: KeyOrder, N: Noting<O>>(
     alloc: Global,
-    keys: &mut OpenKeys<O>,
+    noting: &mut N,
     room: u64,
     bytes: &'a [u8],
     out: &mut Vec<u8>,
@@ -290,22 +308,19 @@ pub(crate) fn put_key<'a, O: KeyOrder>(
     requires { room ≤ 1024 }
     ensures { IfSome result (λ rest. ItemTranscoded O.order room bytes.now rest.now out.old.items out.new.items) }
 {
-    if keys.are_unnoted() {
-        return put_item::<O>(alloc, keys, room, bytes, out);
-    }
     let start = out.len();
-    keys.enter(bytes.len())?;
-    let after = put_item::<O>(alloc, keys, room, bytes, out)?;
-    keys.leave(bytes, after.len(), &out[start..])?;
+    noting.enter(bytes.len())?;
+    let after = put_item::<O, N>(alloc, noting, room, bytes, out)?;
+    noting.leave(bytes, after.len(), &out[start..])?;
     Some(after)
 }
 
 /// The tag `n` over the item at the front of `bytes`.
 #[cycle(transcoded)]
 #[inline(never)]
-fn put_tagged<O: KeyOrder>(
+fn put_tagged<O: KeyOrder, N: Noting<O>>(
     alloc: Global,
-    keys: &mut OpenKeys<O>,
+    noting: &mut N,
     room: u64,
     n: u64,
     bytes: &[u8],
@@ -326,5 +341,5 @@ fn put_tagged<O: KeyOrder>(
         return Some(rest.len());
     }
     put_head(Major::Tag, n, out)?;
-    put_node::<O>(alloc, keys, room - 1, bytes, out)
+    put_node::<O, N>(alloc, noting, room - 1, bytes, out)
 }

@@ -23,8 +23,8 @@
 //! * `arranging`: the pairs of a map, so arranged that their keys rise.
 //! * `places`: the pairs of a great map, by where they stand in the input.
 //! * `items`: what holds other items, which calls itself for each level.
-//! * `open_keys`: what is noted of keys on the way; `settled_keys` has those of which it is known
-//!   whether they are in order.
+//! * `noting`: what is noted of keys on the way: which are open (`open_keys`), or, of those that wait
+//!   (`waiting_keys`), which are above the one before (`settled_keys`).
 //! * `passes`: a whole input.
 //!
 //! [`first_departure`] walks over bytes up to where they first aren't deterministic: the same
@@ -38,11 +38,13 @@ mod departures;
 mod entries;
 mod items;
 mod leaves;
+mod noting;
 mod open_keys;
 mod passes;
 mod places;
 mod runs;
 mod settled_keys;
+mod waiting_keys;
 mod walked_integers;
 mod walked_leaves;
 mod walks;

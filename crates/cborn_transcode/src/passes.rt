@@ -4,6 +4,7 @@ ghost use Rattle.std.specs.Prelude.{ℕ, ◌≤◌, [], IfSome};
 ghost use Rattle.cborn_transcode.specs.Transcoding.{ItemTranscoded, ItemsTranscoded, IsTranscoded};
 
 use crate::items::put_item;
+use crate::noting::Nothing;
 use crate::open_keys::OpenKeys;
 use cborn_model::{KeyOrder, Limit};
 use std::alloc::Global;
@@ -20,10 +21,11 @@ pub fn transcode<O: KeyOrder>(alloc: Global, limit: Limit, bytes: &[u8]) -> Opti
 /// Appends the deterministic encoding of the item at the front of the bytes, which is no deeper than
 /// `room`, the keys of maps in the order `O` (RFC 8949 section 4.2); answers what follows it, which
 /// isn't looked at. None promises nothing, nor of what `out` then holds: no item stands there, or
-/// memory was refused. Then `keys` may tell those that hold the place where it gave up.
+/// memory was refused. Then `open` has the keys
+/// that hold the place where it gave up.
 pub fn transcode_item<'a, O: KeyOrder>(
     alloc: Global,
-    keys: &mut OpenKeys<O>,
+    open: &mut OpenKeys,
     room: u64,
     bytes: &'a [u8],
     out: &mut Vec<u8>,
@@ -31,7 +33,7 @@ pub fn transcode_item<'a, O: KeyOrder>(
     requires { room ≤ 1024 }
     ensures { IfSome result (λ rest. ItemTranscoded O.order room bytes.now rest.now out.old.items out.new.items) }
 {
-    put_item::<O>(alloc, keys, room, bytes, out)
+    put_item::<O, OpenKeys>(alloc, open, room, bytes, out)
 }
 
 /// The encodings of the items, none deeper than `room`, up to the end.
@@ -39,14 +41,14 @@ fn put_all<O: KeyOrder>(alloc: Global, room: u64, bytes: &[u8]) -> Option<Vec<u8
     requires { room ≤ 1024 }
     ensures { IfSome result (λ out. (n : ℕ) × ItemsTranscoded O.order room n bytes.now [] [] out.items) }
 {
-    let mut keys = OpenKeys::unnoted(alloc);
+    let mut noting = Nothing;
     let mut out = Vec::with_capacity(alloc, bytes.len()).ok()?;
     let mut rest = bytes;
     'items: for _ in 0..bytes.len() {
         if rest.is_empty() {
             break;
         }
-        rest = put_item::<O>(alloc, &mut keys, room, rest, &mut out)?;
+        rest = put_item::<O, Nothing>(alloc, &mut noting, room, rest, &mut out)?;
     }
     if !rest.is_empty() {
         return None;
