@@ -73,8 +73,8 @@ class Notator(Heads):
         super().__init__(content)
         self.random, self.kind, self.levels = random, kind, levels
         self.is_second = kind == "notation-2"
-        # the text up to each item, by the item's place in the bytes
-        self.text, self.begun, self.fronts = "", 0, {}
+        # the parts of the text, and how many of them stand before each item, by the item's place in the bytes
+        self.parts, self.begun, self.fronts = [], 0, {}
 
     def is_drawn(self, share):
         return self.random.random() < share
@@ -86,14 +86,18 @@ class Notator(Heads):
             found += self.random.choice(SPACES if self.is_drawn(0.6) else comments)
         return found
 
+    def add(self, part):
+        if part:
+            self.parts.append(part)
+
     def put(self, token):
         """Puts a token behind a gap, which may not lack between two words."""
-        self.text += self.gap(comments=(*COMMENTS, *LONG_COMMENTS) if self.is_second else COMMENTS)
-        if self.text and is_word(self.text[-1]) and is_word(token[0]):
-            self.text += self.random.choice(("/0/", " ", "\n"))
+        self.add(self.gap(comments=(*COMMENTS, *LONG_COMMENTS) if self.is_second else COMMENTS))
+        if self.parts and is_word(self.parts[-1][-1]) and is_word(token[0]):
+            self.add(self.random.choice(("/0/", " ", "\n")))
         # only an item's first token is new there
-        self.fronts.setdefault(self.begun, self.text)
-        self.text += token
+        self.fronts.setdefault(self.begun, len(self.parts))
+        self.add(token)
 
     def mark(self, major, number, width):
         """The indicator of a head, where it has to stand and now and then where it may."""
@@ -154,7 +158,7 @@ class Notator(Heads):
         except FAULTS:
             return False
         self.put("<<")
-        self.text += inner.text
+        self.parts += inner.parts
         self.put(">>")
         return True
 
@@ -178,7 +182,7 @@ class Notator(Heads):
             pieces.insert(0, b"")
         for at, piece in enumerate(pieces):
             self.piece(piece, self.random.choice(self.quotes(major, piece, at == 0)))
-        self.text += self.mark(major, number, width)
+        self.add(self.mark(major, number, width))
 
     def chunked(self, major):
         """A string of indefinite length."""
@@ -271,14 +275,14 @@ class Notator(Heads):
     def items(self):
         """The text of all items."""
         while self.place < len(self.content):
-            if self.text:
+            if self.parts:
                 self.put(",")
             self.item()
-        self.text += self.gap()
+        self.add(self.gap())
         if self.is_second and self.is_drawn(0.05):
-            self.text += "# to the end"
-        return self.text
+            self.add("# to the end")
+        return "".join(self.parts)
 
     def offset(self, place):
         """Where the item of this place in the bytes begins in the text, in bytes."""
-        return len(self.fronts[place].encode())
+        return len("".join(self.parts[: self.fronts[place]]).encode())

@@ -19,7 +19,7 @@ WORDS = {"false": 20, "true": 21, "null": 22, "undefined": 23}
 def head(major, number, width=None):
     """The head of a number: with the argument in so many bytes, or the shortest."""
     if width is None:
-        width = 0 if number < DIRECT else next(it for it in (1, 2, 4, 8) if number < 1 << 8 * it)
+        width = 0 if number < DIRECT else 1 if number < 1 << 8 else 2 if number < 1 << 16 else 4 if number < 1 << 32 else 8
     if width == 0:
         return bytes([major << 5 | number])
     return bytes([major << 5 | 23 + width.bit_length()]) + number.to_bytes(width, "big")
