@@ -18,14 +18,12 @@ import collections
 import itertools
 import pathlib
 import random
-import subprocess
 import sys
-import tempfile
 
 import notating
 import reading
 import shared
-from run import FORMS, given_bytes, paragraphs, tables_in
+from run import FORMS, Outcome, given_bytes, paragraphs, tables_in
 from vectors import vectors
 
 HERE = pathlib.Path(__file__).resolve().parent
@@ -33,6 +31,8 @@ sys.path.append(str(HERE.parent / "bench"))
 from cost import shapes  # noqa: E402
 
 WANT = b"out of memory"
+# the file that a command is given: its standard input, opened
+INPUT = "/dev/stdin"
 COST = 100_000
 COMMANDS = (
     ["normalise"],
@@ -227,19 +227,18 @@ def inputs(count, texts, seed):
     yield from ((wrong_of_text, (maker.text_made(),)) for _ in range(texts))
 
 
-def wrong_of(program, path, content, is_valid):
+def wrong_of(served, content, is_valid):
     """What is wrong about each command on this input."""
-    path.write_bytes(content)
     given = content if len(content) < 100 else content[:100] + b".."
     kinds = [[], *(["--from", kind] for kind in KINDS)]
     for kind in kinds if content.isascii() and not is_valid else kinds[:1]:
         for words in COMMANDS:
             if kind and words[0] not in FROM_TEXT:
                 continue
-            done = subprocess.run([program, *words, *kind, path], capture_output=True, timeout=60, check=False)
-            if WANT in done.stderr or done.returncode not in (0, 1, 2):
-                yield f"{words} {kind} {given!r}: {done.stderr!r}, status {done.returncode}"
-            elif is_valid and done.returncode == 2:
+            done = served.run([*words, *kind, INPUT], content)
+            if WANT in done.stderr or done.status not in (0, 1, 2):
+                yield f"{words} {kind} {given!r}: {done.stderr!r}, status {done.status}"
+            elif is_valid and done.status == 2:
                 yield f"{words} {given!r}: refused, {done.stderr!r}"
             elif is_valid and words == COMMANDS[0] and done.stdout != b"".join(reading.canonical(content)):
                 yield f"{words} {given!r}: {done.stdout[:100]!r}"
@@ -248,29 +247,25 @@ def wrong_of(program, path, content, is_valid):
 def is_right(words, text, done):
     """Whether a command answers what it has to of a text that spells items."""
     if words[0] == "show":
-        return done.returncode == 0 and (words[-1] != "wire" or done.stdout == text.spelled)
+        return done.status == 0 and (words[-1] != "wire" or done.stdout == text.spelled)
     if text.refusal:
-        return (done.stdout, done.stderr, done.returncode) == (b"", text.refusal, 2)
-    return done.returncode == 0 and done.stdout == b"".join(reading.canonical(text.spelled))
+        return done == Outcome(b"", text.refusal, 2)
+    return done.status == 0 and done.stdout == b"".join(reading.canonical(text.spelled))
 
 
-def wrong_of_text(program, path, text):
+def wrong_of_text(served, text):
     """What is wrong about each command on a text that was made."""
-    path.write_bytes(text.content)
     for words in (["show", "--to", "wire"], ["normalise"], ["show"]):
-        done = subprocess.run([program, *words, "--from", text.kind, path], capture_output=True, timeout=60, check=False)
-        is_refused = WANT in done.stderr or done.returncode not in (0, 2)
+        done = served.run([*words, "--from", text.kind, INPUT], text.content)
+        is_refused = WANT in done.stderr or done.status not in (0, 2)
         if is_refused or text.spelled is not None and not is_right(words, text, done):
-            yield f"{words} {text.kind} {text.content!r}: {done.stdout[:100]!r}, {done.stderr!r}, status {done.returncode}"
+            yield f"{words} {text.kind} {text.content!r}: {done.stdout[:100]!r}, {done.stderr!r}, status {done.status}"
 
 
-def tried(program, count, texts, seed, first, shares):
-    """How many inputs were given, and what is wrong."""
-    number, wrong = 0, []
-    with tempfile.TemporaryDirectory() as folder:
-        for number, (judge, given) in enumerate(shared.share(inputs(count, texts, seed), first, shares), 1):
-            wrong += judge(program, pathlib.Path(folder, "input"), *given)
-    return number, wrong
+def tried(library, program, those):
+    """Some inputs: how many they were, and what is wrong."""
+    with shared.Served(library, program) as served:
+        return len(those), [line for judge, given in those for line in judge(served, *given)]
 
 
 def main():
@@ -280,7 +275,9 @@ def main():
     words.add_argument("--texts", type=int, default=4_000)
     words.add_argument("--seed", type=int, default=29)
     given = words.parse_args()
-    count, wrong = shared.over_processors(tried, given.program, given.inputs, given.texts, given.seed)
+    made = inputs(given.inputs, given.texts, given.seed)
+    with shared.library("serve.c") as library:
+        count, wrong = shared.over_processors(tried, made, library, given.program, at_once=64)
     return shared.status(count, wrong, f"{count} inputs, {given.texts} of them texts made")
 
 

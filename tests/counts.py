@@ -180,10 +180,10 @@ def runs():
                 yield name, command, data
 
 
-def tried(library, program, is_told, *which):
-    """A share of the runs: how many they were, and a line for each that asked for too much."""
+def tried(library, program, is_told, those):
+    """Some runs: how many they were, and a line for each that asked for too much."""
     count, wrong = 0, []
-    for name, command, data in shared.share(runs(), *which):
+    for name, command, data in those:
         words = command.split()
         counts, printed, status = counted(library, program, words, data)
         given = len(data) * (2 if words[0] == "compare" else 1)
@@ -198,7 +198,7 @@ def tried(library, program, is_told, *which):
 def main():
     program, *options = sys.argv[1:]
     with shared.library("refuse.c") as library:
-        count, wrong = shared.over_processors(tried, library, str(pathlib.Path(program).resolve()), options == ["--tell"])
+        count, wrong = shared.over_processors(tried, runs(), library, str(pathlib.Path(program).resolve()), options == ["--tell"])
     return shared.status(count, wrong, f"{count - len(wrong)} runs within their bounds on memory")
 
 

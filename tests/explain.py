@@ -7,15 +7,14 @@ Of each input the first line and the status have to be the same with --explain a
 the place of the first line: a walker of its own, over bytes or tokens, says which path stands there. Of bytes that are
 well-formed the path is also followed in the notation that `show` writes, to the text that `show` writes of the part alone.
 """
-import concurrent.futures
-import os
 import pathlib
 import random
 import re
-import subprocess
 import sys
 
+import shared
 from reading import head
+from run import Outcome
 
 SEED = 8949
 COUNT = 500
@@ -209,24 +208,19 @@ def followed(text, path):
     return text[node[0] : node[1]]
 
 
-def run(program, words, content):
-    done = subprocess.run([program, *words], input=content, capture_output=True, timeout=60, check=False)
-    return done.returncode, done.stdout, done.stderr
-
-
-def differences(program, words, content):
+def differences(served, words, content):
     """What is wrong with how a command explains an input."""
-    status, out, err = run(program, words, content)
-    explained = run(program, [*words, "--explain"], content)
+    out, err, status = served.run(words, content)
+    explained = served.run([*words, "--explain"], content)
     if status not in (0, 1, 2):
         yield f"status {status}"
-    if explained[:2] != (status, out) or not explained[2].startswith(err):
-        yield f"with the option {explained}, without {(status, out, err)}"
+    if (explained.stdout, explained.status) != (out, status) or not explained.stderr.startswith(err):
+        yield f"with the option {explained}, without {Outcome(out, err, status)}"
         return
     told = PLACE.search((err or out).decode()) if status else None
     if not told:
         return
-    labels = dict(line.strip().split(maxsplit=1) for line in explained[2][len(err) :].decode().split("\n") if line[:2] == "  " and len(line.split()) > 1)
+    labels = dict(line.strip().split(maxsplit=1) for line in explained.stderr[len(err) :].decode().split("\n") if line[:2] == "  " and len(line.split()) > 1)
     place, is_text = int(told[1]), "--from" in words
     if is_text:
         wanted = path_in_text(content[:place].decode(errors="replace"), len(content[:place].decode(errors="replace")))
@@ -234,18 +228,18 @@ def differences(program, words, content):
         wanted = path_in_bytes(content, place)
     path = told_path(labels["path"])
     # where a text isn't UTF-8, a token before that may be bad: no path goes on behind it
-    before = PLACE.search(run(program, words, content[:place])[2].decode()) if is_text and told[2] == "not UTF-8" else None
+    before = PLACE.search(served.run(words, content[:place]).stderr.decode()) if is_text and told[2] == "not UTF-8" else None
     if path != wanted and not (before and int(before[1]) < place):
         yield f"the path is {path}, not {wanted}"
-    shown = run(program, ["show", "--depth", "1024"], content) if not is_text else (2, b"", b"")
-    if shown[0] == 0 and place < len(content):
-        part = run(program, ["show", "--depth", "1024"], content[place : end_of(content, place)])[1]
-        there = followed(shown[1].decode(), path)
+    shown = None if is_text else served.run(["show", "--depth", "1024"], content)
+    if shown and shown.status == 0 and place < len(content):
+        part = served.run(["show", "--depth", "1024"], content[place : end_of(content, place)]).stdout
+        there = followed(shown.stdout.decode(), path)
         if f"{there}\n" != part.decode():
             yield f"the path leads to {there!r}, and there stands {part!r}"
     if not labels.get("why"):
         yield "no sentence"
-    if any(ord(c) < 32 and c != "\n" for c in explained[2].decode()):
+    if any(ord(c) < 32 and c != "\n" for c in explained.stderr.decode()):
         yield "a control character"
 
 
@@ -258,27 +252,33 @@ def inputs(choice, count):
         yield ["show", "--depth", str(choice.randrange(1, 4))], items
 
 
-def tried(program, words, content):
-    """The command line on an input, and on a text made of it where it can be shown: what is wrong of each."""
-    cases = [(words, content)]
-    if words == ["check"]:
-        status, text, _ = run(program, ["show"], content)
-        if not status:
-            cases.append((["normalise", "--from", "notation"], mutated(random.Random(content), text)))
-    return [(words, content, list(differences(program, words, content))) for words, content in cases]
+def with_texts(served, those):
+    """Command lines with their inputs, and with a text made of an input where it can be shown."""
+    for words, content in those:
+        yield words, content
+        shown = served.run(["show"], content) if words == ["check"] else None
+        if shown and shown.status == 0:
+            yield ["normalise", "--from", "notation"], mutated(random.Random(content), shown.stdout)
+
+
+def tried(library, program, those):
+    """Some command lines: how many passed and failed, and what is wrong."""
+    passed = failed = 0
+    lines = []
+    with shared.Served(library, program) as served:
+        for words, content in with_texts(served, those):
+            wrong = list(differences(served, words, content))
+            passed, failed = (passed, failed + 1) if wrong else (passed + 1, failed)
+            lines += [f"{' '.join(words)}: {content if '--from' in words else content.hex(' ')}: {line}" for line in wrong]
+    return passed, failed, lines
 
 
 def main():
     program = str(pathlib.Path(sys.argv[1]).resolve())
     count = int(sys.argv[2]) if len(sys.argv) > 2 else COUNT
-    passed = failed = 0
-    with concurrent.futures.ThreadPoolExecutor(os.cpu_count()) as pool:
-        for cases in pool.map(lambda case: tried(program, *case), inputs(random.Random(SEED), count)):
-            for words, content, wrong in cases:
-                passed, failed = (passed, failed + 1) if wrong else (passed + 1, failed)
-                for line in wrong:
-                    print(f"{' '.join(words)}: {content if '--from' in words else content.hex(' ')}: {line}")
-    print(f"{passed} explanations passed, {failed} failed")
+    with shared.library("serve.c") as library:
+        passed, failed, lines = shared.over_processors(tried, inputs(random.Random(SEED), count), library, program, at_once=64)
+    print(*lines, f"{passed} explanations passed, {failed} failed", sep="\n")
     return 1 if failed or not passed else 0
 
 

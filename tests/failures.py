@@ -6,8 +6,8 @@ for each of these calls and each kind of trouble.
 
 An opening fails, or is interrupted; a read too, or it gives one byte alone; a write too, or it takes one byte or
 none. What the program has to do then is said by `wanted`: what went out is the answer's front up to that write,
-and nothing where the trouble was the input's. trouble.c, which is compiled by $CC or cc, makes it. Where a run
-has very many calls, as on the longest inputs, its first and its last ones have trouble.
+and nothing where the trouble was the input's. trouble.c, which is compiled by $CC or cc, makes it, and serve.c begins
+the runs. Where a run has very many calls, as on the longest inputs, its first and its last ones have trouble.
 """
 import collections
 import os
@@ -15,7 +15,7 @@ import pathlib
 import sys
 
 import shared
-from run import Outcome, cases
+from run import Outcome, cases, listed
 
 KINDS = {
     "open": ("fail", "interrupt"),
@@ -28,25 +28,10 @@ STANDARD_OUTPUT, STANDARD_ERROR = 1, 2
 Trouble = collections.namedtuple("Trouble", "call descriptor opened written")
 
 
-def told(library, run, nth, kind):
-    """The outcome of a run with trouble at its nth call, and what the library tells of it."""
-    reader, writer = os.pipe()
-    settings = {
-        "LD_PRELOAD": library,
-        "TROUBLE_NTH": str(nth),
-        "TROUBLE_KIND": kind,
-        "TROUBLE_TELL": str(writer),
-    }
-    outcome = run(env=settings, pass_fds=[writer])
-    os.close(writer)
-    with open(reader) as lines:
-        return outcome, lines.read().split()
-
-
-def with_trouble(library, run, nth, kind):
+def with_trouble(served, case, nth, kind):
     """The outcome of a run with trouble at its nth call, and which trouble that was, if it came so far."""
-    outcome, words = told(library, run, nth, kind)
-    return outcome, Trouble(words[0], *map(int, words[1:])) if words else None
+    outcome, told = served.of_case(case, TROUBLE_NTH=str(nth), TROUBLE_KIND=kind)
+    return outcome, Trouble(told[0].decode(), *map(int, told[1:])) if told else None
 
 
 def is_copied(words):
@@ -101,39 +86,36 @@ def chosen(count):
     return [*range(1, EACH_END + 1), *range(count - EACH_END + 1, count + 1)]
 
 
-def tried_on(library, case, program):
+def tried_on(served, case):
     """Each trouble of a command line: which it was, the outcome, and what it has to be."""
-
-    def run(**how):
-        return case.run(program, **how)
-
-    ample, (_, count) = told(library, run, 0, "none")
+    ample, (_, count) = served.of_case(case, TROUBLE_NTH="0", TROUBLE_KIND="none")
     for nth in chosen(int(count)):
-        outcome, trouble = with_trouble(library, run, nth, "fail")
+        outcome, trouble = with_trouble(served, case, nth, "fail")
         for kind in KINDS[trouble.call] if trouble else ["fail"]:
             if kind != "fail":
-                outcome, trouble = with_trouble(library, run, nth, kind)
-            # a pipe gives its bytes in as many reads as it likes: a run that made fewer calls had no trouble
+                outcome, trouble = with_trouble(served, case, nth, kind)
+            # a socket gives its bytes in as many reads as it likes: a run that made fewer calls had no trouble
             yield f"{kind} at {trouble}", outcome, wanted(case.words, ample, trouble, kind) if trouble else ample
 
 
-def tried(library, program, tables, *which):
-    """A share of the command lines: how many troubles and runs that were, and the wrong ones."""
+def tried(library, program, those):
+    """The command lines of some cases: how many troubles and runs that were, and the wrong ones."""
     troubles = runs = 0
     wrong = []
-    for table, case in shared.share(cases(tables), *which):
-        runs += 1
-        for name, outcome, answer in tried_on(library, case, program):
-            troubles += 1
-            if outcome != answer:
-                wrong.append(f"{table}: {case.name}: {name}: {outcome}, not {answer}")
+    with shared.Served(library, program) as served:
+        for table, case in cases(those):
+            runs += 1
+            for name, outcome, answer in tried_on(served, case):
+                troubles += 1
+                if outcome != answer:
+                    wrong.append(f"{table}: {case.name}: {name}: {outcome}, not {answer}")
     return troubles, runs, wrong
 
 
 def main():
     program, *tables = sys.argv[1:]
-    with shared.library("trouble.c") as library:
-        found = shared.over_processors(tried, library, str(pathlib.Path(program).resolve()), tables)
+    with shared.library("serve.c", "trouble.c") as library:
+        found = shared.over_processors(tried, listed(tables), library, str(pathlib.Path(program).resolve()))
     troubles, runs, wrong = found
     return shared.status(troubles, wrong, f"{troubles} troubles of {runs} command lines made in turn")
 

@@ -14,9 +14,10 @@ the first line as ever. Where the growth was the path of a file that was to be o
 is that this file can't be read. A test has to pass with ample memory; with a growth refused it
 has to pass too, or to fail by want of memory: by the error that a call answered, and not by an answer that differs.
 A pass over bytes or a text answers nothing in place of that error, so a test of passes may also stop where an answer
-is missing. refuse.c, which is compiled by $CC or cc, refuses.
+is missing. refuse.c, which is compiled by $CC or cc, refuses, and serve.c begins the runs.
 """
 import collections
+import itertools
 import os
 import pathlib
 import re
@@ -25,7 +26,7 @@ import sys
 
 import shared
 from failures import files_of, which_input
-from run import Outcome, cases
+from run import Outcome, cases, listed
 
 WANT = re.compile(rb"AllocError|AllocFailed|OutOfMemory|[Oo]ut of memory")
 # a test that stops: by an error that it hands on, or by a failed assertion, which names the answer
@@ -37,20 +38,13 @@ STOPPED_AT = re.compile(rb"^test stopped at src/", re.MULTILINE)
 Refused = collections.namedtuple("Refused", "outcome size opened")
 
 
-def refused_in_turn(library, run):
+def refused_in_turn(run, *given):
     """What came of a run with its first request for memory refused, then with its second, to its last."""
-    nth = 1
-    while True:
-        reader, writer = os.pipe()
-        settings = {"LD_PRELOAD": library, "REFUSE_NTH": str(nth), "REFUSE_TELL": str(writer)}
-        outcome = run(env=settings, pass_fds=[writer])
-        os.close(writer)
-        with open(reader) as lines:
-            told = lines.read().split()
+    for nth in itertools.count(1):
+        outcome, told = run(*given, REFUSE_NTH=str(nth))
         if not told:
             return
         yield Refused(outcome, *map(int, told))
-        nth += 1
 
 
 def wants_of_memory(words, refused):
@@ -71,22 +65,17 @@ def shorter_explanations(words, ample):
             yield ample._replace(stderr=b"".join(lines[:kept]) + b"  out of memory\n")
 
 
-def command_lines(library, program, tables, *which):
-    """Each command line of a share: its name, what came of its runs, and which outcomes it may have."""
-    for table, case in shared.share(cases(tables), *which):
-        ample = case.run(program)
-        outcomes = refused_in_turn(library, lambda **how: case.run(program, **how))
+def command_lines(served, those):
+    """Each command line of some cases: its name, what came of its runs, and which outcomes it may have."""
+    for table, case in cases(those):
+        ample, _ = served.of_case(case)
+        outcomes = refused_in_turn(served.of_case, case)
 
         def is_allowed(refused, ample=ample, words=case.words):
             wants = (*wants_of_memory(words, refused), *shorter_explanations(words, ample))
             return refused.outcome in (ample, *wants)
 
         yield f"{table}: {case.name}", list(outcomes), is_allowed
-
-
-def run_test(tests, name, **how):
-    done = subprocess.run([tests, name], capture_output=True, timeout=60, check=False, **how)
-    return Outcome(done.stdout, done.stderr, done.returncode)
 
 
 def passes_or_wants(outcome):
@@ -105,28 +94,33 @@ def tests_of_passes(*given):
     return built_tests(passes_or_stops, *given)
 
 
-def built_tests(is_allowed, library, tests, words, *which):
-    """Each test of a share: its name, the outcomes of its runs, and which outcomes it may have."""
-    listed = subprocess.run([tests, "--list"], capture_output=True, text=True, check=True).stdout
-    names = re.findall(r"^(.*): test$", listed, re.MULTILINE)
-    for name in shared.share((name for name in names if not words or any(word in name for word in words)), *which):
-        ample = run_test(tests, name)
+def names_of_tests(tests, words):
+    """The names of all built tests, or of each that has one of the words."""
+    told = subprocess.run([tests, "--list"], stdout=subprocess.PIPE, text=True, check=True).stdout
+    return [name for name in re.findall(r"^(.*): test$", told, re.MULTILINE) if not words or any(word in name for word in words)]
+
+
+def built_tests(is_allowed, served, names):
+    """Each of these tests: its name, the outcomes of its runs, and which outcomes it may have."""
+    for name in names:
+        ample = served.run([name])
         if ample.status == 0:
-            outcomes = refused_in_turn(library, lambda **how: run_test(tests, name, **how))
+            outcomes = refused_in_turn(served.told, [name])
             yield name, [it.outcome for it in outcomes], is_allowed
         else:
             yield f"{name}, with ample memory", [ample], lambda _: False
 
 
-def tried(find, library, program, words, *which):
-    """A share of the runs: how many growths and runs that were, and a line for each wrong outcome."""
+def tried(find, library, program, those):
+    """Some cases or tests: how many growths and runs that were, and a line for each wrong outcome."""
     growths = runs = 0
     wrong = []
-    for name, outcomes, is_allowed in find(library, program, words, *which):
-        growths, runs = growths + len(outcomes), runs + 1
-        for nth, outcome in enumerate(outcomes, 1):
-            if not is_allowed(outcome):
-                wrong.append(f"{name}: growth {nth} of {len(outcomes)}: {outcome}")
+    with shared.Served(library, program) as served:
+        for name, outcomes, is_allowed in find(served, those):
+            growths, runs = growths + len(outcomes), runs + 1
+            for nth, outcome in enumerate(outcomes, 1):
+                if not is_allowed(outcome):
+                    wrong.append(f"{name}: growth {nth} of {len(outcomes)}: {outcome}")
     return growths, runs, wrong
 
 
@@ -136,8 +130,10 @@ TESTS = {"--tests": tests_of_libraries, "--passes": tests_of_passes}
 def main():
     find = TESTS.get(sys.argv[1], command_lines)
     program, *words = sys.argv[1:] if find is command_lines else sys.argv[2:]
-    with shared.library("refuse.c") as library:
-        found = shared.over_processors(tried, find, library, str(pathlib.Path(program).resolve()), words)
+    program = str(pathlib.Path(program).resolve())
+    those = listed(words) if find is command_lines else names_of_tests(program, words)
+    with shared.library("serve.c", "refuse.c") as library:
+        found = shared.over_processors(tried, those, find, library, program)
     growths, runs, wrong = found
     return shared.status(growths, wrong, f"{growths} growths of {runs} runs refused in turn")
 

@@ -23,7 +23,7 @@ import sys
 import tempfile
 
 from reading import head
-from run import FORMS, Case, Outcome, cases, tables_in
+from run import FORMS, Case, Outcome, cases, listed, tables_in
 
 HERE = pathlib.Path(__file__).resolve().parent
 TOP = HERE.parent
@@ -416,7 +416,7 @@ def tables_of_words(met, callers):
 
 
 def all_cases(folder):
-    yield from cases(tables_in(HERE, FORMS))
+    yield from cases(listed(tables_in(HERE, FORMS)))
     for name, lines in itertools.chain(nests(), *map(twice, (2, 128, 1024))):
         with tempfile.TemporaryDirectory(dir=folder) as place:
             yield name, Case(lines, place)

@@ -19,10 +19,11 @@ static long left, opened;
 static int tell = -1, counts = -1;
 static size_t requests, asked, held, most, greatest;
 
-__attribute__((constructor)) static void begin(void)
+/* Once more for each run that serve.c begins. */
+__attribute__((constructor)) void begin(void)
 {
     const char *nth = getenv("REFUSE_NTH");
-    const char *to = getenv("REFUSE_TELL");
+    const char *to = getenv("TELL");
     const char *count_to = getenv("REFUSE_COUNTS");
     left = nth ? atol(nth) : 0;
     tell = to ? atoi(to) : -1;

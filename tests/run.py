@@ -30,6 +30,7 @@ the same files and input, and where one stands right behind another they must do
 """
 import collections
 import contextlib
+import functools
 import itertools
 import os
 import pathlib
@@ -155,6 +156,8 @@ def text_bytes(text):
     return text.encode().decode("unicode_escape").encode("latin-1") if text.isascii() else text.encode()
 
 
+# the runs of a case have much in common
+@functools.lru_cache(maxsize=16)
 def given_bytes(rest):
     """The bytes that 'hex ..', 'text ..' or 'texts ..' names."""
     kind, _, value = rest.partition(" ")
@@ -174,18 +177,18 @@ def quoted_bytes(piece):
     return text_bytes(piece[1:-1])
 
 
-# how a part of BYTES is read
-READ = {"hex": bytes.fromhex, "texts": quoted_bytes}
+# how the pieces of a part of BYTES are read
+READ = {"hex": lambda pieces: bytes.fromhex(" ".join(pieces)), "texts": lambda pieces: b"".join(map(quoted_bytes, pieces))}
 
 
 def repeated(read, piece, times):
     """The bytes of a part, N times, or once for each number of A..B, or for each S-th of them."""
     first, is_range, last = times.partition("..")
     if not is_range:
-        return read(piece) * int(times)
+        return read([piece]) * int(times)
     last, _, every = last.partition(" by ")
     step = int(every or "1") * (1 if int(first) <= int(last) else -1)
-    return b"".join(read(piece.format(n)) for n in range(int(first), int(last) + (1 if step > 0 else -1), step))
+    return read(map(piece.format, range(int(first), int(last) + (1 if step > 0 else -1), step)))
 
 
 def told(content):
@@ -220,12 +223,18 @@ def single_runs(lines):
             yield [*shared, run, *wanted]
 
 
-def cases(names):
-    """Each run of each case of the tables of these names, or of all tables beside this script."""
-    for table in [pathlib.Path(name) for name in names] or tables_in(HERE):
-        for lines in itertools.chain.from_iterable(map(single_runs, paragraphs(table))):
+def listed(names):
+    """Each case of the tables of these names, or of all tables beside this script: the table's name, and its lines."""
+    tables = [pathlib.Path(name) for name in names] or tables_in(HERE)
+    return ((table.name, lines) for table in tables for lines in paragraphs(table))
+
+
+def cases(those):
+    """Each run of each of those cases."""
+    for table, lines in those:
+        for run in single_runs(lines):
             with tempfile.TemporaryDirectory() as folder:
-                yield table.name, Case(lines, folder)
+                yield table, Case(run, folder)
 
 
 def tables_in(*folders):
@@ -236,7 +245,7 @@ def tables_in(*folders):
 def main():
     program = str(pathlib.Path(sys.argv[1]).resolve())
     passed = failed = 0
-    for table, case in cases(sys.argv[2:] or tables_in(HERE, FORMS)):
+    for table, case in cases(listed(sys.argv[2:] or tables_in(HERE, FORMS))):
         wrong = list(case.differences(case.run(program)))
         passed, failed = (passed, failed + 1) if wrong else (passed + 1, failed)
         for line in wrong:

@@ -1,33 +1,107 @@
-"""Runs that are shared out over the processors, and the libraries that the loader puts in front of the C library."""
+"""Runs that are shared out over the processors, the libraries that the loader puts in front of the C library, and a program that
+stands ready for its runs by one of them."""
 import concurrent.futures
 import contextlib
 import itertools
 import os
 import pathlib
+import socket
 import subprocess
 import tempfile
 
+from run import Outcome
+
+# more than a line of serve.c, refuse.c or trouble.c has
+LINE = 256
+
 
 @contextlib.contextmanager
-def library(source):
-    """The path of a library, which $CC or cc makes of a C file of this folder."""
+def library(*sources):
+    """The path of a library, which $CC or cc makes of C files of this folder."""
     with tempfile.TemporaryDirectory() as folder:
-        path = f"{folder}/{source}.so"
-        file = pathlib.Path(__file__).resolve().parent / source
-        subprocess.run([os.environ.get("CC", "cc"), "-O2", "-shared", "-fPIC", "-o", path, str(file)], check=True)
+        path = f"{folder}/library.so"
+        files = [str(pathlib.Path(__file__).resolve().parent / source) for source in sources]
+        subprocess.run([os.environ.get("CC", "cc"), "-O2", "-shared", "-fPIC", "-o", path, *files, "-ldl"], check=True)
         yield path
 
 
-def share(all_runs, first, shares):
-    """Each so many-th of some runs, from the first on."""
-    return itertools.islice(all_runs, first, None, shares)
+class Served:
+    """A program that stands ready for its runs: a library that is made of serve.c, and of what else the loader shall put in
+    front of the C library, lets each of them begin in a child of one process, where to load the program took most of the time."""
+
+    def __init__(self, library, program):
+        self.library, self.program = library, program
+        self.socket, theirs = socket.socketpair(socket.AF_UNIX, socket.SOCK_SEQPACKET)
+        self.stdin, self.stdout, self.stderr = self.files = [os.memfd_create(name) for name in ("stdin", "stdout", "stderr")]
+        number = str(theirs.fileno())
+        # the page faults of an input of 1 GB cost more than what is done with it: where it can be, its pages are great ones
+        settings = {"LD_PRELOAD": library, "SERVE": number, "TELL": number, "GLIBC_TUNABLES": "glibc.malloc.hugetlb=1"}
+        self.process = subprocess.Popen(
+            [program],
+            stdin=self.stdin,
+            stdout=self.stdout,
+            stderr=self.stderr,
+            env={**os.environ, **settings},
+            pass_fds=[theirs.fileno()],
+        )
+        theirs.close()
+
+    def __enter__(self):
+        return self
+
+    def __exit__(self, *_):
+        self.socket.close()
+        self.process.wait()
+        for file in self.files:
+            os.close(file)
+
+    def run(self, words, given=b"", folder="/"):
+        """The outcome of a run of these words in a folder, with what is given as standard input."""
+        return self.told(words, given, folder)[0]
+
+    def told(self, words, given=b"", folder="/", **settings):
+        """That with settings in the environment, and the words that the library tells of the run."""
+        os.pwrite(self.stdin, given, 0)
+        os.ftruncate(self.stdin, len(given))
+        for file in self.files:
+            os.lseek(file, 0, os.SEEK_SET)
+        texts = [folder, *map("=".join, settings.items()), "", *words]
+        *lines, last = self.answered(b"".join(os.fsencode(text) + b"\0" for text in texts))
+        return Outcome(self.written(self.stdout), self.written(self.stderr), int(last[1:])), b"".join(lines).split()
+
+    def answered(self, request):
+        """The lines that come back, of which the last one has the status."""
+        try:
+            self.socket.send(request)
+            lines = [self.socket.recv(LINE)]
+            while lines[-1] and not lines[-1].startswith(b"="):
+                lines.append(self.socket.recv(LINE))
+        except ConnectionError:
+            lines = [b""]
+        if not lines[-1]:
+            raise RuntimeError(f"{self.program} takes no requests: serve.c is for programs that are linked with glibc, a shared library")
+        return lines
+
+    def written(self, file):
+        """What a run has written to a file."""
+        return os.pread(file, os.lseek(file, 0, os.SEEK_CUR), 0)
+
+    def of_case(self, case, **settings):
+        """The same of a case of a table. Where its standard input fails or its output is another, the program is loaded for it alone."""
+        if not case.is_failing and case.output is None:
+            return self.told(case.words, case.stdin, case.folder, **settings)
+        reader, writer = os.pipe()
+        outcome = case.run(self.program, env={"LD_PRELOAD": self.library, "TELL": str(writer), **settings}, pass_fds=[writer])
+        os.close(writer)
+        with open(reader, "rb") as lines:
+            return outcome, lines.read().split()
 
 
-def over_processors(tried, *given):
-    """What `tried(*given, first, shares)` answers for each share: the sum of each of its numbers, and all the lines of what is wrong."""
-    shares = os.cpu_count() or 1
-    with concurrent.futures.ProcessPoolExecutor(shares) as pool:
-        parts = [pool.submit(tried, *given, first, shares) for first in range(shares)]
+def over_processors(tried, runs, *given, at_once=16):
+    """What `tried(*given, some)` answers for so many runs at once: the sum of each of its numbers, and all the lines of what is wrong."""
+    runs = iter(runs)
+    with concurrent.futures.ProcessPoolExecutor() as pool:
+        parts = [pool.submit(tried, *given, some) for some in iter(lambda: list(itertools.islice(runs, at_once)), [])]
         *numbers, wrong = zip(*(part.result() for part in parts))
     return [*map(sum, numbers), list(itertools.chain.from_iterable(wrong))]
 

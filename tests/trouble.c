@@ -3,7 +3,8 @@
    The NTH of these calls, from 1, has the trouble KIND: 'fail' and 'interrupt' answer an error, 'short' moves
    one byte at most, and 'nothing' takes no byte of a write. A line goes to the file descriptor TELL then: the
    call's name, its descriptor (of an opening 0), how many files the program had opened, and how many bytes it
-   had written to that descriptor. With NTH 0 the line is 'calls N', when the program ends. */
+   had written to that descriptor. With NTH 0 the line is 'calls N', when the program ends. Standard input gives no more
+   at one time than a pipe holds, so that a long one is read as often in each run. */
 #include <errno.h>
 #include <stdarg.h>
 #include <stdio.h>
@@ -14,14 +15,16 @@
 #include <fcntl.h>
 
 #define DESCRIPTORS 16
+#define PIPE 65536
 
 static long nth, calls, opened, written[DESCRIPTORS];
 static int tell = -1;
 static const char *kind = "";
 
-__attribute__((constructor)) static void begin(void)
+/* Once more for each run that serve.c begins. */
+__attribute__((constructor)) void begin(void)
 {
-    const char *to = getenv("TROUBLE_TELL");
+    const char *to = getenv("TELL");
     const char *which = getenv("TROUBLE_NTH");
     if (!to || !which || !getenv("TROUBLE_KIND"))
         return;
@@ -89,7 +92,7 @@ ssize_t read(int fd, void *buffer, size_t size)
         if (is_kind("short") && size > 1)
             size = 1;
     }
-    return syscall(SYS_read, fd, buffer, size);
+    return syscall(SYS_read, fd, buffer, fd == STDIN_FILENO && size > PIPE ? PIPE : size);
 }
 
 ssize_t write(int fd, const void *bytes, size_t size)

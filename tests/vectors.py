@@ -9,7 +9,6 @@ nothing of the program. fronts.vectors says how its lines are read.
 """
 import itertools
 import pathlib
-import subprocess
 import sys
 import tempfile
 
@@ -40,11 +39,6 @@ def refusals(answer, length):
     if is_read == "read":
         return None, line_of(fault, length) if fault else None
     return line_of(answer, length), line_of(answer, length)
-
-
-def run(program, words, front):
-    done = subprocess.run([program, *words], input=front, capture_output=True, timeout=60, check=False)
-    return Outcome(done.stdout, done.stderr, done.returncode)
 
 
 def of_side(which, refusal):
@@ -87,17 +81,17 @@ def fronts(path):
                 yield kind, content[:length], answer
 
 
-def tried(program, paths, *which):
-    """A share of the fronts: how many answers there were, and a line for each wrong one."""
+def tried(library, program, those):
+    """Some fronts: how many answers there were, and a line for each wrong one."""
     count, wrong = 0, []
-    with tempfile.TemporaryDirectory() as folder:
+    with tempfile.TemporaryDirectory() as folder, shared.Served(library, program) as served:
         other = pathlib.Path(folder, "other")
-        for kind, front, answer in shared.share(itertools.chain.from_iterable(map(fronts, paths)), *which):
+        for kind, front, answer in those:
             for words, beside, right in wanted(kind, front, answer, str(other)):
                 if beside is not None:
                     other.write_bytes(beside)
                 count += 1
-                outcome = run(program, words, front)
+                outcome = served.run(words, front)
                 if outcome != right:
                     wrong.append(f"{kind} {front!r}: {' '.join(words)}: {outcome}, not {right} ({answer})")
     return count, wrong
@@ -107,7 +101,8 @@ def main():
     here = pathlib.Path(__file__).resolve().parent
     program = str(pathlib.Path(sys.argv[1]).resolve())
     paths = [pathlib.Path(name) for name in sys.argv[2:]] or [here / "fronts.vectors"]
-    count, wrong = shared.over_processors(tried, program, paths)
+    with shared.library("serve.c") as library:
+        count, wrong = shared.over_processors(tried, itertools.chain.from_iterable(map(fronts, paths)), library, program, at_once=256)
     return shared.status(count, wrong, f"{count - len(wrong)} answers to fronts passed")
 
 
