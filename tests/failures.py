@@ -88,8 +88,11 @@ def chosen(count):
 
 def tried_on(served, case):
     """Each trouble of a command line: which it was, the outcome, and what it has to be."""
-    ample, (_, count) = served.of_case(case, TROUBLE_NTH="0", TROUBLE_KIND="none")
-    for nth in chosen(int(count)):
+    ample, told = served.of_case(case, TROUBLE_NTH="0", TROUBLE_KIND="none")
+    if not told:
+        yield "without trouble", ample, "an end of its own"
+        return
+    for nth in chosen(int(told[1])):
         outcome, trouble = with_trouble(served, case, nth, "fail")
         for kind in KINDS[trouble.call] if trouble else ["fail"]:
             if kind != "fail":

@@ -18,8 +18,8 @@
 
 #define ROOM (1 << 18)
 #define WORDS 256
-/* how many seconds a run may take */
-#define SECONDS 60
+/* how many seconds a run may take: many, since others may use the processors too, and inputs have up to 1 GB */
+#define SECONDS 600
 /* the status where a request couldn't be carried out */
 #define UNSERVED 99
 

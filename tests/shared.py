@@ -97,7 +97,7 @@ class Served:
             return outcome, lines.read().split()
 
 
-def over_processors(tried, runs, *given, at_once=16):
+def over_processors(tried, runs, *given, at_once=1):
     """What `tried(*given, some)` answers for so many runs at once: the sum of each of its numbers, and all the lines of what is wrong."""
     runs = iter(runs)
     with concurrent.futures.ProcessPoolExecutor() as pool:
