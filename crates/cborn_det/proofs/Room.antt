@@ -19,7 +19,7 @@ use Rattle.cborn_model.specs.Spelled.{ending, string, chunk_bytes, chunks, spell
 use Rattle.cborn_model.specs.Tree.{Tree, Uint, Nint, Bytes, Text, ByteChunks, TextChunks, Items, Pairs, Tagged, Simple, Trees, no_item, more, Entries, no_entry, entry, trees, count, count_entries}
 use Rattle.cborn_model.specs.Meaning.{joined_chunks, IsNumber, IsBignum, Means, AllMean, EntriesMean}
 use Rattle.cborn_model.specs.Value.{Value, Values, Couples, array, dict, tagged, simple, no_values, value, no_pairs, pair, value_count, pair_count}
-use Rattle.cborn_wire.proofs.Spelled.AllBytes.{bytes-append}
+use Rattle.cborn_model.proofs.Bytes.{bytes-append}
 use Rattle.cborn_det.specs.Det.{IsString, IsInteger, Det, DetValues, DetPairs, DetSeq, Entry, joined, major_of, bignum_tag}
 
 -- ---- heads

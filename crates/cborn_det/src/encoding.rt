@@ -9,7 +9,8 @@ ghost use Rattle.cborn_det.specs.devices.Writing.{AppendsPair, BeginsWith, IsWri
 ghost use Rattle.cborn_det.specs.Det.{Det, DetSeq, DetPairs, Entry};
 
 use crate::entries::arrange;
-use crate::parts::{push_integer, push_shortest, push_simple, push_string};
+use crate::heads::push_shortest;
+use crate::parts::{push_integer, push_simple, push_string};
 use cborn_model::{Item, KeyOrder, Major, Valid};
 use std::alloc::{AllocError, Global};
 

@@ -3,10 +3,10 @@
 //! the order of their keys' encodings, under any order of keys that has the laws.
 //!
 //! An item is written to the end of one buffer: `encoding` goes over what is inside it, `parts`
-//! appends heads, strings and numbers, and `entries` arranges the pairs of a map where they lie,
-//! once all are written. Where the keys of a map rise as its pairs stand, nothing is moved; another
-//! map is copied once, with all that is in it. `heads` has the shortest head alone, for who writes
-//! an encoding without an item, and `integers` what the head of an integer is made of.
+//! appends strings and numbers, and `entries` arranges the pairs of a map where they lie, once all
+//! are written. Where the keys of a map rise as its pairs stand, nothing is moved; another map is
+//! copied once, with all that is in it. `heads` has the shortest head, for who writes an encoding
+//! without an item too, and `integers` what the head of an integer is made of.
 //!
 //! `laws` says what follows from the definitions: two valid items have one encoding exactly if they
 //! are the same.

@@ -1,24 +1,16 @@
-//! What an encoding is made of, at the end of a buffer: heads, strings, integers and simple values.
+//! What an encoding is made of, at the end of a buffer: strings, integers and simple values.
 
 ghost use Rattle.std.specs.Prelude.{ℕ, List, IsTrue};
 ghost use Rattle.std.specs.declared.cmp.Ordering.{Ordering};
-ghost use Rattle.cborn_model.specs.Heads.{code, IsLeastHead, is_simple_value};
+ghost use Rattle.cborn_model.specs.Heads.{code, is_simple_value};
 ghost use Rattle.cborn_model.specs.Value.{simple};
 ghost use Rattle.cborn_det.specs.devices.Writing.{Writes};
 ghost use Rattle.cborn_det.specs.Det.{Det, IsInteger, IsString};
 
+use crate::heads::push_shortest;
 use crate::integers::integer_major;
-use cborn_model::{Magnitude, Major, Number, shortest};
-use cborn_wire::push_head;
+use cborn_model::{Magnitude, Major, Number};
 use std::alloc::AllocError;
-
-/// Appends the shortest head of the major type with the argument `n`.
-pub(crate) fn push_shortest(major: Major, n: u64, out: &mut Vec<u8>) -> Result<(), AllocError>
-    ensures { Writes result (IsLeastHead (code major) n) out.old.items out.new.items }
-{
-    let width = shortest(n);
-    push_head(out, major, width, n)
-}
 
 /// Appends a string of the major type.
 pub(crate) fn push_string(major: Major, bytes: &[u8], out: &mut Vec<u8>) -> Result<(), AllocError>

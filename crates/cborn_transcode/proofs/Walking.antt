@@ -16,6 +16,7 @@ use Rattle.cborn_model.specs.Value.{bytes, text, simple}
 use Rattle.cborn_model.specs.Orders.{IsKeyOrder, Rising}
 use Rattle.cborn_model.proofs.Listed.Trees.{spelled_pair, spelled_all-trees, spelled_entries-entries, count-trees, count_entries-entries}
 use Rattle.cborn_model.proofs.Numbers.OneHead.{append_same}
+use Rattle.cborn_model.proofs.Bytes.{bytes-right}
 use Rattle.cborn_judge.proofs.Meaning.Meanings.{Short, left}
 use Rattle.cborn_det.specs.Det.{bignum_tag, Entry, joined, keys}
 use Rattle.cborn_det.proofs.Cutting.{rise_more}
@@ -29,7 +30,6 @@ use Rattle.cborn_wire.proofs.Parts.Heads.{head_read}
 use Rattle.cborn_wire.proofs.Parts.Nodes.{uint_read, nint_read, simple_read, node_as, node_within, node_left, node_last, no_node, node_more, nodes_as, array_read, tagged_read}
 use Rattle.cborn_wire.proofs.Parts.Pairs.{no_pair, entry_more, pairs_as, map_read}
 use Rattle.cborn_wire.proofs.Parts.Strings.{string_front, bytes_read, text_read}
-use Rattle.cborn_wire.proofs.Spelled.AllBytes.{bytes-right}
 use Rattle.cborn_transcode.specs.declared.entries.Span.{Span}
 use Rattle.cborn_transcode.specs.Transcoding.{IsEncodedAs, AreEncodedAs, ArePairsWritten, all_spanned, ItemTranscoded, ItemsTranscoded, MapTranscoded, IsTranscoded, IsIntegral, IsLeast}
 use Rattle.cborn_transcode.specs.shared.Walking.{IsLast, LeastHeadRead, ContentWalked, IsLongMagnitude, BignumWalked, IsDeterministic, AreDeterministic, HaveRisingKeys, ItemWalked, ItemsWalked, PairsFound, PairsWalked, WalkedBehind}

@@ -22,10 +22,11 @@ use Rattle.cborn_edn.specs.declared.strings.StringKind.{StringKind}
 use Rattle.cborn_edn.specs.declared.strings.StringKind.TheVariants.{Bytes as OfBytes, Text as OfText}
 use Rattle.cborn_model.specs.Bytes.{AreBytes}
 use Rattle.cborn_model.specs.Spelled.{spelled_all}
+use Rattle.cborn_model.proofs.Bytes.{bytes-append}
 use Rattle.std.proofs.lemmas.Int.Digits.{all_below_base_digits_of}
 use Rattle.cborn_edn.proofs.Meaning.Agree.{made, some_is}
 use Rattle.cborn_edn.proofs.Meaning.Plain.{Plain, PlainPiece, PlainPieces, PlainStrings, PlainStringsBefore, PlainRow, PlainRowBefore, PlainContent, PlainPairs, PlainPairsBefore, PlainFields, PlainInput, plain_input}
-use Rattle.cborn_wire.proofs.Spelled.AllBytes.{bytes-append, spelled_all_bytes}
+use Rattle.cborn_wire.proofs.Spelled.AllBytes.{spelled_all_bytes}
 
 -- What a tree says fits its widths, and is no deeper than the tree.
 

@@ -6,6 +6,7 @@ use Rattle.std.proofs.Math.Seq.{take-add, take-append_seam}
 use Rattle.cborn_model.specs.Bytes.{AreBytes}
 use Rattle.cborn_model.specs.Tree.{Trees, no_item}
 use Rattle.cborn_model.specs.Spelled.{spelled_all}
+use Rattle.cborn_model.proofs.Bytes.{bytes-left}
 use Rattle.cborn_wire.specs.declared.heads.Head.{Head}
 use Rattle.cborn_wire.specs.Slots.{Begun, beginnings, slot, AreBegun}
 use Rattle.cborn_wire.specs.HeadReading.{major_at, seen_argument, IsHeadOf}
@@ -22,7 +23,6 @@ use Rattle.cborn_wire.proofs.Machine.SoundItems.{SoundLive, Sound}
 use Rattle.cborn_wire.proofs.Machine.SoundRuns.{sound}
 use Rattle.cborn_wire.proofs.Scans.ScanItems.{reason_levels}
 use Rattle.cborn_wire.proofs.Scans.ScanSteps.{reason_here, step_taken}
-use Rattle.cborn_wire.proofs.Spelled.AllBytes.{bytes-left}
 use Rattle.cborn_wire.proofs.Spelled.AsPlaced.{spelled_all-from, depth_all-from, fits_all-from, placed_all-from}
 use Rattle.cborn_wire.proofs.Spelled.OneReading.{takes_sequence}
 use Rattle.cborn_paths.specs.declared.paths.Step.{Step}

@@ -5,6 +5,7 @@ use Rattle.cborn_model.specs.Bytes.{AreBytes}
 use Rattle.cborn_model.specs.Tree.{Tree, Trees, no_item, more, trees, depth}
 use Rattle.cborn_model.specs.Spelled.{spelled, Fits, Wellformed}
 use Rattle.cborn_model.specs.Placed.{Placed, PlacedAll}
+use Rattle.cborn_model.proofs.Bytes.{bytes-append, bytes-right}
 use Rattle.cborn_wire.specs.declared.faults.WireFault.{WireFault}
 use Rattle.cborn_wire.specs.declared.faults.WireFault.TheVariants as faults
 use Rattle.cborn_wire.specs.declared.faults.WireReason.{WireReason}
@@ -14,7 +15,6 @@ use Rattle.cborn_wire.specs.Faults.{IsWellformed, Refused, Fault}
 use Rattle.cborn_wire.specs.Feeding.{AreComplete, Feeding, IsFed, Accepts, Refuses, RunsShort, Feeds}
 use Rattle.cborn_wire.specs.shared.Machine.{append_trees, Partial, nothing, State, Live, Failed, start, IsLive, ready_in, held, run, IsReached, Stops}
 use Rattle.cborn_wire.proofs.Machine.Running.{run-append}
-use Rattle.cborn_wire.proofs.Spelled.AllBytes.{bytes-append, bytes-right}
 use Rattle.cborn_wire.proofs.Machine.WholeFront.{with_front}
 use Rattle.cborn_wire.proofs.Spelled.OneReading.{reads, after_first}
 use Rattle.cborn_wire.proofs.Machine.SoundItems.{SoundLive, Sound}

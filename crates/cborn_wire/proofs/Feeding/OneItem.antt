@@ -3,6 +3,7 @@ use Rattle.std.proofs.Common.{◌≡◌, refl, sym, ap, ◌∙◌, subst, ℕ, �
 use Rattle.std.proofs.lemmas.List.{take-append-drop, drop-drop, nil_from_length}
 use Rattle.cborn_model.specs.Bytes.{AreBytes}
 use Rattle.cborn_model.specs.Tree.{Tree, Trees, no_item, more}
+use Rattle.cborn_model.proofs.Bytes.{bytes-left, bytes-right}
 use Rattle.cborn_wire.specs.declared.faults.WireFault.{WireFault}
 use Rattle.cborn_wire.specs.declared.faults.WireFault.TheVariants as faults
 use Rattle.cborn_wire.specs.declared.faults.WireReason.{WireReason}
@@ -13,7 +14,6 @@ use Rattle.cborn_wire.specs.Reading.{IsFirstItem, ItemFault}
 use Rattle.cborn_wire.specs.shared.Machine.{snoc, Partial, nothing, State, Live, Failed, start, IsLive, ready_in, run, Stops, Settles}
 use Rattle.cborn_wire.proofs.Machine.Running.{run-append}
 use Rattle.cborn_wire.proofs.Feeding.Outcomes.{refused_is}
-use Rattle.cborn_wire.proofs.Spelled.AllBytes.{bytes-left, bytes-right}
 use Rattle.cborn_wire.proofs.Spelled.FaultLaws.{fails_refused}
 use Rattle.cborn_wire.proofs.Feeding.Completing.{no_first, first_read, no_item_cut}
 

@@ -10,6 +10,7 @@ use Rattle.cborn_model.specs.declared.heads.Major.{Major}
 use Rattle.cborn_model.specs.declared.heads.Major.TheVariants.{Unsigned, Negative, ByteString, TextString, Array, Map, Tag, Other}
 use Rattle.cborn_model.specs.Heads.{code, information, following}
 use Rattle.cborn_model.specs.Heads as heads
+use Rattle.cborn_model.proofs.Bytes.{bytes-append, bytes-left}
 use Rattle.cborn_wire.specs.declared.heads.Argument.TheVariants.{Given, Endless}
 use Rattle.cborn_wire.specs.declared.heads.HeadRead.{HeadRead}
 use Rattle.cborn_wire.specs.HeadReading.{major_at, reason_alone, IsHeadOf, IsFrontOfHead, ReadsHead}
@@ -17,7 +18,6 @@ use Rattle.cborn_wire.specs.Slots.{element_or_end}
 use Rattle.cborn_wire.specs.shared.InitialBytes.{Info, Now, Next, Unended, Reserved, info_at, is_unended, is_always_bounded, is_other, head_reason}
 use Rattle.cborn_wire.specs.shared.Machine.{width_bytes, number}
 use Rattle.cborn_wire.proofs.HeadReading.InitialBytes.{same_alone}
-use Rattle.cborn_wire.proofs.Spelled.AllBytes.{bytes-append, bytes-left}
 use Rattle.cborn_wire.proofs.Machine.TakesHeads.{info_at-now}
 use Rattle.cborn_wire.proofs.Machine.SoundRuns.{code_at, IsWide, InfoIs, info_is, again, wide_information}
 

@@ -6,10 +6,10 @@ use Rattle.cborn_model.specs.declared.heads.Major.{Major}
 use Rattle.cborn_model.specs.Heads.{WidthFits}
 use Rattle.cborn_model.specs.Tree.{Tree, Trees, no_item, more, depth, depth_all}
 use Rattle.cborn_model.specs.Spelled.{Fits, FitsAll}
+use Rattle.cborn_model.proofs.Bytes.{bytes-append}
 use Rattle.cborn_wire.specs.Slots.{StringKind, Begun, begun_items, begun_pairs, begun_value, begun_tag, begun_chunks, slot, open_depth, IsNoChunk, AreBegun}
 use Rattle.cborn_wire.specs.shared.Machine.{snoc, width_bytes, argument_of, content_of, Partial, gathering, State, Live, Failed, start, IsLive, held, run, IsReached}
 use Rattle.cborn_wire.proofs.Machine.Running.{run-append}
-use Rattle.cborn_wire.proofs.Spelled.AllBytes.{bytes-append}
 use Rattle.cborn_wire.proofs.Machine.SoundItems.{SoundLive, Sound}
 use Rattle.cborn_wire.proofs.Machine.SoundRuns.{sound}
 

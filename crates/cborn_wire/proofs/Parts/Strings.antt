@@ -10,6 +10,7 @@ use Rattle.cborn_model.specs.declared.nodes.Chunk.{Chunk}
 use Rattle.cborn_model.specs.Heads.{Given, Unbounded, head, WidthFits}
 use Rattle.cborn_model.specs.Spelled.{string, chunk_bytes}
 use Rattle.cborn_model.specs.Tree.{Tree, Bytes, Text, ByteChunks, TextChunks}
+use Rattle.cborn_model.proofs.Bytes.{bytes-left}
 use Rattle.cborn_wire.specs.declared.heads.Argument.{Argument}
 use Rattle.cborn_wire.specs.declared.heads.Argument.TheVariants as arguments
 use Rattle.cborn_wire.specs.declared.heads.Head.{Head}
@@ -17,7 +18,6 @@ use Rattle.cborn_wire.specs.HeadReading.{major_at, IsHeadOf, seen_argument, Argu
 use Rattle.cborn_wire.specs.Parts.{StringRead, ChunkRead, ChunksRead, NodeRead}
 use Rattle.cborn_wire.proofs.Machine.SoundItems.{fits_chunks-snoc, chunk_bytes-snoc}
 use Rattle.cborn_wire.proofs.Parts.Heads.{head_read, endless_split}
-use Rattle.cborn_wire.proofs.Spelled.AllBytes.{bytes-left}
 
 -- ---- strings
 

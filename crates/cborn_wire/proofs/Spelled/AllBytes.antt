@@ -14,19 +14,8 @@ use Rattle.cborn_model.specs.Tree.{Tree, Uint, Nint, Bytes, Text, ByteChunks, Te
 use Rattle.cborn_model.specs.Spelled.{ending, string, chunk_bytes, chunks, spelled, spelled_all, spelled_entries, ChunksFit, Fits, FitsAll, FitsEntries, Wellformed}
 use Rattle.cborn_wire.specs.HeadReading.{ArgumentFits}
 use Rattle.cborn_model.proofs.Numbers.Simples.{simple_fits}
+use Rattle.cborn_model.proofs.Bytes.{bytes-append}
 use Rattle.cborn_wire.proofs.Machine.TakesItems.{size_fits}
-
-pub bytes-append : (x y : List ℕ) → AreBytes x → AreBytes y → AreBytes (x ++ y)
-bytes-append [] y h k = k
-bytes-append (b ∷ x) y h k = (h.0, bytes-append x y h.1 k)
-
-pub bytes-left : (x y : List ℕ) → AreBytes (x ++ y) → AreBytes x
-bytes-left [] y h = tt
-bytes-left (b ∷ x) y h = (h.0, bytes-left x y h.1)
-
-pub bytes-right : (x y : List ℕ) → AreBytes (x ++ y) → AreBytes y
-bytes-right [] y h = h
-bytes-right (b ∷ x) y h = bytes-right x y h.1
 
 information_below : (w : Width) (n : ℕ) → WidthFits w n → information w n < 32
 information_below Direct n h = omega arith

@@ -4,13 +4,14 @@ use Rattle.std.proofs.lemmas.Bool.{cases_order}
 use Rattle.cborn_model.specs.Bytes.{AreBytes}
 use Rattle.cborn_model.specs.Tree.{Trees}
 use Rattle.cborn_model.specs.Spelled.{Wellformed}
+use Rattle.cborn_model.proofs.Bytes.{bytes-left}
 use Rattle.cborn_wire.specs.declared.faults.WireReason.{WireReason}
 use Rattle.cborn_wire.specs.declared.faults.WireReason.TheVariants.{Truncated}
 use Rattle.cborn_wire.specs.Slots.{Begun}
 use Rattle.cborn_wire.specs.Faults.{IsWellformed, GoesOn, IsReason, Refused, Fault}
 use Rattle.cborn_wire.specs.SlotFaults.{SlotRefused}
 use Rattle.cborn_wire.specs.shared.Machine.{Partial, nothing, gathering, State, Live, Failed, run, start}
-use Rattle.cborn_wire.proofs.Spelled.AllBytes.{bytes-left, well_bytes}
+use Rattle.cborn_wire.proofs.Spelled.AllBytes.{well_bytes}
 use Rattle.cborn_wire.proofs.Spelled.ByteLists.{same_place}
 use Rattle.cborn_wire.proofs.Spelled.OneReading.{reads}
 use Rattle.cborn_wire.proofs.Spelled.Reasons.{not_truncated}

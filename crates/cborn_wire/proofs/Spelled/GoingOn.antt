@@ -6,6 +6,7 @@ use Rattle.cborn_model.specs.Bytes.{AreBytes}
 use Rattle.cborn_model.specs.Tree.{Trees}
 use Rattle.cborn_model.specs.declared.heads.Width.TheVariants.{One}
 use Rattle.cborn_model.specs.declared.heads.Major.TheVariants.{Other}
+use Rattle.cborn_model.proofs.Bytes.{bytes-append, bytes-left, bytes-right}
 use Rattle.cborn_wire.specs.declared.faults.WireReason.{WireReason}
 use Rattle.cborn_wire.specs.Slots.{StringKind, OfBytes, OfText, Slot, item, value, element_or_end, key_or_end, chunk, Begun, slot, open_depth, IsNoChunk, Open}
 use Rattle.cborn_wire.specs.Faults.{IsWellformed, GoesOn, BeginsHead, judged, IsReason, Refused}
@@ -16,7 +17,7 @@ use Rattle.cborn_wire.proofs.Machine.Running.{run-append}
 use Rattle.cborn_wire.proofs.Machine.SomeEnd.{Closable, takes_part, takes_integer}
 use Rattle.cborn_wire.proofs.Machine.SoundItems.{SoundLive, Sound}
 use Rattle.cborn_wire.proofs.Machine.SoundRuns.{sound}
-use Rattle.cborn_wire.proofs.Spelled.AllBytes.{bytes-append, bytes-left, bytes-right, well_bytes}
+use Rattle.cborn_wire.proofs.Spelled.AllBytes.{well_bytes}
 use Rattle.cborn_wire.proofs.Spelled.ByteLists.{later}
 use Rattle.cborn_wire.proofs.Spelled.Reasons.{table_reason, judged_reason}
 use Rattle.cborn_wire.proofs.Spelled.SlotLaws.{At, opened, closable_goes, goes_on, fails_ends, slot_ends}

@@ -4,6 +4,7 @@ use Rattle.cborn_model.specs.Bytes.{AreBytes}
 use Rattle.cborn_model.specs.Tree.{Trees, no_item}
 use Rattle.cborn_model.specs.Spelled.{spelled_all, Wellformed}
 use Rattle.cborn_model.specs.Placed.{PlacedAll}
+use Rattle.cborn_model.proofs.Bytes.{bytes-append}
 use Rattle.cborn_wire.specs.declared.faults.WireReason.{WireReason}
 use Rattle.cborn_wire.specs.Slots.{Slot, Begun, beginnings, slot, open_depth, Open}
 use Rattle.cborn_wire.specs.Faults.{IsWellformed, GoesOn}
@@ -13,7 +14,6 @@ use Rattle.cborn_wire.specs.Places.{all_from}
 use Rattle.cborn_wire.specs.shared.Machine.{Partial, nothing, State, Live, Failed, IsLive, run, start, front}
 use Rattle.cborn_wire.proofs.HeadReading.InitialBytes.{same_reason}
 use Rattle.cborn_wire.proofs.Machine.Running.{run-append, failed_run}
-use Rattle.cborn_wire.proofs.Spelled.AllBytes.{bytes-append}
 use Rattle.cborn_wire.proofs.Spelled.AsPlaced.{spelled_all-from, depth_all-from, fits_all-from, placed_all-from}
 use Rattle.cborn_wire.proofs.Spelled.OneReading.{reads, takes_sequence}
 use Rattle.cborn_wire.proofs.Machine.SoundItems.{SoundLive, SoundFailed, Sound}

@@ -7,6 +7,7 @@ use Rattle.cborn_model.specs.declared.heads.Width.{Width}
 use Rattle.cborn_model.specs.Heads.{Given}
 use Rattle.cborn_model.specs.Tree.{Tree, Trees, no_item, more, trees}
 use Rattle.cborn_model.specs.Spelled.{IsSpelled}
+use Rattle.cborn_model.proofs.Bytes.{bytes-left}
 use Rattle.cborn_wire.specs.declared.faults.WireFault.{WireFault}
 use Rattle.cborn_wire.specs.declared.faults.WireFault.TheVariants.{Refused, OutOfMemory}
 use Rattle.cborn_wire.specs.declared.frames.Partial.{Partial}
@@ -21,7 +22,6 @@ use Rattle.cborn_wire.specs.shared.Machine as machine
 use Rattle.cborn_wire.specs.shared.Machine.{append_trees, State, Live, Failed, ready_in, Stops, Settles, content_of, gathering, width_bytes, snoc, string_done, content_at, after_head, run, IsReached}
 use Rattle.cborn_wire.specs.devices.StackView.{seen_kind, seen_partial, opened, left, seen, FailsAs, Took, IsShort, Fails, IsMade, IsMoved, Advances}
 use Rattle.cborn_wire.proofs.Machine.Running.{run-append, failed_run}
-use Rattle.cborn_wire.proofs.Spelled.AllBytes.{bytes-left}
 use Rattle.cborn_wire.proofs.Machine.Reached.{reached_more, reached_item, reached_argument, reached_content}
 use Rattle.cborn_wire.proofs.Machine.TakesItems.{append_trees-nil, append_trees-snoc}
 use Rattle.cborn_wire.proofs.Machine.WholeFront.{with_front, front_run}

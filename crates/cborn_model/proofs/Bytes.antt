@@ -1,0 +1,15 @@
+-- Bytes one behind another are bytes.
+use Rattle.std.proofs.Common.{ℕ, List, [], ◌∷◌, ◌++◌}
+use Rattle.cborn_model.specs.Bytes.{AreBytes}
+
+pub bytes-append : (x y : List ℕ) → AreBytes x → AreBytes y → AreBytes (x ++ y)
+bytes-append [] y h k = k
+bytes-append (b ∷ x) y h k = (h.0, bytes-append x y h.1 k)
+
+pub bytes-left : (x y : List ℕ) → AreBytes (x ++ y) → AreBytes x
+bytes-left [] y h = tt
+bytes-left (b ∷ x) y h = (h.0, bytes-left x y h.1)
+
+pub bytes-right : (x y : List ℕ) → AreBytes (x ++ y) → AreBytes y
+bytes-right [] y h = h
+bytes-right (b ∷ x) y h = bytes-right x y h.1
