@@ -1,5 +1,5 @@
 #!/usr/bin/env python3
-"""Let the tests behind `rt ci` run what it has just proved and built, in the place of proving all of it once more.
+"""Let what stands behind `rt ci` run what it has just proved and built, in the place of proving all of it once more.
 
 `rt ci` leaves each library and the program in out/ without the mark by which `rt run` and `rt lib` know that nothing has
 changed since. This writes those marks: the very sums that these commands compare, so that an edit in between still has
@@ -13,28 +13,37 @@ import sys
 sys.path.insert(0, os.path.dirname(os.path.realpath(shutil.which("rt") or "rt")))
 
 
-def main():
+def mark(folder):
+    """Marks what was built in the crates below a folder. Returns why it doesn't, or none."""
     try:
         import rtlib
     except ImportError:
-        print("the kit's parts aren't beside its command rt: what rt ci built is proved again")
-        return 0
-    crates = rtlib.crates_below(os.getcwd())
+        return "the kit's parts aren't beside its command rt: what rt ci built is proved again"
+    crates = rtlib.crates_below(folder)
     if any(os.path.exists(f"{crate.folder}/out/rlib/stamp") for crate in crates):
-        print("an earlier build stands in out/: it is brought up to date")
-        return 0
+        return "an earlier build stands in out/: it is brought up to date"
     for crate in crates:
         program = f"out/{crate.name}"
         if os.path.isdir(crate.rlib):
             put(f"{crate.folder}/out/rlib/stamp", crate.stamp())
         elif crate.is_program and os.path.isfile(f"{crate.folder}/{program}"):
+            # what rt ci runs the program with is a part of what these commands compare
+            with open(f"{crate.folder}/args", encoding="utf-8") as words:
+                crate.said = {**crate.said, "args": words.read().splitlines()}
             put(f"{crate.folder}/{program}.stamp", crate.stamp() + rtlib.sum_of(f"{crate.folder}/{program}"))
-    return 0
+    return None
 
 
 def put(file, text):
     with open(file, "w", encoding="utf-8") as mark:
         mark.write(text)
+
+
+def main():
+    why = mark(os.getcwd())
+    if why:
+        print(why)
+    return 0
 
 
 if __name__ == "__main__":

@@ -23,7 +23,8 @@ import sys
 import tempfile
 
 from reading import head
-from run import FORMS, Case, Outcome, cases, listed, tables_in
+import shared
+from run import FORMS, Case, Outcome, cases, listed, single_runs, tables_in
 
 HERE = pathlib.Path(__file__).resolve().parent
 TOP = HERE.parent
@@ -388,6 +389,18 @@ class AsProgram:
             yield f"status is {outcome.status}, not {case.status}: {outcome.stdout!r} {outcome.stderr!r}"
 
 
+def through_python(build, runs):
+    """How many of these runs of the tables `python -m cborn` was given, and what is wrong with what it does."""
+    wrong = []
+    with tempfile.TemporaryDirectory() as folder:
+        as_program = AsProgram(folder, build)
+        for table, lines in runs:
+            with tempfile.TemporaryDirectory() as place:
+                case = Case(lines, place)
+                wrong += [f"{table}: {case.name}: python -m cborn: {line}" for line in as_program.differences(case)]
+    return len(runs), wrong
+
+
 def of_same(answer):
     """What cborn_same answers where cborn_compare answers so."""
     code, place, out = answer
@@ -424,14 +437,13 @@ def all_cases(folder):
 
 def main():
     program, build = (str(pathlib.Path(word).resolve()) for word in sys.argv[1:])
-    words, met, wrong = words_of_header(), set(), []
+    words, met = words_of_header(), set()
+    runs = ((table, run) for table, lines in listed(tables_in(HERE)) for run in single_runs(lines))
+    through, wrong = shared.over_processors(through_python, runs, build, at_once=16)
     with tempfile.TemporaryDirectory() as folder:
         callers = {"C": InC(folder, build), "Python": InPython(build)}
-        as_program = AsProgram(folder, build)
         passed = others = explained = 0
         for table, case in all_cases(folder):
-            if (HERE / table).exists():
-                wrong += [f"{table}: {case.name}: python -m cborn: {line}" for line in as_program.differences(case)]
             asked = parsed(case)
             if asked is None:
                 others += 1
@@ -455,8 +467,9 @@ def main():
     for line in wrong:
         print(line)
     print(f"{passed} command lines passed through the library, {others} are no call, {explained} were explained; {told}")
+    print(f"{through} command lines through python -m cborn")
     print(f"{len(wrong)} failed")
-    return 1 if wrong or not passed or not explained else 0
+    return 1 if wrong or not passed or not explained or not through else 0
 
 
 if __name__ == "__main__":
