@@ -11,14 +11,13 @@ STACK ?= 256
 # The size in MB of the inputs whose cost in memory is tested.
 COST ?= 8
 
-.PHONY: help try build test check-quick wrong-bodies layout tables vectors ample explanations growths failures counts cost left-out believed stack big library-growths bench install clean
+.PHONY: help try build test check-quick layout tables vectors ample explanations growths failures counts cost left-out believed stack big library-growths bench install clean
 
 help:
 	@echo 'make try        build the program from its source, before any proof, and run it: ARGS="check FILE", or seven bytes as an example'
 	@echo 'make build      prove every crate and build the program, $(PROGRAM)'
-	@echo 'make test       the merge gate from nothing, beside it make wrong-bodies, then side by side make $(BEHIND), and which of it was left out'
+	@echo 'make test       the merge gate from nothing, then side by side make $(BEHIND), and which of it was left out'
 	@echo 'make check-quick   while you change something: proves what changed, then make layout, tables and believed'
-	@echo 'make wrong-bodies   whether the prover refuses each wrong body of crates/*/wrong-bodies/: one crate is python3 tests/wrong_bodies.py CRATE'
 	@echo 'make try-tests  make try on its seven bytes, on files, on standard input and on a wrong option: one build, of a minute'
 	@echo 'make layout     whether each file of the crates is in the layout of rt fmt, and cites what it may'
 	@echo 'make tables     the built program on the tables of tests/ and at a terminal, the examples of the documents, completion-tests and release-tests'
@@ -34,7 +33,7 @@ help:
 	@echo 'make stack      the least stack that each command needs at 1,024 levels: no more than STACK KB (STACK is $(STACK))'
 	@echo 'make big        the largest inputs there are, 2^30 bytes, with time and memory: some minutes, 8 GB of memory, 3 GB of disk'
 	@echo 'make library-growths   the tests of the libraries, proved and built first, each growth refused in turn'
-	@echo 'make gate-cost  make test, and how much processor time each crate took of it'
+	@echo 'make gate-cost  the merge gate, and how much processor time each crate took of it'
 	@echo 'make bench      time the commands on a corpus of 130 MB, made under bench/corpus'
 	@echo 'make bench-peers    the program beside its peers, whose drivers it builds (Debian packages; it says which): some ten minutes'
 	@echo 'make bench-growth   time and memory from 1 MB to 1 GB, beside two peers: some 20 minutes, 5 GB of disk'
@@ -77,17 +76,13 @@ build: kit
 BEHIND := library-tests dist-tests vectors ample cost counts explanations tables believed stack growths failures try-tests
 
 test:
-	python3 tests/wrong_bodies.py --beside $(MAKE) --no-print-directory ci-and-behind
-	$(MAKE) --no-print-directory left-out
-
-.PHONY: ci-and-behind
-ci-and-behind:
 	rt ci
 	python3 tests/built.py
 	$(MAKE) build library python completions
 	$(MAKE) --jobs=$(shell nproc) --output-sync=target --keep-going $(BEHIND)
+	$(MAKE) --no-print-directory left-out
 
-# over what out/ keeps; it tries no wrong body, and runs no tests
+# over what out/ keeps; it tries no must-fail edit, and runs no tests
 check-quick:
 	rt all check
 	$(MAKE) layout tables believed
@@ -102,9 +97,6 @@ tables: build
 	python3 tests/documents.py $(PROGRAM)
 	python3 bench/pictures.py --check
 	$(MAKE) completion-tests release-tests
-
-wrong-bodies: build
-	python3 tests/wrong_bodies.py
 
 growths: build
 	python3 tests/growths.py $(PROGRAM)
@@ -175,7 +167,7 @@ bench-cost: build
 	python3 bench/cost.py $(PROGRAM) $(BENCH)
 
 gate-cost:
-	python3 bench/gate.py $(MAKE) test
+	python3 bench/gate.py rt ci
 
 install: build
 	@echo 'Program, man page, completions, and the library with its header and cborn.pc go below $(DESTDIR)$(PREFIX); the library is proved first.'

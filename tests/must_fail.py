@@ -1,15 +1,12 @@
 #!/usr/bin/env python3
-"""Try the wrong bodies of the crates: the prover has to refuse each, in the very function that it turns.
+"""Try must-fail edits many in one check: the prover has to refuse each, in the very function that it turns.
 
-    wrong_bodies.py [CRATE ..]            those of these crates, or of all
-    wrong_bodies.py --beside COMMAND ..   those of all crates, beside a command that runs `rt ci`: each crate's once the libraries
-                                          below it are proved, with the processors that the command leaves free. Where the command
-                                          fails, so does this, with its status
-    wrong_bodies.py --alone [CRATE ..]    each of them in a check of its own, by the kit's `rt must-fail`: an hour or two
+    must_fail.py [CRATE ..]    those of these crates, or of all
 
-A wrong body is a file crates/CRATE/wrong-bodies/NAME.edit: a line 'fn: ' with the function that it turns, as `rt check` names
-it, then a line 'file: ' with a file of the crate and pairs of lines 'old: ' and 'new: ', each old text standing once in
-that file. The libraries below a crate have to be proved and built (`make build`, `rt ci`).
+This is the quick trial, for while you change something; `rt ci` tries each edit by itself. An edit is a file
+crates/CRATE/must-fail/NAME.edit: a line 'fn: ' with the function that it turns, as `rt check` names it (`rt ci` passes over that
+line), then a line 'file: ' with a file of the crate and pairs of lines 'old: ' and 'new: ', each old text standing once in that
+file. The libraries below a crate have to be proved and built (`make build`).
 
 The proof of a function rests on its own body and on what the functions that it calls promise, and never on their bodies. So
 many are turned at once, in a copy of the crate: one of each function, and one of each cycle of calls, whose functions are
@@ -36,8 +33,6 @@ PARTS = ("src", "specs", "proofs")
 FUNCTION = re.compile(r'^( *)(?:pub(?:\(\w+\))? )?(?:const )?(?:extern "C" )?fn (\w+)', re.M)
 CYCLE = re.compile(r"#\[cycle\((\w+)\)\]")
 VERDICT = re.compile(r"^fn (\S+): (.*)$", re.M)
-# what a run of the gate says of a crate that is proved
-PROVED = re.compile(r"rt: (\w+) (?:proved|is kept)")
 # how the last line of a check begins that ends in a verdict
 ENDS = re.compile(r"^only=", re.M)
 # what a check says of a function that fails at a goal of its own
@@ -157,7 +152,7 @@ def verdicts(folder, texts, bodies):
         for start, end, new in sorted((it.parts[file] for it in bodies if file in it.parts), reverse=True):
             text = text[:start] + new + text[end:]
         (folder / file).write_text(text, encoding="utf-8")
-    words = ["nice", "rt", "check", "--jobs", "1", *(word for it in bodies for word in ("--only", it.function))]
+    words = ["rt", "check", "--jobs", "1", *(word for it in bodies for word in ("--only", it.function))]
     ran = subprocess.run(words, cwd=folder, stdout=subprocess.PIPE, stderr=subprocess.STDOUT, encoding="utf-8", errors="replace")
     has_ended = ran.returncode in (0, 1) and ENDS.search(ran.stdout)
     return dict(VERDICT.findall(ran.stdout)) if has_ended else {}, "" if has_ended else ran.stdout
@@ -204,58 +199,28 @@ def tried(crate, folder, bodies):
 def of_crate(crate):
     """How many wrong bodies a crate has, in how many checks they were tried, and what is wrong."""
     folder = ROOT / "crates" / crate
-    bodies = [read(path, folder) for path in sorted(folder.glob("wrong-bodies/*.edit"))]
-    with tempfile.TemporaryDirectory(prefix="wrong-bodies-") as room:
+    bodies = [read(path, folder) for path in sorted(folder.glob("must-fail/*.edit"))]
+    with tempfile.TemporaryDirectory(prefix="must-fail-") as room:
         wrong, checks = tried(crate, copy(crate, pathlib.Path(room)), bodies)
-    print(f"{crate}: {len(bodies)} wrong bodies, in {checks} checks", flush=True)
+    print(f"{crate}: {len(bodies)} must-fail edits, in {checks} checks", flush=True)
     return len(bodies), checks, wrong
-
-
-def each_alone(crate):
-    """The status of the kit's own trial of each of a crate's wrong bodies, on a copy where they lie as it looks for them."""
-    with tempfile.TemporaryDirectory() as room:
-        begun = copy(crate, pathlib.Path(room))
-        shutil.copytree(ROOT / "crates" / crate / "wrong-bodies", begun / "must-fail")
-        return subprocess.run(["rt", "must-fail", crate], cwd=room).returncode
-
-
-def beside(command, crates, pool):
-    """The status of a command, whose lines are printed, and the trials of these crates, each of which begins once the command says
-    that the libraries below the crate are proved."""
-    used, proved, left, begun = libraries(), set(), crates, []
-    with subprocess.Popen(command, stdout=subprocess.PIPE, encoding="utf-8", errors="replace") as run:
-        for line in iter(run.stdout.readline, ""):
-            print(line, end="", flush=True)
-            told = PROVED.match(line)
-            proved |= {told[1]} if told else set()
-            begun += [pool.submit(of_crate, it) for it in left if below(it, used) <= proved]
-            left = [it for it in left if not below(it, used) <= proved]
-    return run.returncode, begun + [pool.submit(of_crate, it) for it in left]
 
 
 def main():
     given = argparse.ArgumentParser(description=__doc__.splitlines()[0])
     given.add_argument("crates", metavar="CRATE", nargs="*")
-    given.add_argument("--alone", action="store_true")
-    given.add_argument("--beside", metavar="COMMAND", nargs=argparse.REMAINDER)
     words = given.parse_args()
     # those that take longest first
     size = lambda crate: sum(it.stat().st_size for part in PARTS for it in (ROOT / "crates" / crate / part).rglob("*.*t"))
-    crates = sorted(words.crates or {it.parent.parent.name for it in ROOT.glob("crates/*/wrong-bodies/*.edit")}, key=size, reverse=True)
-    if words.alone:
-        return max(map(each_alone, crates))
-    # threads do: what takes time are the checks, each a process
-    with concurrent.futures.ThreadPoolExecutor(len(os.sched_getaffinity(0))) as pool:
-        status, begun = beside(words.beside, crates, pool) if words.beside else (0, [pool.submit(of_crate, it) for it in crates])
-        if status:
-            pool.shutdown(cancel_futures=True)
-            return status
-        try:
-            counts, checks, wrong = zip(*(it.result() for it in begun))
-        except Unfit as why:
-            print(why)
-            return 1
-    return shared.status(sum(counts), [line for lines in wrong for line in lines], f"{sum(counts)} wrong bodies in {sum(checks)} checks")
+    crates = sorted(words.crates or {it.parent.parent.name for it in ROOT.glob("crates/*/must-fail/*.edit")}, key=size, reverse=True)
+    try:
+        # threads do: what takes time are the checks, each a process
+        with concurrent.futures.ThreadPoolExecutor(len(os.sched_getaffinity(0))) as pool:
+            counts, checks, wrong = zip(*pool.map(of_crate, crates))
+    except Unfit as why:
+        print(why)
+        return 1
+    return shared.status(sum(counts), [line for lines in wrong for line in lines], f"{sum(counts)} must-fail edits in {sum(checks)} checks")
 
 
 if __name__ == "__main__":
