@@ -72,14 +72,15 @@ build: kit
 	@test -e $(PROGRAM) || echo 'Each crate is proved, lowest first, and then $(PROGRAM) is built: a quarter of an hour on four idle processors, more than an hour where others use them too. A quiet minute is no hang.'
 	cd crates/cborn && rt run -- --version
 
-# What stands behind the gate runs side by side, over what was built once before; the longest first.
+# What stands behind the gate runs side by side over the program that was built once before, while the library is proved and
+# built; the longest first.
 BEHIND := library-tests dist-tests vectors ample cost counts explanations tables believed stack growths failures try-tests
 
 test:
 	rt ci
 	python3 tests/built.py
-	$(MAKE) build library python completions
-	$(MAKE) --jobs=$(shell nproc) --output-sync=target --keep-going $(BEHIND)
+	$(MAKE) build completions
+	$(MAKE) --old-file=build --jobs=$(shell nproc) --output-sync=target --keep-going $(BEHIND)
 	$(MAKE) --no-print-directory left-out
 
 # over what out/ keeps; it tries no must-fail edit, and runs no tests
@@ -96,7 +97,7 @@ tables: build
 	python3 tests/terminals.py $(PROGRAM)
 	python3 tests/documents.py $(PROGRAM)
 	python3 bench/pictures.py --check
-	$(MAKE) completion-tests release-tests
+	$(MAKE) --old-file=build completion-tests release-tests
 
 growths: build
 	python3 tests/growths.py $(PROGRAM)

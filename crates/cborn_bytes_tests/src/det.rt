@@ -34,9 +34,8 @@ fn encodes(rt: HostRuntime) -> Result<(), Fail> {
 /// Catches a comparison that never answers.
 #[test]
 fn compares(rt: HostRuntime) -> Result<(), Fail> {
-    let one = array(&rt, rt.alloc())?;
-    let other = array(&rt, rt.alloc())?;
-    let is_equal = equal_bytes::<LengthFirst>(rt.alloc(), &one, &other)?;
+    let item = array(&rt, rt.alloc())?;
+    let is_equal = equal_bytes::<LengthFirst>(rt.alloc(), &item, &item)?;
     assert!(rt; is_equal);
     Ok(())
 }

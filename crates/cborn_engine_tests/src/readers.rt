@@ -15,55 +15,31 @@ fn normalised(alloc: Global, bytes: &mut Bytes<'_>, out: &mut Taken) -> Result<(
     normalise::<Bytewise, Bytes<'_>, Taken>(alloc, Limit::USUAL, kind, kind, bytes, out)
 }
 
+/// What a writer of one byte a call is asked, behind so many calls of which it has its trouble: what
+/// `normalise` answers, what was taken, and how many writes, flushes and failures there were.
+const TROUBLES: [(u64, Trouble, bool, &[u8], [u64; 3]); 4] = [
+    (9, Trouble::Nothing, true, b"\x82\x01\x41\x61", [4, 1, 0]),
+    (1, Trouble::Fails, false, b"\x82", [2, 0, 1]),
+    (2, Trouble::TakesNothing, false, b"\x82\x01", [3, 0, 1]),
+    (
+        9,
+        Trouble::FailsToFlush,
+        false,
+        b"\x82\x01\x41\x61",
+        [4, 1, 1],
+    ),
+];
+
 #[test]
 fn writers_with_trouble(rt: HostRuntime) -> Result<(), Fail> {
-    let fault = Err(EngineFault::WriteFault);
-    let cases = [
-        (
-            9,
-            Trouble::Nothing,
-            Ok(()),
-            b"\x82\x01\x41\x61".as_slice(),
-            4,
-            1,
-            0,
-        ),
-        (1, Trouble::Fails, fault, b"\x82".as_slice(), 2, 0, 1),
-        (
-            2,
-            Trouble::TakesNothing,
-            fault,
-            b"\x82\x01".as_slice(),
-            3,
-            0,
-            1,
-        ),
-        (
-            9,
-            Trouble::FailsToFlush,
-            fault,
-            b"\x82\x01\x41\x61".as_slice(),
-            4,
-            1,
-            1,
-        ),
-    ];
-    for (calls, trouble, answer, taken, writes, flushes, failures) in cases {
+    for (calls, trouble, is_well, taken, counts) in TROUBLES {
         let mut out = Taken::troubled(rt.alloc(), 1, calls, trouble)?;
         let result = normalised(rt.alloc(), &mut Bytes::new(INPUT, 3), &mut out);
-        assert_eq!(rt; result, answer, "{calls} calls, {failures} failures");
-        assert_eq!(rt;
-            out.bytes.as_slice(),
-            taken,
-            "{calls} calls, {failures} failures"
-        );
-        assert_eq!(rt; out.writes, writes, "{calls} calls, {failures} failures");
-        assert_eq!(rt; out.flushes, flushes, "{calls} calls, {failures} failures");
-        assert_eq!(rt;
-            Sink::failures(&out),
-            failures,
-            "{calls} calls, {failures} failures"
-        );
+        let fault = (!is_well).then_some(EngineFault::WriteFault);
+        assert_eq!(rt; result.err(), fault, "{calls} calls, {counts:?}");
+        let told = [out.writes, out.flushes, Sink::failures(&out)];
+        assert_eq!(rt; told, counts, "{calls} calls");
+        assert_eq!(rt; out.bytes.as_slice(), taken, "{calls} calls, {counts:?}");
     }
     Ok(())
 }

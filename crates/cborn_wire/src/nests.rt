@@ -15,13 +15,23 @@ use cborn_model::{ByteString, Chunk, Form, Major, Node, Width, push_doubling};
 use std::alloc::Global;
 
 /// What is open, one inside another.
-#[derive(Drop)]
 pub(crate) struct Nest {
     pub(crate) alloc: Global,
     /// The innermost.
     pub(crate) top: Option<Frame>,
     /// What is open around it, the innermost last.
     pub(crate) outer: Vec<Frame>,
+}
+
+/// By hand, since what is derived is written out, and proved, at each way out of each function.
+impl Drop for Nest {
+    fn drop(self) {
+        let Nest {
+            alloc: _,
+            top: _,
+            outer: _,
+        } = self;
+    }
 }
 
 /// What became of a head, or of bytes of a string.

@@ -1,24 +1,32 @@
 //! The calls that give or take nodes.
 use super::super::memory::Bytes;
 use cborn_det::{encode, encode_all, equal_bytes};
-use cborn_engine::{Kind, load, load_within};
+use cborn_engine::{EngineFault, Kind, load_within};
 use cborn_judge::{Defect, DefectReason, first_defect, judge_all};
 use cborn_model::{Bytewise, Limit};
 use cborn_wire::{Feeder, WireFault, read_all, read_one, spell_all};
+use std::alloc::Global;
 use std::test::Fail;
+
+/// What an input spells that is loaded two bytes a call.
+fn loaded(alloc: Global, kind: Kind, input: &[u8]) -> Result<Vec<u8>, EngineFault> {
+    let mut bytes = Bytes::new(input, 2);
+    let nodes = load_within(alloc, Limit::USUAL, 31, kind, &mut bytes)?;
+    Ok(spell_all(alloc, &nodes)?)
+}
 
 #[test]
 fn inputs_loaded(rt: HostRuntime) -> Result<(), Fail> {
     let spelled = b"\xbf\x61\x7a\x01\x0a\x5f\x41\x01\xff\xff\x18\x02".as_slice();
-    let mut bytes = Bytes::new(spelled, 2);
-    let nodes = load(rt.alloc(), Limit::USUAL, Kind::Wire, &mut bytes)?;
-    assert_eq!(rt; spell_all(rt.alloc(), &nodes)?.as_slice(), spelled);
-    let mut text = Bytes::new(b"{_ \"z\": 1, 10: (_ h'01')}, 2_0", 2);
-    let nodes = load_within(rt.alloc(), Limit::USUAL, 31, Kind::Notation, &mut text)?;
-    assert_eq!(rt; spell_all(rt.alloc(), &nodes)?.as_slice(), spelled);
-    let mut text = Bytes::new(b"{_ \"z\": 1, 10: (_ h'01'),},2_0#", 2);
-    let nodes = load_within(rt.alloc(), Limit::USUAL, 31, Kind::Notation2, &mut text)?;
-    assert_eq!(rt; spell_all(rt.alloc(), &nodes)?.as_slice(), spelled);
+    let text = b"{_ \"z\": 1, 10: (_ h'01')}, 2_0".as_slice();
+    let further = b"{_ \"z\": 1, 10: (_ h'01'),},2_0#".as_slice();
+    for (kind, input) in [
+        (Kind::Wire, spelled),
+        (Kind::Notation, text),
+        (Kind::Notation2, further),
+    ] {
+        assert_eq!(rt; loaded(rt.alloc(), kind, input)?.as_slice(), spelled);
+    }
     Ok(())
 }
 

@@ -1,4 +1,4 @@
-use Rattle.std.proofs.Common.{arith, subst, ◌≤◌}
+use Rattle.std.proofs.Common.{arith, rules, subst, ◌≤◌}
 use Rattle.cborn_model.specs.ItemView.{item_value}
 use Rattle.cborn_model.specs.Tree.{depth}
 use Rattle.cborn_judge.specs.shared.Judged.{IsJudged, MeansItem}
@@ -10,3 +10,6 @@ new-requires c =
     let node = c.args.spelled.now in
     let means : MeansItem node c.in-Valid.item = subst (λ t. MeansItem t c.in-Valid.item) c.node.ensures.same (subst (IsJudged c.node.result.now) c.in-Valid.is c.in_ok-item.ensures) in
     (means.1, (let k = meaning_shallow node (item_value c.in-Valid.item) c.node.ensures.spelled.0 means.0 in let l : depth node ≤ 1024 = c.node.ensures.spelled.1 in omega arith))
+
+pub returns-in-Flawed-clause-refused : goal.returns-in-Flawed-clause-refused
+returns-in-Flawed-clause-refused c = search rules
