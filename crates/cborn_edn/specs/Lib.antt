@@ -1,9 +1,7 @@
-pub mod Syntax
-pub mod Parse
-pub mod Notates
-pub mod Meaning
+pub mod Says
+pub mod Grammar
+pub mod Faults
 pub mod Shown
-pub mod Counted
 pub mod ReadingBack
 pub mod Starts
 pub mod shared

@@ -9,9 +9,9 @@ use Rattle.cborn_lex.specs.declared.classes.Token.{Token}
 use Rattle.cborn_lex.specs.declared.classes.Profile.{Profile}
 use Rattle.cborn_edn.specs.declared.strings.StringKind.{StringKind}
 use Rattle.cborn_edn.specs.declared.strings.StringKind.TheVariants.{Bytes as OfBytes, Text as OfText}
-use Rattle.cborn_edn.specs.Syntax.{Span, Item, number, word, tag, simple, string, chunked, array, map as map_item, text, bytes, Pieces, piece, Strings, strings, StringsBefore, no_string, after_strings, Row, row, RowBefore, no_item, after_row, Content, loose, tight, Pairs, pairs, PairsBefore, no_pair, after_pairs, Fields, loose_fields, tight_fields, Input, nothing, items, token, depth_of_input}
-use Rattle.cborn_edn.specs.Parse.{Parse}
-use Rattle.cborn_edn.specs.Meaning.{Says}
+use Rattle.cborn_edn.specs.shared.Syntax.{Span, Item, number, word, tag, simple, string, chunked, array, map as map_item, text, bytes, Pieces, piece, Strings, strings, StringsBefore, no_string, after_strings, Row, row, RowBefore, no_item, after_row, Content, loose, tight, Pairs, pairs, PairsBefore, no_pair, after_pairs, Fields, loose_fields, tight_fields, Input, nothing, items, token, depth_of_input}
+use Rattle.cborn_edn.specs.devices.Parse.{Parse}
+use Rattle.cborn_edn.specs.shared.Meaning.{Says}
 use Rattle.cborn_edn.specs.Shown.{mark_for, mark_for_size}
 
 abbrev pub nowhere : Span

@@ -8,3 +8,6 @@ pub mod Lean
 pub mod Shapes
 pub mod Begun
 pub mod Put
+pub mod Parse
+pub mod Notates
+pub mod Counted

@@ -1,3 +1,5 @@
 pub mod Between
 pub mod Commas
 pub mod Texts
+pub mod Syntax
+pub mod Meaning

@@ -4,7 +4,7 @@
 ghost use Rattle.std.specs.Prelude.{◌≡◌, ◌≤◌, suc, ◌^◌, ◌<◌, ◌++◌, Some, IfOk, OnOk};
 ghost use Rattle.cborn_model.specs.Heads.{code};
 ghost use Rattle.cborn_edn.specs.devices.Draft as pure;
-ghost use Rattle.cborn_edn.specs.Meaning.{and_then, when, same_kind, size_slips};
+ghost use Rattle.cborn_edn.specs.shared.Meaning.{and_then, when, same_kind, size_slips};
 
 use crate::EdnReason;
 use crate::discards::discard;

@@ -99,7 +99,7 @@ impl From<AllocError> for ShowFault {
 }
 
 impl EdnReason {
-    ghost use Rattle.cborn_edn.specs.Meaning.{number_of};
+    ghost use Rattle.cborn_edn.specs.shared.Meaning.{number_of};
 
     /// The number of the reason: 20 to 22 for the tokens, 30 to 36 for what they mean. At one place
     /// the lowest is told.

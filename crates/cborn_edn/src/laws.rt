@@ -13,15 +13,19 @@ ghost use Rattle.cborn_lex.specs.declared.classes.Profile.TheVariants.{One as Pr
 ghost use Rattle.cborn_lex.specs.declared.classes.Token.{Token};
 ghost use Rattle.cborn_lex.specs.declared.faults.LexReason.{LexReason};
 ghost use Rattle.cborn_lex.specs.Lex.{Lex, Stop};
+ghost use Rattle.cborn_edn.specs.declared.faults.EdnFault.{EdnFault};
 ghost use Rattle.cborn_edn.specs.declared.faults.EdnReason.{EdnReason};
-ghost use Rattle.cborn_edn.specs.Syntax.{Input, depth_of_input, tokens_of_input};
-ghost use Rattle.cborn_edn.specs.Parse.{Parse, HasTree, Jam};
-ghost use Rattle.cborn_edn.specs.Meaning.{Says, HasSlip, FirstSlip};
-ghost use Rattle.cborn_edn.specs.Counted.{CountedInput};
+ghost use Rattle.cborn_edn.specs.shared.Syntax.{Input, depth_of_input, tokens_of_input};
+ghost use Rattle.cborn_edn.specs.devices.Parse.{Parse, HasTree, Jam};
+ghost use Rattle.cborn_edn.specs.shared.Meaning.{Says, HasSlip, FirstSlip};
+ghost use Rattle.cborn_edn.specs.devices.Counted.{CountedInput};
 ghost use Rattle.cborn_edn.specs.ReadingBack.{bare, notated_input, ReadsBack, unplaced_all};
 ghost use Rattle.cborn_edn.specs.Shown.{AreShowable, Shown, shown_lines};
 ghost use Rattle.cborn_edn.specs.Starts.{spots_all, IsRising};
-ghost use Rattle.cborn_edn.specs.Notates.{Notates, Slips, Jams};
+ghost use Rattle.cborn_edn.specs.Grammar.{Notates};
+ghost use Rattle.cborn_edn.specs.Faults.{Slips, Jams, IsNoNotation};
+ghost use Rattle.cborn_edn.specs.Faults as relation;
+ghost use Rattle.cborn_edn.specs.devices.Notates as trees_say;
 
 /// Tokens have at most one tree, whatever the profiles.
 pub fn one_tree()
@@ -110,4 +114,16 @@ pub fn short_text()
 /// where its tag does.
 pub fn spots_rise()
     ensures { (profile : Profile) (limit : ℕ) (text : List ℕ) (nodes : Trees) → Notates profile limit text nodes → IsRising (spots_all nodes) }
+{}
+
+/// The trees of the grammar and what they mean are a device of the proofs: what they notate, where
+/// they jam, and of a text of fewer than 2^56 bytes also why it is refused, is what the relation of
+/// the grammar says.
+pub fn short_form()
+    ensures notates { (profile : Profile) (limit : ℕ) (text : List ℕ) (nodes : Trees) → trees_say.Notates profile limit text nodes → Notates profile limit text nodes }
+    ensures tree { (profile : Profile) (limit : ℕ) (tokens : List Token) → HasTree profile limit tokens ↔ relation.HasTree profile limit tokens }
+    ensures jam { (profile : Profile) (limit end : ℕ) (tokens : List Token) (p : ℕ) (r : EdnReason) → Jam profile limit end tokens p r ↔ relation.Jam profile limit end tokens p r }
+    ensures nodes { (profile : Profile) (limit : ℕ) (text : List ℕ) (nodes : Trees) → AreBytes text → length text < 2 ^ 56 → trees_say.Notates profile limit text nodes ↔ Notates profile limit text nodes }
+    ensures slip { (profile : Profile) (limit : ℕ) (text : List ℕ) (p : ℕ) (r : EdnReason) → AreBytes text → length text < 2 ^ 56 → trees_say.Slips profile limit text p r ↔ Slips profile limit text p r }
+    ensures refused { (profile : Profile) (limit : ℕ) (text : List ℕ) (why : EdnFault) → AreBytes text → length text < 2 ^ 56 → trees_say.IsNoNotation profile limit text why ↔ IsNoNotation profile limit text why }
 {}

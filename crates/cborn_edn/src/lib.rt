@@ -10,12 +10,14 @@
 //! The crate has four parts:
 //!
 //! - *Tokens* are those of `cborn_lex`; a text without tokens is refused as that crate tells.
-//! - *Grammar*: `specs/Syntax.antt` has the trees, and `specs/Parse.antt` says which tokens have
-//!   one, and where other tokens jam. The depth of brackets has a limit.
-//! - *Meaning*: `specs/Meaning.antt` says which nodes a tree says, and has the slips of a tree that
-//!   says none. Pieces that stand side by side are joined to one string, an indicator gives a
-//!   width, and what stands in `<< >>` becomes bytes. `specs/Notates.antt` puts tokens, grammar and
-//!   meaning together: which nodes a text notates, and why a text notates none.
+//! - *Grammar and meaning*: `specs/Grammar.antt` is the grammar as one relation, of tokens to the
+//!   nodes that they say and to their slips, within a bound on their depth; `specs/Says.antt` has
+//!   the nodes and the slips of a number and of a string. Pieces that stand side by side are joined
+//!   to one string, an indicator gives a width, and what stands in `<< >>` becomes bytes.
+//!   `specs/Faults.antt` says why a text notates nothing: where its tokens jam, or its first slip.
+//! - *Trees*: `Syntax.antt` and `Meaning.antt` in `specs/shared`, `Parse.antt` and `Notates.antt` in
+//!   `specs/devices` say the same by trees of the grammar, over which the reader is proved; the law
+//!   `short_form` of [`laws`] says that both are one.
 //! - *Showing*: `specs/Shown.antt` has the fixed notation, one text for each list of nodes, places
 //!   aside.
 //!

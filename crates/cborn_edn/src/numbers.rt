@@ -7,8 +7,8 @@ ghost use Rattle.cborn_model.specs.Heads.{least, WidthFits, SizeFits, Given, hea
 ghost use Rattle.cborn_model.specs.Spelled.{string};
 ghost use Rattle.cborn_model.specs.declared.heads.Major.TheVariants.{ByteString as ByteHead, Tag};
 ghost use Rattle.cborn_model.specs.declared.heads.Width.TheVariants.{Direct};
-ghost use Rattle.cborn_edn.specs.Syntax as syntax;
-ghost use Rattle.cborn_edn.specs.Meaning as pure;
+ghost use Rattle.cborn_edn.specs.shared.Syntax as syntax;
+ghost use Rattle.cborn_edn.specs.shared.Meaning as pure;
 ghost use Rattle.cborn_edn.specs.devices.Draft.{slip_at, simple_slip, first_slip, tag_head, number_bytes, simple_bytes};
 
 use crate::EdnReason;

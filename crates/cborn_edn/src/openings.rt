@@ -4,7 +4,7 @@ ghost use Rattle.std.specs.Prelude.{◌≡◌, ◌∷◌, Some, None, IfOk, OnOk
 ghost use Rattle.cborn_edn.specs.devices.Draft as pure;
 ghost use Rattle.cborn_edn.specs.declared.brackets.Bracket.TheVariants.{Array, Chunked, Embedded, Key, Tagged};
 ghost use Rattle.cborn_edn.specs.declared.states.Phase.TheVariants.{Wants, WantsChunk};
-ghost use Rattle.cborn_edn.specs.Meaning.{tag_slips};
+ghost use Rattle.cborn_edn.specs.shared.Meaning.{tag_slips};
 
 use crate::brackets::Bracket;
 use crate::contents::{Chunks, Row};

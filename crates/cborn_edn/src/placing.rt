@@ -8,7 +8,7 @@ ghost use Rattle.std.specs.Prelude.{◌≡◌, ℕ, IfOk};
 ghost use Rattle.cborn_model.specs.Spelled.{Wellformed, spelled_all};
 ghost use Rattle.cborn_model.specs.Tree.{Trees, trees, entries};
 ghost use Rattle.cborn_wire.specs.Faults.{IsWellformed};
-ghost use Rattle.cborn_edn.specs.Notates.{Notates};
+ghost use Rattle.cborn_edn.specs.devices.Notates.{Notates};
 ghost use Rattle.cborn_edn.specs.devices.Put as pure;
 
 use crate::starts::all_starts;

@@ -1,9 +1,11 @@
 //! Notation, read.
 
-ghost use Rattle.std.specs.Prelude.{◌≡◌, ℕ, List, Option, Some, None, IfOk, IfErr};
+ghost use Rattle.std.specs.Prelude.{◌≡◌, ℕ, List, length, Option, Some, None, IfOk, IfErr};
 ghost use Rattle.cborn_model.specs.Tree.{Trees, trees};
 ghost use Rattle.cborn_model.specs.Spelled.{spelled_all};
-ghost use Rattle.cborn_edn.specs.Notates.{Notates, IsNoNotation};
+ghost use Rattle.cborn_edn.specs.Grammar.{Notates};
+ghost use Rattle.cborn_edn.specs.Faults.{IsNoNotation};
+ghost use Rattle.cborn_edn.specs.devices.Notates as trees_say;
 ghost use Rattle.cborn_edn.specs.devices.Draft.{IsFirstSlip};
 ghost use Rattle.cborn_edn.specs.devices.Lean.{Parsed};
 ghost use Rattle.cborn_edn.specs.devices.Ready.{IsReady, IsTold, Steps};
@@ -47,7 +49,7 @@ pub fn read_notation(
 
 /// The bytes that the items of the text spell.
 fn spelled(alloc: Global, limit: Limit, profile: Profile, text: &str) -> Result<Vec<u8>, EdnFault>
-    ensures spelled { IfOk result (λ bytes. (nodes : Trees) × Notates profile limit text.now nodes × (bytes.items ≡ spelled_all nodes)) }
+    ensures spelled { IfOk result (λ bytes. (nodes : Trees) × trees_say.Notates profile limit text.now nodes × (bytes.items ≡ spelled_all nodes)) }
     ensures refused { IfErr result (IsNoNotation profile limit text.now) }
 {
     let state = parsed(alloc, limit, profile, text, Wanted::Bytes)?;
@@ -122,7 +124,7 @@ fn parsed(
 ) -> Result<State, EdnFault>
     ensures ready { IfOk result IsReady }
     ensures parsed { IfOk result (Parsed wanted profile limit text.now) }
-    ensures refused { IfErr result (IsNoNotation profile limit text.now) }
+    ensures refused { IfErr result (trees_say.IsNoTree profile limit text.now) }
 {
     let mut state = State::new(alloc)?;
     let mut at = 0;

@@ -6,11 +6,10 @@
 //! twenty times the text and more.
 
 ghost use Rattle.std.specs.Prelude.{◌≡◌, ◌≤◌, ◌⊎◌, List, length, IfOk, IfErr};
-ghost use Rattle.cborn_lex.specs.Lex.{Between, IsStopFrom};
+ghost use Rattle.cborn_lex.specs.Lex.{Lex, Between, IsStopFrom};
 ghost use Rattle.cborn_lex.specs.declared.classes.Token.{Token};
 ghost use Rattle.cborn_lex.specs.declared.faults.LexFault.{LexFault as LexStop};
-ghost use Rattle.cborn_edn.specs.Syntax.{Input};
-ghost use Rattle.cborn_edn.specs.Notates.{Parses, IsNoTree};
+ghost use Rattle.cborn_edn.specs.Faults.{HasTree, IsNoTree};
 ghost use Rattle.cborn_edn.specs.declared.faults.EdnFault.TheVariants.{Refused};
 ghost use Rattle.cborn_edn.specs.declared.faults.EdnReason.TheVariants.{UnexpectedEnd};
 ghost use Rattle.cborn_edn.specs.devices.Draft.{lexical};
@@ -31,7 +30,7 @@ use std::alloc::{AllocError, Global};
 /// with which no text of the grammar within the limit goes on, or the text's end where more must
 /// follow. `OutOfMemory` where memory was refused.
 pub fn recognise(alloc: Global, limit: Limit, profile: Profile, text: &str) -> Result<(), EdnFault>
-    ensures tree { IfOk result (λ _. (tree : Input) × Parses profile limit text.now tree) }
+    ensures tree { IfOk result (λ _. (tokens : List Token) × Lex profile text.now tokens × HasTree profile limit tokens) }
     ensures refused { IfErr result (IsNoTree profile limit text.now) }
 {
     let mut shape = Shape::new(alloc);

@@ -6,7 +6,7 @@
 
 ghost use Rattle.std.specs.Prelude.{◌≡◌, ℕ, suc, ◌+◌, ◌<◌, ◌^◌, ◌++◌, replicate, IfSome, Some, IfOk, OnOk, slice_get};
 ghost use Rattle.cborn_model.specs.Tree.{Trees};
-ghost use Rattle.cborn_edn.specs.Notates.{Notates};
+ghost use Rattle.cborn_edn.specs.Grammar.{Notates};
 ghost use Rattle.cborn_edn.specs.Starts.{starts_all};
 ghost use Rattle.cborn_edn.specs.devices.Begun as pure;
 

@@ -3,8 +3,8 @@
 ghost use Rattle.std.specs.Prelude.{◌≡◌, ◌≤◌, false, IfOk};
 ghost use Rattle.cborn_model.specs.Heads.{code};
 ghost use Rattle.cborn_edn.specs.devices.Draft as pure;
-ghost use Rattle.cborn_edn.specs.Meaning.{is_good};
-ghost use Rattle.cborn_edn.specs.Counted.{IsShort};
+ghost use Rattle.cborn_edn.specs.shared.Meaning.{is_good};
+ghost use Rattle.cborn_edn.specs.devices.Counted.{IsShort};
 
 use crate::EdnReason;
 use crate::numbers::width_for;

@@ -10,7 +10,7 @@ use Rattle.cborn_model.specs.Meaning.{Means}
 use Rattle.cborn_det.specs.Det.{DetSeq}
 use Rattle.cborn_lex.specs.declared.classes.Profile.{Profile}
 use Rattle.cborn_lex.specs.declared.classes.Profile.TheVariants as profile
-use Rattle.cborn_edn.specs.Notates.{Notates}
+use Rattle.cborn_edn.specs.Grammar.{Notates}
 use Rattle.cborn_edn.specs.Shown.{Shown}
 use Rattle.cborn_engine.specs.declared.kinds.Kind.{Kind}
 use Rattle.cborn_engine.specs.declared.kinds.Kind.TheVariants as kind

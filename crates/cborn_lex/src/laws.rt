@@ -1,9 +1,13 @@
 //! What holds of every text.
 
-ghost use Rattle.std.specs.Prelude.{◌≡◌, ℕ, ◌<◌, List, [], ◌++◌, ◌⊎◌, length, drop};
+ghost use Rattle.std.specs.Prelude.{◌≡◌, ◌↔◌, Some, None, ℕ, ◌<◌, List, [], ◌++◌, ◌⊎◌, length, drop};
 ghost use Rattle.hex.specs.Hex.{IsBytes};
 ghost use Rattle.cborn_lex.specs.declared.classes.Token.{Token};
 ghost use Rattle.cborn_lex.specs.declared.faults.LexFault.{LexFault};
+ghost use Rattle.cborn_lex.specs.Good.{Takes, HasTokens};
+ghost use Rattle.cborn_lex.specs.Forms.{Reads};
+ghost use Rattle.cborn_lex.specs.Tokens.{Blank, Read};
+ghost use Rattle.cborn_lex.specs.declared.classes.Class.{Class};
 ghost use Rattle.cborn_lex.specs.Lex.{Lex, Stop, HasNoPiece, SpansRise, Between, IsStopAt, IsStopFrom};
 
 use crate::classes::Profile;
@@ -40,4 +44,12 @@ pub fn token_by_token()
     ensures whole { (profile : Profile) (text : List ℕ) (ts : List Token) → Between profile text 0 (length text) ts → Lex profile text ts }
     ensures whole_stop { (profile : Profile) (text : List ℕ) (e : LexFault) → IsStopFrom profile text 0 e → IsStopAt profile text e }
     ensures stops { (profile : Profile) (text : List ℕ) (m n : ℕ) (ts : List Token) (e : LexFault) → Between profile text m n ts → IsStopFrom profile text n e → IsStopFrom profile text m e }
+{}
+
+/// What reads at the front of a text as white space or a comment, or as a token, is what is taken as
+/// that; and so are the tokens of a text.
+pub fn good_tokens()
+    ensures blank { (profile : Profile) (s z : List ℕ) → Reads profile s z Blank ↔ Takes profile s z None }
+    ensures token { (profile : Profile) (s z : List ℕ) (k : Class) → Reads profile s z (Read k) ↔ Takes profile s z (Some k) }
+    ensures texts { (profile : Profile) (text : List ℕ) (tokens : List Token) → Lex profile text tokens ↔ HasTokens profile text tokens }
 {}

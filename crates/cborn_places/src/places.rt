@@ -4,7 +4,7 @@ ghost use Rattle.std.specs.Prelude.{◌≡◌, ◌<◌, ◌^◌, ℕ, IfSome, Li
 ghost use Rattle.cborn_model.specs.Placed.{PlacedAll};
 ghost use Rattle.cborn_model.specs.Spelled.{Wellformed, spelled_all};
 ghost use Rattle.cborn_model.specs.Tree.{Tree, trees};
-ghost use Rattle.cborn_edn.specs.Notates.{Notates};
+ghost use Rattle.cborn_edn.specs.Grammar.{Notates};
 ghost use Rattle.cborn_judge.specs.declared.faults.Invalid.TheVariants.{Refused};
 ghost use Rattle.cborn_judge.specs.declared.faults.InvalidReason.{InvalidReason};
 ghost use Rattle.cborn_judge.specs.Flaws.{IsRefusalOfAll};

@@ -5,8 +5,8 @@ use Rattle.std.specs.Int.Digits.{digits_of}
 use Rattle.cborn_model.specs.Heads.{head_bytes, least}
 use Rattle.cborn_det.specs.Det.{major_of}
 use Rattle.cborn_lex.specs.declared.classes.Mark.{Mark}
-use Rattle.cborn_edn.specs.Syntax.{is_below, argument_of}
-use Rattle.cborn_edn.specs.Meaning.{is_absent}
+use Rattle.cborn_edn.specs.shared.Syntax.{is_below, argument_of}
+use Rattle.cborn_edn.specs.shared.Meaning.{is_absent}
 use Rattle.cborn_spell.specs.Descent.{SetsHead, AddsMarked, AddsNumber, AddsBignum, IsBignum}
 use Rattle.cborn_spell.proofs.Taking.{set_head_done}
 

@@ -22,8 +22,8 @@ use Rattle.cborn_lex.specs.Lex.{Between}
 use Rattle.cborn_lex.proofs.WholeTexts.Progress.{nothing, joins}
 use Rattle.cborn_edn.specs.declared.strings.StringKind.{StringKind}
 use Rattle.cborn_edn.specs.declared.strings.StringKind.TheVariants.{Bytes as OfBytes, Text as OfText}
-use Rattle.cborn_edn.specs.Syntax.{Piece, text as text_piece, bytes as bytes_piece, embedded, Pieces, piece, also, strings, StringsBefore, no_string, after_strings, string, chunked, tokens_of_piece, tokens_of_pieces, tokens_of_strings, tokens_of_strings_before, tokens_of_content}
-use Rattle.cborn_edn.specs.Meaning.{and_then, when, width_for, is_absent, is_bare, is_bare_before, same_kind, kind_of, mark_of, kind, kind_after, kind_of_strings, place, last_piece, fits_kind, is_of_kind, is_good, string_node, chunked_node, marked_string, means_string, means_chunk, joined, joined_piece, means_strings, means_strings_before}
+use Rattle.cborn_edn.specs.shared.Syntax.{Piece, text as text_piece, bytes as bytes_piece, embedded, Pieces, piece, also, strings, StringsBefore, no_string, after_strings, string, chunked, tokens_of_piece, tokens_of_pieces, tokens_of_strings, tokens_of_strings_before, tokens_of_content}
+use Rattle.cborn_edn.specs.shared.Meaning.{and_then, when, width_for, is_absent, is_bare, is_bare_before, same_kind, kind_of, mark_of, kind, kind_after, kind_of_strings, place, last_piece, fits_kind, is_of_kind, is_good, string_node, chunked_node, marked_string, means_string, means_chunk, joined, joined_piece, means_strings, means_strings_before}
 use Rattle.cborn_edn.proofs.RoundTrip.Back.{marked_back, same_kind-same}
 use Rattle.cborn_spell.specs.Descent.{AddsString, AddsEmpty, major_of, major_type, suits, kind_at, ClosesString, ClosesChunks, TokenAt, Ends, ItemTaken, RowTaken, PieceTaken, PiecesTaken, PiecesBefore, StringTaken, ChunksTaken, ChunksBefore, LettersTaken}
 use Rattle.cborn_spell.proofs.Allowing.{allows_none, allows_sum}

@@ -21,8 +21,8 @@ use Rattle.cborn_lex.specs.shared.Scan.{is_raw}
 use Rattle.cborn_lex.specs.Forms.{Reads, IsIndicator}
 use Rattle.cborn_lex.proofs.OneFront.Quotes.{content_cons}
 use Rattle.cborn_lex.proofs.WholeTexts.Progress.{nothing, then_token}
-use Rattle.cborn_edn.specs.Syntax.{Span, text as text_piece, bytes as bytes_piece, piece, string}
-use Rattle.cborn_edn.specs.Meaning.{means, and_then, when, width_for}
+use Rattle.cborn_edn.specs.shared.Syntax.{Span, text as text_piece, bytes as bytes_piece, piece, string}
+use Rattle.cborn_edn.specs.shared.Meaning.{means, and_then, when, width_for}
 use Rattle.cborn_spell.proofs.Allowing.{allows_none}
 use Rattle.cborn_spell.specs.Descent.{AddsString, TokenAt, ItemTaken, IsPlainText, is_plain}
 

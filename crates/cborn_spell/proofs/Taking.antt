@@ -10,7 +10,7 @@ use Rattle.cborn_model.specs.declared.heads.Width.{Width}
 use Rattle.cborn_model.specs.declared.heads.Size.{Size}
 use Rattle.cborn_model.specs.declared.heads.Size.TheVariants.{Fixed, Endless as Unending}
 use Rattle.cborn_model.specs.Heads.{code, argument, head, holds, head_bytes, least, IsLeastHead}
-use Rattle.cborn_model.specs.Tree.{Tree, Uint, Nint, Bytes as ByteNode, Items, Pairs as PairNode, Tagged, Simple, Trees, no_item as no_node, more, Entries, no_entry, entry, count, count_entries}
+use Rattle.cborn_model.specs.Tree.{trees, Tree, Uint, Nint, Bytes as ByteNode, Items, Pairs as PairNode, Tagged, Simple, Trees, no_item as no_node, more, Entries, no_entry, entry, count, count_entries}
 use Rattle.cborn_model.specs.Spelled.{ending, spelled, spelled_all, spelled_entries}
 use Rattle.cborn_lex.specs.declared.classes.Profile.{Profile}
 use Rattle.cborn_lex.specs.declared.classes.Profile.TheVariants.{Two}
@@ -24,10 +24,11 @@ use Rattle.cborn_lex.specs.Lex.{Between}
 use Rattle.cborn_lex.proofs.WholeTexts.Progress.{nothing, joins, whole_text}
 use Rattle.cborn_edn.proofs.Meaning.Agree.{count-snoc, count-snoc_entry}
 use Rattle.cborn_edn.proofs.Grammar.Trailing.{parse_of}
-use Rattle.cborn_edn.specs.Syntax.{Span, depth_of_number, tokens_of_content, depth_of_content, tokens_of_fields, depth_of_fields, tokens_of_pairs, number, word, tag, simple, array, map, tokens_of, row, no_item, after_row, Content, loose, tight, tokens_of_row, tokens_of_row_before, tokens_of_pairs_before, pairs, no_pair, after_pairs, Fields, loose_fields, tight_fields, nothing as nothing_there, items, is_small, is_below, argument_of}
+use Rattle.cborn_edn.specs.shared.Syntax.{Span, depth_of_number, tokens_of_content, depth_of_content, tokens_of_fields, depth_of_fields, tokens_of_pairs, number, word, tag, simple, array, map, tokens_of, row, no_item, after_row, Content, loose, tight, tokens_of_row, tokens_of_row_before, tokens_of_pairs_before, pairs, no_pair, after_pairs, Fields, loose_fields, tight_fields, nothing as nothing_there, items, is_small, is_below, argument_of}
 use Rattle.cborn_edn.specs.shared.Commas.{commas_of_content, commas_of_fields, AllowsCount}
 use Rattle.std.specs.Prelude.{nat_lt}
-use Rattle.cborn_edn.specs.Meaning.{integer, bignum, means_content, means_fields, and_then, when, means, snoc, snoc_entry, width_for, size_for}
+use Rattle.cborn_edn.proofs.Short.Jammed.{notated as relation}
+use Rattle.cborn_edn.specs.shared.Meaning.{integer, bignum, means_content, means_fields, and_then, when, means, snoc, snoc_entry, width_for, size_for}
 use Rattle.cborn_spell.specs.Descent.{SetsHead, AddsMarked, AddsNumber, AddsBignum, AddsSimple, Opens, Closes, SpellsNode, TokenAt, Ends, ItemTaken, RowTaken, BeforeTaken, PairsTaken, PairsBeforeTaken, IsSpelling}
 use Rattle.cborn_spell.proofs.Allowing.{allows_none, allows_sum, allows_any}
 
@@ -373,7 +374,7 @@ module _ (profile : Profile) (text : List ℕ) where
       let list = tree_list r.nodes in
       record {
         nodes = list;
-        notated = (
+        notated = relation profile limit text (trees list) (
           items r.row,
           record {
             tokens = tokens_of_row r.row ++ [];
@@ -389,7 +390,7 @@ module _ (profile : Profile) (text : List ℕ) where
   pub nothing_all : (start limit : ℕ) (new : List ℕ) → new ≡ [] → Between profile text 0 start [] → start ≡ length text → IsSpelling profile limit text new
   nothing_all start limit new nil g e = record {
     nodes = [];
-    notated = (
+    notated = relation profile limit text (trees []) (
       nothing_there,
       record {
         tokens = [];

@@ -27,12 +27,12 @@ use Rattle.cborn_lex.specs.declared.classes.Profile.TheVariants.{Two}
 use Rattle.cborn_lex.specs.declared.classes.Class.TheVariants.{Comma, Word}
 use Rattle.cborn_lex.specs.declared.classes.Class.{Class}
 use Rattle.cborn_lex.specs.Lex.{Between}
-use Rattle.cborn_edn.specs.Syntax.{Piece, tokens_of_piece, depth_of_piece, Pieces, tokens_of_pieces, depth_of_pieces, Strings, tokens_of_strings, depth_of_strings, StringsBefore, tokens_of_strings_before, depth_of_strings_before, is_small, is_below, argument_of, Item, tokens_of, depth, Row, RowBefore, tokens_of_row, tokens_of_row_before, depth_of_row, depth_of_row_before, Pairs, PairsBefore, tokens_of_pairs, tokens_of_pairs_before, depth_of_pairs, depth_of_pairs_before}
+use Rattle.cborn_edn.specs.shared.Syntax.{Piece, tokens_of_piece, depth_of_piece, Pieces, tokens_of_pieces, depth_of_pieces, Strings, tokens_of_strings, depth_of_strings, StringsBefore, tokens_of_strings_before, depth_of_strings_before, is_small, is_below, argument_of, Item, tokens_of, depth, Row, RowBefore, tokens_of_row, tokens_of_row_before, depth_of_row, depth_of_row_before, Pairs, PairsBefore, tokens_of_pairs, tokens_of_pairs_before, depth_of_pairs, depth_of_pairs_before}
 use Rattle.cborn_edn.specs.shared.Commas.{commas_of_piece, commas_of_pieces, commas_of_strings, commas_of_strings_before, commas, commas_of_row, commas_of_row_before, commas_of_pairs, commas_of_pairs_before, AllowsCount}
-use Rattle.cborn_edn.specs.Meaning.{width_for, is_simple, is_absent, same_kind, kind_of, mark_of, kind, last_piece, is_bare_before, is_of_kind, is_string, kind_of_strings, kind_after, joined_piece, joined, means, means_strings, means_strings_before, means_row, means_row_before, means_pairs, means_pairs_before}
+use Rattle.cborn_edn.specs.shared.Meaning.{width_for, is_simple, is_absent, same_kind, kind_of, mark_of, kind, last_piece, is_bare_before, is_of_kind, is_string, kind_of_strings, kind_after, joined_piece, joined, means, means_strings, means_strings_before, means_row, means_row_before, means_pairs, means_pairs_before}
 use Rattle.cborn_edn.specs.declared.strings.StringKind.{StringKind}
 use Rattle.cborn_edn.specs.declared.strings.StringKind.TheVariants.{Bytes as OfBytes, Text as OfText}
-use Rattle.cborn_edn.specs.Notates.{Notates}
+use Rattle.cborn_edn.specs.Grammar.{Notates}
 
 -- the head of this width stands in the place of the byte at start
 abbrev pub SetsHead : ℕ → Width → ℕ → ℕ → List ℕ → List ℕ → Type 0

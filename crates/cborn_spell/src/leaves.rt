@@ -3,7 +3,7 @@
 ghost use Rattle.std.specs.Prelude.{◌≡◌, ◌⊎◌, ◌++◌, ◌∷◌, ◌+◌, ◌*◌, [], true, OnSome, IsTrue, IsUtf8};
 ghost use Rattle.cborn_model.specs.declared.heads.Major.TheVariants.{TextString};
 ghost use Rattle.cborn_model.specs.Heads.{code};
-ghost use Rattle.cborn_edn.specs.Meaning.{is_absent};
+ghost use Rattle.cborn_edn.specs.shared.Meaning.{is_absent};
 ghost use Rattle.cborn_spell.specs.Descent.{AddsMarked, AddsString, AddsEmpty, AddsSimple, suits};
 
 use cborn_det::put_head;

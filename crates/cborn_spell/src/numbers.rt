@@ -2,7 +2,7 @@
 
 ghost use Rattle.std.specs.Prelude.{◌≡◌, ◌≤◌, ◌++◌, ◌⊎◌, OnSome, if◌then◌else◌};
 ghost use Rattle.std.specs.Int.Digits.{digits_of};
-ghost use Rattle.cborn_edn.specs.Syntax as syntax;
+ghost use Rattle.cborn_edn.specs.shared.Syntax as syntax;
 ghost use Rattle.cborn_spell.specs.Descent.{AddsNumber, AddsBignum, IsBignum};
 
 use crate::leaves::{is_bare, put_marked};

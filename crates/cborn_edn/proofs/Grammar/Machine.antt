@@ -4,7 +4,7 @@ use Rattle.cborn_lex.specs.declared.classes.Mark.{Mark}
 use Rattle.cborn_lex.specs.declared.classes.Class.{Class}
 use Rattle.cborn_lex.specs.declared.classes.Class.TheVariants.{ArrayOpen, MapOpen, EmbedClose, ArrayClose, MapClose, ParenClose, Comma, Colon, EmbedOpen, ChunkOpen, SimpleOpen, Number, TagOpen, Word, Text, Bytes}
 use Rattle.cborn_lex.specs.declared.classes.Token.{Token}
-use Rattle.cborn_edn.specs.Syntax.{Span, span, Item, number, word, tag, simple, string, chunked, array, map, Piece, text, bytes, embedded, Pieces, piece, also, strings, StringsBefore, no_string, after_strings, row, RowBefore, no_item, after_row, Content, loose, tight, pairs, PairsBefore, no_pair, after_pairs, loose_fields, tight_fields}
+use Rattle.cborn_edn.specs.shared.Syntax.{Span, span, Item, number, word, tag, simple, string, chunked, array, map, Piece, text, bytes, embedded, Pieces, piece, also, strings, StringsBefore, no_string, after_strings, row, RowBefore, no_item, after_row, Content, loose, tight, pairs, PairsBefore, no_pair, after_pairs, loose_fields, tight_fields}
 
 mutual
   -- what is open around a place where an item is wanted, the innermost outside

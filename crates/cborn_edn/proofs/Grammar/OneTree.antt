@@ -4,12 +4,12 @@ use Rattle.std.specs.Prelude.{max}
 use Rattle.cborn_lex.specs.declared.classes.Token.{Token}
 use Rattle.cborn_lex.specs.declared.classes.Profile.{Profile}
 use Rattle.cborn_lex.specs.declared.classes.Profile.TheVariants.{One as ProfileOne, Two as ProfileTwo}
-use Rattle.cborn_edn.specs.Syntax.{token, span, Item, number, word, simple, string, row, no_item, Input, nothing, items, tokens_of_input, depth, depth_of_input}
+use Rattle.cborn_edn.specs.shared.Syntax.{token, span, Item, number, word, simple, string, row, no_item, Input, nothing, items, tokens_of_input, depth, depth_of_input}
 use Rattle.cborn_edn.specs.shared.Commas.{commas, commas_of_input, AllowsCount}
 use Rattle.cborn_edn.proofs.Grammar.Machine.{Stack, in_row, at_top, as_item, State, wants, has, builds, start, step, run, run-append, run-none}
 use Rattle.cborn_edn.specs.declared.faults.EdnReason.{EdnReason}
 use Rattle.cborn_edn.specs.declared.faults.EdnReason.TheVariants.{UnexpectedToken, UnexpectedEnd, TooDeep}
-use Rattle.cborn_edn.specs.Parse.{Parse, HasTree, GoesOn, GoesOnAtAnyDepth, StopsAt, Jam}
+use Rattle.cborn_edn.specs.devices.Parse.{Parse, HasTree, GoesOn, GoesOnAtAnyDepth, StopsAt, Jam}
 use Rattle.cborn_edn.proofs.Grammar.Takes.{landed, then, whole, takes_input, finish, finish-whole}
 use Rattle.cborn_edn.specs.devices.Levels.{reach}
 use Rattle.cborn_edn.proofs.Grammar.Held.{held, open_levels, deep_stack, deep, commas_stack, commas_held, levels, comma_at, After, Grows}

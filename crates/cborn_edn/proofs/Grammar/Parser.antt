@@ -6,11 +6,11 @@ use Rattle.cborn_lex.specs.declared.classes.Token.{Token}
 use Rattle.cborn_lex.specs.declared.classes.Profile.{Profile}
 use Rattle.cborn_lex.specs.declared.classes.Profile.TheVariants.{One as ProfileOne, Two as ProfileTwo}
 use Rattle.cborn_edn.specs.shared.Commas.{AllowsCount}
-use Rattle.cborn_edn.specs.Syntax.{token, span, Input, depth_of_input}
+use Rattle.cborn_edn.specs.shared.Syntax.{token, span, Input, depth_of_input}
 use Rattle.cborn_edn.proofs.Grammar.Machine.{State, start, step}
 use Rattle.cborn_edn.specs.declared.faults.EdnReason.{EdnReason}
 use Rattle.cborn_edn.specs.declared.faults.EdnReason.TheVariants.{UnexpectedToken, UnexpectedEnd, TooDeep}
-use Rattle.cborn_edn.specs.Parse.{Parse, GoesOn, Jam}
+use Rattle.cborn_edn.specs.devices.Parse.{Parse, GoesOn, Jam}
 use Rattle.cborn_edn.proofs.Grammar.Takes.{finish}
 use Rattle.cborn_edn.specs.devices.Levels.{reach}
 use Rattle.cborn_edn.proofs.Grammar.Held.{held, open_levels, deep, commas_held, comma_at, After, Grows}

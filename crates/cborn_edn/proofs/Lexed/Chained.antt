@@ -10,7 +10,7 @@ use Rattle.cborn_lex.specs.Lex.{Lex}
 use Rattle.cborn_lex.specs.devices.Pieces.{Lexeme, gap, token as lexed, slice, front_of, spelled, AreRead, tokens}
 use Rattle.cborn_lex.proofs.WholeTexts.Parts.{parted_lex}
 use Rattle.cborn_lex.proofs.WholeTexts.Chains.{both_profiles}
-use Rattle.cborn_edn.specs.Syntax.{token}
+use Rattle.cborn_edn.specs.shared.Syntax.{token}
 use Rattle.cborn_edn.specs.ReadingBack.{nowhere, bare}
 
 -- the tokens among pieces, places aside

@@ -17,7 +17,7 @@ use Rattle.cborn_lex.specs.Tokens.{Read, begins, is_numeral}
 use Rattle.cborn_lex.specs.Numbers.{are_digits, number, within, has_prefix, integer, number_front, signed}
 use Rattle.cborn_lex.specs.Forms.{Start, digit, start_of, ReadsFrom, ReadsNumber}
 use Rattle.cborn_model.specs.declared.heads.Width.TheVariants.{Direct}
-use Rattle.cborn_edn.specs.Syntax.{token}
+use Rattle.cborn_edn.specs.shared.Syntax.{token}
 use Rattle.cborn_edn.specs.ReadingBack.{nowhere}
 use Rattle.cborn_edn.specs.Shown.{indicator}
 use Rattle.cborn_edn.proofs.Lexed.Tables.{passes, passes-at}

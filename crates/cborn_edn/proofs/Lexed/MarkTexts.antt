@@ -15,7 +15,7 @@ use Rattle.cborn_lex.specs.declared.classes.Class.TheVariants.{ArrayOpen, MapOpe
 use Rattle.cborn_lex.specs.Tokens.{Read, begins, is_word, is_numeral, mark_of, marked}
 use Rattle.cborn_lex.specs.Forms.{IsIndicator, Reads}
 use Rattle.cborn_lex.proofs.WholeTexts.Spelling.{IsMark}
-use Rattle.cborn_edn.specs.Syntax.{token}
+use Rattle.cborn_edn.specs.shared.Syntax.{token}
 use Rattle.cborn_edn.specs.ReadingBack.{nowhere}
 use Rattle.cborn_edn.specs.Shown.{mark_for, mark_for_size, indicator, opened}
 use Rattle.cborn_edn.proofs.Lexed.Chained.{Chained, one_token, one_gap, both}

@@ -14,7 +14,7 @@ use Rattle.cborn_lex.specs.Strings.{is_content, IsText, nothing}
 use Rattle.cborn_lex.specs.shared.Letters.{Letter, raw, escaped as behind_slash, unit, written, is_letter, meant}
 use Rattle.cborn_lex.proofs.Contents.Lettered as lettered
 use Rattle.cborn_lex.proofs.Contents.Ends.{content_then}
-use Rattle.cborn_edn.specs.Syntax.{token}
+use Rattle.cborn_edn.specs.shared.Syntax.{token}
 use Rattle.cborn_edn.specs.ReadingBack.{nowhere}
 use Rattle.cborn_edn.specs.Shown.{indicator, escaped}
 use Rattle.cborn_edn.proofs.Lexed.Tables.{passes, passes-at}

@@ -12,9 +12,9 @@ use Rattle.cborn_model.specs.Heads.{holds, least}
 use Rattle.cborn_model.specs.Spelled.{spelled_all}
 use Rattle.cborn_lex.specs.declared.classes.Mark.{Mark}
 use Rattle.cborn_lex.specs.declared.classes.Mark.TheVariants.{Absent, Endless, Wide}
-use Rattle.cborn_edn.specs.Syntax.{Item, number, word, tag, simple, string, chunked, array, map, Piece, text, bytes, embedded, Pieces, piece, also, Strings, strings, StringsBefore, no_string, after_strings, Row, row, RowBefore, no_item, after_row, Content, loose, tight, Pairs, pairs, PairsBefore, no_pair, after_pairs, Fields, loose_fields, tight_fields, Input, nothing, items, is_below, argument_of}
-use Rattle.cborn_edn.specs.Meaning.{and_then, when, width_for, size_for, is_absent, snoc, snoc_entry, integer, bignum, means_number, is_simple, same_kind, start_of, mark_of, mark_place, kind, place, last_piece, is_bare, is_bare_before, fits_kind, is_of_kind, is_empty_quote, is_good, is_string, string_node, chunked_node, marked_string, means_string, means_chunk, kind_of_strings, kind_after, means, joined_piece, joined, means_strings, means_strings_before, means_row, means_row_before, means_content, means_pairs, means_pairs_before, means_fields, means_input, Says, unless, width_slips, size_slips, number_slips, tag_slips, bare_slips, bare_slips_before, kind_slips, mark_slips, string_slips, row_length, row_length_before, content_length, pairs_length, pairs_length_before, fields_length, slips, piece_slips, inner_slips, strings_slips, strings_slips_before, row_slips, row_slips_before, content_slips, pairs_slips, pairs_slips_before, fields_slips, input_slips}
-use Rattle.cborn_edn.specs.Counted.{IsShort, Counted, CountedPiece, CountedPieces, CountedStrings, CountedStringsBefore, CountedRow, CountedRowBefore, CountedContent, CountedPairs, CountedPairsBefore, CountedFields, CountedInput}
+use Rattle.cborn_edn.specs.shared.Syntax.{Item, number, word, tag, simple, string, chunked, array, map, Piece, text, bytes, embedded, Pieces, piece, also, Strings, strings, StringsBefore, no_string, after_strings, Row, row, RowBefore, no_item, after_row, Content, loose, tight, Pairs, pairs, PairsBefore, no_pair, after_pairs, Fields, loose_fields, tight_fields, Input, nothing, items, is_below, argument_of}
+use Rattle.cborn_edn.specs.shared.Meaning.{and_then, when, width_for, size_for, is_absent, snoc, snoc_entry, integer, bignum, means_number, is_simple, same_kind, start_of, mark_of, mark_place, kind, place, last_piece, is_bare, is_bare_before, fits_kind, is_of_kind, is_empty_quote, is_good, is_string, string_node, chunked_node, marked_string, means_string, means_chunk, kind_of_strings, kind_after, means, joined_piece, joined, means_strings, means_strings_before, means_row, means_row_before, means_content, means_pairs, means_pairs_before, means_fields, means_input, Says, unless, width_slips, size_slips, number_slips, tag_slips, bare_slips, bare_slips_before, kind_slips, mark_slips, string_slips, row_length, row_length_before, content_length, pairs_length, pairs_length_before, fields_length, slips, piece_slips, inner_slips, strings_slips, strings_slips_before, row_slips, row_slips_before, content_slips, pairs_slips, pairs_slips_before, fields_slips, input_slips}
+use Rattle.cborn_edn.specs.devices.Counted.{IsShort, Counted, CountedPiece, CountedPieces, CountedStrings, CountedStringsBefore, CountedRow, CountedRowBefore, CountedContent, CountedPairs, CountedPairsBefore, CountedFields, CountedInput}
 use Rattle.cborn_edn.specs.declared.strings.StringKind.{StringKind}
 use Rattle.cborn_edn.specs.declared.faults.EdnReason.{EdnReason}
 use Rattle.cborn_edn.specs.declared.faults.EdnReason.TheVariants.{IndicatorTooNarrow, IndicatorNotAllowed, MixedString, MixedChunks, TextNotUtf8, BadSimple, TagTooLarge}
@@ -40,7 +40,7 @@ there-when : {A : Type 0} (b : Bool) (o : Option A) → is_there (when b o) ≡ 
 there-when true o = refl
 there-when false o = refl
 
-there-made : {A B : Type 0} (o : Option A) (f : A → B) → is_there (and_then o (λ x. Some (f x))) ≡ is_there o
+pub there-made : {A B : Type 0} (o : Option A) (f : A → B) → is_there (and_then o (λ x. Some (f x))) ≡ is_there o
 there-made None f = refl
 there-made (Some x) f = refl
 
@@ -261,7 +261,7 @@ mutual
   row_before_agrees no_item h = refl
   row_before_agrees (after_row r c) h = row_agrees r h
 
-  content_agrees : (c : Content) → CountedContent c → is_there (means_content c) ≡ is_nil (content_slips c)
+  pub content_agrees : (c : Content) → CountedContent c → is_there (means_content c) ≡ is_nil (content_slips c)
   content_agrees (loose b) h = row_before_agrees b h
   content_agrees (tight r) h = row_agrees r h
 

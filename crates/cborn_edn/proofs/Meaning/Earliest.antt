@@ -7,7 +7,7 @@ use Rattle.cborn_model.proofs.Firsts.{no_later_on, no_later_turned, first_alone,
 use Rattle.cborn_edn.specs.declared.faults.EdnReason.{EdnReason}
 use Rattle.cborn_edn.specs.declared.faults.EdnReason.TheVariants.{UnexpectedToken, UnexpectedEnd, TooDeep, IndicatorTooNarrow, IndicatorNotAllowed, MixedString, MixedChunks, TextNotUtf8, BadSimple, TagTooLarge}
 use Rattle.cborn_edn.specs.declared.slips.Slip.{Slip}
-use Rattle.cborn_edn.specs.Meaning.{number_of, unless, IsAmong}
+use Rattle.cborn_edn.specs.shared.Meaning.{number_of, unless, IsAmong}
 use Rattle.cborn_edn.specs.devices.Draft.{earlier, first_slip, slip_unless}
 
 -- the reason that has a number

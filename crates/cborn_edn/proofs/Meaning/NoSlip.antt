@@ -9,39 +9,39 @@ use Rattle.cborn_model.specs.Tree.{Tree, Items, Pairs as PairNode, Tagged, Simpl
 use Rattle.cborn_model.specs.Spelled.{spelled_all}
 use Rattle.cborn_lex.specs.declared.classes.Mark.{Mark}
 use Rattle.cborn_lex.specs.declared.classes.Mark.TheVariants.{Absent, Endless, Wide}
-use Rattle.cborn_edn.specs.Syntax.{Item, number, word, tag, simple, string, chunked, array, map, Piece, text, bytes, embedded, Pieces, piece, also, Strings, strings, StringsBefore, no_string, after_strings, Row, row, RowBefore, no_item, after_row, Content, loose, tight, Pairs, pairs, PairsBefore, no_pair, after_pairs, Fields, loose_fields, tight_fields, Input, nothing, items, argument_of}
+use Rattle.cborn_edn.specs.shared.Syntax.{Item, number, word, tag, simple, string, chunked, array, map, Piece, text, bytes, embedded, Pieces, piece, also, Strings, strings, StringsBefore, no_string, after_strings, Row, row, RowBefore, no_item, after_row, Content, loose, tight, Pairs, pairs, PairsBefore, no_pair, after_pairs, Fields, loose_fields, tight_fields, Input, nothing, items, argument_of}
 use Rattle.cborn_model.specs.Heads.{holds}
-use Rattle.cborn_edn.specs.Meaning.{and_then, when, width_for, size_for, is_absent, snoc, snoc_entry, integer, bignum, means_number, is_simple, same_kind, mark_of, mark_place, kind, place, last_piece, is_empty_quote, is_string, string_node, chunked_node, marked_string, means_string, means_chunk, kind_of_strings, kind_after, means, joined_piece, joined, means_strings, means_strings_before, means_row, means_row_before, means_content, means_pairs, means_pairs_before, means_fields, Says, unless, width_slips, size_slips, number_slips, tag_slips, mark_slips, string_slips, slips, piece_slips, inner_slips, strings_slips, strings_slips_before, row_slips, row_slips_before, content_slips, pairs_slips, pairs_slips_before, fields_slips, input_slips}
+use Rattle.cborn_edn.specs.shared.Meaning.{and_then, when, width_for, size_for, is_absent, snoc, snoc_entry, integer, bignum, means_number, is_simple, same_kind, mark_of, mark_place, kind, place, last_piece, is_empty_quote, is_string, string_node, chunked_node, marked_string, means_string, means_chunk, kind_of_strings, kind_after, means, joined_piece, joined, means_strings, means_strings_before, means_row, means_row_before, means_content, means_pairs, means_pairs_before, means_fields, Says, unless, width_slips, size_slips, number_slips, tag_slips, mark_slips, string_slips, slips, piece_slips, inner_slips, strings_slips, strings_slips_before, row_slips, row_slips_before, content_slips, pairs_slips, pairs_slips_before, fields_slips, input_slips}
 use Rattle.cborn_edn.specs.declared.faults.EdnReason.{EdnReason}
 use Rattle.cborn_edn.specs.declared.faults.EdnReason.TheVariants.{IndicatorTooNarrow, IndicatorNotAllowed, MixedChunks, BadSimple}
 use Rattle.cborn_edn.specs.declared.slips.Slip.{Slip}
 use Rattle.cborn_edn.proofs.Meaning.Agree.{is_there, is_nil, tag_agrees, string_parts, counts_content, counts_fields, made}
 use Rattle.cborn_edn.proofs.Meaning.Fit.{chosen}
 
-nothing_there : {A B : Type 0} (x : A) → None ≡ Some x → B
+pub nothing_there : {A B : Type 0} (x : A) → None ≡ Some x → B
 nothing_there x e = absurd (clash e)
   where
     clash : None ≡ Some x → ⊥
     clash e = cc
 
-empty : (l : List Slip) → is_nil l ≡ true → l ≡ []
+pub empty : (l : List Slip) → is_nil l ≡ true → l ≡ []
 empty [] e = refl
 empty (s ∷ l) e = absurd (let f : false ≡ true = e in cc)
 
-none_unless : (b : Bool) (p : ℕ) (r : EdnReason) → b ≡ true → unless b p r ≡ []
+pub none_unless : (b : Bool) (p : ℕ) (r : EdnReason) → b ≡ true → unless b p r ≡ []
 none_unless b p r e = rw e refl
 
-width_none : (p : ℕ) (m : Mark) (n : ℕ) (w : Width) → width_for m n ≡ Some w → width_slips p m n ≡ []
+pub width_none : (p : ℕ) (m : Mark) (n : ℕ) (w : Width) → width_for m n ≡ Some w → width_slips p m n ≡ []
 width_none p Absent n w e = refl
 width_none p Endless n w e = nothing_there w e
 width_none p (Wide v) n w e = none_unless (holds v n) p IndicatorTooNarrow (chosen (holds v n) (Some v) w e).test
 
-size_none : (p : ℕ) (m : Mark) (n : ℕ) (s : Size) → size_for m n ≡ Some s → size_slips p m n ≡ []
+pub size_none : (p : ℕ) (m : Mark) (n : ℕ) (s : Size) → size_for m n ≡ Some s → size_slips p m n ≡ []
 size_none p Absent n s e = refl
 size_none p Endless n s e = refl
 size_none p (Wide v) n s e = none_unless (holds v n) p IndicatorTooNarrow (chosen (holds v n) (Some (Fixed v)) s e).test
 
-number_none : (p : ℕ) (n : Bool) (v : ℕ) (m : Mark) (t : Tree) → means_number p n v m ≡ Some t → number_slips p n v m ≡ []
+pub number_none : (p : ℕ) (n : Bool) (v : ℕ) (m : Mark) (t : Tree) → means_number p n v m ≡ Some t → number_slips p n v m ≡ []
 number_none p n v m t e = go (ltb (argument_of n v) (2 ^ 64)) e
   where
     go : (b : Bool) → cond b (and_then (width_for m (argument_of n v)) (λ w. Some (integer p n v w))) (when (is_absent m) (bignum p n v)) ≡ Some t
@@ -49,7 +49,7 @@ number_none p n v m t e = go (ltb (argument_of n v) (2 ^ 64)) e
     go true e = let d = made (width_for m (argument_of n v)) (λ w. Some (integer p n v w)) t e in width_none p m (argument_of n v) d.first d.was
     go false e = none_unless (is_absent m) p IndicatorNotAllowed (chosen (is_absent m) (bignum p n v) t e).test
 
-tag_none : (p : ℕ) (m : Mark) (n : ℕ) (w : Width) → width_for m n ≡ Some w → tag_slips p m n ≡ []
+pub tag_none : (p : ℕ) (m : Mark) (n : ℕ) (w : Width) → width_for m n ≡ Some w → tag_slips p m n ≡ []
 tag_none p m n w e = empty (tag_slips p m n) (sym (tag_agrees p m n) ∙ ap is_there e)
 
 -- Strings.

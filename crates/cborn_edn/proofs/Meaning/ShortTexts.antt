@@ -12,10 +12,10 @@ use Rattle.cborn_lex.proofs.WholeTexts.Chains.{one_list, some_answer}
 use Rattle.cborn_lex.proofs.WholeTexts.Weights.{as_test}
 use Rattle.cborn_edn.specs.declared.faults.EdnReason.{EdnReason}
 use Rattle.cborn_edn.specs.declared.slips.Slip.{Slip}
-use Rattle.cborn_edn.specs.Syntax.{Input, depth_of_input}
-use Rattle.cborn_edn.specs.Parse.{Parse, HasTree, Jam}
-use Rattle.cborn_edn.specs.Meaning.{FirstSlip, input_slips}
-use Rattle.cborn_edn.specs.Notates.{Notates, Slips, Jams}
+use Rattle.cborn_edn.specs.shared.Syntax.{Input, depth_of_input}
+use Rattle.cborn_edn.specs.devices.Parse.{Parse, HasTree, Jam}
+use Rattle.cborn_edn.specs.shared.Meaning.{FirstSlip, input_slips}
+use Rattle.cborn_edn.specs.devices.Notates.{Notates, Slips, Jams}
 use Rattle.cborn_edn.proofs.Meaning.Agree.{says}
 use Rattle.cborn_edn.proofs.Meaning.AnyLength.{any_fits}
 use Rattle.cborn_edn.proofs.Meaning.Counting.{counted_text}

@@ -15,9 +15,9 @@ use Rattle.cborn_edn.specs.declared.strings.StringKind.TheVariants.{Bytes as OfB
 use Rattle.cborn_edn.specs.declared.strings.Pieces.{Pieces as Kept}
 use Rattle.cborn_edn.specs.declared.contents.Row.{Row as KeptRow}
 use Rattle.cborn_edn.specs.declared.contents.Chunks.{Chunks}
-use Rattle.cborn_edn.specs.Syntax.{Span, Item, number, word, tag, simple, string, chunked, array, map, Piece, text, bytes, embedded, Pieces, piece, also, Strings, strings, StringsBefore, no_string, after_strings, Row, row, RowBefore, no_item, after_row, Content, loose, tight, Pairs, pairs, PairsBefore, no_pair, after_pairs, Fields, loose_fields, tight_fields}
+use Rattle.cborn_edn.specs.shared.Syntax.{Span, Item, number, word, tag, simple, string, chunked, array, map, Piece, text, bytes, embedded, Pieces, piece, also, Strings, strings, StringsBefore, no_string, after_strings, Row, row, RowBefore, no_item, after_row, Content, loose, tight, Pairs, pairs, PairsBefore, no_pair, after_pairs, Fields, loose_fields, tight_fields}
 use Rattle.cborn_model.specs.Heads.{holds, head, argument}
-use Rattle.cborn_edn.specs.Meaning.{unless, width_slips, and_then, when, width_for, size_for, is_absent, is_simple, same_kind, is_good, string_node, chunked_node, kind_of, mark_of, mark_place, kind, place, last_piece, is_bare, is_bare_before, fits_kind, is_of_kind, is_empty_quote, marked_string, means_string, means_chunk, kind_of_strings, kind_after, means, joined_piece, joined, means_strings, means_strings_before, means_row, means_row_before, means_content, means_pairs, means_pairs_before, means_fields, row_length, row_length_before, content_length, pairs_length, pairs_length_before, fields_length}
+use Rattle.cborn_edn.specs.shared.Meaning.{unless, width_slips, and_then, when, width_for, size_for, is_absent, is_simple, same_kind, is_good, string_node, chunked_node, kind_of, mark_of, mark_place, kind, place, last_piece, is_bare, is_bare_before, fits_kind, is_of_kind, is_empty_quote, marked_string, means_string, means_chunk, kind_of_strings, kind_after, means, joined_piece, joined, means_strings, means_strings_before, means_row, means_row_before, means_content, means_pairs, means_pairs_before, means_fields, row_length, row_length_before, content_length, pairs_length, pairs_length_before, fields_length}
 use Rattle.cborn_edn.specs.devices.Draft.{earlier, first_slip, slip_unless, is_none, admits, joined_bytes, with_next, mark_slip, text_slip, string_slip, marked_bytes, definite_bytes, string_item, string_chunk, row_item, kind_or, chunked_bytes, chunked_item, tag_head, tag_item, simple_bytes}
 use Rattle.cborn_edn.proofs.Meaning.Agree.{counts_content, counts_fields}
 use Rattle.cborn_edn.proofs.Reader.Spellings.{item_spelled, all_spelled, entries_spelled, chunk_spelled, chunks_spelled, row_spelled, pairs_spelled, tag_spelled, items_spelled, map_spelled, number_spelled, definite_spelled, made_spelled, chunked_spelled, more_spelled}

@@ -8,8 +8,8 @@ use Rattle.cborn_model.specs.Heads.{least, Given, head}
 use Rattle.cborn_model.specs.declared.heads.Major.TheVariants.{ByteString, Tag}
 use Rattle.cborn_model.specs.Spelled.{string}
 use Rattle.cborn_lex.specs.declared.classes.Mark.{Mark}
-use Rattle.cborn_edn.specs.Syntax.{is_below, argument_of, is_small}
-use Rattle.cborn_edn.specs.Meaning.{is_absent}
+use Rattle.cborn_edn.specs.shared.Syntax.{is_below, argument_of, is_small}
+use Rattle.cborn_edn.specs.shared.Meaning.{is_absent}
 use Rattle.cborn_edn.specs.devices.Draft.{number_bytes}
 
 pub one_digit : (x y z : List ℕ) (n : ℕ) → 0 < n → y ≡ x ++ digits_of 256 (n / 256) → z ≡ y ++ n % 256 ∷ [] → z ≡ x ++ digits_of 256 n

@@ -6,8 +6,8 @@ use Rattle.cborn_edn.specs.declared.slips.Slip.{Slip}
 use Rattle.cborn_edn.specs.declared.faults.EdnReason.TheVariants.{IndicatorNotAllowed, MixedString, MixedChunks, TextNotUtf8, BadSimple}
 use Rattle.cborn_edn.specs.declared.strings.StringKind.{StringKind}
 use Rattle.cborn_edn.specs.declared.strings.Pieces.{Pieces as Kept}
-use Rattle.cborn_edn.specs.Syntax.{Item, number, word, tag, simple, string, chunked, array, map, Piece, text, bytes, embedded, Pieces, piece, also, Strings, strings, StringsBefore, no_string, after_strings, Row, row, RowBefore, no_item, after_row, Content, loose, tight, Pairs, pairs, PairsBefore, no_pair, after_pairs, Fields, loose_fields, tight_fields}
-use Rattle.cborn_edn.specs.Meaning.{is_absent, is_simple, is_good, same_kind, kind_of, start_of, mark_of, mark_place, kind, place, last_piece, fits_kind, is_empty_quote, kind_after, joined, unless, size_slips, tag_slips, bare_slips, bare_slips_before, kind_slips, mark_slips, text_slips, string_slips, content_length, fields_length, slips, piece_slips, inner_slips, strings_slips, strings_slips_before, row_slips, row_slips_before, content_slips, pairs_slips, pairs_slips_before, fields_slips}
+use Rattle.cborn_edn.specs.shared.Syntax.{Item, number, word, tag, simple, string, chunked, array, map, Piece, text, bytes, embedded, Pieces, piece, also, Strings, strings, StringsBefore, no_string, after_strings, Row, row, RowBefore, no_item, after_row, Content, loose, tight, Pairs, pairs, PairsBefore, no_pair, after_pairs, Fields, loose_fields, tight_fields}
+use Rattle.cborn_edn.specs.shared.Meaning.{is_absent, is_simple, is_good, same_kind, kind_of, start_of, mark_of, mark_place, kind, place, last_piece, fits_kind, is_empty_quote, kind_after, joined, unless, size_slips, tag_slips, bare_slips, bare_slips_before, kind_slips, mark_slips, text_slips, string_slips, content_length, fields_length, slips, piece_slips, inner_slips, strings_slips, strings_slips_before, row_slips, row_slips_before, content_slips, pairs_slips, pairs_slips_before, fields_slips}
 use Rattle.cborn_edn.specs.devices.Draft.{earlier, first_slip, slip_unless, slip_before, mark_slip, text_slip, string_slip, kind_or, chunk_slip}
 use Rattle.cborn_edn.proofs.Meaning.Earliest.{earlier-none, earlier-assoc, earlier-swap, first-append, first-unless}
 use Rattle.cborn_edn.proofs.Reader.Kept.{kept_piece, kept_pieces, kept_strings_before, kept_content, kept_fields, slip_in, slip_in_piece, slip_in_pieces, slip_in_strings, slip_in_strings_before, slip_in_row, slip_in_row_before, slip_in_content, slip_in_pairs, slip_in_pairs_before, slip_in_fields}
@@ -22,17 +22,17 @@ behind s t a b e = ap (λ o. earlier o b) e ∙ earlier-assoc s a b
 behind_list : (s t : Slips) (a b : List Slip) (u : Slips) → t ≡ earlier s (first_slip a) → u ≡ first_slip b → earlier t u ≡ earlier s (first_slip (a ++ b))
 behind_list s t a b u e f = behind s t (first_slip a) u e ∙ ap (λ o. earlier s (earlier (first_slip a) o)) f ∙ ap (earlier s) (sym (first-append a b))
 
-string_order : (s i b k m t : Slips) → earlier (earlier s (earlier i (earlier b k))) (earlier m t) ≡ earlier s (earlier i (earlier b (earlier m (earlier k t))))
+pub string_order : (s i b k m t : Slips) → earlier (earlier s (earlier i (earlier b k))) (earlier m t) ≡ earlier s (earlier i (earlier b (earlier m (earlier k t))))
 string_order s i b k m t =
     earlier-assoc s (earlier i (earlier b k)) (earlier m t)
     ∙ ap (earlier s) (earlier-assoc i (earlier b k) (earlier m t) ∙ ap (earlier i) (earlier-assoc b k (earlier m t) ∙ ap (earlier b) (earlier-swap k m t)))
 
-chunk_order : (i b k x m t : Slips) → earlier (earlier i (earlier b k)) (earlier x (earlier m t)) ≡ earlier i (earlier x (earlier b (earlier m (earlier k t))))
+pub chunk_order : (i b k x m t : Slips) → earlier (earlier i (earlier b k)) (earlier x (earlier m t)) ≡ earlier i (earlier x (earlier b (earlier m (earlier k t))))
 chunk_order i b k x m t =
     earlier-assoc i (earlier b k) (earlier x (earlier m t))
     ∙ ap (earlier i) (earlier-assoc b k (earlier x (earlier m t)) ∙ ap (earlier b) (earlier-swap k x (earlier m t)) ∙ earlier-swap b x (earlier k (earlier m t)) ∙ ap (earlier x) (ap (earlier b) (earlier-swap k m t)))
 
-pieces_order : (i b k p c l : Slips) → earlier (earlier (earlier i (earlier b k)) p) (earlier c l) ≡ earlier (earlier i p) (earlier (earlier b c) (earlier k l))
+pub pieces_order : (i b k p c l : Slips) → earlier (earlier (earlier i (earlier b k)) p) (earlier c l) ≡ earlier (earlier i p) (earlier (earlier b c) (earlier k l))
 pieces_order i b k p c l =
     earlier-assoc (earlier i (earlier b k)) p (earlier c l)
     ∙ earlier-assoc i (earlier b k) (earlier p (earlier c l))
@@ -53,21 +53,21 @@ text_same k p (Some x) = sym (first-unless (is_good k x) p TextNotUtf8)
 whole_same : (e : Bool) (d : Kept) (ps : Pieces) → Same d ps → string_slip e d ≡ earlier (first_slip (mark_slips e (mark_place (last_piece ps)) (mark_of (last_piece ps)) (joined ps))) (first_slip (text_slips (kind ps) (place ps) (joined ps)))
 whole_same e d ps s = rw (s.kind_is, s.place_is, s.bytes_is, s.mark_is, s.mark_place_is) (ap (λ o. earlier o (text_slip (kind ps) (place ps) (joined ps))) (mark_same e (mark_place (last_piece ps)) (mark_of (last_piece ps)) (joined ps)) ∙ ap (earlier (first_slip (mark_slips e (mark_place (last_piece ps)) (mark_of (last_piece ps)) (joined ps)))) (text_same (kind ps) (place ps) (joined ps)))
 
-string_list : (e : Bool) (ps : Pieces) (o : Option (List ℕ)) → first_slip (string_slips e ps o) ≡ earlier (first_slip (bare_slips_before ps)) (earlier (first_slip (mark_slips e (mark_place (last_piece ps)) (mark_of (last_piece ps)) o)) (earlier (first_slip (kind_slips (kind ps) ps)) (first_slip (text_slips (kind ps) (place ps) o))))
+pub string_list : (e : Bool) (ps : Pieces) (o : Option (List ℕ)) → first_slip (string_slips e ps o) ≡ earlier (first_slip (bare_slips_before ps)) (earlier (first_slip (mark_slips e (mark_place (last_piece ps)) (mark_of (last_piece ps)) o)) (earlier (first_slip (kind_slips (kind ps) ps)) (first_slip (text_slips (kind ps) (place ps) o))))
 string_list e ps o =
     let m = mark_slips e (mark_place (last_piece ps)) (mark_of (last_piece ps)) o in
     let k = kind_slips (kind ps) ps in
     let t = text_slips (kind ps) (place ps) o in
     first-append (bare_slips_before ps) (m ++ (k ++ t)) ∙ ap (earlier (first_slip (bare_slips_before ps))) (first-append m (k ++ t) ∙ ap (earlier (first_slip m)) (first-append k t))
 
-bare_first : (ps : Pieces) → first_slip (bare_slips ps) ≡ earlier (first_slip (bare_slips_before ps)) (slip_unless (is_absent (mark_of (last_piece ps))) (mark_place (last_piece ps)) IndicatorNotAllowed)
+pub bare_first : (ps : Pieces) → first_slip (bare_slips ps) ≡ earlier (first_slip (bare_slips_before ps)) (slip_unless (is_absent (mark_of (last_piece ps))) (mark_place (last_piece ps)) IndicatorNotAllowed)
 bare_first (piece p) = first-unless (is_absent (mark_of p)) (mark_place p) IndicatorNotAllowed
 bare_first (also ps p) = first-append (bare_slips ps) (unless (is_absent (mark_of p)) (mark_place p) IndicatorNotAllowed) ∙ ap (earlier (first_slip (bare_slips ps))) (first-unless (is_absent (mark_of p)) (mark_place p) IndicatorNotAllowed)
 
 before_same : (d e : Kept) (ps : Pieces) (p : Piece) → Same d ps → Same e (piece p) → slip_before d e ≡ earlier (slip_unless (is_absent (mark_of (last_piece ps))) (mark_place (last_piece ps)) IndicatorNotAllowed) (slip_unless (fits_kind (kind ps) p) (start_of p) MixedString)
 before_same d e ps p a b = rw (a.mark_is, a.mark_place_is, a.kind_is, b.kind_is, b.place_is) (ap (λ f. earlier (slip_unless (is_absent (mark_of (last_piece ps))) (mark_place (last_piece ps)) IndicatorNotAllowed) (slip_unless f (start_of p) MixedString)) (admits-fits (kind ps) p))
 
-one_kind : (p : Piece) → first_slip (kind_slips (kind_of p) (piece p)) ≡ None
+pub one_kind : (p : Piece) → first_slip (kind_slips (kind_of p) (piece p)) ≡ None
 one_kind (text at x m) = refl
 one_kind (bytes at q x m) = refl
 one_kind (embedded at c end m) = refl

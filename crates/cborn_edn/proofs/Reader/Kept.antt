@@ -9,8 +9,8 @@ use Rattle.cborn_edn.specs.declared.brackets.Bracket.{Bracket}
 use Rattle.cborn_edn.specs.declared.brackets.Bracket.TheVariants.{Top, Array, Embedded, Chunked, Key, Value, Tagged}
 use Rattle.cborn_edn.specs.declared.states.Phase.TheVariants.{Wants, Has, Builds, WantsChunk, WantsNumber, HasNumber}
 use Rattle.cborn_edn.specs.declared.states.State.{State as KeptState}
-use Rattle.cborn_edn.specs.Syntax.{Item, number, word, tag, simple, string, chunked, array, map, Piece, text, bytes, embedded, Pieces, piece, also, Strings, strings, StringsBefore, no_string, after_strings, Row, row, RowBefore, no_item, after_row, Content, loose, tight, Pairs, pairs, PairsBefore, no_pair, after_pairs, Fields, loose_fields, tight_fields}
-use Rattle.cborn_edn.specs.Meaning.{when, is_simple, is_absent, number_slips, tag_slips, size_slips}
+use Rattle.cborn_edn.specs.shared.Syntax.{Item, number, word, tag, simple, string, chunked, array, map, Piece, text, bytes, embedded, Pieces, piece, also, Strings, strings, StringsBefore, no_string, after_strings, Row, row, RowBefore, no_item, after_row, Content, loose, tight, Pairs, pairs, PairsBefore, no_pair, after_pairs, Fields, loose_fields, tight_fields}
+use Rattle.cborn_edn.specs.shared.Meaning.{when, is_simple, is_absent, number_slips, tag_slips, size_slips}
 use Rattle.cborn_edn.specs.devices.Draft.{earlier, first_slip, text_piece, byte_piece, embedded_piece, slip_before, with_next, string_slip, string_item, number_bytes, simple_bytes, no_row, row_with, pairs_with, row_item, no_chunks, chunks_with, chunk_slip, chunked_item, tag_head, tag_item, simple_slip, keep}
 use Rattle.cborn_edn.proofs.Grammar.Machine.{Stack, in_row, in_key, in_value, in_tag, Nest, at_top, in_array, in_embed, Home, as_item, as_chunk, State, wants, has, builds, wants_chunk, wants_number, has_number}
 

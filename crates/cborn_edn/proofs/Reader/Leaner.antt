@@ -11,7 +11,7 @@ use Rattle.cborn_edn.specs.declared.brackets.Bracket.TheVariants.{Top, Array, Em
 use Rattle.cborn_edn.specs.declared.states.Phase.{Phase}
 use Rattle.cborn_edn.specs.declared.states.Phase.TheVariants.{Wants, Has, Builds, WantsChunk, WantsNumber, HasNumber}
 use Rattle.cborn_edn.specs.declared.states.State.{State}
-use Rattle.cborn_edn.specs.Meaning.{when}
+use Rattle.cborn_edn.specs.shared.Meaning.{when}
 use Rattle.cborn_edn.specs.devices.Draft.{close, ended, begin, after_in, after, after_chunk, after_string, more, begin_chunk, begin_number, after_number, step_in, draft_step, is_behind_comma, finished, finished_in, earlier, string_slip, string_item}
 use Rattle.cborn_edn.specs.devices.Levels.{is_level, levels_in, comma_before, filled}
 use Rattle.cborn_edn.specs.devices.Ready.{HaveRoom, IsReady, IsHeld}

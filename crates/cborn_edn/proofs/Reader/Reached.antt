@@ -9,10 +9,12 @@ use Rattle.cborn_lex.specs.declared.classes.Token.{Token}
 use Rattle.cborn_lex.proofs.WholeTexts.Weights.{IsModest}
 use Rattle.cborn_edn.specs.declared.slips.Slip.{Slip}
 use Rattle.cborn_edn.specs.declared.states.State.{State as KeptState}
-use Rattle.cborn_edn.specs.Syntax.{Span, span, token, Item, string, Piece, embedded, Pieces, StringsBefore, row, RowBefore, no_item, Content, loose, tight, pairs, loose_fields, tight_fields, Input, tokens_of, tokens_of_pieces, tokens_of_row_before, tokens_of_pairs_before}
-use Rattle.cborn_edn.specs.Meaning.{means_input, input_slips, joined, content_length}
-use Rattle.cborn_edn.specs.Counted.{IsShort, Counted, CountedPieces, CountedStringsBefore, CountedRowBefore, CountedContent, CountedPairsBefore, CountedInput, CountedPiece}
-use Rattle.cborn_edn.specs.devices.Ready.{HaveRoom, IsReady, IsHeld, IsTold}
+use Rattle.cborn_edn.specs.shared.Syntax.{Span, span, token, Item, string, Piece, embedded, Pieces, StringsBefore, row, RowBefore, no_item, Content, loose, tight, pairs, loose_fields, tight_fields, Input, tokens_of, tokens_of_pieces, tokens_of_row_before, tokens_of_pairs_before, tokens_of_input}
+use Rattle.cborn_edn.specs.shared.Meaning.{means_input, input_slips, joined, content_length}
+use Rattle.cborn_edn.specs.devices.Counted.{IsShort, Counted, CountedPieces, CountedStringsBefore, CountedRowBefore, CountedContent, CountedPairsBefore, CountedInput, CountedPiece}
+use Rattle.cborn_edn.specs.devices.Ready.{HaveRoom, IsReady, IsHeld, IsTold, AreCounted}
+use Rattle.cborn_lex.specs.declared.classes.Profile.TheVariants.{Two}
+use Rattle.cborn_edn.proofs.Grammar.OneTree.{Ended, IfTree, ends_tree, one_tree}
 use Rattle.cborn_edn.specs.devices.Draft.{draft_step, finished, first_state, first_slip, earlier}
 use Rattle.cborn_edn.proofs.Grammar.Machine.{Stack, in_row, in_key, in_value, in_tag, Nest, at_top, in_array, in_embed, Home, as_item, as_chunk, State, wants, has, builds, wants_chunk, wants_number, has_number, start, with_piece, ends, ends_loose, begin, after, after_string, more_string, begin_chunk, begin_number, after_number, step_by, step}
 use Rattle.cborn_edn.proofs.Grammar.Takes.{finish}
@@ -245,15 +247,16 @@ module _ (ts : List Token) (d : KeptState) (r : Reached ts d) where
   ready few =
       subst IsReady r.same (have_room r.state (omega (arith, ap length r.took)))
 
-  pub told : (o : Option (List ℕ)) (s : Option Slip) → IsHeld d.phase → finished d ≡ Some (o, s) → IsTold (o, s)
-  told o s whole ends = go (finish r.state) (finishes r.state) (counted_end r.state r.counted (short_state whole))
+  pub told : (o : Option (List ℕ)) (s : Option Slip) → IsHeld d.phase → finished d ≡ Some (o, s) → IsTold (o, s) × AreCounted ts
+  told o s whole ends = go (finish r.state) (finishes r.state) (counted_end r.state r.counted (short_state whole)) (ends_tree r.state)
     where
       at : finished (kept_state r.state) ≡ Some (o, s)
       at = ap finished r.same ∙ ends
 
-      go : (i : Option Input) → Finishes r.state i → CountedEnd i → IsTold (o, s)
-      go None f h = absurd (let same : None ≡ Some (o, s) = sym f ∙ at in cc)
-      go (Some t) f h =
+      go : (i : Option Input) → Finishes r.state i → CountedEnd i → IfTree i (Ended r.state) → IsTold (o, s) × AreCounted ts
+      go None f h e = absurd (let same : None ≡ Some (o, s) = sym f ∙ at in cc)
+      go (Some t) f h e =
           let same : Some (all_spelled (means_input t), first_slip (input_slips t)) ≡ Some (o, s) = sym f ∙ at in
           let pair : (all_spelled (means_input t), first_slip (input_slips t)) ≡ (o, s) = cc in
-          end_told t o s h (ap (λ (p : Option (List ℕ) × Option Slip). p.0) pair) (ap (λ (p : Option (List ℕ) × Option Slip). p.1) pair)
+          let one : (u : Input) → tokens_of_input u ≡ ts → t ≡ u = λ u g. one_tree Two Two ts t u (record { is = e.is ∙ r.took; allowed = tt }) (record { is = g; allowed = tt }) in
+          (end_told t o s h (ap (λ (p : Option (List ℕ) × Option Slip). p.0) pair) (ap (λ (p : Option (List ℕ) × Option Slip). p.1) pair), λ u g. subst CountedInput (one u g) h)

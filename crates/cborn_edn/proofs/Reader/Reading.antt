@@ -1,5 +1,5 @@
 -- The reader of tokens is the parser.
-use Rattle.std.proofs.Common.{◌≡◌, refl, sym, ap, ◌∙◌, subst, ℕ, ◌≤◌, List, [], ◌∷◌, length, Bool, true, false, ◌&&◌, cond, leb, Option, Some, None, inl, inr}
+use Rattle.std.proofs.Common.{◌≡◌, refl, sym, ap, ◌∙◌, subst, ℕ, ◌≤◌, List, [], ◌∷◌, length, Bool, true, false, ◌&&◌, cond, leb, Option, Some, None, inr}
 use Rattle.cborn_model.specs.Tree.{Trees}
 use Rattle.cborn_model.specs.Spelled.{spelled_all}
 use Rattle.cborn_lex.specs.Lex.{Lex}
@@ -11,10 +11,13 @@ use Rattle.cborn_edn.specs.declared.faults.EdnReason.{EdnReason}
 use Rattle.cborn_edn.specs.declared.faults.EdnReason.TheVariants.{UnexpectedToken, UnexpectedEnd, TooDeep}
 use Rattle.cborn_edn.specs.declared.faults.EdnFault.{EdnFault}
 use Rattle.cborn_edn.specs.declared.faults.EdnFault.TheVariants.{Lex as LexPart, Refused, OutOfMemory}
-use Rattle.cborn_edn.specs.Syntax.{Input, depth_of_input}
-use Rattle.cborn_edn.specs.Parse.{Parse}
-use Rattle.cborn_edn.specs.Meaning.{means_input, input_slips}
-use Rattle.cborn_edn.specs.Notates.{Notates, IsNoNotation}
+use Rattle.cborn_edn.specs.shared.Syntax.{Input, depth_of_input}
+use Rattle.cborn_edn.specs.devices.Parse.{Parse}
+use Rattle.cborn_edn.specs.shared.Meaning.{means_input, input_slips}
+use Rattle.cborn_edn.specs.devices.Notates.{Notates, IsNoTree}
+use Rattle.cborn_edn.specs.Faults.{IsNoNotation}
+use Rattle.cborn_edn.specs.devices.Ready.{AreCounted}
+use Rattle.cborn_edn.proofs.Short.Same.{slip_of}
 use Rattle.cborn_edn.specs.devices.Draft.{IsFirstSlip, Run, Done, Stuck, draft_run, first_state, IsStuck, is_one, is_behind_comma, finished, first_slip}
 use Rattle.cborn_edn.proofs.Grammar.Machine.{State, start, step}
 use Rattle.cborn_edn.proofs.Grammar.Takes.{finish}
@@ -97,10 +100,10 @@ module _ (profile : Profile) (limit : ℕ) (text : List ℕ) (tokens : List Toke
   met : (a : Answer) → parse profile limit (length text) tokens start ≡ a → Meets profile limit (length text) tokens a
   met a e = subst (Meets profile limit (length text) tokens) e (parses profile limit (length text) tokens)
 
-  jam_at : (p : ℕ) (r : EdnReason) → parse profile limit (length text) tokens start ≡ JamsAt p r → IsNoNotation profile limit text (Refused p r)
-  jam_at p r e = inl (tokens, lex, met (JamsAt p r) e)
+  jam_at : (p : ℕ) (r : EdnReason) → parse profile limit (length text) tokens start ≡ JamsAt p r → IsNoTree profile limit text (Refused p r)
+  jam_at p r e = (tokens, lex, met (JamsAt p r) e)
 
-  pub jam_told : (e : EdnFault) → IsStuck (draft_run profile limit tokens first_state) e → IsNoNotation profile limit text e
+  pub jam_told : (e : EdnFault) → IsStuck (draft_run profile limit tokens first_state) e → IsNoTree profile limit text e
   jam_told (LexPart f) h = absurd h
   jam_told (Refused p r) h = jam_at p r (subst (λ x. Tied (length text) x (parse profile limit (length text) tokens start)) h (runs profile limit (length text) tokens start))
   jam_told OutOfMemory h = tt
@@ -111,13 +114,13 @@ module _ (profile : Profile) (limit : ℕ) (text : List ℕ) (tokens : List Toke
   ended : (st : KeptState) → IsParsed st → Tied (length text) (Done st) (parse profile limit (length text) tokens start)
   ended st h = subst (λ x. Tied (length text) x (parse profile limit (length text) tokens start)) h (runs profile limit (length text) tokens start)
 
-  pub no_end : (st : KeptState) → IsParsed st → finished st ≡ None → IsNoNotation profile limit text (Refused (length text) UnexpectedEnd)
+  pub no_end : (st : KeptState) → IsParsed st → finished st ≡ None → IsNoTree profile limit text (Refused (length text) UnexpectedEnd)
   no_end st h e = go (ended st h)
     where
-      go : Tied (length text) (Done st) (parse profile limit (length text) tokens start) → IsNoNotation profile limit text (Refused (length text) UnexpectedEnd)
+      go : Tied (length text) (Done st) (parse profile limit (length text) tokens start) → IsNoTree profile limit text (Refused (length text) UnexpectedEnd)
       go (u, same, on) = choose (finish u) refl (finishes u)
         where
-          choose : (o : Option Input) → finish u ≡ o → Finishes u o → IsNoNotation profile limit text (Refused (length text) UnexpectedEnd)
+          choose : (o : Option Input) → finish u ≡ o → Finishes u o → IsNoTree profile limit text (Refused (length text) UnexpectedEnd)
           choose None f k = jam_at (length text) UnexpectedEnd (on ∙ ap (at_end (length text)) f)
           choose (Some t) f k = absurd (clash (all_spelled (means_input t), first_slip (input_slips t)) (sym k ∙ ap finished same ∙ e))
 
@@ -147,12 +150,12 @@ module _ (profile : Profile) (limit : ℕ) (text : List ℕ) (tokens : List Toke
       let said = was_spelled (means_input w.tree) x w.says in
       (said.0, (w.tree, record { tokens = tokens; lex = lex; parse = w.parse; shallow = w.shallow }, said.1), said.2)
 
-  pub slip_told : (st : KeptState) (bytes : Option (List ℕ)) (slip : Slip) → IsParsed st → finished st ≡ Some (bytes, Some slip) → IsNoNotation profile limit text (Refused slip.place slip.reason)
-  slip_told st bytes slip g e =
+  pub slip_told : AreCounted tokens → (st : KeptState) (bytes : Option (List ℕ)) (slip : Slip) → IsParsed st → finished st ≡ Some (bytes, Some slip) → IsNoNotation profile limit text (Refused slip.place slip.reason)
+  slip_told counted st bytes slip g e =
       let w = whole st bytes (Some slip) g e in
-      inr (w.tree, record { tokens = tokens; lex = lex; parse = w.parse; shallow = w.shallow }, subst (Tells (input_slips w.tree)) w.slips (tells (input_slips w.tree)))
+      inr (slip_of profile limit text slip.place slip.reason w.tree (record { tokens = tokens; lex = lex; parse = w.parse; shallow = w.shallow }) (counted w.tree w.parse.is) (subst (Tells (input_slips w.tree)) w.slips (tells (input_slips w.tree))))
 
-  pub whole_told : (st : KeptState) (w : Option (List ℕ) × Option Slip) (e : EdnFault) → IsParsed st → finished st ≡ Some w → IsFirstSlip w e → IsNoNotation profile limit text e
-  whole_told st w (LexPart f) h g i = absurd i
-  whole_told st w (Refused p r) h g i = slip_told st w.0 (record { place = p; reason = r }) h (g ∙ ap (λ s. Some (w.0, s)) i)
-  whole_told st w OutOfMemory h g i = absurd i
+  pub whole_told : AreCounted tokens → (st : KeptState) (w : Option (List ℕ) × Option Slip) (e : EdnFault) → IsParsed st → finished st ≡ Some w → IsFirstSlip w e → IsNoNotation profile limit text e
+  whole_told counted st w (LexPart f) h g i = absurd i
+  whole_told counted st w (Refused p r) h g i = slip_told counted st w.0 (record { place = p; reason = r }) h (g ∙ ap (λ s. Some (w.0, s)) i)
+  whole_told counted st w OutOfMemory h g i = absurd i

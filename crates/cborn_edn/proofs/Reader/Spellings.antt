@@ -16,8 +16,8 @@ use Rattle.cborn_lex.specs.declared.classes.Mark.{Mark}
 use Rattle.cborn_lex.specs.declared.classes.Mark.TheVariants.{Absent}
 use Rattle.cborn_edn.specs.declared.strings.StringKind.{StringKind}
 use Rattle.cborn_edn.specs.declared.strings.StringKind.TheVariants.{Bytes as OfBytes, Text as OfText}
-use Rattle.cborn_edn.specs.Syntax.{is_below, argument_of, is_small}
-use Rattle.cborn_edn.specs.Meaning.{and_then, when, width_for, is_absent, snoc, snoc_entry, integer, bignum, means_number, same_kind, string_node, chunked_node}
+use Rattle.cborn_edn.specs.shared.Syntax.{is_below, argument_of, is_small}
+use Rattle.cborn_edn.specs.shared.Meaning.{and_then, when, width_for, is_absent, snoc, snoc_entry, integer, bignum, means_number, same_kind, string_node, chunked_node}
 use Rattle.cborn_edn.specs.devices.Draft.{major_of, definite_bytes, chunked_bytes, sign, number_bytes, bignum_bytes, tag_head, tag_item}
 
 abbrev pub item_spelled : Option Tree → Option (List ℕ)

@@ -5,7 +5,7 @@ use Rattle.cborn_lex.specs.declared.classes.Class.TheVariants.{ArrayClose, MapCl
 use Rattle.cborn_lex.specs.declared.classes.Token.{Token}
 use Rattle.cborn_edn.specs.declared.slips.Slip.{Slip}
 use Rattle.cborn_edn.specs.declared.strings.Pieces.{Pieces as Kept}
-use Rattle.cborn_edn.specs.Syntax.{Span, span, Item, string, Pieces}
+use Rattle.cborn_edn.specs.shared.Syntax.{Span, span, Item, string, Pieces}
 use Rattle.cborn_edn.specs.devices.Draft as draft
 use Rattle.cborn_edn.specs.devices.Draft.{earlier, string_slip, string_item, draft_step, step_in}
 use Rattle.cborn_edn.proofs.Grammar.Machine.{Stack, in_row, in_key, in_value, in_tag, at_top, in_array, in_embed, Home, as_item, as_chunk, State, wants, has, builds, wants_chunk, wants_number, has_number, ends_loose, begin, after, after_string, more_string, step, step_by}

@@ -5,8 +5,8 @@ use Rattle.cborn_lex.specs.declared.classes.Profile.{Profile}
 use Rattle.cborn_lex.specs.declared.classes.Profile.TheVariants.{One as ProfileOne, Two as ProfileTwo}
 use Rattle.cborn_lex.specs.declared.classes.Class.{Class}
 use Rattle.cborn_lex.specs.declared.classes.Class.TheVariants.{ArrayClose, MapClose, Comma, EmbedClose}
-use Rattle.cborn_edn.specs.Syntax.{string, row, no_item, after_row, pairs, no_pair, after_pairs, Input}
-use Rattle.cborn_edn.specs.Meaning.{means_input, input_slips}
+use Rattle.cborn_edn.specs.shared.Syntax.{string, row, no_item, after_row, pairs, no_pair, after_pairs, Input}
+use Rattle.cborn_edn.specs.shared.Meaning.{means_input, input_slips}
 use Rattle.cborn_edn.specs.devices.Levels.{reach, levels_in}
 use Rattle.cborn_edn.specs.devices.Draft.{is_one, is_behind_comma, finished, first_slip}
 use Rattle.cborn_edn.proofs.Grammar.Machine.{Stack, in_row, in_key, in_value, in_tag, at_top, in_array, in_embed, Home, as_item, as_chunk, State, wants, has, builds, wants_chunk, wants_number, has_number}

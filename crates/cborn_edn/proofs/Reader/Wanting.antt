@@ -15,9 +15,10 @@ use Rattle.cborn_edn.specs.declared.faults.EdnReason.{EdnReason}
 use Rattle.cborn_edn.specs.declared.faults.EdnReason.TheVariants.{UnexpectedToken, UnexpectedEnd, TooDeep}
 use Rattle.cborn_edn.specs.declared.faults.EdnFault.{EdnFault}
 use Rattle.cborn_edn.specs.declared.faults.EdnFault.TheVariants.{Lex as LexPart, Refused, OutOfMemory}
-use Rattle.cborn_edn.specs.Notates.{Notates, IsNoNotation}
+use Rattle.cborn_edn.specs.devices.Notates.{Notates, IsNoTree}
+use Rattle.cborn_edn.specs.Faults.{IsNoNotation}
 use Rattle.cborn_edn.specs.devices.Levels.{levels_in, reach}
-use Rattle.cborn_edn.specs.devices.Ready.{IsReady, IsHeld, IsTold, Steps}
+use Rattle.cborn_edn.specs.devices.Ready.{IsReady, IsHeld, IsTold, AreCounted, Steps}
 use Rattle.cborn_edn.specs.devices.Draft.{Run, Done, Stuck, draft_step, draft_run, is_one, is_behind_comma, finished, first_state, lexical, IsFirstSlip}
 use Rattle.cborn_edn.specs.devices.Lean.{lean, trim, lean_as, trim_as, Parsed}
 use Rattle.cborn_edn.proofs.Reader.Reading.{no_end, notated, slip_told}
@@ -139,15 +140,15 @@ module _ (wanted : Wanted) (profile : Profile) (limit : ℕ) (text : List ℕ) (
   -- the whole text
   pub ends : IsHeld d.phase → Between profile text at (length text) [] → Parsed wanted profile limit text d
   ends held last =
-      let end = whole.ends profile limit text at u.all u.underway last in
-      (end.0, u.all, end.1, end.2, here, whole.is_told profile limit text at u.all u.underway (is_held held))
+      let end = whole.ends profile limit text at u.all u.underway (is_held held) last in
+      (end.0, u.all, end.1, end.2, here, end.3)
 
-  pub stopped : (e : LexFault) → IsStopFrom profile text at e → IsNoNotation profile limit text (lexical e)
+  pub stopped : (e : LexFault) → IsStopFrom profile text at e → IsNoTree profile limit text (lexical e)
   stopped e h = whole.stopped profile limit text at u.all u.underway e h
 
   -- a token that is refused, unless a later part of the text isn't made of tokens
   pub jams : (t : Token) (e : State) (o : Option EdnReason) (r : EdnReason) (fault : EdnFault) → Between profile text at t.stop (t ∷ []) → Steps profile limit d t e o → o ≡ Some r
-      → ((more : List Token) × Between profile text t.stop (length text) more × (fault ≡ Refused t.start r)) ⊎ ((stop : LexFault) × IsStopFrom profile text t.stop stop × (fault ≡ lexical stop)) → IsNoNotation profile limit text fault
+      → ((more : List Token) × Between profile text t.stop (length text) more × (fault ≡ Refused t.start r)) ⊎ ((stop : LexFault) × IsStopFrom profile text t.stop stop × (fault ≡ lexical stop)) → IsNoTree profile limit text fault
   jams t e o r fault next steps some told =
       whole.jams profile limit text at u.all u.underway t e (Some r) r fault next (jam_as wanted profile limit t u.all e r (subst (λ f. Steps profile limit f t e (Some r)) here (subst (Steps profile limit d t e) some steps))) refl told
 
@@ -156,7 +157,7 @@ module _ (wanted : Wanted) (profile : Profile) (limit : ℕ) (text : List ℕ) (
 pub ran : (profile : Profile) (limit : ℕ) (text : List ℕ) (d : State) (p : Parsed Bytes profile limit text d) → draft_run profile limit p.0 first_state ≡ Done d
 ran profile limit text d p = p.3 ∙ ap Done (sym p.4)
 
-pub told_all : (profile : Profile) (limit : ℕ) (text : List ℕ) (d : State) (p : Parsed Bytes profile limit text d) (w : Option (List ℕ) × Option Slip) → finished d ≡ Some w → IsTold w
+pub told_all : (profile : Profile) (limit : ℕ) (text : List ℕ) (d : State) (p : Parsed Bytes profile limit text d) (w : Option (List ℕ) × Option Slip) → finished d ≡ Some w → IsTold w × AreCounted p.0
 told_all profile limit text d p w e = p.5 w.0 w.1 (ap finished (sym p.4) ∙ e)
 
 -- The end of a text of which slips alone are wanted.
@@ -178,7 +179,7 @@ module _ (profile : Profile) (limit : ℕ) (text : List ℕ) (d : State) (p : Pa
   slip_is : (bytes : Option (List ℕ)) (slip : Slip) → finished d ≡ Some (bytes, Some slip) → IsNoNotation profile limit text (Refused slip.place slip.reason)
   slip_is bytes slip e =
       let end = all_end bytes (Some slip) e in
-      slip_told profile limit text p.0 p.2 p.1 end.0 slip p.3 end.1
+      slip_told profile limit text p.0 p.2 (p.5 end.0 (Some slip) end.1).1 p.1 end.0 slip p.3 end.1
 
   pub slip_refused : (bytes : Option (List ℕ)) (slip : Option Slip) → finished d ≡ Some (bytes, slip) → (fault : EdnFault) → IsFirstSlip (bytes, slip) fault → IsNoNotation profile limit text fault
   slip_refused bytes slip e (LexPart f) h = absurd h
@@ -188,15 +189,15 @@ module _ (profile : Profile) (limit : ℕ) (text : List ℕ) (d : State) (p : Pa
   pub items_are : (bytes : Option (List ℕ)) → finished d ≡ Some (bytes, None) → (nodes : Trees) × Notates profile limit text nodes
   items_are bytes e =
       let end = all_end bytes None e in
-      go end.0 end.1 (p.5 end.0 None end.1)
+      go end.0 end.1 (p.5 end.0 None end.1).0
     where
       go : (o : Option (List ℕ)) → finished p.1 ≡ Some (o, None) → IsTold (o, None) → (nodes : Trees) × Notates profile limit text nodes
       go None f told = absurd told
       go (Some x) f told = let said = notated profile limit text p.0 p.2 p.1 x None p.3 f in (said.0, said.1)
 
-  pub nothing_ends : finished d ≡ None → IsNoNotation profile limit text (Refused (length text) UnexpectedEnd)
+  pub nothing_ends : finished d ≡ None → IsNoTree profile limit text (Refused (length text) UnexpectedEnd)
   nothing_ends e = go (finished p.1) refl
     where
-      go : (o : Option (Option (List ℕ) × Option Slip)) → finished p.1 ≡ o → IsNoNotation profile limit text (Refused (length text) UnexpectedEnd)
+      go : (o : Option (Option (List ℕ) × Option Slip)) → finished p.1 ≡ o → IsNoTree profile limit text (Refused (length text) UnexpectedEnd)
       go None f = no_end profile limit text p.0 p.2 p.1 p.3 f
       go (Some w) f = absurd (some_none w.1 (sym (ap slip_at_end f) ∙ sym same_end ∙ ap slip_at_end e))

@@ -8,12 +8,12 @@ use Rattle.cborn_lex.specs.declared.classes.Profile.TheVariants.{One as ProfileO
 use Rattle.cborn_lex.specs.declared.classes.Token.{Token}
 use Rattle.cborn_lex.specs.Lex.{Lex}
 use Rattle.cborn_lex.proofs.WholeTexts.Chains.{one_list, both_profiles as both_lexed}
-use Rattle.cborn_edn.specs.Syntax.{Input, tokens_of_input}
-use Rattle.cborn_edn.specs.Parse.{Parse}
-use Rattle.cborn_edn.specs.Meaning.{Says, means_input}
+use Rattle.cborn_edn.specs.shared.Syntax.{Input, tokens_of_input}
+use Rattle.cborn_edn.specs.devices.Parse.{Parse}
+use Rattle.cborn_edn.specs.shared.Meaning.{Says, means_input}
 use Rattle.cborn_edn.specs.ReadingBack.{bare, notated_input, unplaced_all}
 use Rattle.cborn_edn.specs.Shown.{Shown, shown_lines}
-use Rattle.cborn_edn.specs.Notates.{Notates}
+use Rattle.cborn_edn.specs.devices.Notates.{Notates}
 use Rattle.cborn_edn.proofs.Lexed.Chained.{HasBare, whole_text}
 use Rattle.cborn_edn.proofs.Lexed.NodeTexts.{lines_text}
 use Rattle.cborn_edn.proofs.Shown.Readable.{lines_show}

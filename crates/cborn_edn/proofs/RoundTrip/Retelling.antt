@@ -8,9 +8,9 @@ use Rattle.cborn_lex.specs.declared.classes.Mark.TheVariants.{Absent}
 use Rattle.cborn_lex.specs.declared.classes.Token.{Token}
 use Rattle.cborn_lex.specs.declared.classes.Profile.{Profile}
 use Rattle.cborn_lex.specs.declared.classes.Profile.TheVariants.{One as ProfileOne, Two as ProfileTwo}
-use Rattle.cborn_edn.specs.Syntax.{Item, word, simple, strings, StringsBefore, no_string, after_strings, row, RowBefore, no_item, after_row, pairs, PairsBefore, no_pair, after_pairs, tokens_of_input, depth_of_input}
+use Rattle.cborn_edn.specs.shared.Syntax.{Item, word, simple, strings, StringsBefore, no_string, after_strings, row, RowBefore, no_item, after_row, pairs, PairsBefore, no_pair, after_pairs, tokens_of_input, depth_of_input}
 use Rattle.cborn_edn.specs.shared.Commas.{commas, commas_of_strings, commas_of_strings_before, commas_of_row, commas_of_row_before, commas_of_content, commas_of_pairs, commas_of_pairs_before, commas_of_fields, commas_of_input, AllowsCount}
-use Rattle.cborn_edn.specs.Meaning.{means_input}
+use Rattle.cborn_edn.specs.shared.Meaning.{means_input}
 use Rattle.cborn_edn.specs.declared.strings.StringKind.{StringKind}
 use Rattle.cborn_edn.specs.declared.strings.StringKind.TheVariants.{Bytes as OfBytes, Text as OfText}
 use Rattle.cborn_edn.specs.ReadingBack.{bare, ReadsBack, nowhere, chunk_pieces, chunk_row, chunk_item, simple_item, notated, notated_content, notated_row, notated_fields, notated_pairs, notated_input, unplaced_all}

@@ -12,8 +12,8 @@ use Rattle.cborn_edn.specs.declared.faults.EdnReason.{EdnReason}
 use Rattle.cborn_edn.specs.declared.faults.EdnReason.TheVariants.{UnexpectedToken, UnexpectedEnd, TooDeep}
 use Rattle.cborn_edn.specs.declared.faults.EdnFault.{EdnFault}
 use Rattle.cborn_edn.specs.declared.faults.EdnFault.TheVariants.{Lex as LexPart, Refused, OutOfMemory}
-use Rattle.cborn_edn.specs.Syntax.{Input}
-use Rattle.cborn_edn.specs.Notates.{Parses, IsNoTree, IsNoNotation}
+use Rattle.cborn_edn.specs.shared.Syntax.{Input}
+use Rattle.cborn_edn.specs.devices.Notates.{Parses, IsNoTree, IsNoNotation}
 use Rattle.cborn_edn.specs.devices.Draft.{lexical}
 use Rattle.cborn_edn.specs.devices.Levels.{reach}
 use Rattle.cborn_edn.specs.devices.Shapes.{shape_step, first_shape, is_whole, Takes}

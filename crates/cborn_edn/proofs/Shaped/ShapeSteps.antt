@@ -12,7 +12,7 @@ use Rattle.cborn_edn.specs.declared.shapes.Stand.TheVariants.{Wants, WantsMore, 
 use Rattle.cborn_edn.specs.declared.shapes.Shape.{Shape}
 use Rattle.cborn_edn.specs.devices.Shapes.{shape_step, is_whole}
 use Rattle.cborn_lex.specs.declared.classes.Mark.{Mark}
-use Rattle.cborn_edn.specs.Syntax.{Span, span, Item, string, StringsBefore, Pieces, Input, no_item, after_row, no_pair, after_pairs}
+use Rattle.cborn_edn.specs.shared.Syntax.{Span, span, Item, string, StringsBefore, Pieces, Input, no_item, after_row, no_pair, after_pairs}
 use Rattle.cborn_edn.proofs.Grammar.Machine.{Stack, in_row, in_key, in_value, in_tag, at_top, in_array, in_embed, Home, as_item, as_chunk, State, wants, has, builds, wants_chunk, wants_number, has_number, step, step_by, begin, after, more_string, begin_chunk, begin_number, after_number}
 use Rattle.cborn_edn.proofs.Grammar.Takes.{finish}
 use Rattle.cborn_edn.proofs.Grammar.Held.{levels, levels_home, open_levels, comma_at, comma_in}

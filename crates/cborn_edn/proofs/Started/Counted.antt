@@ -7,7 +7,7 @@ use Rattle.cborn_lex.specs.Lex.{Between}
 use Rattle.cborn_edn.specs.declared.shapes.Shape.{Shape}
 use Rattle.cborn_edn.specs.devices.Shapes.{shape_step, first_shape}
 use Rattle.cborn_edn.specs.devices.Begun.{embedded_after, begun}
-use Rattle.cborn_edn.specs.Notates.{Notates}
+use Rattle.cborn_edn.specs.Grammar.{Notates}
 use Rattle.cborn_edn.specs.Starts.{starts_all}
 use Rattle.cborn_edn.proofs.Started.Walks.{copies}
 use Rattle.cborn_edn.proofs.Started.Taken.{Taken, none_taken, one_taken, starts_around, same_step, length-copies}

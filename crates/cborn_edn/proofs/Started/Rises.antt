@@ -5,9 +5,11 @@ use Rattle.cborn_model.specs.Tree.{Trees}
 use Rattle.cborn_lex.specs.declared.classes.Profile.{Profile}
 use Rattle.cborn_lex.specs.declared.classes.Token.{Token}
 use Rattle.cborn_lex.specs.Lex.{SpansRise}
+use Rattle.cborn_lex.proofs.GoodTexts.{lexed}
 use Rattle.cborn_lex.proofs.WholeTexts.Chains.{spans_rise}
-use Rattle.cborn_edn.specs.Notates.{Notates}
+use Rattle.cborn_edn.specs.Grammar.{Notates}
 use Rattle.cborn_edn.specs.Starts.{IsRising, spots_all}
+use Rattle.cborn_edn.proofs.Short.Jammed.{parsed}
 use Rattle.cborn_edn.proofs.Started.Meant.{Among, input_among}
 
 abbrev AreFrom : ℕ → List ℕ → Type 0
@@ -39,6 +41,7 @@ rise n end xs (t ∷ ts) s (inr (ys, e, h)) =
 
 -- LAW: spots rise
 pub spots_rise : (profile : Profile) (limit : ℕ) (text : List ℕ) (nodes : Trees) → Notates profile limit text nodes → IsRising (spots_all nodes)
-spots_rise profile limit text nodes (tree, parses, says) =
-    let among = subst (Among (spots_all nodes)) parses.parse.is (input_among tree nodes says) in
-    (rise 0 (length text) (spots_all nodes) parses.tokens (spans_rise profile text parses.tokens parses.lex) among).1
+spots_rise profile limit text nodes (tokens, taken, h) =
+    let r = parsed profile limit tokens nodes [] h in
+    let among = subst (Among (spots_all nodes)) r.parse.is (input_among r.tree nodes r.says) in
+    (rise 0 (length text) (spots_all nodes) tokens (spans_rise profile text tokens (lexed profile text tokens taken)) among).1

@@ -19,11 +19,13 @@ use Rattle.cborn_edn.specs.declared.shapes.Stand.TheVariants.{Wants, WantsMore, 
 use Rattle.cborn_edn.specs.declared.shapes.Shape.{Shape}
 use Rattle.cborn_edn.specs.devices.Shapes.{innermost, array_end, key_end, value_end, embed_end, comma, colon, content_end, changed_by, shape_step, first_shape}
 use Rattle.cborn_edn.specs.devices.Begun.{embeddings, embedded_after, begun}
-use Rattle.cborn_edn.specs.Notates.{Notates}
+use Rattle.cborn_lex.proofs.GoodTexts.{lexed}
+use Rattle.cborn_edn.specs.Grammar.{Notates}
 use Rattle.cborn_edn.specs.Starts.{starts_all}
 use Rattle.cborn_edn.proofs.Shaped.ShapeSteps.{at}
 use Rattle.cborn_edn.proofs.Started.Walks.{copies, outside, emitted, told, walk, walk_input}
 use Rattle.cborn_edn.proofs.Started.Fronts.{goes_on}
+use Rattle.cborn_edn.proofs.Short.Jammed.{parsed}
 use Rattle.cborn_edn.proofs.Started.Meant.{input_meant}
 
 -- A token begins so many starts, all at its place.
@@ -203,14 +205,15 @@ told_none (t ∷ ts) = refl
 module _ (profile : Profile) (text : List ℕ) (place embedded : ℕ) (front : List ℕ) (d : Shape) (u : Taken profile text place embedded front d) where
   -- a text that notates nodes has its tokens
   pub no_stop : (p : ℕ) (r : LexReason) → IsStopFrom profile text place (Refused p r) → (limit : ℕ) (nodes : Trees) → Notates profile limit text nodes → front ≡ starts_all nodes
-  no_stop p r h limit nodes (tree, parses, says) = absurd (not_both profile text parses.tokens p r parses.lex (whole_stop profile text (Refused p r) (stops profile text 0 place u.tokens (Refused p r) u.between h)))
+  no_stop p r h limit nodes (tokens, taken, notates) = absurd (not_both profile text tokens p r (lexed profile text tokens taken) (whole_stop profile text (Refused p r) (stops profile text 0 place u.tokens (Refused p r) u.between h)))
 
   -- no token is left
   pub all_taken : Between profile text place (length text) [] → (limit : ℕ) (nodes : Trees) → Notates profile limit text nodes → front ≡ starts_all nodes
-  all_taken last limit nodes (tree, parses, says) =
+  all_taken last limit nodes (tokens, taken, notates) =
+      let a = parsed profile limit tokens nodes [] notates in
       let lex = whole_text profile text (u.tokens ++ []) (joins profile text 0 place (length text) u.tokens [] u.between last) in
-      let same = one_list profile text parses.tokens (u.tokens ++ []) parses.lex lex in
-      sym (input_meant tree nodes says ∙ sym (walk_input tree) ∙ ap (λ ts. walk ts [] Wants) (parses.parse.is ∙ same) ∙ u.runs [] ∙ append-nil front)
+      let same = one_list profile text tokens (u.tokens ++ []) (lexed profile text tokens taken) lex in
+      sym (input_meant a.tree nodes a.says ∙ sym (walk_input a.tree) ∙ ap (λ ts. walk ts [] Wants) (a.parse.is ∙ same) ∙ u.runs [] ∙ append-nil front)
 
   module _ (t : Token) (next : Between profile text place t.stop (t ∷ [])) where
     abbrev new : List ℕ
@@ -234,11 +237,12 @@ module _ (profile : Profile) (text : List ℕ) (place embedded : ℕ) (front : L
 
     -- what starts before the token, at it and behind it
     pub starts_around : (limit : ℕ) (nodes : Trees) → Notates profile limit text nodes → (more : List Token) × (starts_all nodes ≡ front ++ (copies (begun embedded d.stand t.class) t.start ++ told more (shape_step ProfileTwo d t.class)))
-    starts_around limit nodes (tree, parses, says) =
-        let all = goes_on profile text t.stop (u.tokens ++ (t ∷ [])) parses.tokens (joins profile text 0 place t.stop u.tokens (t ∷ []) u.between next) parses.lex in
+    starts_around limit nodes (tokens, taken, notates) =
+        let a = parsed profile limit tokens nodes [] notates in
+        let all = goes_on profile text t.stop (u.tokens ++ (t ∷ [])) tokens (joins profile text 0 place t.stop u.tokens (t ∷ []) u.between next) (lexed profile text tokens taken) in
         let rest = told all.0 (shape_step ProfileTwo d t.class) in (
           all.0,
-          input_meant tree nodes says ∙ sym (walk_input tree) ∙ ap (λ ts. walk ts [] Wants) (parses.parse.is ∙ all.1 ∙ append_assoc u.tokens (t ∷ []) all.0)
+          input_meant a.tree nodes a.says ∙ sym (walk_input a.tree) ∙ ap (λ ts. walk ts [] Wants) (a.parse.is ∙ all.1 ∙ append_assoc u.tokens (t ∷ []) all.0)
               ∙ u.runs (t ∷ all.0) ∙ ap (λ w. front ++ (w ++ rest)) begun_new,
         )
 

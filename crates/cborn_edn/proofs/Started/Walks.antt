@@ -13,8 +13,8 @@ use Rattle.cborn_edn.specs.declared.shapes.Change.TheVariants.{Stay}
 use Rattle.cborn_edn.specs.declared.shapes.Shape.{Shape}
 use Rattle.cborn_edn.specs.devices.Shapes.{innermost, comma, changed_by, shape_step}
 use Rattle.cborn_edn.specs.devices.Begun.{embeddings, heads_of_number}
-use Rattle.cborn_edn.specs.Syntax.{Span, token, Item, number, word, tag, simple, string, chunked, array, map, Piece, text, bytes, embedded, Pieces, piece, also, Strings, strings, StringsBefore, no_string, after_strings, Row, row, RowBefore, no_item, after_row, Content, loose, tight, Pairs, pairs, PairsBefore, no_pair, after_pairs, Fields, loose_fields, tight_fields, Input, nothing, items, tokens_of, tokens_of_piece, tokens_of_pieces, tokens_of_strings, tokens_of_strings_before, tokens_of_row, tokens_of_row_before, tokens_of_content, tokens_of_pairs, tokens_of_pairs_before, tokens_of_fields, tokens_of_input}
-use Rattle.cborn_edn.specs.Meaning.{start_of, place}
+use Rattle.cborn_edn.specs.shared.Syntax.{Span, token, Item, number, word, tag, simple, string, chunked, array, map, Piece, text, bytes, embedded, Pieces, piece, also, Strings, strings, StringsBefore, no_string, after_strings, Row, row, RowBefore, no_item, after_row, Content, loose, tight, Pairs, pairs, PairsBefore, no_pair, after_pairs, Fields, loose_fields, tight_fields, Input, nothing, items, tokens_of, tokens_of_piece, tokens_of_pieces, tokens_of_strings, tokens_of_strings_before, tokens_of_row, tokens_of_row_before, tokens_of_content, tokens_of_pairs, tokens_of_pairs_before, tokens_of_fields, tokens_of_input}
+use Rattle.cborn_edn.specs.shared.Meaning.{start_of, place}
 use Rattle.cborn_edn.proofs.Grammar.Takes.{Ender, array_end, map_end, paren_end, colon, embed_end, class_of}
 use Rattle.cborn_edn.proofs.Grammar.Takes as takes
 use Rattle.cborn_edn.proofs.Shaped.ShapeSteps.{at}

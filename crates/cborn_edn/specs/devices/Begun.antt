@@ -6,7 +6,7 @@ use Rattle.cborn_edn.specs.declared.shapes.Level.{Level}
 use Rattle.cborn_edn.specs.declared.shapes.Level.TheVariants.{Embedded, EmbeddedInChunk}
 use Rattle.cborn_edn.specs.declared.shapes.Stand.{Stand}
 use Rattle.cborn_edn.specs.declared.shapes.Stand.TheVariants.{Wants, WantsMore, WantsChunk}
-use Rattle.cborn_edn.specs.Syntax.{is_small}
+use Rattle.cborn_edn.specs.shared.Syntax.{is_small}
 
 -- how many of the open brackets are `<<`
 abbrev pub embeddings : List Level → ℕ

@@ -32,8 +32,8 @@ use Rattle.cborn_edn.specs.declared.states.Phase.{Phase}
 use Rattle.cborn_edn.specs.declared.states.Phase.TheVariants.{Wants, Has, Builds, WantsChunk, WantsNumber, HasNumber}
 use Rattle.cborn_edn.specs.declared.states.State.{State}
 use Rattle.cborn_edn.specs.devices.Levels.{levels_in, reach, filled}
-use Rattle.cborn_edn.specs.Syntax.{is_below, argument_of, is_small}
-use Rattle.cborn_edn.specs.Meaning.{number_of, and_then, when, width_for, size_for, is_absent, is_simple, same_kind, is_good, width_slips, size_slips, number_slips, tag_slips}
+use Rattle.cborn_edn.specs.shared.Syntax.{is_below, argument_of, is_small}
+use Rattle.cborn_edn.specs.shared.Meaning.{number_of, and_then, when, width_for, size_for, is_absent, is_simple, same_kind, is_good, width_slips, size_slips, number_slips, tag_slips}
 
 abbrev pub no_later : Slip → Slip → Bool
 no_later a b = nat_lt a.place b.place || (a.place == b.place && nat_le (number_of a.reason) (number_of b.reason))

@@ -12,9 +12,9 @@ use Rattle.cborn_edn.specs.declared.states.Phase.TheVariants.{Has, HasNumber}
 use Rattle.cborn_edn.specs.declared.states.State.{State}
 use Rattle.cborn_edn.specs.declared.wanted.Wanted.{Wanted}
 use Rattle.cborn_edn.specs.declared.wanted.Wanted.TheVariants.{Bytes, Slips}
-use Rattle.cborn_edn.specs.Meaning.{when}
+use Rattle.cborn_edn.specs.shared.Meaning.{when}
 use Rattle.cborn_edn.specs.devices.Draft.{keep, Done, draft_run, first_state, finished}
-use Rattle.cborn_edn.specs.devices.Ready.{IsTold}
+use Rattle.cborn_edn.specs.devices.Ready.{IsTold, AreCounted}
 
 -- whether what stands inside becomes bytes of a string
 abbrev pub embeds : Bracket → Bool
@@ -75,4 +75,4 @@ trim_as Slips s = trim s
 -- the state behind all tokens of a text, with what is wanted of it
 abbrev pub Parsed : Wanted → Profile → ℕ → List ℕ → State → Type 0
 Parsed wanted profile limit text state =
-    (tokens : List Token) × (whole : State) × Lex profile text tokens × (draft_run profile limit tokens first_state ≡ Done whole) × (state ≡ lean_as wanted whole) × ((bytes : Option (List ℕ)) (slip : Option Slip) → finished whole ≡ Some (bytes, slip) → IsTold (bytes, slip))
+    (tokens : List Token) × (whole : State) × Lex profile text tokens × (draft_run profile limit tokens first_state ≡ Done whole) × (state ≡ lean_as wanted whole) × ((bytes : Option (List ℕ)) (slip : Option Slip) → finished whole ≡ Some (bytes, slip) → IsTold (bytes, slip) × AreCounted tokens)

@@ -4,7 +4,7 @@ use Rattle.cborn_lex.specs.declared.classes.Class.{Class}
 use Rattle.cborn_lex.specs.declared.classes.Class.TheVariants.{ArrayOpen, MapOpen, ArrayClose, MapClose, EmbedOpen, EmbedClose, Number, TagOpen}
 use Rattle.cborn_edn.specs.declared.brackets.Bracket.{Bracket}
 use Rattle.cborn_edn.specs.declared.brackets.Bracket.TheVariants.{Top, Array, Embedded, Chunked, Key}
-use Rattle.cborn_edn.specs.Syntax.{depth_of_number}
+use Rattle.cborn_edn.specs.shared.Syntax.{depth_of_number}
 
 -- how many arrays, maps, tags and embedded sequences are open
 abbrev pub is_level : Bracket → Bool

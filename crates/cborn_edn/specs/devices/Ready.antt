@@ -9,7 +9,8 @@ use Rattle.cborn_edn.specs.declared.brackets.Bracket.TheVariants.{Top, Array, Em
 use Rattle.cborn_edn.specs.declared.states.Phase.{Phase}
 use Rattle.cborn_edn.specs.declared.states.Phase.TheVariants.{Builds}
 use Rattle.cborn_edn.specs.declared.states.State.{State}
-use Rattle.cborn_edn.specs.Counted.{IsShort}
+use Rattle.cborn_edn.specs.shared.Syntax.{Input, tokens_of_input}
+use Rattle.cborn_edn.specs.devices.Counted.{IsShort, CountedInput}
 use Rattle.cborn_edn.specs.devices.Draft.{draft_step, draft_run, Stuck}
 use Rattle.cborn_edn.specs.devices.Levels.{levels_in, reach}
 
@@ -38,6 +39,10 @@ abbrev pub IsTold : Option (List ℕ) × Option Slip → Type 0
 IsTold (None, None) = ⊥
 IsTold (None, Some s) = Unit {0}
 IsTold (Some x, s) = Unit {0}
+
+-- the tree of these tokens, if they have one, has lengths and counts below 2^64
+abbrev pub AreCounted : List Token → Type 0
+AreCounted x = (t : Input) → tokens_of_input t ≡ x → CountedInput t
 
 -- what the token t makes of the state d: the state e within the limit, from which each run goes on, or the reason why each run ends there
 abbrev pub Steps : Profile → ℕ → State → Token → State → Option EdnReason → Type 0

@@ -10,7 +10,7 @@ use Rattle.cborn_edn.specs.declared.shapes.Stand.TheVariants.{Wants, WantsMore, 
 use Rattle.cborn_edn.specs.declared.shapes.Change.{Change}
 use Rattle.cborn_edn.specs.declared.shapes.Change.TheVariants.{Stay, Open, Shut, Turn}
 use Rattle.cborn_edn.specs.declared.shapes.Shape.{Shape}
-use Rattle.cborn_edn.specs.Parse as parse
+use Rattle.cborn_edn.specs.devices.Parse as parse
 use Rattle.cborn_edn.specs.declared.faults.EdnReason.{EdnReason}
 use Rattle.cborn_edn.specs.declared.faults.EdnReason.TheVariants.{UnexpectedToken, TooDeep}
 use Rattle.cborn_edn.specs.devices.Levels.{reach}

@@ -6,7 +6,7 @@ use Rattle.cborn_model.specs.Spelled.{Wellformed, spelled_all}
 use Rattle.cborn_model.specs.Tree.{Tree, trees}
 use Rattle.cborn_lex.specs.declared.classes.Profile.{Profile}
 use Rattle.cborn_lex.specs.declared.classes.Profile.TheVariants as profile
-use Rattle.cborn_edn.specs.Notates.{Notates}
+use Rattle.cborn_edn.specs.Grammar.{Notates}
 use Rattle.cborn_judge.specs.Flaws.{IsRefusalOfAll}
 use Rattle.cborn_judge.specs.declared.faults.Invalid.TheVariants as invalid
 use Rattle.cborn_judge.specs.declared.faults.InvalidReason.{InvalidReason}

@@ -8,7 +8,7 @@ use Rattle.cborn_lex.specs.declared.classes.Profile.{Profile}
 use Rattle.cborn_lex.specs.declared.classes.Profile.TheVariants as profile
 use Rattle.cborn_lex.proofs.WholeTexts.Weights.{utf8_bytes}
 use Rattle.cborn_edn.proofs.Shown.SameText.{same_notation}
-use Rattle.cborn_edn.proofs.Meaning.ShortTexts.{notated_fits}
+use Rattle.cborn_edn.proofs.Short.Facts.{notated_fits}
 use Rattle.cborn_edn.proofs.RoundTrip.Unplaced.{same_meaning}
 use Rattle.cborn_show.specs.Passed.{IsShownText}
 use Rattle.cborn_spell.specs.Descent.{IsSpelling}

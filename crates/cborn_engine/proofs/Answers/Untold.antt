@@ -6,7 +6,7 @@ use Rattle.cborn_lex.specs.declared.classes.Profile.TheVariants as profile
 use Rattle.cborn_lex.specs.declared.faults.LexFault.TheVariants as lex
 use Rattle.cborn_edn.specs.declared.faults.EdnFault.{EdnFault}
 use Rattle.cborn_edn.specs.declared.faults.EdnFault.TheVariants as edn
-use Rattle.cborn_edn.specs.Notates.{IsNoNotation}
+use Rattle.cborn_edn.specs.Faults.{IsNoNotation}
 use Rattle.cborn_engine.specs.Faults.{of_edn}
 use Rattle.cborn_engine.specs.Loading.{IsNoFlaw}
 use Rattle.cborn_engine.specs.Refusing.{IsRefused}

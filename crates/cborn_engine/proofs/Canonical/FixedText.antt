@@ -7,10 +7,10 @@ use Rattle.cborn_model.specs.Value.{Value, values_of}
 use Rattle.cborn_model.specs.Meaning.{Means, AllMean}
 use Rattle.cborn_lex.specs.declared.classes.Profile.{Profile}
 use Rattle.cborn_lex.specs.declared.classes.Profile.TheVariants as profile
-use Rattle.cborn_edn.specs.Notates.{Notates}
+use Rattle.cborn_edn.specs.Grammar.{Notates}
 use Rattle.cborn_edn.specs.ReadingBack.{unplaced_all}
 use Rattle.cborn_edn.specs.devices.TreesCode.{listed_trees, trees-listed}
-use Rattle.cborn_edn.proofs.RoundTrip.ReadBack.{shown_back, shown_only}
+use Rattle.cborn_edn.proofs.Short.Facts.{shown_back, shown_only}
 use Rattle.cborn_edn.proofs.Shown.SameText.{same_text}
 use Rattle.cborn_edn.proofs.RoundTrip.Unplaced.{same_depth, same_meaning}
 use Rattle.cborn_transcode.proofs.Lists.{all_mean}

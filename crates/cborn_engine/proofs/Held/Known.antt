@@ -13,7 +13,7 @@ use Rattle.cborn_lex.specs.declared.classes.Profile.TheVariants as profile
 use Rattle.cborn_lex.specs.declared.faults.LexFault.TheVariants as lex
 use Rattle.cborn_edn.specs.declared.faults.EdnFault.{EdnFault}
 use Rattle.cborn_edn.specs.declared.faults.EdnFault.TheVariants as edn
-use Rattle.cborn_edn.proofs.RoundTrip.ReadBack.{larger}
+use Rattle.cborn_edn.proofs.Short.Facts.{larger}
 use Rattle.cborn_judge.specs.declared.faults.InvalidReason.{InvalidReason}
 use Rattle.cborn_judge.specs.declared.faults.Invalid.TheVariants as invalid
 use Rattle.cborn_judge.specs.Flaws.{IsRefusalOfAll}

@@ -12,7 +12,7 @@ use Rattle.cborn_wire.proofs.Spelled.OneReading.{one_placed_reading}
 use Rattle.cborn_lex.specs.declared.classes.Profile.{Profile}
 use Rattle.cborn_lex.specs.declared.classes.Profile.TheVariants as profile
 use Rattle.cborn_edn.specs.ReadingBack.{unplaced_all}
-use Rattle.cborn_edn.proofs.RoundTrip.ReadBack.{one_notation}
+use Rattle.cborn_edn.proofs.Short.Facts.{one_notation}
 use Rattle.cborn_edn.proofs.RoundTrip.Unplaced.{same_meaning}
 use Rattle.cborn_transcode.proofs.Lists.{all_mean}
 use Rattle.cborn_judge.proofs.Meaning.Meanings.{means_once, meaning_valid, meaning_shallow, left, right}

@@ -4,11 +4,11 @@ use Rattle.cborn_model.specs.Tree.{Tree, trees}
 use Rattle.cborn_model.specs.Spelled.{spelled_all}
 use Rattle.cborn_lex.specs.declared.classes.Profile.{Profile}
 use Rattle.cborn_lex.specs.declared.classes.Profile.TheVariants as profile
-use Rattle.cborn_edn.specs.Notates.{Notates}
+use Rattle.cborn_edn.specs.Grammar.{Notates}
 use Rattle.cborn_edn.specs.Shown.{Shown}
 use Rattle.cborn_edn.specs.ReadingBack.{unplaced_all}
 use Rattle.cborn_edn.specs.devices.TreesCode.{listed_trees, trees-listed}
-use Rattle.cborn_edn.proofs.RoundTrip.ReadBack.{shown_back}
+use Rattle.cborn_edn.proofs.Short.Facts.{shown_back}
 use Rattle.cborn_edn.proofs.RoundTrip.Unplaced.{same_bytes}
 use Rattle.cborn_edn.proofs.Shown.SameText.{same_text}
 use Rattle.cborn_engine.specs.declared.kinds.Kind.{Kind}

@@ -13,8 +13,8 @@ use Rattle.cborn_wire.specs.Places.{all_from}
 use Rattle.cborn_wire.proofs.Spelled.AsPlaced.{same_all-from}
 use Rattle.cborn_wire.proofs.Spelled.OneReading.{one_spelling}
 use Rattle.cborn_lex.specs.declared.classes.Profile.{Profile}
-use Rattle.cborn_edn.specs.Notates.{Notates}
-use Rattle.cborn_edn.proofs.Meaning.ShortTexts.{notated_fits}
+use Rattle.cborn_edn.specs.Grammar.{Notates}
+use Rattle.cborn_edn.proofs.Short.Facts.{notated_fits}
 use Rattle.cborn_edn.proofs.Started.Rises.{spots_rise}
 use Rattle.cborn_edn.specs.Starts.{starts_all, spots, spots_all, IsRising}
 use Rattle.cborn_judge.specs.Flaws.{flaw_rank, Flaw, IsFirstFlaw, IsRefusalOfAll}

@@ -2,7 +2,7 @@ use Rattle.cborn_edn.proofs.Meaning.Agree.{says}
 use Rattle.cborn_edn.proofs.Meaning.Fit.{said_fits}
 use Rattle.cborn_edn.proofs.Meaning.Earliest.{none_among, nothing_among, some_first, one_first}
 use Rattle.cborn_edn.proofs.Meaning.NoSlip.{no_slip}
-use Rattle.cborn_edn.specs.Meaning.{input_slips}
+use Rattle.cborn_edn.specs.shared.Meaning.{input_slips}
 use Rattle.cborn_edn.proofs.laws.one_meaning.Goals as goal
 
 pub returns : goal.returns

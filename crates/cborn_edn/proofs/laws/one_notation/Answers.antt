@@ -1,4 +1,4 @@
-use Rattle.cborn_edn.proofs.RoundTrip.ReadBack.{one_notation, larger, both_notate}
+use Rattle.cborn_edn.proofs.Short.Facts.{one_notation, larger, both_notate}
 use Rattle.cborn_edn.proofs.laws.one_notation.Goals as goal
 
 pub returns : goal.returns

@@ -1,6 +1,7 @@
 use Rattle.cborn_edn.proofs.Shown.Characters.{is_text}
 use Rattle.cborn_edn.proofs.Shown.Readable.{readable}
-use Rattle.cborn_edn.proofs.RoundTrip.ReadBack.{shown_tokens, shown_back, shown_only}
+use Rattle.cborn_edn.proofs.RoundTrip.ReadBack.{shown_tokens}
+use Rattle.cborn_edn.proofs.Short.Facts.{shown_back, shown_only}
 use Rattle.cborn_edn.proofs.laws.shown_text_reads_back.Goals as goal
 
 pub returns : goal.returns

@@ -1,7 +1,7 @@
 use Rattle.std.proofs.Common.{◌≡◌, sym, ap, ◌∙◌, subst, ◌≤◌, List, length, arith}
 use Rattle.cborn_model.specs.Tree.{Tree, trees}
 use Rattle.cborn_lex.proofs.WholeTexts.Weights.{utf8_bytes}
-use Rattle.cborn_edn.specs.Notates.{Notates}
+use Rattle.cborn_edn.specs.devices.Notates.{Notates}
 use Rattle.cborn_edn.specs.devices.Put.{put_all}
 use Rattle.cborn_edn.proofs.Placed.Read.{is_wellformed, are_placed}
 use Rattle.cborn_edn.proofs.Placed.Rows.{lent_back}

@@ -4,7 +4,7 @@ use Rattle.cborn_lex.proofs.WholeTexts.Progress.{inside, few}
 use Rattle.cborn_lex.proofs.WholeTexts.Weights.{utf8_bytes}
 use Rattle.cborn_edn.proofs.Reader.Underway.{passed_on}
 use Rattle.cborn_edn.proofs.Reader.Wanting.{Going, begins, is_ready, goes_on, ends, stopped, jams}
-use Rattle.cborn_edn.specs.Notates.{IsNoNotation}
+use Rattle.cborn_edn.specs.devices.Notates.{IsNoTree}
 use Rattle.cborn_edn.specs.devices.Draft.{lexical}
 use Rattle.cborn_edn.proofs.readers.parsed.Goals as goal
 
@@ -21,7 +21,7 @@ returns-in_default-clause-parsed c =
 
 pub returns-in_err-token-clause-refused : goal.returns-in_err-token-clause-refused
 returns-in_err-token-clause-refused c =
-    passed_on c.from_residual-in_err-token.result (lexical c.in_err-token.field-0.0) (IsNoNotation c.args.profile c.args.limit c.args.text.now) (stopped c.args.wanted c.args.profile c.args.limit c.args.text.now c.tokens.at c.tokens.state c.keep_wanted.new.self c.tokens.invariant.0 c.keep_wanted.ensures c.in_err-token.field-0.0 c.in_err-token.ensures.refused) c.from_residual-in_err-token.ensures
+    passed_on c.from_residual-in_err-token.result (lexical c.in_err-token.field-0.0) (IsNoTree c.args.profile c.args.limit c.args.text.now) (stopped c.args.wanted c.args.profile c.args.limit c.args.text.now c.tokens.at c.tokens.state c.keep_wanted.new.self c.tokens.invariant.0 c.keep_wanted.ensures c.in_err-token.field-0.0 c.in_err-token.ensures.refused) c.from_residual-in_err-token.ensures
 
 pub step-requires : goal.step-requires
 step-requires c = is_ready c.args.wanted c.args.profile c.args.limit c.args.text.now c.tokens.at c.tokens.state c.keep_wanted.new.self c.tokens.invariant.0 c.keep_wanted.ensures (omega arith)

@@ -18,7 +18,7 @@ returns-then-left-count c =
     let t = c.in-Ok-Some.token in
     let next = subst (IsNext c.args.profile c.args.text.now c.tokens.at) c.in-Ok-Some.field-0-is c.in-Ok-Some.ensures.ok in
     let fewer = c.if-left-count.true in
-    is_start c.args.profile c.args.text.now c.args.index c.tokens.at c.tokens.left c.tokens.embedded c.tokens.shape c.tokens.invariant.0 t next (omega (arith, fewer, c.begun-count.ensures))
+    λ limit nodes h. is_start c.args.profile c.args.text.now c.args.index c.tokens.at c.tokens.left c.tokens.embedded c.tokens.shape c.tokens.invariant.0 t next (omega (arith, fewer, c.begun-count.ensures)) limit nodes h
 
 pub tokens-smaller : goal.tokens-smaller
 tokens-smaller c =

@@ -1,4 +1,4 @@
--- Which tokens are a text of the grammar, and the first token with which no such text goes on.
+-- A device of the proofs: which tokens are a text of the grammar, and the first token with which no such text goes on.
 use Rattle.std.specs.Prelude.{◌≡◌, ℕ, ◌≤◌, List, [], ◌∷◌, ◌++◌, Bool, true, false}
 use Rattle.cborn_lex.specs.declared.classes.Profile.{Profile}
 use Rattle.cborn_lex.specs.declared.classes.Profile.TheVariants.{One as ProfileOne, Two as ProfileTwo}
@@ -7,7 +7,7 @@ use Rattle.cborn_edn.specs.declared.faults.EdnReason.TheVariants.{UnexpectedToke
 use Rattle.cborn_lex.specs.declared.classes.Class.{Class}
 use Rattle.cborn_lex.specs.declared.classes.Class.TheVariants.{ArrayClose, MapClose, EmbedClose, Comma}
 use Rattle.cborn_lex.specs.declared.classes.Token.{Token}
-use Rattle.cborn_edn.specs.Syntax.{Span, token, Input, tokens_of_input, depth_of_input}
+use Rattle.cborn_edn.specs.shared.Syntax.{Span, token, Input, tokens_of_input, depth_of_input}
 
 -- ], } or >>
 abbrev pub is_closing : Class → Bool

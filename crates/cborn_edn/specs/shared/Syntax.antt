@@ -1,17 +1,10 @@
--- The trees of the grammar of the notation, with the place of each token.
-use Rattle.std.specs.Prelude.{ℕ, zero, suc, List, [], ◌∷◌, ◌++◌, Bool, true, false, nat_lt, max, ◌^◌, if◌then◌else◌}
+-- A device of the proofs: the trees of the grammar of the notation, with the place of each token. No public contract but a law of the trees themselves cites it.
+use Rattle.std.specs.Prelude.{ℕ, suc, List, [], ◌∷◌, ◌++◌, Bool, max}
 use Rattle.cborn_lex.specs.declared.classes.Mark.{Mark}
-use Rattle.cborn_lex.specs.declared.classes.Class.{Class}
 use Rattle.cborn_lex.specs.declared.classes.Class.TheVariants.{ArrayOpen, MapOpen, ArrayClose, MapClose, ParenClose, Comma, Colon, EmbedOpen, EmbedClose, ChunkOpen, Number, TagOpen, Word, SimpleOpen, Text, Bytes}
 use Rattle.cborn_lex.specs.declared.classes.Token.{Token}
-
--- where a token stands
-pub record Span : Type 0 where
-  pub start : ℕ
-  pub stop : ℕ
-
-abbrev pub token : Span → Class → Token
-token at c = record { start = at.start; stop = at.stop; class = c }
+pub use Rattle.cborn_edn.specs.Says.{is_below, argument_of, is_small, depth_of_number}
+pub use Rattle.cborn_edn.specs.Grammar.{Span, token}
 
 abbrev pub span : Token → Span
 span t = record { start = t.start; stop = t.stop }
@@ -134,26 +127,6 @@ abbrev mutual
 abbrev pub tokens_of_input : Input → List Token
 tokens_of_input nothing = []
 tokens_of_input (items r) = tokens_of_row r
-
--- below zero; -0 is 0
-abbrev pub is_below : Bool → ℕ → Bool
-is_below true zero = false
-is_below true (suc v) = true
-is_below false v = false
-
--- n for n, and for -1-n
-abbrev pub argument_of : Bool → ℕ → ℕ
-argument_of true zero = 0
-argument_of true (suc v) = v
-argument_of false v = v
-
--- whether an integer literal is from -2^64 to 2^64-1
-abbrev pub is_small : Bool → ℕ → Bool
-is_small n v = nat_lt (argument_of n v) (2 ^ 64)
-
--- an integer outside 64 bits is a tag over a string
-abbrev pub depth_of_number : Bool → ℕ → ℕ
-depth_of_number n v = if is_small n v then 0 else 1
 
 -- How deep arrays, maps, tags, embedded items and integers outside 64 bits stand in one another.
 abbrev mutual

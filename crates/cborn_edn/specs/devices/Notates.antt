@@ -1,4 +1,4 @@
--- What a text of the notation says, and why a text says nothing.
+-- A device of the proofs: what a text of the notation says, and why a text says nothing, by the trees of the grammar.
 use Rattle.std.specs.Prelude.{◌⊎◌, ℕ, ◌≤◌, List, length}
 use Rattle.cborn_model.specs.Tree.{Trees}
 use Rattle.cborn_lex.specs.Lex.{Lex, Stop}
@@ -8,9 +8,9 @@ use Rattle.cborn_lex.specs.declared.faults.LexFault.TheVariants.{Refused as LexR
 use Rattle.cborn_edn.specs.declared.faults.EdnReason.{EdnReason}
 use Rattle.cborn_edn.specs.declared.faults.EdnFault.{EdnFault}
 use Rattle.cborn_edn.specs.declared.faults.EdnFault.TheVariants.{Lex as LexPart, Refused, OutOfMemory}
-use Rattle.cborn_edn.specs.Syntax.{Input, depth_of_input}
-use Rattle.cborn_edn.specs.Parse.{Parse, Jam}
-use Rattle.cborn_edn.specs.Meaning.{Says, FirstSlip}
+use Rattle.cborn_edn.specs.shared.Syntax.{Input, depth_of_input}
+use Rattle.cborn_edn.specs.devices.Parse.{Parse, Jam}
+use Rattle.cborn_edn.specs.shared.Meaning.{Says, FirstSlip}
 
 -- the text has tokens, and these have the tree, which is within the limit
 pub record Parses (profile : Profile) (limit : ℕ) (text : List ℕ) (tree : Input) : Type 0 where

@@ -1,24 +1,25 @@
--- What a tree says: the nodes, and the faults of what says nothing.
-use Rattle.std.specs.Prelude.{◌≡◌, ◌⊎◌, ℕ, suc, ◌^◌, List, [], ◌∷◌, ◌++◌, length, Bool, true, false, ◌&&◌, not, nat_lt, if◌then◌else◌, Option, Some, None}
+-- A device of the proofs: what a tree says, if it says anything, and its slips.
+use Rattle.std.specs.Prelude.{◌≡◌, ℕ, suc, ◌^◌, List, [], ◌∷◌, ◌++◌, length, Bool, true, false, ◌&&◌, nat_lt, if◌then◌else◌, Option, Some, None}
 use Rattle.cborn_edn.specs.declared.faults.EdnReason.{EdnReason}
-use Rattle.cborn_edn.specs.declared.faults.EdnReason.TheVariants.{UnexpectedToken, UnexpectedEnd, TooDeep, IndicatorTooNarrow, IndicatorNotAllowed, MixedString, MixedChunks, TextNotUtf8, BadSimple, TagTooLarge}
+use Rattle.cborn_edn.specs.declared.faults.EdnReason.TheVariants.{IndicatorNotAllowed, MixedString, MixedChunks, TextNotUtf8, BadSimple}
 use Rattle.cborn_edn.specs.declared.slips.Slip.{Slip}
 use Rattle.cborn_edn.specs.declared.strings.StringKind.{StringKind}
 use Rattle.cborn_edn.specs.declared.strings.StringKind.TheVariants.{Bytes as OfBytes, Text as OfText}
-use Rattle.std.specs.Str.{is_utf8}
 use Rattle.std.specs.Int.Digits.{digits_of}
 use Rattle.cborn_model.specs.declared.heads.Width.{Width}
 use Rattle.cborn_model.specs.declared.heads.Width.TheVariants.{Direct}
 use Rattle.cborn_model.specs.declared.heads.Size.{Size}
 use Rattle.cborn_model.specs.declared.heads.Size.TheVariants.{Fixed, Endless as Unending}
 use Rattle.cborn_model.specs.declared.nodes.Chunk.{Chunk}
-use Rattle.cborn_model.specs.Tree.{Tree, Uint, Nint, Bytes as ByteNode, Text as TextNode, ByteChunks, TextChunks, Items, Pairs as PairNode, Tagged, Simple, Trees, no_item as no_node, more, Entries, no_entry, entry, count, count_entries}
-use Rattle.cborn_model.specs.Heads.{holds, least, is_simple_value}
+use Rattle.cborn_model.specs.Tree.{Tree, Bytes as ByteNode, Items, Pairs as PairNode, Tagged, Simple, Trees, no_item as no_node, more, Entries, no_entry, entry, count, count_entries}
+use Rattle.cborn_model.specs.Heads.{holds, least}
 use Rattle.cborn_model.specs.First.{IsFirst}
 use Rattle.cborn_model.specs.Spelled.{spelled_all}
 use Rattle.cborn_lex.specs.declared.classes.Mark.{Mark}
 use Rattle.cborn_lex.specs.declared.classes.Mark.TheVariants.{Absent, Endless, Wide}
-use Rattle.cborn_edn.specs.Syntax.{Item, number, word, tag, simple, string, chunked, array, map, Piece, text, bytes, embedded, Pieces, piece, also, Strings, strings, StringsBefore, no_string, after_strings, Row, row, RowBefore, no_item, after_row, Content, loose, tight, Pairs, pairs, PairsBefore, no_pair, after_pairs, Fields, loose_fields, tight_fields, Input, nothing, items, is_below, argument_of, is_small}
+use Rattle.cborn_edn.specs.shared.Syntax.{Item, number, word, tag, simple, string, chunked, array, map, Piece, text, bytes, embedded, Pieces, piece, also, Strings, strings, StringsBefore, no_string, after_strings, Row, row, RowBefore, no_item, after_row, Content, loose, tight, Pairs, pairs, PairsBefore, no_pair, after_pairs, Fields, loose_fields, tight_fields, Input, nothing, items, is_below, argument_of, is_small}
+pub use Rattle.cborn_edn.specs.Says.{integer, is_simple, is_absent, same_kind, is_good, string_node, chunked_node, unless, width_slips, size_slips, number_slips, tag_slips}
+pub use Rattle.cborn_edn.specs.Faults.{number_of, IsAmong}
 
 abbrev pub and_then : {A B : Type 0} → Option A → (A → Option B) → Option B
 and_then None f = None
@@ -39,10 +40,6 @@ size_for Absent n = when (nat_lt n (2 ^ 64)) (Some (Fixed (least n)))
 size_for Endless n = Some Unending
 size_for (Wide w) n = when (holds w n) (Some (Fixed w))
 
-abbrev pub is_absent : Mark → Bool
-is_absent Absent = true
-is_absent _ = false
-
 -- one more at the end
 abbrev pub snoc : Trees → Tree → Trees
 snoc no_node t = more t no_node
@@ -53,9 +50,6 @@ snoc_entry no_entry k v = entry k v no_entry
 snoc_entry (entry l w es) k v = entry l w (snoc_entry es k v)
 
 -- Integers.
-
-abbrev pub integer : ℕ → Bool → ℕ → Width → Tree
-integer p n v w = if is_below n v then Nint p w (argument_of n v) else Uint p w (argument_of n v)
 
 -- a tag over the shortest bytes
 abbrev pub bignum : ℕ → Bool → ℕ → Option Tree
@@ -68,16 +62,7 @@ means_number p n v m =
     if is_small n v then and_then (width_for m (argument_of n v)) (λ w. Some (integer p n v w))
     else when (is_absent m) (bignum p n v)
 
--- a simple value, which isn't below zero
-abbrev pub is_simple : Bool → ℕ → Bool
-is_simple n v = not (is_below n v) && is_simple_value v
-
 -- Strings.
-
-abbrev pub same_kind : StringKind → StringKind → Bool
-same_kind OfBytes OfBytes = true
-same_kind OfText OfText = true
-same_kind _ _ = false
 
 abbrev pub kind_of : Piece → StringKind
 kind_of (text at x m) = OfText
@@ -136,21 +121,9 @@ is_empty_quote (piece (text at [] m)) = true
 is_empty_quote (piece (bytes at true [] m)) = true
 is_empty_quote _ = false
 
-abbrev pub is_good : StringKind → List ℕ → Bool
-is_good OfBytes x = true
-is_good OfText x = is_utf8 x
-
 -- what holds of the pieces of a string and of a chunk
 abbrev pub is_string : Pieces → List ℕ → Bool
 is_string ps x = is_bare_before ps && (is_of_kind (kind ps) ps && is_good (kind ps) x)
-
-abbrev pub string_node : StringKind → ℕ → Width → List ℕ → Tree
-string_node OfBytes p w x = ByteNode p w x
-string_node OfText p w x = TextNode p w x
-
-abbrev pub chunked_node : StringKind → ℕ → List Chunk → Tree
-chunked_node OfBytes p cs = ByteChunks p cs
-chunked_node OfText p cs = TextChunks p cs
 
 abbrev pub marked_string : Mark → Pieces → List ℕ → Option Tree
 marked_string Endless ps x = when (is_empty_quote ps) (Some (chunked_node (kind ps) (place ps) []))
@@ -229,26 +202,6 @@ abbrev pub Says : Input → Trees → Type 0
 Says t ts = means_input t ≡ Some ts
 
 -- Faults of meaning.
-
-abbrev pub unless : Bool → ℕ → EdnReason → List Slip
-unless true p l = []
-unless false p l = record { place = p; reason = l } ∷ []
-
--- a token that may carry a width
-abbrev pub width_slips : ℕ → Mark → ℕ → List Slip
-width_slips p Absent n = []
-width_slips p Endless n = unless false p IndicatorNotAllowed
-width_slips p (Wide w) n = unless (holds w n) p IndicatorTooNarrow
-
-abbrev pub size_slips : ℕ → Mark → ℕ → List Slip
-size_slips p Endless n = []
-size_slips p m n = width_slips p m n
-
-abbrev pub number_slips : ℕ → Bool → ℕ → Mark → List Slip
-number_slips p n v m = if is_small n v then width_slips p m (argument_of n v) else unless (is_absent m) p IndicatorNotAllowed
-
-abbrev pub tag_slips : ℕ → Mark → ℕ → List Slip
-tag_slips p m n = if nat_lt n (2 ^ 64) then width_slips p m n else unless false p TagTooLarge
 
 abbrev pub bare_slips : Pieces → List Slip
 bare_slips (piece p) = unless (is_absent (mark_of p)) (mark_place p) IndicatorNotAllowed
@@ -357,23 +310,6 @@ abbrev mutual
 abbrev pub input_slips : Input → List Slip
 input_slips nothing = []
 input_slips (items r) = row_slips r
-
--- A slip of the tree, and the one that is told: the least place, then the least number.
-abbrev pub number_of : EdnReason → ℕ
-number_of UnexpectedToken = 20
-number_of UnexpectedEnd = 21
-number_of TooDeep = 22
-number_of IndicatorTooNarrow = 30
-number_of IndicatorNotAllowed = 31
-number_of MixedString = 32
-number_of MixedChunks = 33
-number_of TextNotUtf8 = 34
-number_of BadSimple = 35
-number_of TagTooLarge = 36
-
-abbrev pub IsAmong : List Slip → ℕ → EdnReason → Type 0
-IsAmong [] p r = ⊥
-IsAmong (x ∷ l) p r = ((p ≡ x.place) × (r ≡ x.reason)) ⊎ IsAmong l p r
 
 abbrev pub HasSlip : Input → ℕ → EdnReason → Type 0
 HasSlip t = IsAmong (input_slips t)

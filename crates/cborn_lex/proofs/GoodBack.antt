@@ -1,0 +1,190 @@
+-- What is taken as white space, a comment or a token reads as that.
+use Rattle.std.proofs.Common.{◌≡◌, refl, sym, ap, ◌∙◌, subst, ℕ, zero, suc, ◌+◌, ◌-◌, ◌<◌, ◌≤◌, ◌^◌, List, [], ◌∷◌, ◌++◌, Bool, true, false, ◌&&◌, ◌||◌, not, cond, eqb, ltb, ◌⊎◌, inl, inr, Option, Some, None, Result, Ok, Err, append-nil, append_assoc, arith}
+use Rattle.std.proofs.lemmas.Bool.{eqb-true, and_parts, or_parts, ltb-true, ltb-false, lt-ltb}
+use Rattle.std.specs.List.{list_all}
+use Rattle.std.specs.Char.{is_digit, is_ascii_digit}
+use Rattle.std.specs.Prelude.{bytes_eq, codes, drop}
+use Rattle.cborn_lex.specs.declared.classes.Profile.{Profile}
+use Rattle.cborn_lex.specs.declared.classes.Profile.TheVariants.{One, Two}
+use Rattle.cborn_lex.specs.declared.classes.Mark.{Mark}
+use Rattle.cborn_lex.specs.declared.faults.LexReason.{LexReason}
+use Rattle.cborn_lex.specs.declared.classes.Class.{Class}
+use Rattle.cborn_lex.specs.declared.classes.Class.TheVariants.{ArrayOpen, MapOpen, EmbedClose, ArrayClose, MapClose, ParenClose, Comma, Colon, EmbedOpen, ChunkOpen, SimpleOpen, Text, Bytes, Number, TagOpen, Word}
+use Rattle.cborn_lex.specs.Tokens.{Front, Blank, Read, Bad, is_white, is_word, is_numeral, is_not, begins, mark_of, marked}
+use Rattle.cborn_lex.specs.Numbers.{are_digits, number, within, has_prefix, integer, signed, number_front}
+use Rattle.cborn_lex.specs.Forms.{IsRun, Start, white, hash, digit, start_of, ReadsFrom, ReadsNumber, Reads}
+use Rattle.cborn_lex.specs.Good as good
+use Rattle.cborn_lex.specs.Good.{IsMark, IsLiteral, IsNumeral, IsName, IsCoded, Takes}
+
+abbrev pub front_of : Option Class → Front
+front_of None = Blank
+front_of (Some k) = Read k
+
+-- Digits.
+
+far : (d k : ℕ) → d < k → eqb d k ≡ false
+far d k h = go (eqb d k) refl
+  where
+    go : (b : Bool) → eqb d k ≡ b → b ≡ false
+    go true e = let same = eqb-true d k e in absurd (omega (arith, h, same))
+    go false e = refl
+
+and_false : (b : Bool) → (b && false) ≡ false
+and_false true = refl
+and_false false = refl
+
+or_cases : (a b : Bool) → (a || b) ≡ true → (a ≡ true) ⊎ (b ≡ true)
+or_cases true b e = inl refl
+or_cases false b e = inr e
+
+never : {A : Type 0} → false ≡ true → A
+never e = absurd (let f : false ≡ true = e in cc)
+
+-- a decimal digit
+in_ten : (c : ℕ) → is_digit c 10 ≡ true → (48 ≤ c) × (c ≤ 57)
+in_ten c e = go (ltb c 48) (ltb c 58) (ltb c 65) (ltb c 91) (ltb c 97) (ltb c 123) refl refl refl refl refl refl e
+  where
+    go : (a b d f g h : Bool) → ltb c 48 ≡ a → ltb c 58 ≡ b → ltb c 65 ≡ d → ltb c 91 ≡ f → ltb c 97 ≡ g → ltb c 123 ≡ h → ltb (cond a 36 (cond b (c - 48) (cond d 36 (cond f (c - 55) (cond g 36 (cond h (c - 87) 36)))))) 10 ≡ true → (48 ≤ c) × (c ≤ 57)
+    go true b d f g h e1 e2 e3 e4 e5 e6 k = never k
+    go false true d f g h e1 e2 e3 e4 e5 e6 k = let low = ltb-false c 48 e1 in let high = ltb-true c 58 e2 in (omega (arith, low), omega (arith, high))
+    go false false true f g h e1 e2 e3 e4 e5 e6 k = never k
+    go false false false true g h e1 e2 e3 e4 e5 e6 k = let low = ltb-false c 65 e3 in let small = ltb-true (c - 55) 10 k in absurd (omega (arith, low, small))
+    go false false false false true h e1 e2 e3 e4 e5 e6 k = never k
+    go false false false false false true e1 e2 e3 e4 e5 e6 k = let low = ltb-false c 97 e5 in let small = ltb-true (c - 87) 10 k in absurd (omega (arith, low, small))
+    go false false false false false false e1 e2 e3 e4 e5 e6 k = never k
+
+starts_at : (k : ℕ) → k < 10 → start_of (48 + k) ≡ digit
+starts_at zero h = refl
+starts_at (suc zero) h = refl
+starts_at (suc (suc zero)) h = refl
+starts_at (suc (suc (suc zero))) h = refl
+starts_at (suc (suc (suc (suc zero)))) h = refl
+starts_at (suc (suc (suc (suc (suc zero))))) h = refl
+starts_at (suc (suc (suc (suc (suc (suc zero)))))) h = refl
+starts_at (suc (suc (suc (suc (suc (suc (suc zero))))))) h = refl
+starts_at (suc (suc (suc (suc (suc (suc (suc (suc zero)))))))) h = refl
+starts_at (suc (suc (suc (suc (suc (suc (suc (suc (suc zero))))))))) h = refl
+starts_at (suc (suc (suc (suc (suc (suc (suc (suc (suc (suc k)))))))))) h = absurd (omega (arith, h))
+
+starts_digit : (c : ℕ) → 48 ≤ c → c ≤ 57 → start_of c ≡ digit
+starts_digit c low high = let same : 48 + (c - 48) ≡ c = omega (arith, low) in subst (λ d. start_of d ≡ digit) same (starts_at (c - 48) (omega (arith, low, high)))
+
+-- two characters at the front
+second : (b : ℕ) (x : List ℕ) → has_prefix (48 ∷ b ∷ []) x ≡ true → (y : List ℕ) × (x ≡ 48 ∷ b ∷ y)
+second b [] e = never e
+second b (c ∷ []) e = never (and_parts (eqb c 48) false e).1
+second b (c ∷ d ∷ y) e =
+    let h = and_parts (eqb c 48) (eqb d b && true) e in
+    let k = and_parts (eqb d b) true h.1 in
+    (y, ap (λ n. n ∷ d ∷ y) (eqb-true c 48 h.0) ∙ ap (λ n. 48 ∷ n ∷ y) (eqb-true d b k.0))
+
+no_prefix : (b : ℕ) (x : List ℕ) → are_digits 10 x ≡ true → 57 < b → has_prefix (48 ∷ b ∷ []) x ≡ false
+no_prefix b [] e h = refl
+no_prefix b (c ∷ []) e h = and_false (eqb c 48)
+no_prefix b (c ∷ d ∷ y) e h =
+    let two = and_parts (is_digit c 10) (is_digit d 10 && list_all (λ n. is_digit n 10) y) e in
+    let one = and_parts (is_digit d 10) (list_all (λ n. is_digit n 10) y) two.1 in
+    rw (far d b (omega (arith, h, (in_ten d one.0).1))) (and_false (eqb c 48))
+
+within_back : (n : ℕ) → n < 2 ^ 128 → within n ≡ Ok n
+within_back n h = rw (lt-ltb n (2 ^ 128) h) refl
+
+-- a literal is read as its value
+value : (negative : Bool) (x : List ℕ) (v : ℕ) → IsLiteral x v → v < 2 ^ 128 → integer negative x ≡ Ok v
+value negative x v (good.decimal y d z) h =
+    rw (no_prefix 120 y d (omega arith), no_prefix 88 y d (omega arith), no_prefix 111 y d (omega arith), no_prefix 79 y d (omega arith), no_prefix 98 y d (omega arith), no_prefix 66 y d (omega arith), d, z) (within_back (number 10 0 y) h)
+value negative x v (good.hexadecimal y a d) h = rw (a, d) (within_back (number 16 0 (drop 2 y)) h)
+value negative x v (good.octal y a d) h = go (or_cases (has_prefix (codes "0o") y) (has_prefix (codes "0O") y) a)
+  where
+    go : (has_prefix (codes "0o") y ≡ true) ⊎ (has_prefix (codes "0O") y ≡ true) → integer negative y ≡ Ok (number 8 0 (drop 2 y))
+    go (inl e) = let s = second 111 y e in subst (λ l. are_digits 8 (drop 2 l) ≡ true → number 8 0 (drop 2 l) < 2 ^ 128 → integer negative l ≡ Ok (number 8 0 (drop 2 l))) (sym s.1) (λ f g. rw f (within_back (number 8 0 s.0) g)) d h
+    go (inr e) = let s = second 79 y e in subst (λ l. are_digits 8 (drop 2 l) ≡ true → number 8 0 (drop 2 l) < 2 ^ 128 → integer negative l ≡ Ok (number 8 0 (drop 2 l))) (sym s.1) (λ f g. rw f (within_back (number 8 0 s.0) g)) d h
+value negative x v (good.binary y a d) h = go (or_cases (has_prefix (codes "0b") y) (has_prefix (codes "0B") y) a)
+  where
+    go : (has_prefix (codes "0b") y ≡ true) ⊎ (has_prefix (codes "0B") y ≡ true) → integer negative y ≡ Ok (number 2 0 (drop 2 y))
+    go (inl e) = let s = second 98 y e in subst (λ l. are_digits 2 (drop 2 l) ≡ true → number 2 0 (drop 2 l) < 2 ^ 128 → integer negative l ≡ Ok (number 2 0 (drop 2 l))) (sym s.1) (λ f g. rw f (within_back (number 2 0 s.0) g)) d h
+    go (inr e) = let s = second 66 y e in subst (λ l. are_digits 2 (drop 2 l) ≡ true → number 2 0 (drop 2 l) < 2 ^ 128 → integer negative l ≡ Ok (number 2 0 (drop 2 l))) (sym s.1) (λ f g. rw f (within_back (number 2 0 s.0) g)) d h
+
+-- its first character is a digit
+pub record Begins (x : List ℕ) : Type 0 where
+  pub first : ℕ
+  pub others : List ℕ
+  pub whole : x ≡ first ∷ others
+  pub starts : start_of first ≡ digit
+
+prefixed : (b d : ℕ) (x : List ℕ) → (has_prefix (48 ∷ b ∷ []) x || has_prefix (48 ∷ d ∷ []) x) ≡ true → Begins x
+prefixed b d x e = go (or_cases (has_prefix (48 ∷ b ∷ []) x) (has_prefix (48 ∷ d ∷ []) x) e)
+  where
+    go : (has_prefix (48 ∷ b ∷ []) x ≡ true) ⊎ (has_prefix (48 ∷ d ∷ []) x ≡ true) → Begins x
+    go (inl f) = let s = second b x f in record { first = 48; others = b ∷ s.0; whole = s.1; starts = refl }
+    go (inr f) = let s = second d x f in record { first = 48; others = d ∷ s.0; whole = s.1; starts = refl }
+
+decimals : (x : List ℕ) → are_digits 10 x ≡ true → Begins x
+decimals [] d = never d
+decimals (c ∷ y) d = let h = in_ten c (and_parts (is_digit c 10) (list_all (λ n. is_digit n 10) y) d).0 in record { first = c; others = y; whole = refl; starts = starts_digit c h.0 h.1 }
+
+first_digit : (x : List ℕ) (v : ℕ) → IsLiteral x v → Begins x
+first_digit x v (good.decimal y d z) = decimals y d
+first_digit x v (good.hexadecimal y a d) = prefixed 120 88 y a
+first_digit x v (good.octal y a d) = prefixed 111 79 y a
+first_digit x v (good.binary y a d) = prefixed 98 66 y a
+
+front_is : (negative tagged : Bool) (mark x z : List ℕ) (v : ℕ) (m : Mark) → IsNumeral x mark z v m → number_front negative tagged (mark_of mark) (integer negative x) ≡ number_front negative tagged (Some m) (Ok v)
+front_is negative tagged mark x z v m n = rw (n.indicator.1, value negative x v n.literal n.bounded) refl
+
+module _ (p : Profile) where
+  start_white : (c : ℕ) → is_white c ≡ true → start_of c ≡ white
+  start_white c e = rw e refl
+
+  numeral : (c : ℕ) (y s z : List ℕ) (v : ℕ) (m : Mark) → start_of c ≡ digit → IsNumeral (c ∷ y) s z v m → begins (λ d. eqb d 40) z ≡ false → Reads p ((c ∷ y) ++ s) z (Read (signed false v m))
+  numeral c y s z v m st n e =
+      subst (λ k. ReadsFrom k p c (y ++ s) z (Read (signed false v m))) (sym st)
+      (false, y, s, [], record { run = record { pass = (and_parts (is_numeral c) (list_all is_numeral y) n.run.pass).1; ends = n.run.ends }; indicator = n.indicator.0; tagging = (refl, e); whole = ap (λ l. y ++ l) (sym (append-nil s)) }, sym (front_is false false s (c ∷ y) z v m n))
+
+  tagged : (c : ℕ) (y s z : List ℕ) (v : ℕ) (m : Mark) → start_of c ≡ digit → IsNumeral (c ∷ y) s (40 ∷ z) v m → Reads p ((c ∷ y) ++ (s ++ 40 ∷ [])) z (Read (TagOpen v m))
+  tagged c y s z v m st n =
+      subst (λ k. ReadsFrom k p c (y ++ (s ++ 40 ∷ [])) z (Read (TagOpen v m))) (sym st)
+      (true, y, s, 40 ∷ [], record { run = record { pass = (and_parts (is_numeral c) (list_all is_numeral y) n.run.pass).1; ends = n.run.ends }; indicator = n.indicator.0; tagging = (refl, refl, refl, refl); whole = refl }, sym (front_is false true s (c ∷ y) (40 ∷ z) v m n))
+
+  coded : (w x b s z : List ℕ) (m : Mark) → IsCoded w x b → list_all (is_not 39) x ≡ true → IsMark s z m → Reads p (w ++ (39 ∷ x ++ 39 ∷ s)) z (Read (Bytes false b m))
+  coded w x b s z m (good.hex y d is) n i = ([], 39 ∷ y ++ 39 ∷ s, record { pass = refl; ends = refl }, refl, inl (refl, inl (y, s, record { inside = n; text = refl; indicator = i.0 }, inl (d, is, ap (marked (Bytes false d)) (sym i.1)))))
+  coded w x b s z m (good.base64 y d is) n i = (54 ∷ 52 ∷ [], 39 ∷ y ++ 39 ∷ s, record { pass = refl; ends = refl }, refl, inl (refl, inl (y, s, record { inside = n; text = refl; indicator = i.0 }, inl (d, is, ap (marked (Bytes false d)) (sym i.1)))))
+
+  word : (w z : List ℕ) (n : ℕ) → IsName w n → begins is_word z ≡ false → begins (λ c. eqb c 39) z ≡ false → Reads p w z (Read (Word n))
+  word w z n good.is_false e f = (codes "alse", [], record { pass = refl; ends = e }, refl, (f, refl, refl))
+  word w z n good.is_true e f = (codes "rue", [], record { pass = refl; ends = e }, refl, (f, refl, refl))
+  word w z n good.is_null e f = (codes "ull", [], record { pass = refl; ends = e }, refl, (f, refl, refl))
+  word w z n good.is_undefined e f = (codes "ndefined", [], record { pass = refl; ends = e }, refl, (f, refl, refl))
+
+  two : (s z : List ℕ) (a : Front) → p ≡ Two → ReadsFrom hash Two 35 s z a → ReadsFrom hash p 35 s z a
+  two s z a e h = subst (λ q. ReadsFrom hash q 35 s z a) (sym e) h
+
+  -- LAW: what is taken reads
+  pub read : {s z : List ℕ} {o : Option Class} → Takes p s z o → Reads p s z (front_of o)
+  read (good.white c z e) = subst (λ k. ReadsFrom k p c [] z Blank) (sym (start_white c e)) (refl, refl)
+  read (good.comment x z n) = inl (x, record { none = n; whole = refl }, refl)
+  read (good.line x z e n) = two (x ++ 10 ∷ []) z Blank e (inl (x, record { none = n; whole = refl }, refl))
+  read (good.last_line x e n) = two x [] Blank e (inr (record { none = n; all = refl }, refl))
+  read (good.array_open s z m i) = (i.0, ap (marked ArrayOpen) (sym i.1))
+  read (good.array_close z) = (refl, refl)
+  read (good.map_open s z m i) = (i.0, ap (marked MapOpen) (sym i.1))
+  read (good.map_close z) = (refl, refl)
+  read (good.embed_open z) = inl (refl, refl)
+  read (good.embed_close s z m i) = inl (s, refl, i.0, ap (marked EmbedClose) (sym i.1))
+  read (good.chunk_open z e) = ((refl, record { pass = refl; ends = e }), refl)
+  read (good.paren_close z) = (refl, refl)
+  read (good.comma z) = (refl, refl)
+  read (good.colon z) = (refl, refl)
+  read (good.text x b s z m w is i) = inl (x, s, record { inside = w; text = refl; indicator = i.0 }, inl (b, is, ap (marked (Text b)) (sym i.1)))
+  read (good.bytes x b s z m w is i) = inl (x, s, record { inside = w; text = refl; indicator = i.0 }, inl (b, is, ap (marked (Bytes true b)) (sym i.1)))
+  read (good.coded w x b s z m c n i) = coded w x b s z m c n i
+  read (good.word w z n i e) = let h = or_parts (begins is_word z) (begins (λ c. eqb c 39) z) e in word w z n i h.0 h.1
+  read (good.simple z) = (codes "imple", 40 ∷ [], record { pass = refl; ends = refl }, refl, inr (refl, refl, refl, refl))
+  read (good.negative x s z v m n) =
+      (false, x, s, [], record { run = n.run; indicator = n.indicator.0; tagging = (refl, refl); whole = ap (λ l. x ++ l) (sym (append-nil s)) }, sym (front_is true false s x z v m n))
+  read (good.positive x s z v m n e) =
+      let b = first_digit x v n.literal in
+      subst (λ y. IsNumeral y s z v m → Reads p (y ++ s) z (Read (signed false v m))) (sym b.whole) (λ k. numeral b.first b.others s z v m b.starts k e) n
+  read (good.tag x s z v m n) =
+      let b = first_digit x v n.literal in
+      subst (λ y. IsNumeral y s (40 ∷ z) v m → Reads p (y ++ (s ++ 40 ∷ [])) z (Read (TagOpen v m))) (sym b.whole) (λ k. tagged b.first b.others s z v m b.starts k) n
