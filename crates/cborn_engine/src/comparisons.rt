@@ -74,5 +74,5 @@ pub fn compare<O: KeyOrder, R: Source, Q: Source>(
         Ok(bytes) => bytes,
         Err(why) => return Err(CompareFault::of_second(why)),
     };
-    Ok(difference::<O>(limit, &ours, &theirs)?)
+    Ok(difference::<O>(limit, &ours, &theirs))
 }

@@ -123,7 +123,7 @@ pub fn compare_slices<O: KeyOrder>(
     ensures malformed { length first.now ≤ most_bytes → TellsFirstFault kind_a limit first.now result }
 {
     let (ours, theirs) = encode_both::<O>(alloc, limit, kind_a, first, kind_b, second)?;
-    Ok(difference::<O>(limit, &ours, &theirs)?)
+    Ok(difference::<O>(limit, &ours, &theirs))
 }
 
 /// Whether two inputs hold the same items. They do exactly if their canonical forms are equal. What

@@ -25,7 +25,7 @@ use Rattle.cborn_det.specs.Det.{Det}
 use Rattle.cborn_model.specs.Orders.{IsKeyOrder}
 use Rattle.cborn_transcode.specs.Departing.{IsFirstDefectOfItems}
 use Rattle.cborn_transcode.specs.Transcoding.{ItemTranscoded, IsEncodedAs}
-use Rattle.cborn_transcode.specs.devices.Departing.{Stands, AllStand, Clears, Stops, StopsBehind, Decides, Leads, LeadsOn}
+use Rattle.cborn_transcode.specs.devices.Departing.{Stands, AllStand, Clears, Stops, StopsBehind, Decides, Remain, Leads, LeadsOn}
 use Rattle.cborn_transcode.specs.shared.Walking.{IsDeterministic, ItemWalked}
 use Rattle.cborn_wire.proofs.Parts.Heads.{behind}
 use Rattle.cborn_transcode.proofs.Opening.{opened, one_front, put_there}
@@ -42,13 +42,13 @@ number_of (Given w n) k = n
 number_of Unbounded k = k
 
 -- the node at the front is the array whose head stands there
-record IsArray (total n : ℕ) (t : Tree) (mid rest : List ℕ) : Type 0 where
-  place : ℕ
-  width : Width
-  items : Trees
-  is : t ≡ Items place (Fixed width) items
-  shortest : width ≡ least (count items)
-  stand : AllStand total n items mid rest
+pub record IsArray (total n : ℕ) (t : Tree) (mid rest : List ℕ) : Type 0 where
+  pub place : ℕ
+  pub width : Width
+  pub items : Trees
+  pub is : t ≡ Items place (Fixed width) items
+  pub shortest : width ≡ least (count items)
+  pub stand : AllStand total n items mid rest
 
 fixed_array : (total n q : ℕ) (w : Width) (ts : Trees) (mid rest : List ℕ) → length (head Array (Given (least n) n) ++ mid) ≤ total → WidthFits (least n) n → Stands total (Items q (Fixed w) ts) (head Array (Given (least n) n) ++ mid) rest → IsArray total n (Items q (Fixed w) ts) mid rest
 fixed_array total n q w ts mid rest l a s =
@@ -73,7 +73,7 @@ fixed_array total n q w ts mid rest l a s =
       };
     }
 
-is_array : (total n : ℕ) (t : Tree) (mid rest : List ℕ) → length (head Array (Given (least n) n) ++ mid) ≤ total → WidthFits (least n) n → Stands total t (head Array (Given (least n) n) ++ mid) rest → IsArray total n t mid rest
+pub is_array : (total n : ℕ) (t : Tree) (mid rest : List ℕ) → length (head Array (Given (least n) n) ++ mid) ≤ total → WidthFits (least n) n → Stands total t (head Array (Given (least n) n) ++ mid) rest → IsArray total n t mid rest
 is_array total n (Items q (Fixed w) ts) mid rest l a s = fixed_array total n q w ts mid rest l a s
 is_array total n (Items q Endless ts) mid rest l a s =
     let o = (opened (Items q Endless ts) Array (Given (least n) n) mid rest s.fits a (sym s.read)).1 in absurd cc
@@ -139,7 +139,7 @@ module _ (order : List ℕ → List ℕ → Ordering) where
     means_first u us no_values m = absurd m
     means_first u us (value v ws) m = (v, ws, m.0, m.1)
 
-    first_stands : (k : ℕ) (u : Tree) (us : Trees) (mid rest : List ℕ) → AllStand total k (more u us) mid rest → Stands total u mid (spelled_all us ++ rest)
+    pub first_stands : (k : ℕ) (u : Tree) (us : Trees) (mid rest : List ℕ) → AllStand total k (more u us) mid rest → Stands total u mid (spelled_all us ++ rest)
     first_stands k u us mid rest s =
         let m = means_first u us s.items s.meant in
         record { item = m.0; read = s.read ∙ append_assoc (spelled u) (spelled_all us) rest; fits = s.fits.0; placed = s.placed.0; meant = m.2 }
@@ -157,13 +157,14 @@ module _ (order : List ℕ → List ℕ → Ordering) where
           count = omega (arith, s.count, e);
         }
 
-    step : (ts us : Trees) (k left : ℕ) (mid after rest : List ℕ) → length mid ≤ total → k ≡ suc left → AllStand total k us mid rest → Decides order us ts → Clears order total mid after → (ws : Trees) × AllStand total left ws after rest × Decides order ws ts
-    step ts no_item k left mid after rest l e s d c = absurd (omega (arith, s.count, e))
-    step ts (more u us) k left mid after rest l e s d c =
+    step : (ts us : Trees) (k left : ℕ) (mid after rest : List ℕ) → length mid ≤ total → k ≡ suc left → AllStand total k us mid rest → Decides order us ts → Remain order us ts → Clears order total mid after → (ws : Trees) × AllStand total left ws after rest × Decides order ws ts × Remain order ws ts
+    step ts no_item k left mid after rest l e s d m c = absurd (omega (arith, s.count, e))
+    step ts (more u us) k left mid after rest l e s d m c =
         let clear = c u (spelled_all us ++ rest) (first_stands k u us mid rest s) in (
           us,
           others_stand k left u us mid after rest l e s (sym clear.0),
           λ o f. d o (alike (DefectInAll order us) (DefectInAll order (more u us)) o (λ p r. ((λ g. (g.0, inr g.1, g.2)), (λ g. elim g.1 [ inl j ↦ absurd (clear.1 p r (g.0, j, g.2)) | inr j ↦ (g.0, j, g.2) ]))) f),
+          (omega (arith, m.0), λ p r g. m.1 p r (g.0, inr g.1, g.2)),
         )
 
     -- a defect stands no lower than the nodes
@@ -193,10 +194,10 @@ module _ (order : List ℕ → List ℕ → Ordering) where
   -- ---- the items of an array
 
   pub leads_first : (n : ℕ) (input : List ℕ) → Leads order n n input input
-  leads_first n input total ts rest l s = (ts, s, λ o f. f)
+  leads_first n input total ts rest l s = (ts, s, λ o f. f, (omega arith, λ p r d. d))
 
   pub leads_more : (n k left : ℕ) (input mid after : List ℕ) → length mid ≤ length input → k ≡ suc left → Leads order n k input mid → ((total : ℕ) → Clears order total mid after) → Leads order n left input after
-  leads_more n k left input mid after w e h c total ts rest l s = let r = h total ts rest l s in step total ts r.0 k left mid after rest (omega (arith, w, l)) e r.1 r.2 (c total)
+  leads_more n k left input mid after w e h c total ts rest l s = let r = h total ts rest l s in step total ts r.0 k left mid after rest (omega (arith, w, l)) e r.1 r.2 r.3 (c total)
 
   pub leads_stop : (n k : ℕ) (input mid : List ℕ) (r : DefectReason) (left : ℕ) → length mid ≤ length input → 0 < k → Leads order n k input mid → Stops order mid r left → StopsAll n input r left
   leads_stop n k input mid r left w some h x = (omega (arith, w, x.0), λ total ts rest l s. let q = h total ts rest l s in stop total ts q.0 k left mid rest r (omega (arith, w, l)) some q.1 q.2 x)
@@ -208,14 +209,14 @@ module _ (order : List ℕ → List ℕ → Ordering) where
   none_there total (more u us) k mid some s = (count us, sym s.count)
 
   pub on_first : (input : List ℕ) → LeadsOn order input input
-  on_first input n ts s = (n, ts, s, λ o f. f)
+  on_first input n ts s = (n, ts, s, λ o f. f, (omega arith, λ p r d. d))
 
   pub on_more : (input mid after : List ℕ) → length mid ≤ length input → 0 < length mid → LeadsOn order input mid → ((total : ℕ) → Clears order total mid after) → LeadsOn order input after
   on_more input mid after l some h c n ts s =
       let r = h n ts s in
       let j = none_there (length input) r.1 r.0 mid some r.2 in
-      let t = step (length input) ts r.1 r.0 j.0 mid after [] l j.1 r.2 r.3 (c (length input)) in
-      (j.0, t.0, t.1, t.2)
+      let t = step (length input) ts r.1 r.0 j.0 mid after [] l j.1 r.2 r.3 r.4 (c (length input)) in
+      (j.0, t.0, t.1, t.2, t.3)
 
   on_stop : (input mid : List ℕ) (r : DefectReason) (left n : ℕ) (ts : Trees) → length mid ≤ length input → 0 < length mid → LeadsOn order input mid → Stops order mid r left → AllStand (length input) n ts input [] → FindsDefect (DefectInAll order ts) (Some (record { place = length input - left; reason = r }))
   on_stop input mid r left n ts l some h x s =

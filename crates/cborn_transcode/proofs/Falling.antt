@@ -29,7 +29,7 @@ use Rattle.cborn_judge.specs.declared.defects.DefectReason.TheVariants.{LongHead
 use Rattle.cborn_judge.proofs.FirstDefect.Departing.{alike}
 use Rattle.cborn_judge.proofs.Meaning.Meanings.{means_once, meaning_valid, some_bytes}
 use Rattle.cborn_judge.proofs.Meaning.Placing.{defect_within}
-use Rattle.cborn_transcode.specs.devices.Departing.{Stands, PairsStand, Stops, StopsBehind, IsBelowKey, Falls, DefectOn, LeadsPairs, IsFallen, IsAbove, IsNotAbove}
+use Rattle.cborn_transcode.specs.devices.Departing.{Stands, PairsStand, Stops, StopsBehind, IsBelowKey, Falls, DefectOn, LeadsPairs, IsFallen, IsAbove, IsNotAbove, RemainAmong}
 use Rattle.cborn_transcode.specs.Transcoding.{IsEncodedAs}
 use Rattle.cborn_transcode.specs.shared.Walking.{ItemWalked}
 use Rattle.cborn_transcode.proofs.Departed.{low_entries}
@@ -40,13 +40,13 @@ use Rattle.cborn_transcode.proofs.Opening.{opened, stands}
 -- ---- a map
 
 -- the node at the front is the map whose head stands there
-record IsMap (total n : ℕ) (t : Tree) (mid rest : List ℕ) : Type 0 where
-  place : ℕ
-  width : Width
-  pairs : Entries
-  is : t ≡ Pairs place (Fixed width) pairs
-  shortest : width ≡ least (count_entries pairs)
-  stand : PairsStand total n pairs mid rest
+pub record IsMap (total n : ℕ) (t : Tree) (mid rest : List ℕ) : Type 0 where
+  pub place : ℕ
+  pub width : Width
+  pub pairs : Entries
+  pub is : t ≡ Pairs place (Fixed width) pairs
+  pub shortest : width ≡ least (count_entries pairs)
+  pub stand : PairsStand total n pairs mid rest
 
 fixed_map : (total n q : ℕ) (w : Width) (es : Entries) (mid rest : List ℕ) → length (head Map (Given (least n) n) ++ mid) ≤ total → WidthFits (least n) n → Stands total (Pairs q (Fixed w) es) (head Map (Given (least n) n) ++ mid) rest → IsMap total n (Pairs q (Fixed w) es) mid rest
 fixed_map total n q w es mid rest l a s =
@@ -71,7 +71,7 @@ fixed_map total n q w es mid rest l a s =
       };
     }
 
-is_map : (total n : ℕ) (t : Tree) (mid rest : List ℕ) → length (head Map (Given (least n) n) ++ mid) ≤ total → WidthFits (least n) n → Stands total t (head Map (Given (least n) n) ++ mid) rest → IsMap total n t mid rest
+pub is_map : (total n : ℕ) (t : Tree) (mid rest : List ℕ) → length (head Map (Given (least n) n) ++ mid) ≤ total → WidthFits (least n) n → Stands total t (head Map (Given (least n) n) ++ mid) rest → IsMap total n t mid rest
 is_map total n (Pairs q (Fixed w) es) mid rest l a s = fixed_map total n q w es mid rest l a s
 is_map total n (Pairs q Endless es) mid rest l a s =
     let o = (opened (Pairs q Endless es) Map (Given (least n) n) mid rest s.fits a (sym s.read)).1 in absurd cc
@@ -163,7 +163,7 @@ module _ (order : List ℕ → List ℕ → Ordering) where
     -- ---- the first of some pairs
 
     module _ (total k : ℕ) (l v : Tree) (ws : Entries) (half rest : List ℕ) (within : length half ≤ total) (short : length half < 2 ^ 64) (s : PairsStand total k (entry l v ws) half rest) where
-      key_stands : Stands total l half (spelled v ++ (spelled_entries ws ++ rest))
+      pub key_stands : Stands total l half (spelled v ++ (spelled_entries ws ++ rest))
       key_stands =
           let m = pair_mean l v ws s.items s.meant in
           record { item = m.0; read = s.read ∙ append_assoc (spelled l ++ spelled v) (spelled_entries ws) rest ∙ append_assoc (spelled l) (spelled v) (spelled_entries ws ++ rest); fits = s.fits.0; placed = s.placed.0; meant = m.3 }
@@ -272,7 +272,7 @@ module _ (order : List ℕ → List ℕ → Ordering) where
         mid_within : length mid ≤ length half
         mid_within = omega (arith, ap length e, length-append y mid)
 
-        value_stands : Stands total v mid (spelled_entries ws ++ rest)
+        pub value_stands : Stands total v mid (spelled_entries ws ++ rest)
         value_stands =
             let m = pair_mean l v ws s.items s.meant in
             record { item = m.1; read = sym key_clear.0; fits = s.fits.1; placed = subst (λ p. Placed p v) (sym mid_there) s.placed.1; meant = m.4 }
@@ -319,7 +319,7 @@ module _ (order : List ℕ → List ℕ → Ordering) where
     -- ---- the pairs of a map
 
     pub pairs_first : (n : ℕ) (input : List ℕ) (before : Option (Bor (List ℕ))) → before ≡ None → LeadsPairs order n n before input input
-    pairs_first n input before e total es rest l s = (es, s, λ o f. alike (DefectOn order before es) (MapDefect order es) o (λ p r. (to es p r, from es p r)) f)
+    pairs_first n input before e total es rest l s = (es, s, λ o f. alike (DefectOn order before es) (MapDefect order es) o (λ p r. (to es p r, from es p r)) f, (omega arith, λ p r d. d))
       where
         to : (es : Entries) (p : ℕ) (r : DefectReason) → DefectOn order before es p r → MapDefect order es p r
         to no_entry p r (inl d) = absurd d.1
@@ -335,13 +335,13 @@ module _ (order : List ℕ → List ℕ → Ordering) where
     pub pairs_more : (room n k left : ℕ) (before : Option (Bor (List ℕ))) (key : Bor (List ℕ)) (input half mid after : List ℕ) → length input < 2 ^ 64 → length half ≤ length input → k ≡ suc left → LeadsPairs order n k before input half → ItemWalked order room half mid → half ≡ key.now ++ mid → Below order before key.now → ItemWalked order room mid after
         → LeadsPairs order n left (Some key) input after
     pairs_more room n k left before key input half mid after short w e h x split above z total es rest l s =
-        let r = h total es rest l s in go r.0 r.1 r.2
+        let r = h total es rest l s in go r.0 r.1 r.2 r.3
       where
-        go : (us : Entries) → PairsStand total k us half rest → ((o : Option Defect) → FindsDefect (DefectOn order before us) o → FindsDefect (MapDefect order es) o) → (ws : Entries) × PairsStand total left ws after rest × ((o : Option Defect) → FindsDefect (DefectOn order (Some key) ws) o → FindsDefect (MapDefect order es) o)
-        go no_entry u d = absurd (omega (arith, u.count, e))
-        go (entry a b ws) u d =
+        go : (us : Entries) → PairsStand total k us half rest → ((o : Option Defect) → FindsDefect (DefectOn order before us) o → FindsDefect (MapDefect order es) o) → RemainAmong order us es → (ws : Entries) × PairsStand total left ws after rest × ((o : Option Defect) → FindsDefect (DefectOn order (Some key) ws) o → FindsDefect (MapDefect order es) o) × RemainAmong order ws es
+        go no_entry u d m = absurd (omega (arith, u.count, e))
+        go (entry a b ws) u d m =
             let t = pair_on total k a b ws half rest (omega (arith, w, l)) (omega (arith, w, short)) u room mid key.now before x split above left key after refl e z in
-            (ws, t.0, λ o f. d o (t.1 o f))
+            (ws, t.0, λ o f. d o (t.1 o f), (omega (arith, m.0), λ p r g. m.1 p r (g.0, inr (inr g.1), g.2)))
 
     -- a departure at the first pair left
     stop_at : (n k : ℕ) (before : Option (Bor (List ℕ))) (input half : List ℕ) (r : DefectReason) (left : ℕ) → left ≤ length half → length half ≤ length input → 0 < k → LeadsPairs order n k before input half

@@ -11,6 +11,8 @@ pub mod Opening
 pub mod Departing
 pub mod Departed
 pub mod Telling
+pub mod Standing
+pub mod Straying
 pub mod Falling
 pub mod Settling
 pub mod Tagging

@@ -111,7 +111,7 @@ contents (Pairs q s es) = spelled_entries es ++ ending s
 contents (Tagged q w n t) = spelled t
 contents (Simple q n) = []
 
-opens : (t : Tree) → spelled t ≡ head (opening t).0 (opening t).1 ++ contents t
+pub opens : (t : Tree) → spelled t ≡ head (opening t).0 (opening t).1 ++ contents t
 opens (Uint q w n) = sym (append-nil (head Unsigned (Given w n)))
 opens (Nint q w n) = sym (append-nil (head Negative (Given w n)))
 opens (Bytes q w b) = refl
@@ -123,7 +123,7 @@ opens (Pairs q s es) = append_assoc (head Map (argument s (count_entries es))) (
 opens (Tagged q w n t) = refl
 opens (Simple q n) = sym (append-nil (head Other (Given (least n) n)))
 
-opening_fits : (t : Tree) → Fits t → ArgumentFits (opening t).1
+pub opening_fits : (t : Tree) → Fits t → ArgumentFits (opening t).1
 opening_fits (Uint q w n) f = f
 opening_fits (Nint q w n) f = f
 opening_fits (Bytes q w b) f = f.0

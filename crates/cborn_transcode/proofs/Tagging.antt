@@ -38,15 +38,15 @@ content_means q w n t v (inr (inl m)) = (bytes m.1.0, string_means t m.1.0 m.1.1
 content_means q w n t v (inr (inr m)) = (m.2, m.3)
 
 -- the node at the front is the tag whose head stands there
-record IsTag (total n : ℕ) (t : Tree) (mid rest : List ℕ) : Type 0 where
-  width : Width
-  content : Tree
-  item : Value
-  is : t ≡ Tagged (total - length (head Tag (Given (least n) n) ++ mid)) width n content
-  shortest : width ≡ least n
-  meant : Means (Tagged (total - length (head Tag (Given (least n) n) ++ mid)) width n content) item
-  stand : Stands total content mid rest
-  further : total - length mid ≡ (total - length (head Tag (Given (least n) n) ++ mid)) + length (head Tag (Given (least n) n))
+pub record IsTag (total n : ℕ) (t : Tree) (mid rest : List ℕ) : Type 0 where
+  pub width : Width
+  pub content : Tree
+  pub item : Value
+  pub is : t ≡ Tagged (total - length (head Tag (Given (least n) n) ++ mid)) width n content
+  pub shortest : width ≡ least n
+  pub meant : Means (Tagged (total - length (head Tag (Given (least n) n) ++ mid)) width n content) item
+  pub stand : Stands total content mid rest
+  pub further : total - length mid ≡ (total - length (head Tag (Given (least n) n) ++ mid)) + length (head Tag (Given (least n) n))
 
 plain_tag : (total n q k : ℕ) (w : Width) (u : Tree) (mid rest : List ℕ) → length (head Tag (Given (least n) n) ++ mid) ≤ total → WidthFits (least n) n → Stands total (Tagged q w k u) (head Tag (Given (least n) n) ++ mid) rest → IsTag total n (Tagged q w k u) mid rest
 plain_tag total n q k w u mid rest l a s =
@@ -74,13 +74,13 @@ plain_tag total n q k w u mid rest l a s =
       further = behind total input (head Tag (Given (least n) n)) mid l refl;
     }
 
-is_tag : (total n : ℕ) (t : Tree) (mid rest : List ℕ) → length (head Tag (Given (least n) n) ++ mid) ≤ total → WidthFits (least n) n → Stands total t (head Tag (Given (least n) n) ++ mid) rest → IsTag total n t mid rest
+pub is_tag : (total n : ℕ) (t : Tree) (mid rest : List ℕ) → length (head Tag (Given (least n) n) ++ mid) ≤ total → WidthFits (least n) n → Stands total t (head Tag (Given (least n) n) ++ mid) rest → IsTag total n t mid rest
 is_tag total n (Tagged q w k u) mid rest l a s = plain_tag total n q k w u mid rest l a s
 is_tag total n t mid rest l a s =
     let o = (opened t Tag (Given (least n) n) mid rest s.fits a (sym s.read)).0 in absurd cc
 
 -- of tag 2 or 3 the content is a byte string
-string_under : (q : ℕ) (w : Width) (n : ℕ) (t : Tree) (v : Value) → (n ≡ 2) ⊎ (n ≡ 3) → Means (Tagged q w n t) v → (b : List ℕ) × IsByteString t b
+pub string_under : (q : ℕ) (w : Width) (n : ℕ) (t : Tree) (v : Value) → (n ≡ 2) ⊎ (n ≡ 3) → Means (Tagged q w n t) v → (b : List ℕ) × IsByteString t b
 string_under q w n t v tag (inl m) = (m.1.0, m.1.1)
 string_under q w n t v tag (inr (inl m)) = (m.1.0, m.1.1)
 string_under q w n t v tag (inr (inr m)) = absurd (elim tag [ inl e ↦ m.0 e | inr e ↦ m.1 e ])

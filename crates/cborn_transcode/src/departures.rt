@@ -4,7 +4,7 @@
 ghost use Rattle.std.specs.Prelude.{◌≡◌, ◌⊎◌, ◌-◌, ◌≤◌, ℕ, List, IfSome};
 ghost use Rattle.std.specs.declared.cmp.Ordering.{Ordering};
 ghost use Rattle.cborn_model.specs.declared.heads.Major.TheVariants.{Tag};
-ghost use Rattle.cborn_transcode.specs.devices.Departing.{Departs, Halts, KeyIs, KeyStops, Tells, TellsLoose, WalksBehind};
+ghost use Rattle.cborn_transcode.specs.devices.Departing.{Departs, Halts, HaltsBehind, KeyIs, KeyStops, Tells, TellsLoose};
 
 use crate::items::{put_item, put_key};
 use crate::noting::Nothing;
@@ -98,7 +98,7 @@ pub(crate) enum Walked {
     LooseBignum(usize),
     /// Its first departure is the order of a key, with so many bytes from there on.
     KeyOrder(usize),
-    /// Nothing is promised.
+    /// No item that is its own encoding stands there; where one departs isn't known.
     Unknown,
 }
 
@@ -165,7 +165,7 @@ pub(crate) fn head_departure(bytes: &[u8]) -> Walked
 #[inline(never)]
 pub(crate) fn bignum_departure<O: KeyOrder>(asked: &Asked<O>, n: u64, bytes: &[u8]) -> Walked
     requires { (n ≡ 2) ⊎ (n ≡ 3) }
-    ensures { (room : ℕ) → WalksBehind O.order room Tag n bytes.now result }
+    ensures { HaltsBehind O.order Tag n bytes.now result }
 {
     let Some(alloc) = asked.alloc else {
         return Walked::Unknown;

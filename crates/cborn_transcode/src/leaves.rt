@@ -1,6 +1,6 @@
 //! Items without children.
 
-ghost use Rattle.std.specs.Prelude.{◌≡◌, ◌<◌, ◌≤◌, ◌++◌, ℕ, List, length, take, drop, IsTrue, IsUtf8, IfSome, OnSome};
+ghost use Rattle.std.specs.Prelude.{◌≡◌, ◌<◌, ◌≤◌, ◌++◌, ◌↔◌, ℕ, List, length, take, drop, IsTrue, IsUtf8, IfSome, OnSome};
 ghost use Rattle.cborn_model.specs.declared.heads.Width.{Width as WidthSpec};
 ghost use Rattle.cborn_model.specs.declared.heads.Major.TheVariants.{ByteString};
 ghost use Rattle.cborn_model.specs.Bytes.{AreBytes, IsShortest, big_endian};
@@ -57,7 +57,7 @@ fn put_content<'a>(major: Major, n: u64, bytes: &'a [u8], out: &mut Vec<u8>) -> 
 /// Whether the bytes are UTF-8.
 #[inline]
 pub(crate) fn is_text(bytes: &[u8]) -> bool
-    ensures { IsTrue result → IsUtf8 bytes.now }
+    ensures { IsTrue result ↔ IsUtf8 bytes.now }
 {
     bytes.is_ascii() || simdutf8::is_utf8(bytes)
 }

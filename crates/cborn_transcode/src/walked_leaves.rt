@@ -1,10 +1,12 @@
 //! What a walk finds in place of items without children, and of keys.
 
-ghost use Rattle.std.specs.Prelude.{◌≡◌, ◌≤◌, ◌++◌, ℕ, List, false, length, IsTrue, IfSome};
+ghost use Rattle.std.specs.Prelude.{◌≡◌, ◌≢◌, ◌⊎◌, ◌≤◌, ◌++◌, ℕ, List, false, length, IsTrue, IfSome};
 ghost use Rattle.std.specs.declared.cmp.Ordering.{Ordering};
 ghost use Rattle.cborn_det.specs.shared.KeyBefore.{Below};
+ghost use Rattle.cborn_judge.specs.Defects.{IsLoose};
 ghost use Rattle.cborn_model.specs.Bytes.{IsShortest};
-ghost use Rattle.cborn_transcode.specs.devices.Departing.{IsFallen};
+ghost use Rattle.cborn_model.specs.declared.heads.Major.TheVariants.{ByteString, TextString, Array, Map, Tag};
+ghost use Rattle.cborn_transcode.specs.devices.Departing.{IsFallen, NoContent, Strays, StraysBehind};
 ghost use Rattle.cborn_wire.specs.Parts.{Leaves};
 ghost use Rattle.cborn_transcode.specs.shared.Walking.{IsLast, LeastHeadRead, ContentWalked, BignumWalked, WalkedBehind};
 
@@ -13,10 +15,11 @@ use cborn_model::{KeyOrder, Major, is_simple_value, shortest};
 use cborn_wire::{Argument, HeadRead, read_head};
 
 /// The major type and the argument of the head at the front, which is the shortest, and what
-/// follows it.
+/// follows it. None: whatever item stands there departs.
 #[inline(always)]
 pub(crate) fn read_least(bytes: &[u8]) -> Option<(Major, u64, &[u8])>
-    ensures { IfSome result (λ r. LeastHeadRead r.0 r.1 bytes.now r.2.now) }
+    ensures read { IfSome result (λ r. LeastHeadRead r.0 r.1 bytes.now r.2.now) }
+    ensures strays { result ≡ None → (order : List ℕ → List ℕ → Ordering) (room : ℕ) → Strays order room bytes.now }
 {
     let HeadRead::Full(head, len) = read_head(bytes) else {
         return None;
@@ -34,7 +37,8 @@ pub(crate) fn read_least(bytes: &[u8]) -> Option<(Major, u64, &[u8])>
 /// `n`, where that head begins no item that holds others.
 #[inline(always)]
 pub(crate) fn walk_leaf(major: Major, n: u64, bytes: &[u8]) -> Option<usize>
-    ensures { IfSome result (λ left. (order : List ℕ → List ℕ → Ordering) (room : ℕ) → Leaves (WalkedBehind order room major n bytes.now) left) }
+    ensures walked { IfSome result (λ left. (order : List ℕ → List ℕ → Ordering) (room : ℕ) → Leaves (WalkedBehind order room major n bytes.now) left) }
+    ensures strays { result ≡ None → major ≢ Array → major ≢ Map → major ≢ Tag → (order : List ℕ → List ℕ → Ordering) (room : ℕ) → StraysBehind order room major n bytes.now }
 {
     match major {
         Major::Unsigned => Some(bytes.len()),
@@ -51,10 +55,13 @@ pub(crate) fn walk_leaf(major: Major, n: u64, bytes: &[u8]) -> Option<usize>
     }
 }
 
-/// How many bytes follow the `n` bytes of a string of the major type.
+/// How many bytes follow the `n` bytes of a string of the major type. None: no such string stands
+/// there.
 #[inline(always)]
 fn walk_content(major: Major, n: u64, bytes: &[u8]) -> Option<usize>
-    ensures { IfSome result (Leaves (ContentWalked major n bytes.now)) }
+    requires { (major ≡ ByteString) ⊎ (major ≡ TextString) }
+    ensures walked { IfSome result (Leaves (ContentWalked major n bytes.now)) }
+    ensures none { result ≡ None → NoContent major n bytes.now }
 {
     if n > bytes.len() as u64 {
         return None;
@@ -70,7 +77,8 @@ fn walk_content(major: Major, n: u64, bytes: &[u8]) -> Option<usize>
 /// with a zero (RFC 8949 section 3.4.3).
 #[inline(never)]
 pub(crate) fn walk_bignum(bytes: &[u8]) -> Option<usize>
-    ensures { IfSome result (Leaves (BignumWalked bytes.now)) }
+    ensures walked { IfSome result (Leaves (BignumWalked bytes.now)) }
+    ensures strays { result ≡ None → (order : List ℕ → List ℕ → Ordering) (room tag : ℕ) → (tag ≡ 2) ⊎ (tag ≡ 3) → StraysBehind order room Tag tag bytes.now }
 {
     let (major, n, rest) = read_least(bytes)?;
     if major != Major::ByteString || n <= 8 || n > rest.len() as u64 {
@@ -85,7 +93,8 @@ pub(crate) fn walk_bignum(bytes: &[u8]) -> Option<usize>
 
 #[inline(always)]
 fn has_leading_zero(bytes: &[u8]) -> bool
-    ensures { result ≡ false → IsShortest bytes.now }
+    ensures shortest { result ≡ false → IsShortest bytes.now }
+    ensures loose { IsTrue result → IsLoose bytes.now }
 {
     matches!(bytes, [0, ..])
 }

@@ -1,7 +1,7 @@
 //! A walk over bytes up to their first departure from the deterministic encoding: nothing is
 //! written, and nothing is kept but the key before.
 
-ghost use Rattle.std.specs.Prelude.{◌≡◌, ◌≤◌, ◌++◌, ℕ, [], length, IsTrue, IfSome};
+ghost use Rattle.std.specs.Prelude.{◌≡◌, ◌≢◌, ◌≤◌, ◌++◌, ◌↔◌, ℕ, List, [], length, IsTrue, IfSome};
 ghost use Rattle.cborn_model.specs.declared.heads.Major.TheVariants.{Array, Map, Tag};
 ghost use Rattle.cborn_transcode.specs.Departing.{IsFirstDeparture};
 ghost use Rattle.cborn_transcode.specs.Transcoding.{ItemTranscoded, IsTranscoded};
@@ -17,12 +17,10 @@ use std::alloc::Global;
 
 /// Whether the bytes are the deterministic encodings of the items that they hold, one after
 /// another, none deeper than `limit`, the keys of maps in the order `O` (RFC 8949 section 4.2).
-/// False promises nothing: `first_departure`, `transcode`, or the reader that keeps a tree, tells
-/// more.
 ///
 /// The bytes are walked over once, in place, up to where they aren't. No memory is taken.
 pub fn is_deterministic<O: KeyOrder>(limit: Limit, bytes: &[u8]) -> bool
-    ensures { IsTrue result → IsTranscoded O.order limit bytes.now bytes.now }
+    ensures { IsTrue result ↔ IsTranscoded O.order limit bytes.now bytes.now }
 {
     let found = departure::<O>(&mut Asked::whether(), limit, bytes);
     matches!(found, Departure::Deterministic)
@@ -44,14 +42,12 @@ pub fn first_departure<O: KeyOrder>(alloc: Global, limit: Limit, bytes: &[u8]) -
 
 /// What both ask.
 fn departure<'a, O: KeyOrder>(asked: &mut Asked<'a, O>, limit: Limit, bytes: &'a [u8]) -> Departure
-    ensures { IsFirstDeparture O.order limit bytes.now result }
+    ensures first { IsFirstDeparture O.order limit bytes.now result }
+    ensures strays { result ≢ Departure.Deterministic → IsTranscoded O.order limit bytes.now bytes.now → ⊥ }
 {
     let room = limit.get();
     let mut rest = bytes;
-    'items: for _ in 0..bytes.len() {
-        if rest.is_empty() {
-            break;
-        }
+    'items: while !rest.is_empty() {
         match walk_item::<O>(asked, room, rest) {
             Walked::Behind(behind) => rest = last(rest, behind),
             stop => {
@@ -62,9 +58,6 @@ fn departure<'a, O: KeyOrder>(asked: &mut Asked<'a, O>, limit: Limit, bytes: &'a
                 };
             }
         }
-    }
-    if !rest.is_empty() {
-        return Departure::Unknown;
     }
     Departure::Deterministic
 }
@@ -90,13 +83,13 @@ fn walk_settled<'a, O: KeyOrder>(
 
 /// The item at the front of the bytes, which is its own deterministic encoding, no deeper than
 /// `room`, the keys of maps in the order `O` (RFC 8949 section 4.2); and what follows it, which
-/// isn't looked at. None promises nothing: the item may depart from that encoding, or there may be
-/// none. No memory is taken.
+/// isn't looked at. None: no such encoding stands there. No memory is taken.
 #[inline(always)]
 pub fn split_item<O: KeyOrder>(room: u64, bytes: &[u8]) -> Option<(&[u8], &[u8])>
     requires { room ≤ 1024 }
     ensures parts { IfSome result (λ r. bytes.now ≡ r.0.now ++ r.1.now) }
     ensures item { IfSome result (λ r. ItemTranscoded O.order room bytes.now r.1.now [] r.0.now) }
+    ensures none { result ≡ None → (front rest : List ℕ) → bytes.now ≡ front ++ rest → ItemTranscoded O.order room bytes.now rest [] front → ⊥ }
 {
     let Walked::Behind(behind) = walk_item::<O>(&mut Asked::whether(), room, bytes) else {
         return None;

@@ -1,7 +1,13 @@
 -- What is known of two deterministic encodings that are walked side by side.
-use Rattle.std.proofs.Common.{◌≡◌, ◌<◌, ◌+◌, ℕ, zero, suc, ◌⊎◌, inl, inr, List, [], ◌∷◌, ◌++◌, length, take, Option, None, Some, Ordering, refl, sym, ◌∙◌, ap, subst, arith}
+use Rattle.std.proofs.Common.{◌≡◌, ◌<◌, ◌+◌, ℕ, zero, suc, ◌⊎◌, inl, inr, List, [], ◌∷◌, ◌++◌, length, take, Option, None, Some, Ordering, refl, sym, ◌∙◌, ap, subst, arith, length-append}
 use Rattle.std.specs.List.{AllZip, AllByRecursion}
+use Rattle.cborn_judge.proofs.Encoded.Tidying.{det_tidy}
+use Rattle.cborn_judge.proofs.Meaning.Meanings.{some_bytes}
+use Rattle.cborn_wire.specs.Parts.{NodeRead}
+use Rattle.cborn_model.specs.Meaning.{Means}
 use Rattle.cborn_model.specs.Orders.{IsKeyOrder}
+use Rattle.cborn_model.specs.Spelled.{spelled, spelled_all, Wellformed}
+use Rattle.cborn_model.specs.Tree.{Tree, trees}
 use Rattle.cborn_model.specs.Valid.{IsProper}
 use Rattle.cborn_model.specs.Value.{Value, Same}
 use Rattle.cborn_model.proofs.SameItems.Sameness.{same_chained, same_turned}
@@ -45,11 +51,18 @@ module _ (order : List ℕ → List ℕ → Ordering) where
     det2 : DetSeq order ws right
     apart : left ≡ right → ⊥
 
+  -- the nodes to come on our side
+  pub record NodesAhead (limit : ℕ) (vs : List Value) (left : List ℕ) : Type 0 where
+    nodes : List Tree
+    read : Wellformed limit (trees nodes) left
+    meant : AllZip Means nodes vs
+
   -- the items to come behind the first ones, which are the same
-  record Further (vs ws : List Value) (left right : List ℕ) : Type 0 where
+  record Further (limit : ℕ) (vs ws : List Value) (left right : List ℕ) : Type 0 where
     others : List Value
     others2 : List Value
     ahead : Ahead others others2 left right
+    spelt : NodesAhead limit others left
     lift : (j : ℕ) → Difference others others2 (Some j) → Difference vs ws (Some (suc j))
 
   -- a walk that has passed k items on both sides
@@ -61,6 +74,7 @@ module _ (order : List ℕ → List ℕ → Ordering) where
     vs : List Value
     ws : List Value
     ahead : Ahead vs ws left right
+    spelt : NodesAhead limit vs left
     lift : (j : ℕ) → Difference vs ws (Some j) → Difference a b (Some (j + k))
 
 module _ (order : List ℕ → List ℕ → Ordering) (laws : IsKeyOrder order) where
@@ -85,11 +99,30 @@ module _ (order : List ℕ → List ℕ → Ordering) (laws : IsKeyOrder order) 
       let one : a.0 ≡ b.0 = one_of_same order laws v w a.0 b.0 h.proper.0 h.proper2.0 same a.2 b.2 in
       never b.1 (b.4 ∙ ap (λ (z : List ℕ). z ++ b.1) (sym (first ∙ one))))
 
+  -- the nodes behind the first one
+  nodes_behind : (limit : ℕ) (ts : List Tree) (v : Value) (vs : List Value) (left l : List ℕ) → (d : DetSeq order (v ∷ vs) left) → IsProper v → Wellformed limit (trees ts) left → AllZip Means ts (v ∷ vs) → l ≡ d.1 → NodesAhead order limit vs l
+  nodes_behind limit [] v vs left l d p w m e = absurd m
+  nodes_behind limit (t ∷ ts) v vs left l d p w m e =
+      let tidy = det_tidy order t v (spelled_all (trees ts)) d.0 d.1 w.fit.0 p d.2 (w.spells ∙ d.4) in
+      record { nodes = ts; read = record { spells = tidy.1 ∙ sym e; fit = w.fit.1; shallow = omega (arith, w.shallow) }; meant = m.1 }
+
+  -- the first one is its own encoding
+  first_node : (limit : ℕ) (ts : List Tree) (vs : List Value) (left : List ℕ) → DetSeq order vs left → AllByRecursion IsProper vs → Wellformed limit (trees ts) left → AllZip Means ts vs → 0 < length left → (front : List ℕ) × (rest : List ℕ) × (left ≡ front ++ rest) × ItemTranscoded order limit left rest [] front
+  first_node limit ts [] left d p w m some = absurd (omega (arith, some, ap length d))
+  first_node limit [] (v ∷ vs) left d p w m some = absurd m
+  first_node limit (t ∷ ts) (v ∷ vs) left d p w m some =
+      let tidy = det_tidy order t v (spelled_all (trees ts)) d.0 d.1 w.fit.0 p.0 d.2 (w.spells ∙ d.4) in (
+        spelled t,
+        spelled_all (trees ts),
+        sym w.spells,
+        record { node = t; read = sym w.spells; fits = w.fit.0; shallow = omega (arith, w.shallow); holds = (spelled t, (v, m.0, subst (Det order v) (sym tidy.0) d.2), refl) },
+      )
+
   -- both begin with it
-  further : (vs ws : List Value) (left right x l r : List ℕ) (u : Value) → Ahead order vs ws left right → Det order u x → left ≡ x ++ l → right ≡ x ++ r → (left ≡ [] → ⊥) → (right ≡ [] → ⊥) → Further order vs ws l r
-  further [] ws left right x l r u h d e f some some2 = absurd (some h.det)
-  further (v ∷ vs) [] left right x l r u h d e f some some2 = absurd (some2 h.det2)
-  further (v ∷ vs) (w ∷ ws) left right x l r u h d e f some some2 =
+  further : (limit : ℕ) (vs ws : List Value) (left right x l r : List ℕ) (u : Value) → Ahead order vs ws left right → NodesAhead order limit vs left → Det order u x → left ≡ x ++ l → right ≡ x ++ r → (left ≡ [] → ⊥) → (right ≡ [] → ⊥) → Further order limit vs ws l r
+  further limit [] ws left right x l r u h n d e f some some2 = absurd (some h.det)
+  further limit (v ∷ vs) [] left right x l r u h n d e f some some2 = absurd (some2 h.det2)
+  further limit (v ∷ vs) (w ∷ ws) left right x l r u h n d e f some some2 =
       let a = h.det in
       let b = h.det2 in
       let one = reads order u x d v a.0 l a.1 a.2 (sym e ∙ a.4) in
@@ -105,6 +138,7 @@ module _ (order : List ℕ → List ℕ → Ordering) (laws : IsKeyOrder order) 
           det2 = subst (DetSeq order ws) (sym two.1) b.3;
           apart = λ p. h.apart (e ∙ ap (λ (z : List ℕ). x ++ z) p ∙ sym f);
         };
+        spelt = nodes_behind limit n.nodes v vs left l h.det h.proper.0 n.read n.meant one.1;
         lift = λ j. differ_behind v w vs ws j same;
       }
 
@@ -121,6 +155,7 @@ module _ (order : List ℕ → List ℕ → Ordering) (laws : IsKeyOrder order) 
       vs = h.items;
       ws = k.items;
       ahead = record { proper = proper ours h; proper2 = proper theirs k; det = h.encoded; det2 = k.encoded; apart = never };
+      spelt = record { nodes = h.held.nodes; read = h.held.spelled; meant = h.held.meant };
       lift = λ j d. let e : j ≡ j + 0 = omega arith in subst (λ (i : ℕ). Difference h.items k.items (Some i)) e d;
     }
 
@@ -149,7 +184,7 @@ module _ (order : List ℕ → List ℕ → Ordering) (laws : IsKeyOrder order) 
 
     pub passed : (left right x l r : List ℕ) (k : ℕ) → SoFar order limit ours theirs left right k → (u : Value) × Det order u x → left ≡ x ++ l → right ≡ x ++ r → 0 < length left → 0 < length right → SoFar order limit ours theirs l r (k + 1)
     passed left right x l r k s d e f some some2 =
-        let t = further s.vs s.ws left right x l r d.0 s.ahead d.1 e f (λ q. absurd (omega (arith, some, ap length q))) (λ q. absurd (omega (arith, some2, ap length q))) in
+        let t = further limit s.vs s.ws left right x l r d.0 s.ahead s.spelt d.1 e f (λ q. absurd (omega (arith, some, ap length q))) (λ q. absurd (omega (arith, some2, ap length q))) in
         record {
           a = s.a;
           b = s.b;
@@ -158,10 +193,19 @@ module _ (order : List ℕ → List ℕ → Ordering) (laws : IsKeyOrder order) 
           vs = t.others;
           ws = t.others2;
           ahead = t.ahead;
+          spelt = t.spelt;
           lift = λ j q. let same : suc j + k ≡ j + (k + 1) = omega arith in subst (λ (i : ℕ). Difference s.a s.b (Some i)) same (s.lift (suc j) (t.lift j q));
         }
 
+    -- an encoding stands at the front of what is left of ours
+    pub front_left : (left right : List ℕ) (k : ℕ) → SoFar order limit ours theirs left right k → 0 < length left → ((front rest : List ℕ) → left ≡ front ++ rest → ItemTranscoded order limit left rest [] front → ⊥) → ⊥
+    front_left left right k s some none = let f = first_node limit s.spelt.nodes s.vs left s.ahead.det s.ahead.proper s.spelt.read s.spelt.meant some in none f.0 f.1 f.2 f.3
+
 -- ---- an encoding at the front
+
+-- less is left behind an item
+pub item_less : {P : Tree → Type 0} {room : ℕ} {input rest : List ℕ} → NodeRead P room input rest → length rest < length input
+item_less {rest = rest} x = omega (arith, ap length x.read, length-append (spelled x.node) rest, some_bytes x.node)
 
 pub encoding_taken : (order : List ℕ → List ℕ → Ordering) (limit : ℕ) (bytes rest x : List ℕ) → ItemTranscoded order limit bytes rest [] x → (v : Value) × Det order v x
 encoding_taken order limit bytes rest x t = (t.holds.1.0, subst (Det order t.holds.1.0) (sym t.holds.2) t.holds.1.2)

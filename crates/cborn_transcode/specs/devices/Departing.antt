@@ -8,7 +8,7 @@ use Rattle.cborn_model.specs.Heads.{Given, head, WidthFits, least}
 use Rattle.cborn_model.specs.Meaning.{IsByteString, Means, AllMean, EntriesMean}
 use Rattle.cborn_model.specs.Placed.{Placed, PlacedAll, PlacedEntries}
 use Rattle.cborn_model.specs.Spelled.{spelled, spelled_all, spelled_entries, Fits, FitsAll, FitsEntries}
-use Rattle.cborn_model.specs.Tree.{Tree, Trees, Entries, no_entry, entry, count, count_entries, place}
+use Rattle.cborn_model.specs.Tree.{Tree, Trees, Entries, no_entry, entry, count, count_entries, place, depth, depth_all, depth_entries}
 use Rattle.cborn_model.specs.Value.{Value, Values, Couples}
 use Rattle.cborn_det.specs.Det.{Det}
 use Rattle.cborn_judge.specs.Departures.{FindsDefect}
@@ -19,8 +19,8 @@ use Rattle.cborn_judge.specs.declared.defects.DefectReason.{DefectReason}
 use Rattle.cborn_judge.specs.declared.defects.DefectReason.TheVariants as reasons
 use Rattle.cborn_transcode.specs.declared.departures.Walked.{Walked}
 use Rattle.cborn_transcode.specs.declared.departures.Walked.TheVariants.{Behind, LongHead, EndlessLength, LooseBignum, KeyOrder, Unknown}
-use Rattle.cborn_transcode.specs.Transcoding.{IsEncodedAs}
-use Rattle.cborn_wire.specs.Parts.{Leaves}
+use Rattle.cborn_transcode.specs.Transcoding.{IsContent, IsEncodedAs}
+use Rattle.cborn_wire.specs.Parts.{Leaves, StringRead}
 use Rattle.cborn_transcode.specs.shared.Walking.{ItemWalked, WalkedBehind}
 
 -- the node stands at the front of the input, and means an item
@@ -49,7 +49,15 @@ pub record PairsStand (total n : ℕ) (es : Entries) (input rest : List ℕ) : T
   pub meant : EntriesMean es items
   pub count : count_entries es ≡ n
 
--- what is known of what a walk found: that so many bytes follow the item, that so many follow the place of its first departure, or nothing
+-- no item stands at the front
+abbrev pub NoneStands : List ℕ → Type 0
+NoneStands input = (total : ℕ) (t : Tree) (rest : List ℕ) → Stands total t input rest → ⊥
+
+-- no content of a string of n bytes of the major type
+abbrev pub NoContent : Major → ℕ → List ℕ → Type 0
+NoContent major n input = (content rest : List ℕ) → StringRead n input content rest → IsContent major content → ⊥
+
+-- what is known of what a walk found: that so many bytes follow the item, that so many follow the place of its first departure, or that neither is known
 abbrev pub Tell : (ℕ → Type 0) → (DefectReason → ℕ → Type 0) → Type 0 → Walked → Type 0
 Tell behind stops unknown (Behind left) = behind left
 Tell behind stops unknown (LongHead left) = stops reasons.LongHead left
@@ -87,23 +95,42 @@ module _ (order : List ℕ → List ℕ → Ordering) where
   abbrev pub Halts : List ℕ → Walked → Type 0
   Halts input = Tell (λ left. ⊥) (Stops input) ⊤
 
+  -- the same of an item behind the shortest head of this major type with the argument n
+  abbrev pub HaltsBehind : Major → ℕ → List ℕ → Walked → Type 0
+  HaltsBehind m n input = Tell (λ left. ⊥) (StopsBehind m n input) ⊤
+
+  -- whatever item stands at the front, no deeper than the room, has a defect
+  abbrev pub Strays : ℕ → List ℕ → Type 0
+  Strays room input = (total : ℕ) (t : Tree) (rest : List ℕ) → length input ≤ total → Stands total t input rest → depth t ≤ room → FindsDefect (DefectIn order t) None → ⊥
+
+  -- the same of an item behind the shortest head of this major type with the argument n
+  abbrev pub StraysBehind : ℕ → Major → ℕ → List ℕ → Type 0
+  StraysBehind room m n input = WidthFits (least n) n → Strays room (head m (Given (least n) n) ++ input)
+
   abbrev pub Walks : ℕ → List ℕ → Walked → Type 0
-  Walks room input = Tell (Leaves (ItemWalked order room input)) (Stops input) ⊤
+  Walks room input = Tell (Leaves (ItemWalked order room input)) (Stops input) (Strays room input)
 
   abbrev pub WalksBehind : ℕ → Major → ℕ → List ℕ → Walked → Type 0
-  WalksBehind room m n input = Tell (Leaves (WalkedBehind order room m n input)) (StopsBehind m n input) ⊤
+  WalksBehind room m n input = Tell (Leaves (WalkedBehind order room m n input)) (StopsBehind m n input) (StraysBehind room m n input)
 
   -- what is found of these nodes is found of those
   abbrev pub Decides : Trees → Trees → Type 0
   Decides us ts = (o : Option Defect) → FindsDefect (DefectInAll order us) o → FindsDefect (DefectInAll order ts) o
 
+  -- these nodes, and what is found in them, are among those
+  abbrev pub Remain : Trees → Trees → Type 0
+  Remain us ts = (depth_all us ≤ depth_all ts) × ((p : ℕ) (r : DefectReason) → DefectInAll order us p r → DefectInAll order ts p r)
+
+  abbrev pub RemainAmong : Entries → Entries → Type 0
+  RemainAmong us es = (depth_entries us ≤ depth_entries es) × ((p : ℕ) (r : DefectReason) → DefectAmong order us p r → DefectAmong order es p r)
+
   -- the nodes before the last `left` of n at the front of the input have no defect, and these stand at the front of what follows
   abbrev pub Leads : ℕ → ℕ → List ℕ → List ℕ → Type 0
-  Leads n left input mid = (total : ℕ) (ts : Trees) (rest : List ℕ) → length input ≤ total → AllStand total n ts input rest → (us : Trees) × AllStand total left us mid rest × Decides us ts
+  Leads n left input mid = (total : ℕ) (ts : Trees) (rest : List ℕ) → length input ≤ total → AllStand total n ts input rest → (us : Trees) × AllStand total left us mid rest × Decides us ts × Remain us ts
 
   -- the same of all nodes up to the end of the input
   abbrev pub LeadsOn : List ℕ → List ℕ → Type 0
-  LeadsOn input mid = (n : ℕ) (ts : Trees) → AllStand (length input) n ts input [] → (left : ℕ) × (us : Trees) × AllStand (length input) left us mid [] × Decides us ts
+  LeadsOn input mid = (n : ℕ) (ts : Trees) → AllStand (length input) n ts input [] → (left : ℕ) × (us : Trees) × AllStand (length input) left us mid [] × Decides us ts × Remain us ts
 
   -- the key before, if there is one, is not below the encoding of what l means
   abbrev pub IsBelowKey : Option (Bor (List ℕ)) → Tree → Type 0
@@ -121,7 +148,7 @@ module _ (order : List ℕ → List ℕ → Ordering) where
   -- the pairs before the last `left` of n have no defect, and these stand behind the key before
   abbrev pub LeadsPairs : ℕ → ℕ → Option (Bor (List ℕ)) → List ℕ → List ℕ → Type 0
   LeadsPairs n left before input mid = (total : ℕ) (es : Entries) (rest : List ℕ) → length input ≤ total → PairsStand total n es input rest
-      → (us : Entries) × PairsStand total left us mid rest × ((o : Option Defect) → FindsDefect (DefectOn before us) o → FindsDefect (MapDefect order es) o)
+      → (us : Entries) × PairsStand total left us mid rest × ((o : Option Defect) → FindsDefect (DefectOn before us) o → FindsDefect (MapDefect order es) o) × RemainAmong us es
 
   -- the key before, if there is one, is not below
   abbrev pub IsFallen : Option (Bor (List ℕ)) → List ℕ → Type 0

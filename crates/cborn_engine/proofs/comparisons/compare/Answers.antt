@@ -13,8 +13,8 @@ difference-requires g c = record {
 
 pub returns-clause-compares : goal.returns-clause-compares
 returns-clause-compares g c =
-    compared g.O.KeyOrder.order g.met.O.KeyOrder.laws c.args.kind_a c.args.kind_b c.args.limit most_bytes _ _ _ _ c.in-Ok.bytes c.in-Ok-read_encoded.bytes c.deref.result.now c.deref-2.result.now c.in_ok-difference.field-0 (omega arith)
-    c.in-Ok.ensures.encodes c.in-Ok-read_encoded.ensures.encodes c.deref.ensures.value c.deref-2.ensures.value c.in_ok-difference.ensures
+    compared g.O.KeyOrder.order g.met.O.KeyOrder.laws c.args.kind_a c.args.kind_b c.args.limit most_bytes _ _ _ _ c.in-Ok.bytes c.in-Ok-read_encoded.bytes c.deref.result.now c.deref-2.result.now c.difference.result (omega arith)
+    c.in-Ok.ensures.encodes c.in-Ok-read_encoded.ensures.encodes c.deref.ensures.value c.deref-2.ensures.value c.difference.ensures
 
 pub returns-in-Err-clause-compares : goal.returns-in-Err-clause-compares
 returns-in-Err-clause-compares g c = search (rules, not_compared)

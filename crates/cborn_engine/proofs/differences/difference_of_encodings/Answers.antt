@@ -1,27 +1,40 @@
-use Rattle.std.proofs.Common.{ℕ, [], rules, subst}
+use Rattle.std.proofs.Common.{◌≡◌, ◌++◌, ◌<◌, ℕ, List, [], None, length, rules, subst, arith}
 use Rattle.cborn_transcode.specs.Transcoding.{ItemTranscoded}
-use Rattle.cborn_engine.proofs.Comparison.Apart.{at_first, ours_ended, theirs_ended, apart_here, passed, encoding_taken}
+use Rattle.cborn_engine.proofs.Comparison.Apart.{at_first, ours_ended, theirs_ended, apart_here, passed, front_left, encoding_taken, item_less}
 use Rattle.cborn_engine.proofs.differences.difference_of_encodings.Goals as goal
 
 pub items-init : goal.items-init
-items-init g c = at_first g.O.KeyOrder.order g.met.O.KeyOrder.laws c.args.limit c.args.ours.now c.args.theirs.now c.requires.ours c.requires.theirs c.requires.apart
+items-init g c = (at_first g.O.KeyOrder.order g.met.O.KeyOrder.laws c.args.limit c.args.ours.now c.args.theirs.now c.requires.ours c.requires.theirs c.requires.apart, omega arith)
+
+pub returns : goal.returns
+returns g c = ours_ended g.O.KeyOrder.order g.met.O.KeyOrder.laws c.args.limit c.args.ours.now c.args.theirs.now c.items.left.now c.items.right.now c.items.index c.items.invariant.0 (search rules)
 
 pub returns-then-is_empty : goal.returns-then-is_empty
-returns-then-is_empty g c = ours_ended g.O.KeyOrder.order g.met.O.KeyOrder.laws c.args.limit c.args.ours.now c.args.theirs.now c.items.left.now c.items.right.now c.items.index c.items.invariant (search rules)
+returns-then-is_empty g c = theirs_ended g.O.KeyOrder.order g.met.O.KeyOrder.laws c.args.limit c.args.ours.now c.args.theirs.now c.items.left.now c.items.right.now c.items.index c.items.invariant.0 (search rules)
 
-pub returns-then-is_empty-2 : goal.returns-then-is_empty-2
-returns-then-is_empty-2 g c = theirs_ended g.O.KeyOrder.order g.met.O.KeyOrder.laws c.args.limit c.args.ours.now c.args.theirs.now c.items.left.now c.items.right.now c.items.index c.items.invariant (search rules)
+pub unreachable-requires : goal.unreachable-requires
+unreachable-requires g c =
+    let some : 0 < length c.items.left.now = search rules in
+    let none : c.split_item.result ≡ None = search rules in
+    front_left g.O.KeyOrder.order g.met.O.KeyOrder.laws c.args.limit c.args.ours.now c.args.theirs.now c.items.left.now c.items.right.now c.items.index c.items.invariant.0 some
+    (subst (λ (l : ℕ). (front rest : List ℕ) → c.items.left.now ≡ front ++ rest → ItemTranscoded g.O.KeyOrder.order l c.items.left.now rest [] front → ⊥) c.get.ensures.value (c.split_item.ensures.none none))
 
 pub returns-in-None : goal.returns-in-None
 returns-in-None g c =
-    let item = c.in_ok-item.item.now in
-    let rest = c.in_ok-item.rest.now in
-    apart_here g.O.KeyOrder.order g.met.O.KeyOrder.laws c.args.limit c.args.ours.now c.args.theirs.now c.items.left.now c.items.right.now item rest c.items.index c.items.invariant
-    (encoding_taken g.O.KeyOrder.order c.args.limit c.items.left.now rest item (subst (λ (l : ℕ). ItemTranscoded g.O.KeyOrder.order l c.items.left.now rest [] item) c.get.ensures.value c.in_ok-item.ensures.item)) c.in_ok-item.ensures.parts c.in-None.ensures
+    let item = c.in-Some.item.now in
+    let rest = c.in-Some.rest.now in
+    apart_here g.O.KeyOrder.order g.met.O.KeyOrder.laws c.args.limit c.args.ours.now c.args.theirs.now c.items.left.now c.items.right.now item rest c.items.index c.items.invariant.0
+    (encoding_taken g.O.KeyOrder.order c.args.limit c.items.left.now rest item (subst (λ (l : ℕ). ItemTranscoded g.O.KeyOrder.order l c.items.left.now rest [] item) c.get.ensures.value c.in-Some.ensures.item)) c.in-Some.ensures.parts c.in-None.ensures
 
 pub items-preserved : goal.items-preserved
 items-preserved g c =
-    let item = c.in_ok-item.item.now in
-    let rest = c.in_ok-item.rest.now in
-    passed g.O.KeyOrder.order g.met.O.KeyOrder.laws c.args.limit c.args.ours.now c.args.theirs.now c.items.left.now c.items.right.now item rest c.in-Some.rest.now c.items.index c.items.invariant
-    (encoding_taken g.O.KeyOrder.order c.args.limit c.items.left.now rest item (subst (λ (l : ℕ). ItemTranscoded g.O.KeyOrder.order l c.items.left.now rest [] item) c.get.ensures.value c.in_ok-item.ensures.item)) c.in_ok-item.ensures.parts c.in-Some.ensures (search rules) (search rules)
+    let item = c.in-Some.item.now in
+    let rest = c.in-Some.rest.now in
+    let less : length rest < length c.items.left.now = item_less c.in-Some.ensures.item in (
+      passed g.O.KeyOrder.order g.met.O.KeyOrder.laws c.args.limit c.args.ours.now c.args.theirs.now c.items.left.now c.items.right.now item rest c.in-Some-behind.after.now c.items.index c.items.invariant.0
+          (encoding_taken g.O.KeyOrder.order c.args.limit c.items.left.now rest item (subst (λ (l : ℕ). ItemTranscoded g.O.KeyOrder.order l c.items.left.now rest [] item) c.get.ensures.value c.in-Some.ensures.item)) c.in-Some.ensures.parts c.in-Some-behind.ensures (search rules) (search rules),
+      omega (arith, c.items.invariant.1, less),
+    )
+
+pub items-smaller : goal.items-smaller
+items-smaller g c = item_less c.in-Some.ensures.item

@@ -12,7 +12,7 @@ returns-then-is_deterministic-clause-answers g c within =
     let read = c.in-Some in (
       within,
       encoded c.args.profile c.args.limit c.args.input.now read.bytes.items read.ensures.0 read.ensures.1 order read.bytes.items
-          (subst (λ (x : List ℕ). IsTranscoded order c.args.limit x x) c.deref.ensures.value (c.is_deterministic.ensures c.if-is_deterministic.true)) within,
+          (subst (λ (x : List ℕ). IsTranscoded order c.args.limit x x) c.deref.ensures.value (c.is_deterministic.ensures.0 c.if-is_deterministic.true)) within,
     )
 
 pub returns-in-Some-transcode-clause-answers : goal.returns-in-Some-transcode-clause-answers

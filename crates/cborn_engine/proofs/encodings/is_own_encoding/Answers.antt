@@ -9,4 +9,4 @@ pub returns-then-eq : goal.returns-then-eq
 returns-then-eq g c h =
     let input = c.args.input.now in
     let wire : c.args.kind ≡ kind.Wire = search rules in
-    subst (λ (k : Kind). IsEncoded g.O.KeyOrder.order k c.args.limit input input) (sym wire) (transcoded g.O.KeyOrder.order c.args.limit input input (c.is_deterministic.ensures h))
+    subst (λ (k : Kind). IsEncoded g.O.KeyOrder.order k c.args.limit input input) (sym wire) (transcoded g.O.KeyOrder.order c.args.limit input input (c.is_deterministic.ensures.0 h))

@@ -20,16 +20,13 @@ returns-clause-compared g c =
     let m = c.in_ok-ours in (
       m.ensures.short.0,
       m.ensures.short.1,
-      bytes_compared g.O.KeyOrder.order g.met.O.KeyOrder.laws c.args.kind_a c.args.kind_b c.args.limit c.args.first.now c.args.second.now (cow_slice_items m.ours) (cow_slice_items m.theirs) c.deref.result.now c.deref-2.result.now c.in_ok-difference.field-0
-          m.ensures.short.0 m.ensures.short.1 m.ensures.encoded.0 m.ensures.encoded.1 c.deref.ensures.value c.deref-2.ensures.value c.in_ok-difference.ensures,
+      bytes_compared g.O.KeyOrder.order g.met.O.KeyOrder.laws c.args.kind_a c.args.kind_b c.args.limit c.args.first.now c.args.second.now (cow_slice_items m.ours) (cow_slice_items m.theirs) c.deref.result.now c.deref-2.result.now c.difference.result
+          m.ensures.short.0 m.ensures.short.1 m.ensures.encoded.0 m.ensures.encoded.1 c.deref.ensures.value c.deref-2.ensures.value c.difference.ensures,
     )
 
 pub returns-in_err-ours-clause-malformed : goal.returns-in_err-ours-clause-malformed
 returns-in_err-ours-clause-malformed g c l =
     told (λ r. TellsFirstFault c.args.kind_a c.args.limit c.args.first.now r) _ _ c.from_residual.ensures.1 (first_handed c.args.kind_a c.args.limit c.args.first.now c.in_err-ours.field-0.0 (c.in_err-ours.ensures.malformed l))
-
-pub returns-in_err-difference-clause-malformed : goal.returns-in_err-difference-clause-malformed
-returns-in_err-difference-clause-malformed g c l = both_answered c.args.kind_a c.args.limit c.args.first.now (c.in_ok-ours.ours, c.in_ok-ours.theirs) _ (c.in_ok-ours.ensures.malformed l)
 
 pub returns-clause-malformed : goal.returns-clause-malformed
 returns-clause-malformed g c l = both_answered c.args.kind_a c.args.limit c.args.first.now (c.in_ok-ours.ours, c.in_ok-ours.theirs) _ (c.in_ok-ours.ensures.malformed l)

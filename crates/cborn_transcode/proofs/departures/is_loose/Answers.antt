@@ -17,7 +17,7 @@ found b (Some d) f = ((λ e. f.is.2), (λ l. refl))
 pub returns : goal.returns
 returns g c total t rest b s is =
     let order = g.O.KeyOrder.order in
-    let read : LeastHeadRead c.in_ok-content.field-0-0 c.in_ok-content.field-0-1 c.put_item.new.out.items c.in_ok-content.content.now = subst (λ x. LeastHeadRead c.in_ok-content.field-0-0 c.in_ok-content.field-0-1 x c.in_ok-content.content.now) c.deref.ensures.value c.in_ok-content.ensures in
+    let read : LeastHeadRead c.in_ok-content.field-0-0 c.in_ok-content.field-0-1 c.put_item.new.out.items c.in_ok-content.content.now = subst (λ x. LeastHeadRead c.in_ok-content.field-0-0 c.in_ok-content.field-0-1 x c.in_ok-content.content.now) c.deref.ensures.value c.in_ok-content.ensures.read in
     let coded : ItemTranscoded order 0 c.args.bytes.now c.in_ok-put_item.field-0.now [] c.put_item.new.out.items = subst (λ x. ItemTranscoded order 0 c.args.bytes.now c.in_ok-put_item.field-0.now x c.put_item.new.out.items) c.new-out.ensures.items c.in_ok-put_item.ensures in
     let same : c.in_ok-content.content.now ≡ b = content_is order total c.in_ok-content.field-0-1 t c.args.bytes.now rest c.in_ok-put_item.field-0.now c.put_item.new.out.items c.in_ok-content.content.now b c.in_ok-content.field-0-0 s is coded read in
     subst (λ z. IsTrue z ↔ IsLoose b) (sym c.is_some.ensures) (found b c.loose_defect.result (subst (λ z. FindsDefect (LooseBytesAt 0 z) c.loose_defect.result) same c.loose_defect.ensures))

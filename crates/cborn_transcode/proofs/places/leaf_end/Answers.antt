@@ -13,15 +13,15 @@ returns-then-len-gt0-clause-walked c order room =
 pub overflow_sub-result : goal.overflow_sub-result
 overflow_sub-result c =
     let x : List ℕ = drop c.args.at c.args.bytes.now in
-    let read : LeastHeadRead c.in_ok-major.major c.in_ok-major.n x c.in_ok-major.after.now = subst (λ (y : List ℕ). LeastHeadRead c.in_ok-major.major c.in_ok-major.n y c.in_ok-major.after.now) (take_rest c.args.bytes.now c.args.at) c.in_ok-major.ensures in
+    let read : LeastHeadRead c.in_ok-major.major c.in_ok-major.n x c.in_ok-major.after.now = subst (λ (y : List ℕ). LeastHeadRead c.in_ok-major.major c.in_ok-major.n y c.in_ok-major.after.now) (take_rest c.args.bytes.now c.args.at) c.in_ok-major.ensures.read in
     leaf_within c.args.at c.in_ok-left.left c.args.bytes.now c.requires
-    (λ order room. leaf_walked order read (c.in_ok-left.ensures order room))
+    (λ order room. leaf_walked order read (c.in_ok-left.ensures.walked order room))
 
 pub returns : goal.returns
 returns c =
     let x : List ℕ = drop c.args.at c.args.bytes.now in
-    let read : LeastHeadRead c.in_ok-major.major c.in_ok-major.n x c.in_ok-major.after.now = subst (λ (y : List ℕ). LeastHeadRead c.in_ok-major.major c.in_ok-major.n y c.in_ok-major.after.now) (take_rest c.args.bytes.now c.args.at) c.in_ok-major.ensures in
+    let read : LeastHeadRead c.in_ok-major.major c.in_ok-major.n x c.in_ok-major.after.now = subst (λ (y : List ℕ). LeastHeadRead c.in_ok-major.major c.in_ok-major.n y c.in_ok-major.after.now) (take_rest c.args.bytes.now c.args.at) c.in_ok-major.ensures.read in
     record {
       inside = omega arith;
-      walked = λ order room. leaf_found order c.args.at c.in_ok-left.left c.args.bytes.now c.requires (leaf_walked order read (c.in_ok-left.ensures order room));
+      walked = λ order room. leaf_found order c.args.at c.in_ok-left.left c.args.bytes.now c.requires (leaf_walked order read (c.in_ok-left.ensures.walked order room));
     }

@@ -1,7 +1,10 @@
-use Rattle.std.proofs.Common.{ℕ}
+use Rattle.std.proofs.Common.{ℕ, length}
 use Rattle.cborn_transcode.specs.devices.Departing.{LeadsOn}
 use Rattle.cborn_transcode.specs.shared.Walking.{ItemsWalked}
 use Rattle.cborn_transcode.proofs.walks.departure.Given as goal
+
+abbrev pub decreases-items : goal.decreases-items
+decreases-items g l = length l.rest
 
 -- the items so far
 abbrev pub invariant-items : goal.invariant-items

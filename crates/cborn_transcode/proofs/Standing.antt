@@ -1,0 +1,105 @@
+-- Of a node at the front of bytes its head is read: what is no whole head begins no node.
+use Rattle.std.proofs.Common.{◌≡◌, ℕ, ◌+◌, ◌*◌, ◌%◌, ◌<◌, ◌≤◌, ◌⊎◌, inl, inr, List, [], ◌∷◌, ◌++◌, length, refl, sym, ap, ◌∙◌, subst, arith, append_assoc, append-nil, length-append, false, Some, None, Option}
+use Rattle.std.proofs.lemmas.Bool.{le-ltb}
+use Rattle.cborn_model.specs.declared.heads.Major.{Major}
+use Rattle.cborn_model.specs.declared.heads.Major.TheVariants.{Unsigned, Negative, ByteString, TextString, Array, Map, Tag, Other}
+use Rattle.cborn_model.specs.declared.heads.Size.TheVariants.{Fixed, Endless}
+use Rattle.cborn_model.specs.declared.heads.Width.{Width}
+use Rattle.cborn_model.specs.declared.heads.Width.TheVariants.{Direct, One, Two, Four, Eight}
+use Rattle.cborn_model.specs.Heads.{Argument, Given, Unbounded, head, following, code, least, WidthFits}
+use Rattle.cborn_model.specs.Spelled.{spelled, Fits}
+use Rattle.cborn_model.specs.Tree.{Tree, Uint, Nint, Bytes, Text, ByteChunks, TextChunks, Items, Pairs, Tagged, Simple}
+use Rattle.cborn_model.proofs.Numbers.Majors.{major_at-code}
+use Rattle.cborn_model.proofs.Numbers.Simples.{simple_cases, least_direct, least_one}
+use Rattle.cborn_wire.specs.declared.faults.WireReason.{WireReason}
+use Rattle.cborn_wire.specs.declared.heads.Head.{Head}
+use Rattle.cborn_wire.specs.declared.heads.HeadRead.{HeadRead}
+use Rattle.cborn_wire.specs.declared.heads.HeadRead.TheVariants.{Full, Short, Bad}
+use Rattle.cborn_wire.specs.HeadReading.{major_at, reason_alone, ArgumentFits, ReadsHead}
+use Rattle.cborn_wire.specs.Slots.{element_or_end}
+use Rattle.cborn_wire.specs.shared.InitialBytes.{Info, Now, Next, Unended, info_at, head_reason}
+use Rattle.cborn_wire.proofs.HeadReading.InitialBytes.{same_alone}
+use Rattle.cborn_wire.proofs.Machine.TakesHeads.{quotient, remainder, info_at-now}
+use Rattle.cborn_transcode.proofs.Opening.{opening, contents, opens, opening_fits, one_argument}
+
+free_front : (m : Major) (i : ℕ) (j : Info) (y : List ℕ) → i < 32 → info_at i ≡ j → head_reason element_or_end false m j y ≡ None → reason_alone ((32 * code m + i) ∷ y) ≡ None
+free_front m i j y h e r =
+    same_alone (32 * code m + i) y
+    ∙ ap (λ k. head_reason element_or_end false (major_at k) (info_at ((32 * code m + i) % 32)) y) (quotient (code m) i h)
+    ∙ ap (λ n. head_reason element_or_end false n (info_at ((32 * code m + i) % 32)) y) (major_at-code m)
+    ∙ ap (λ k. head_reason element_or_end false m (info_at k) y) (remainder (code m) i h)
+    ∙ ap (λ k. head_reason element_or_end false m k y) e
+    ∙ r
+
+now_free : (m : Major) (n : ℕ) (y : List ℕ) → head_reason element_or_end false m (Now n) y ≡ None
+now_free Unsigned n y = refl
+now_free Negative n y = refl
+now_free ByteString n y = refl
+now_free TextString n y = refl
+now_free Array n y = refl
+now_free Map n y = refl
+now_free Tag n y = refl
+now_free Other n y = refl
+
+next_free : (m : Major) (w : Width) (y : List ℕ) → (m ≡ Other → ⊥) → head_reason element_or_end false m (Next w) y ≡ None
+next_free Unsigned w y o = refl
+next_free Negative w y o = refl
+next_free ByteString w y o = refl
+next_free TextString w y o = refl
+next_free Array w y o = refl
+next_free Map w y o = refl
+next_free Tag w y o = refl
+next_free Other w y o = absurd (o refl)
+
+pub given_free : (m : Major) (w : Width) (n : ℕ) (y : List ℕ) → (m ≡ Other → ⊥) → WidthFits w n → reason_alone (head m (Given w n) ++ y) ≡ None
+given_free m Direct n y o f = free_front m n (Now n) y (omega arith) (info_at-now n f) (now_free m n y)
+given_free m One n y o f = free_front m 24 (Next One) (following One n ++ y) (omega arith) refl (next_free m One (following One n ++ y) o)
+given_free m Two n y o f = free_front m 25 (Next Two) (following Two n ++ y) (omega arith) refl (next_free m Two (following Two n ++ y) o)
+given_free m Four n y o f = free_front m 26 (Next Four) (following Four n ++ y) (omega arith) refl (next_free m Four (following Four n ++ y) o)
+given_free m Eight n y o f = free_front m 27 (Next Eight) (following Eight n ++ y) (omega arith) refl (next_free m Eight (following Eight n ++ y) o)
+
+one_free : (n : ℕ) (y : List ℕ) → 32 ≤ n → head_reason element_or_end false Other (Next One) (n ∷ y) ≡ None
+one_free n y l = rw (le-ltb n 32 l) refl
+
+simple_free : (n : ℕ) (y : List ℕ) → (n < 24) ⊎ ((32 ≤ n) × (n < 256)) → reason_alone (head Other (Given (least n) n) ++ y) ≡ None
+simple_free n y (inl l) = subst (λ w. reason_alone (head Other (Given w n) ++ y) ≡ None) (sym (least_direct n l)) (free_front Other n (Now n) y (omega arith) (info_at-now n l) refl)
+simple_free n y (inr l) = subst (λ w. reason_alone (head Other (Given w n) ++ y) ≡ None) (sym (least_one n (omega (arith, l.0)) l.1)) (free_front Other 24 (Next One) (n ∷ y) (omega arith) refl (one_free n y l.0))
+
+endless_free : (m : Major) (y : List ℕ) → head_reason element_or_end false m Unended y ≡ None → reason_alone (head m Unbounded ++ y) ≡ None
+endless_free m y r = free_front m 31 Unended y (omega arith) refl r
+
+-- at the head of a node nothing is wrong
+opening_free : (t : Tree) (y : List ℕ) → Fits t → reason_alone (head (opening t).0 (opening t).1 ++ y) ≡ None
+opening_free (Uint q w n) y f = given_free Unsigned w n y (λ e. cc) f
+opening_free (Nint q w n) y f = given_free Negative w n y (λ e. cc) f
+opening_free (Bytes q w b) y f = given_free ByteString w (length b) y (λ e. cc) f.0
+opening_free (Text q w b) y f = given_free TextString w (length b) y (λ e. cc) f.0
+opening_free (ByteChunks q cs) y f = endless_free ByteString y refl
+opening_free (TextChunks q cs) y f = endless_free TextString y refl
+opening_free (Items q (Fixed w) ts) y f = given_free Array w _ y (λ e. cc) f.0
+opening_free (Items q Endless ts) y f = endless_free Array y refl
+opening_free (Pairs q (Fixed w) es) y f = given_free Map w _ y (λ e. cc) f.0
+opening_free (Pairs q Endless es) y f = endless_free Map y refl
+opening_free (Tagged q w n t) y f = given_free Tag w n y (λ e. cc) f.0
+opening_free (Simple q n) y f = simple_free n y (simple_cases n f)
+
+-- the bytes of a node, and what follows them
+split : (t : Tree) (input rest : List ℕ) → input ≡ spelled t ++ rest → input ≡ head (opening t).0 (opening t).1 ++ (contents t ++ rest)
+split t input rest e = e ∙ ap (λ l. l ++ rest) (opens t) ∙ append_assoc (head (opening t).0 (opening t).1) (contents t) rest
+
+none_some : (o : Option WireReason) (r : WireReason) → o ≡ None → o ≡ Some r → ⊥
+none_some None r e f = cc
+none_some (Some q) r e f = cc
+
+-- where no whole head is read none stands
+pub no_head_stands : (m : Major) (a : Argument) (input y : List ℕ) (r : HeadRead) → ReadsHead input r → ((h : Head) (n : ℕ) → r ≡ Full h n → ⊥) → ArgumentFits a → reason_alone (head m a ++ y) ≡ None → input ≡ head m a ++ y → ⊥
+no_head_stands m a input y (Full h n) i other f free e = other h n refl
+no_head_stands m a input y Short i other f free e =
+    let whole : head m a ++ (y ++ i.missing) ≡ head i.major i.argument ++ [] = sym (append_assoc (head m a) y i.missing) ∙ ap (λ l. l ++ i.missing) (sym e) ∙ i.whole ∙ sym (append-nil (head i.major i.argument)) in
+    let none = (one_argument m i.major a i.argument (y ++ i.missing) [] f i.fits whole).2 in
+    absurd (omega (arith, ap length none, length-append y i.missing, i.some))
+no_head_stands m a input y (Bad r) i other f free e = none_some (reason_alone input) r (ap reason_alone e ∙ free) i
+
+-- and no node
+pub no_head_begins : (t : Tree) (input rest : List ℕ) (r : HeadRead) → ReadsHead input r → ((h : Head) (n : ℕ) → r ≡ Full h n → ⊥) → Fits t → input ≡ spelled t ++ rest → ⊥
+no_head_begins t input rest r i other f e = no_head_stands (opening t).0 (opening t).1 input (contents t ++ rest) r i other (opening_fits t f) (opening_free t (contents t ++ rest) f) (split t input rest e)

@@ -1,0 +1,273 @@
+-- A walk that finds neither what follows an item nor its departure: whatever item stands there has a defect, or is too deep.
+use Rattle.std.proofs.Common.{append-nil, ◌≡◌, ◌⊎◌, ◌^◌, ℕ, suc, ◌-◌, ◌<◌, ◌≤◌, inl, inr, List, [], ◌∷◌, ◌++◌, length, take, refl, sym, ap, ◌∙◌, subst, arith, length-append, Option, None, Bor, Ordering, take_at}
+use Rattle.std.specs.Prelude.{IsTrue, IsUtf8}
+use Rattle.cborn_model.specs.declared.heads.Major.{Major}
+use Rattle.cborn_model.specs.declared.heads.Major.TheVariants.{Unsigned, Negative, ByteString, TextString, Array, Map, Tag, Other}
+use Rattle.cborn_model.specs.declared.heads.Width.{Width}
+use Rattle.cborn_model.specs.Heads.{Argument, Given, head, WidthFits, least, is_simple_value}
+use Rattle.cborn_model.specs.Meaning.{IsByteString, AllMean}
+use Rattle.cborn_model.specs.Orders.{IsKeyOrder}
+use Rattle.cborn_model.specs.Placed.{PlacedAll}
+use Rattle.cborn_model.specs.Spelled.{spelled_all, spelled_entries, spelled}
+use Rattle.cborn_model.specs.Tree.{Tree, Bytes, Text, ByteChunks, TextChunks, Tagged, Simple, Trees, no_item, more, Entries, no_entry, entry, trees, count, depth, depth_all, depth_entries}
+use Rattle.cborn_model.specs.Valid.{AreProper}
+use Rattle.cborn_model.specs.Value.{Values, values_of}
+use Rattle.cborn_det.specs.Det.{Det, DetValues}
+use Rattle.cborn_det.proofs.Steps.{values_of_seq}
+use Rattle.cborn_judge.proofs.Encoded.Checking.{check_sequence_whole}
+use Rattle.cborn_judge.proofs.Meaning.Meanings.{all_valid}
+use Rattle.cborn_det.specs.shared.KeyBefore.{Below}
+use Rattle.cborn_judge.specs.Defects.{IsLong, IsLoose}
+use Rattle.cborn_judge.specs.Departures.{FindsDefect}
+use Rattle.cborn_judge.specs.shared.Checked.{DefectIn, DefectInAll, DefectAmong}
+use Rattle.cborn_judge.specs.declared.defects.DefectReason.{DefectReason}
+use Rattle.cborn_judge.specs.declared.defects.DefectReason.TheVariants.{LongHead, LooseBignum}
+use Rattle.cborn_wire.specs.declared.heads.Argument.TheVariants as arguments
+use Rattle.cborn_wire.specs.declared.heads.Head.{Head}
+use Rattle.cborn_wire.specs.HeadReading.{major_at, seen_argument, IsHeadOf, ArgumentFits}
+use Rattle.cborn_wire.specs.Parts.{Leaves}
+use Rattle.cborn_wire.specs.Places.{placed_from}
+use Rattle.cborn_wire.proofs.Parts.Nodes.{node_as}
+use Rattle.cborn_wire.proofs.Spelled.AsPlaced.{spelled-from, fits-from, placed-from, depth-from}
+use Rattle.std.proofs.lemmas.List.{append_cancel_right}
+use Rattle.cborn_transcode.specs.declared.departures.Walked.{Walked}
+use Rattle.cborn_transcode.specs.declared.departures.Walked.TheVariants.{Behind}
+use Rattle.cborn_transcode.specs.devices.Departing.{Stands, AllStand, PairsStand, NoneStands, NoContent, Stops, Strays, StraysBehind, Walks, Remain, RemainAmong, Leads, LeadsOn, LeadsPairs}
+use Rattle.cborn_transcode.specs.shared.Walking.{ItemWalked, LeastHeadRead}
+use Rattle.cborn_transcode.proofs.Departing.{number_of, width_of, is_array, first_stands, item_clears}
+use Rattle.cborn_transcode.proofs.Departed.{long_stops}
+use Rattle.cborn_transcode.proofs.Falling.{is_map, key_stands, value_stands}
+use Rattle.cborn_transcode.specs.Transcoding.{ItemTranscoded, IsTranscoded}
+use Rattle.cborn_transcode.proofs.Lists.{all_mean}
+use Rattle.cborn_transcode.proofs.Placing.{placements, means-from}
+use Rattle.cborn_transcode.proofs.Opening.{opening, contents, opened}
+use Rattle.cborn_transcode.proofs.Tagging.{is_tag, string_under}
+use Rattle.cborn_transcode.proofs.Telling.{tell_none}
+
+-- ---- leaves of which none stands
+
+content_at : (t : Tree) (m : Major) (w : Width) (n : ℕ) (input rest : List ℕ) (total : ℕ) → (m ≡ ByteString) ⊎ (m ≡ TextString) → WidthFits w n → NoContent m n input → Stands total t (head m (Given w n) ++ input) rest → ((opening t).0 ≡ m) × ((opening t).1 ≡ Given w n) × (contents t ++ rest ≡ input) → ⊥
+content_at (Bytes q v b) m w n input rest total k f h s o = h b rest (record { read = sym o.2; len = ap (λ z. number_of z n) o.1; bytes = s.fits.1 }) (λ e. (let z : ByteString ≡ TextString = o.0 ∙ e in absurd cc))
+content_at (Text q v b) m w n input rest total k f h s o = h b rest (record { read = sym o.2; len = ap (λ z. number_of z n) o.1; bytes = s.fits.1 }) (λ e. s.meant.0)
+content_at (ByteChunks q cs) m w n input rest total k f h s o = let z = o.1 in cc
+content_at (TextChunks q cs) m w n input rest total k f h s o = let z = o.1 in cc
+content_at t m w n input rest total k f h s o = elim k [ inl e ↦ (let z = o.0 ∙ e in cc) | inr e ↦ (let z = o.0 ∙ e in cc) ]
+
+pub content_none : (m : Major) (w : Width) (n : ℕ) (input : List ℕ) → (m ≡ ByteString) ⊎ (m ≡ TextString) → WidthFits w n → NoContent m n input → NoneStands (head m (Given w n) ++ input)
+content_none m w n input k f h total t rest s = content_at t m w n input rest total k f h s (opened t m (Given w n) input rest s.fits f (sym s.read))
+
+pub content_short : (m : Major) (n : ℕ) (input : List ℕ) → length input < n → NoContent m n input
+content_short m n input l content rest r k = omega (arith, l, ap length r.read, length-append content rest, r.len)
+
+pub content_not_text : (m : Major) (n : ℕ) (input front : List ℕ) → m ≡ TextString → front ≡ take n input → (IsUtf8 front → ⊥) → NoContent m n input
+content_not_text m n input front e f not content rest r k = not (subst IsUtf8 (sym (f ∙ ap (take n) r.read ∙ take_at content rest n r.len)) (k e))
+
+pub no_other_major : (m : Major) → (m ≡ Unsigned → ⊥) → (m ≡ Negative → ⊥) → (m ≡ ByteString → ⊥) → (m ≡ TextString → ⊥) → (m ≡ Array → ⊥) → (m ≡ Map → ⊥) → (m ≡ Tag → ⊥) → (m ≡ Other → ⊥) → ⊥
+no_other_major Unsigned a b c d e f g h = a refl
+no_other_major Negative a b c d e f g h = b refl
+no_other_major ByteString a b c d e f g h = c refl
+no_other_major TextString a b c d e f g h = d refl
+no_other_major Array a b c d e f g h = e refl
+no_other_major Map a b c d e f g h = f refl
+no_other_major Tag a b c d e f g h = g refl
+no_other_major Other a b c d e f g h = h refl
+
+simple_at : (t : Tree) (a : Argument) (input rest : List ℕ) (total : ℕ) → ((n : ℕ) → a ≡ Given (least n) n → IsTrue (is_simple_value n) → ⊥) → Stands total t (head Other a ++ input) rest → ((opening t).0 ≡ Other) × ((opening t).1 ≡ a) × (contents t ++ rest ≡ input) → ⊥
+simple_at (Simple q n) a input rest total h s o = h n (sym o.1) s.fits
+simple_at t a input rest total h s o = let z = o.0 in cc
+
+pub simple_none : (a : Argument) (input : List ℕ) → ArgumentFits a → ((n : ℕ) → a ≡ Given (least n) n → IsTrue (is_simple_value n) → ⊥) → NoneStands (head Other a ++ input)
+simple_none a input f h total t rest s = simple_at t a input rest total h s (opened t Other a input rest s.fits f (sym s.read))
+
+other_or_not : (m : Major) → (m ≡ Other) ⊎ (m ≡ Other → ⊥)
+other_or_not Other = inl refl
+other_or_not _ = inr (λ e. cc)
+
+simple_least : (t : Tree) (w : Width) (k : ℕ) → (opening t).0 ≡ Other → (opening t).1 ≡ Given w k → w ≡ least k
+simple_least (Simple q n) w k o e = sym (ap (λ z. width_of z w) e) ∙ ap least (ap (λ z. number_of z k) e)
+simple_least t w k o e = absurd cc
+
+-- ---- the content of a bignum
+
+string_opening : (t : Tree) (b : List ℕ) → IsByteString t b → (opening t).0 ≡ ByteString
+string_opening (Bytes q w c) b e = refl
+string_opening (ByteChunks q cs) b e = refl
+string_opening t b e = absurd e
+
+fixed_content : (t : Tree) (b : List ℕ) (w : Width) (n : ℕ) → IsByteString t b → (opening t).1 ≡ Given w n → (contents t ≡ b) × (length b ≡ n)
+fixed_content (Bytes q v c) b w n e o = (sym e, ap length e ∙ ap (λ z. number_of z n) o)
+fixed_content (ByteChunks q cs) b w n e o = absurd cc
+fixed_content t b w n e o = absurd e
+
+short_loose : (b : List ℕ) → length b ≤ 8 → IsLoose b
+short_loose [] l = tt
+short_loose (x ∷ b) l = inr l
+
+-- what is known of the byte string that stands behind a shortest head
+pub string_behind : (total n : ℕ) (major : Major) (t : Tree) (input tail rest b : List ℕ) → LeastHeadRead major n input tail → Stands total t input rest → IsByteString t b → (major ≡ ByteString) × (b ++ rest ≡ tail) × (length b ≡ n)
+string_behind total n major t input tail rest b h s is =
+    let o = opened t major (Given (least n) n) tail rest s.fits h.fits (sym s.read ∙ h.read) in
+    let c = fixed_content t b (least n) n is o.1 in
+    (sym o.0 ∙ string_opening t b is, ap (λ z. z ++ rest) (sym c.0) ∙ o.2, c.1)
+
+pub short_content : (b : List ℕ) (n : ℕ) → length b ≡ n → n ≤ 8 → IsLoose b
+short_content b n e l = short_loose b (omega (arith, e, l))
+
+pub first_content : (b tail content rest : List ℕ) (n : ℕ) → b ++ rest ≡ tail → length b ≡ n → content ≡ take n tail → IsLoose content → IsLoose b
+first_content b tail content rest n e l c loose =
+    subst IsLoose (c ∙ ap (take n) (sym e) ∙ take_at b rest n l) loose
+
+module _ (order : List ℕ → List ℕ → Ordering) where
+  pub none_strays : (room : ℕ) (input : List ℕ) → NoneStands input → Strays order room input
+  none_strays room input h total t rest l s d f = h total t rest s
+
+  pub content_strays : (room : ℕ) (major k : Major) (n : ℕ) (input : List ℕ) → major ≡ k → (k ≡ ByteString) ⊎ (k ≡ TextString) → NoContent k n input → StraysBehind order room major n input
+  content_strays room major k n input e s h fits = subst (λ m. Strays order room (head m (Given (least n) n) ++ input)) (sym e) (none_strays room (head k (Given (least n) n) ++ input) (content_none k (least n) n input s fits h))
+
+  pub simple_strays : (room : ℕ) (major : Major) (n : ℕ) (input : List ℕ) → major ≡ Other → (IsTrue (is_simple_value n) → ⊥) → StraysBehind order room major n input
+  simple_strays room major n input e h fits =
+      subst (λ m. Strays order room (head m (Given (least n) n) ++ input)) (sym e)
+      (none_strays room (head Other (Given (least n) n) ++ input) (simple_none (Given (least n) n) input fits (λ j same simple. h (subst (λ k. IsTrue (is_simple_value k)) (sym (ap (λ z. number_of z n) same)) simple))))
+
+  pub stops_strays : (room : ℕ) (input : List ℕ) (r : DefectReason) (left : ℕ) → Stops order input r left → Strays order room input
+  stops_strays room input r left h total t rest l s d f = f (total - left) r (h.1 total t rest l s).is
+
+  pub walked_strays : (room : ℕ) (input : List ℕ) (w : Walked) → ((n : ℕ) → w ≡ Behind n → ⊥) → Walks order room input w → Strays order room input
+  walked_strays room input w other h = tell_none (Leaves (ItemWalked order room input)) (λ n. ⊥) (Stops order input) (λ r n. ⊥) (Strays order room input) (Strays order room input) w other (λ r left x. stops_strays room input r left x) (λ s. s) h
+
+  -- ---- heads
+
+  pub long_strays : (room n k : ℕ) (w : Width) (input : List ℕ) (h : Head) → IsHeadOf input h n → h.argument ≡ arguments.Given w k → IsLong w k → Strays order room input
+  long_strays room n k w input h i g long = elim (other_or_not (major_at h.major)) [
+    | inr o ↦ stops_strays room input LongHead (length input) (long_stops order n k w input h i o g long)
+    | inl o ↦ none_strays room input (λ total t rest s.
+        let b = opened t (major_at h.major) (seen_argument h.argument) i.rest rest s.fits i.fits (sym s.read ∙ i.whole) in
+        long (simple_least t w k (b.0 ∙ o) (b.1 ∙ ap seen_argument g)))
+  ]
+
+  -- ---- arrays
+
+  pub array_shallow : (n : ℕ) (input : List ℕ) → StraysBehind order 0 Array n input
+  array_shallow n input fits total t rest l s d f =
+      let i = is_array total n t input rest l fits s in
+      let deep : suc (depth_all i.items) ≤ 0 = subst (λ z. depth z ≤ 0) i.is d in
+      absurd (omega (arith, deep))
+
+  element_at : (room k : ℕ) (ts us : Trees) (half : List ℕ) (total : ℕ) (rest : List ℕ) → length half ≤ total → suc (depth_all ts) ≤ room → AllStand total k us half rest → Remain order us ts → Strays order (room - 1) half → ((p : ℕ) (r : DefectReason) → DefectInAll order ts p r → ⊥) → 0 < k → ⊥
+  element_at room k ts no_item half total rest l d s m x c some = absurd (omega (arith, s.count, some))
+  element_at room k ts (more u us) half total rest l d s m x c some =
+      x total u (spelled_all us ++ rest) l (first_stands order total k u us half rest s) (omega (arith, m.0, d)) (λ p r g. c p r (m.1 p r (g.0, inl g.1, g.2)))
+
+  pub array_strays : (room n k : ℕ) (input half : List ℕ) → length half ≤ length input → 0 < k → Leads order n k input half → Strays order (room - 1) half → StraysBehind order room Array n input
+  array_strays room n k input half w some leads x fits total t rest l s d f =
+      let i = is_array total n t input rest l fits s in
+      let within : length input ≤ total = omega (arith, l, length-append (head Array (Given (least n) n)) input) in
+      let q = leads total i.items rest within i.stand in
+      let deep : suc (depth_all i.items) ≤ room = subst (λ z. depth z ≤ room) i.is d in
+      element_at room k i.items q.0 half total rest (omega (arith, within, w)) deep q.1 q.3 x (λ p r g. f p r (subst (λ z. DefectIn order z p r) (sym i.is) (g.0, inr g.1, g.2))) some
+
+  -- ---- maps
+
+  pub map_shallow : (n : ℕ) (input : List ℕ) → StraysBehind order 0 Map n input
+  map_shallow n input fits total t rest l s d f =
+      let i = is_map total n t input rest l fits s in
+      let deep : suc (depth_entries i.pairs) ≤ 0 = subst (λ z. depth z ≤ 0) i.is d in
+      absurd (omega (arith, deep))
+
+  module _ (laws : IsKeyOrder order) (room n k : ℕ) (before : Option (Bor (List ℕ))) (input half : List ℕ) (short : length input < 2 ^ 64) (w : length half ≤ length input) (some : 0 < k) (leads : LeadsPairs order n k before input half) where
+    key_at : (es us : Entries) (total : ℕ) (rest : List ℕ) → length half ≤ total → suc (depth_entries es) ≤ room → PairsStand total k us half rest → RemainAmong order us es → Strays order (room - 1) half → ((p : ℕ) (r : DefectReason) → DefectAmong order es p r → ⊥) → ⊥
+    key_at es no_entry total rest l d s m x c = absurd (omega (arith, s.count, some))
+    key_at es (entry a b us) total rest l d s m x c =
+        x total a (spelled b ++ (spelled_entries us ++ rest)) l (key_stands order laws total k a b us half rest l (omega (arith, short, w)) s) (omega (arith, m.0, d)) (λ p r g. c p r (m.1 p r (g.0, inl g.1, g.2)))
+
+    value_at : (mid y : List ℕ) (es us : Entries) (total : ℕ) (rest : List ℕ) → ItemWalked order (room - 1) half mid → half ≡ y ++ mid → Below order before y → length half ≤ total → suc (depth_entries es) ≤ room → PairsStand total k us half rest → RemainAmong order us es → Strays order (room - 1) mid → ((p : ℕ) (r : DefectReason) → DefectAmong order es p r → ⊥) → ⊥
+    value_at mid y es no_entry total rest key e above l d s m x c = absurd (omega (arith, s.count, some))
+    value_at mid y es (entry a b us) total rest key e above l d s m x c =
+        x total b (spelled_entries us ++ rest) (omega (arith, l, ap length e, length-append y mid)) (value_stands order laws total k a b us half rest l (omega (arith, short, w)) s (room - 1) mid y before key e above) (omega (arith, m.0, d)) (λ p r g. c p r (m.1 p r (g.0, inr (inl g.1), g.2)))
+
+    pub key_strays : Strays order (room - 1) half → StraysBehind order room Map n input
+    key_strays x fits total t rest l s d f =
+        let i = is_map total n t input rest l fits s in
+        let within : length input ≤ total = omega (arith, l, length-append (head Map (Given (least n) n)) input) in
+        let q = leads total i.pairs rest within i.stand in
+        let deep : suc (depth_entries i.pairs) ≤ room = subst (λ z. depth z ≤ room) i.is d in
+        key_at i.pairs q.0 total rest (omega (arith, within, w)) deep q.1 q.3 x (λ p r g. f p r (subst (λ z. DefectIn order z p r) (sym i.is) (g.0, inr g.1, g.2)))
+
+    pub value_strays : (mid y : List ℕ) → ItemWalked order (room - 1) half mid → half ≡ y ++ mid → Below order before y → Strays order (room - 1) mid → StraysBehind order room Map n input
+    value_strays mid y key e above x fits total t rest l s d f =
+        let i = is_map total n t input rest l fits s in
+        let within : length input ≤ total = omega (arith, l, length-append (head Map (Given (least n) n)) input) in
+        let q = leads total i.pairs rest within i.stand in
+        let deep : suc (depth_entries i.pairs) ≤ room = subst (λ z. depth z ≤ room) i.is d in
+        value_at mid y i.pairs q.0 total rest key e above (omega (arith, within, w)) deep q.1 q.3 x (λ p r g. f p r (subst (λ z. DefectIn order z p r) (sym i.is) (g.0, inr g.1, g.2)))
+
+  -- ---- tags
+
+  pub tag_shallow : (n : ℕ) (input : List ℕ) → StraysBehind order 0 Tag n input
+  tag_shallow n input fits total t rest l s d f =
+      let i = is_tag total n t input rest l fits s in
+      let deep : suc (depth i.content) ≤ 0 = subst (λ z. depth z ≤ 0) i.is d in
+      absurd (omega (arith, deep))
+
+  pub tag_strays : (room n : ℕ) (input : List ℕ) → Strays order (room - 1) input → StraysBehind order room Tag n input
+  tag_strays room n input x fits total t rest l s d f =
+      let i = is_tag total n t input rest l fits s in
+      let deep : suc (depth i.content) ≤ room = subst (λ z. depth z ≤ room) i.is d in
+      x total i.content rest (omega (arith, l, length-append (head Tag (Given (least n) n)) input)) i.stand (omega (arith, deep)) (λ p r g. f p r (subst (λ z. DefectIn order z p r) (sym i.is) (g.0, inr g.1, g.2)))
+
+  -- of tag 2 or 3, over bytes that are loose
+  pub loose_strays : (room n : ℕ) (input : List ℕ) → (n ≡ 2) ⊎ (n ≡ 3) → ((total : ℕ) (t : Tree) (rest b : List ℕ) → length input ≤ total → Stands total t input rest → IsByteString t b → FindsDefect (DefectIn order t) None → IsLoose b) → StraysBehind order room Tag n input
+  loose_strays room n input tag h fits total t rest l s d f =
+      let i = is_tag total n t input rest l fits s in
+      let q = total - length (head Tag (Given (least n) n) ++ input) in
+      let b = string_under q i.width n i.content i.item tag i.meant in
+      let clear : FindsDefect (DefectIn order i.content) None = λ p r g. f p r (subst (λ z. DefectIn order z p r) (sym i.is) (g.0, inr g.1, g.2)) in
+      let loose : IsLoose b.0 = h total i.content rest b.0 (omega (arith, l, length-append (head Tag (Given (least n) n)) input)) i.stand b.1 clear in
+      f q LooseBignum (subst (λ z. DefectIn order z q LooseBignum) (sym i.is) (Tagged q i.width n i.content, inl refl, (refl, inr (refl, tag, b.0, b.1, loose))))
+
+  -- ---- one item
+
+  -- where each item strays, none is its own encoding
+  pub strays_none : IsKeyOrder order → (room : ℕ) (input front rest : List ℕ) → length input < 2 ^ 64 → Strays order room input → input ≡ front ++ rest → ItemTranscoded order room input rest [] front → ⊥
+  strays_none laws room input front rest short x e i =
+      let total : ℕ = length input in
+      let t : Tree = placed_from (total - length input) i.node in
+      let spells : spelled t ≡ spelled i.node = spelled-from i.node (total - length input) in
+      let s : Stands total t input rest = record {
+        item = i.holds.1.0;
+        read = i.read ∙ ap (λ l. l ++ rest) (sym spells);
+        fits = fits-from i.node (total - length input) i.fits;
+        placed = placed-from i.node (total - length input);
+        meant = means-from i.node (total - length input) i.holds.1.0 i.holds.1.1;
+      } in
+      let own : spelled i.node ≡ i.holds.0 = append_cancel_right (spelled i.node) i.holds.0 rest (sym i.read ∙ e ∙ ap (λ l. l ++ rest) i.holds.2) in
+      let w : ItemWalked order room input rest = node_as i (i.holds.1.0, i.holds.1.1, subst (Det order i.holds.1.0) (sym own) i.holds.1.2) in
+      x total t rest (omega arith) s (subst (λ d. d ≤ room) (sym (depth-from i.node (total - length input))) i.shallow) (item_clears order laws total input rest short w t rest s).1
+
+  -- ---- a whole input
+
+  some_left : (limit : ℕ) (input mid : List ℕ) (ts us : Trees) (k : ℕ) → length mid ≤ length input → 0 < length mid → depth_all ts ≤ limit → AllStand (length input) k us mid [] → Remain order us ts → Strays order limit mid → ((p : ℕ) (r : DefectReason) → DefectInAll order ts p r → ⊥) → ⊥
+  some_left limit input mid ts no_item k w some d s m x c = absurd (omega (arith, some, ap length s.read))
+  some_left limit input mid ts (more u us) k w some d s m x c =
+      x (length input) u (spelled_all us ++ []) w (first_stands order (length input) k u us mid [] s) (omega (arith, m.0, d)) (λ p r g. c p r (m.1 p r (g.0, inl g.1, g.2)))
+
+  pub on_strays : IsKeyOrder order → (limit : ℕ) (input mid : List ℕ) → length input < 2 ^ 64 → length mid ≤ length input → 0 < length mid → LeadsOn order input mid → Strays order limit mid → IsTranscoded order limit input input → ⊥
+  on_strays laws limit input mid short w some leads x n =
+      let p = placements order limit input input n in
+      let ts : Trees = trees p.nodes in
+      let vs : Values = values_of n.items in
+      let z : length input - length input ≡ 0 = omega arith in
+      let meant : AllMean ts vs = all_mean p.nodes n.items p.meant in
+      let stand : AllStand (length input) (count ts) ts input [] = record {
+        items = vs;
+        read = sym p.read.spells ∙ sym (append-nil (spelled_all ts));
+        fits = p.read.fit;
+        placed = subst (λ q. PlacedAll q ts) (sym z) p.placed;
+        meant = meant;
+        count = refl;
+      } in
+      let proper : AreProper vs = all_valid ts vs p.read.fit (subst (λ (l : List ℕ). length l < 2 ^ 64) (sym p.read.spells) short) meant in
+      let own : DetValues order vs (spelled_all ts) = subst (DetValues order vs) (sym p.read.spells) (values_of_seq order n.items input n.encoded) in
+      let none : (q : ℕ) (r : DefectReason) → DefectInAll order ts q r → ⊥ = λ q r g. check_sequence_whole order laws ts vs p.read.fit proper meant own q r (vs, meant, g.0, g.1, g.2) in
+      let l = leads (count ts) ts stand in
+      some_left limit input mid ts l.1 l.0 w some p.read.shallow l.2 l.4 x none
