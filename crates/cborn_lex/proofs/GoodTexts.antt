@@ -1,5 +1,5 @@
 -- A text has the same tokens by what is taken and by what reads.
-use Rattle.std.proofs.Common.{◌≡◌, sym, ap, subst, ℕ, ◌+◌, List, [], ◌∷◌, ◌++◌, length, Some, None, append-nil, arith}
+use Rattle.std.proofs.Common.{◌≡◌, subst, ℕ, ◌+◌, List, [], ◌∷◌, ◌++◌, length, append-nil, arith}
 use Rattle.std.proofs.lemmas.List.{length-append}
 use Rattle.cborn_lex.specs.declared.classes.Profile.{Profile}
 use Rattle.cborn_lex.specs.declared.classes.Token.{Token}

@@ -5,3 +5,7 @@ pub mod WholeTexts
 pub mod GoodFronts
 pub mod GoodBack
 pub mod GoodTexts
+pub mod Runs
+pub mod TwoParts
+pub mod Nibbles
+pub mod Decimals

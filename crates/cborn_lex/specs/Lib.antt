@@ -3,6 +3,7 @@ pub mod Numbers
 pub mod Strings
 pub mod Forms
 pub mod Good
+pub mod Kinds
 pub mod Lex
 pub mod shared
 pub mod devices

@@ -1,5 +1,8 @@
 //! What a text of the notation is made of.
 
+ghost use Rattle.std.specs.Prelude.{◌≡◌};
+ghost use Rattle.cborn_lex.specs.Kinds.{class_of};
+
 use cborn_model::{ByteString, Width};
 
 /// Which notation a text is written in.
@@ -11,7 +14,7 @@ pub enum Profile {
     Two,
 }
 
-/// The encoding indicator behind a token (RFC 8949 section 8.1).
+/// The encoding indicator of a token (RFC 8949 section 8.1), which ends it.
 #[derive(Clone, Copy, PartialEq, Eq, Debug)]
 pub enum Mark {
     /// None.
@@ -20,6 +23,91 @@ pub enum Mark {
     Endless,
     /// `_0`, `_1`, `_2` or `_3`, a head with an argument of 1, 2, 4 or 8 bytes. Never `Direct`.
     Wide(Width),
+}
+
+/// What a token is, without what it stands for: without the content of a string, and without the
+/// number of an integer or a tag.
+#[derive(Clone, Copy, PartialEq, Eq, Debug)]
+pub enum Kind {
+    /// `[`
+    ArrayOpen(Mark),
+    /// `{`
+    MapOpen(Mark),
+    /// `]`
+    ArrayClose,
+    /// `}`
+    MapClose,
+    /// `)`
+    ParenClose,
+    /// `,`
+    Comma,
+    /// `:`
+    Colon,
+    /// `<<`
+    EmbedOpen,
+    /// `>>`
+    EmbedClose(Mark),
+    /// `(_`, the start of a string in chunks.
+    ChunkOpen,
+    /// An integer, or minus it where `negative` is set. It isn't set at 0.
+    Number { negative: bool, mark: Mark },
+    /// The number of a tag, with its indicator and its `(`.
+    TagOpen(Mark),
+    /// `false`, `true`, `null` or `undefined`, by its simple value: 20, 21, 22 or 23.
+    Word(u8),
+    /// `simple(`
+    SimpleOpen,
+    /// A string in double quotes.
+    Text(Mark),
+    /// A string in single quotes (`quoted`), or with the prefix `h` or `b64`.
+    Bytes { quoted: bool, mark: Mark },
+}
+
+impl Kind {
+    /// The class of a token of this kind: with this number if it is an integer or a tag, and with
+    /// this content if it is a string.
+    pub(crate) fn into_class(self, number: u128, content: Vec<u8>) -> Class
+        ensures { result ≡ class_of self number content.items }
+    {
+        match self {
+            Kind::ArrayOpen(mark) => Class::ArrayOpen(mark),
+            Kind::MapOpen(mark) => Class::MapOpen(mark),
+            Kind::ArrayClose => Class::ArrayClose,
+            Kind::MapClose => Class::MapClose,
+            Kind::ParenClose => Class::ParenClose,
+            Kind::Comma => Class::Comma,
+            Kind::Colon => Class::Colon,
+            Kind::EmbedOpen => Class::EmbedOpen,
+            Kind::EmbedClose(mark) => Class::EmbedClose(mark),
+            Kind::ChunkOpen => Class::ChunkOpen,
+            Kind::Number { negative, mark } => Class::Number {
+                negative,
+                magnitude: number,
+                mark,
+            },
+            Kind::TagOpen(mark) => Class::TagOpen { number, mark },
+            Kind::Word(n) => Class::Word(n),
+            Kind::SimpleOpen => Class::SimpleOpen,
+            Kind::Text(mark) => Class::Text {
+                bytes: ByteString::new(content),
+                mark,
+            },
+            Kind::Bytes { quoted, mark } => Class::Bytes {
+                quoted,
+                bytes: ByteString::new(content),
+                mark,
+            },
+        }
+    }
+}
+
+/// What a token is, without what it stands for, and the slice of the text that it is, from `start`
+/// up to `stop`, in bytes from the start of the text.
+#[derive(Clone, Copy, PartialEq, Eq, Debug)]
+pub struct BareToken {
+    pub start: usize,
+    pub stop: usize,
+    pub kind: Kind,
 }
 
 /// What a token is, and what it stands for.

@@ -1,91 +1,67 @@
 //! Strings with the prefix `h` or `b64`.
 
-ghost use Rattle.std.specs.Prelude.{◌≡◌, ℕ, ◌≤◌, List, length, take, drop, map, filter, replicate, OnOk, MatchOption, IfOk, Some, None, false, ◌==◌, not, ◌++◌};
+ghost use Rattle.std.specs.Prelude.{◌≡◌, ℕ, ◌≤◌, List, true, length, take, drop, map, filter, replicate, OnOk, MatchOption, IfOk, false, ◌==◌, not, ◌++◌};
 ghost use Rattle.std.specs.List.{list_any};
 ghost use Rattle.cborn_lex.specs.declared.classes.Class.TheVariants.{Bytes};
-ghost use Rattle.cborn_lex.specs.Tokens.{is_white, marked};
+ghost use Rattle.cborn_lex.specs.Tokens.{Front as AnyFront, is_white, marked};
 ghost use Rattle.cborn_lex.specs.Strings.{IsHex, base64_text, to_standard, IsBase64};
 ghost use Rattle.cborn_lex.specs.Forms.{IsPrefixed, hexadecimal, base64};
-ghost use Rattle.cborn_lex.specs.shared.Scan.{strip};
-ghost use Rattle.cborn_lex.specs.devices.View.{front_view};
+ghost use Rattle.cborn_lex.specs.devices.View.{front_view, FrontStandsFor};
 
-use crate::classes::{Class, Mark};
+use crate::escaped::bytes_front;
 use crate::faults::LexReason;
 use crate::fronts::Front;
 use crate::integers::digit_of;
 use crate::slices::{find, front_of, is_white, mark_at, rest_of};
 use base64::DecodeAllocError;
 use base64::engine::general_purpose::STANDARD;
-use cborn_model::ByteString;
-use hex::FromHexError;
 use std::alloc::{AllocError, Global};
 
-/// The token of a string with a prefix.
-fn bytes_front(bytes: Vec<u8>, mark: Option<Mark>) -> Front
-    ensures { front_view result ≡ marked (Bytes false bytes.items) mark }
+/// Appends the bytes that a content in hexadecimal stands for, and answers whether it stands for
+/// any: digits, with white space and comments alone between them. Where it doesn't, a part of the
+/// content has been appended.
+fn push_hex(content: &[u8], out: &mut Vec<u8>) -> Result<bool, AllocError>
+    ensures yes { IfOk result (λ b. b ≡ true → (bytes : List ℕ) × IsHex content.now bytes × (out.new.items ≡ out.old.items ++ bytes)) }
+    ensures no { IfOk result (λ b. b ≡ false → (bytes : List ℕ) → IsHex content.now bytes → ⊥) }
 {
-    match mark {
-        Some(mark) => Front::Read(Class::Bytes {
-            quoted: false,
-            bytes: ByteString::new(bytes),
-            mark,
-        }),
-        None => Front::Bad(LexReason::BadIndicator),
-    }
-}
-
-/// The digits of a content in hexadecimal, if white space and comments alone stand between them.
-fn strip(alloc: Global, content: &[u8]) -> Result<Option<Vec<u8>>, AllocError>
-    ensures { IfOk result (λ r. MatchOption r (strip false content.now ≡ None) (λ v. strip false content.now ≡ Some v.items)) }
-{
-    let mut digits = Vec::new(alloc);
     let mut inside = false;
+    // the first digit of a byte, and 16 where none is waiting for its second
+    let mut high: u8 = 16;
     for c in content {
+        let digit = digit_of(*c);
         if inside {
             if *c == b'/' {
                 inside = false;
             }
-        } else if digit_of(*c) < 16 {
-            digits.push(*c)?;
-        } else if !is_white(*c) {
-            if *c != b'/' {
-                return Ok(None);
+        } else if digit < 16 {
+            if high < 16 {
+                out.push(high * 16 + digit)?;
+                high = 16;
+            } else {
+                high = digit;
             }
+        } else if *c == b'/' {
             inside = true;
+        } else if !is_white(*c) {
+            return Ok(false);
         }
     }
-    if inside { Ok(None) } else { Ok(Some(digits)) }
+    Ok(!inside && high == 16)
 }
 
-/// The bytes that a content in hexadecimal stands for, if it does.
-#[tactic(auto, using(crate::proofs::Contents::Hexes::hex_ok))]
-fn hex_bytes(alloc: Global, content: &[u8]) -> Result<Option<Vec<u8>>, AllocError>
-    ensures { IfOk result (λ r. MatchOption r ((bytes : List ℕ) → IsHex content.now bytes → ⊥) (λ v. IsHex content.now v.items)) }
-{
-    let Some(digits) = strip(alloc, content)? else {
-        return Ok(None);
-    };
-    match hex::decode(alloc, digits.as_slice()) {
-        Ok(bytes) => Ok(Some(bytes)),
-        Err(error) => match error {
-            FromHexError::OutOfMemory => Err(AllocError),
-            _ => Ok(None),
-        },
-    }
-}
-
-/// A string behind `h'`.
-pub fn in_hex(alloc: Global, tail: &[u8]) -> Result<(Front, usize), AllocError>
-    ensures { IfOk result (λ r. (r.1 ≤ length tail.now) × IsPrefixed hexadecimal (take r.1 tail.now) (drop r.1 tail.now) (front_view r.0)) }
+/// The string that `h'` begins, which `tail` follows, and how many bytes of `tail` it takes.
+pub fn in_hex(tail: &[u8], out: &mut Vec<u8>) -> Result<(Front, usize), AllocError>
+    ensures { IfOk result (λ r. (r.1 ≤ length tail.now) × ((a : AnyFront) × IsPrefixed hexadecimal (take r.1 tail.now) (drop r.1 tail.now) a × ((n : ℕ) → FrontStandsFor r.0 n out.old.items out.new.items a))) }
 {
     let Some(i) = find(b'\'', tail) else {
         return Ok((Front::Bad(LexReason::UnclosedString), tail.len()));
     };
     let content = front_of(tail, i);
     let (mark, m) = mark_at(rest_of(tail, i + 1));
-    match hex_bytes(alloc, content)? {
-        Some(bytes) => Ok((bytes_front(bytes, mark), i + 1 + m)),
-        None => Ok((Front::Bad(LexReason::BadHex), i + 1 + m)),
+    if push_hex(content, out)? {
+        Ok((bytes_front(false, mark), i + 1 + m))
+    } else {
+        Ok((Front::Bad(LexReason::BadHex), i + 1 + m))
     }
 }
 
@@ -154,9 +130,13 @@ fn base64_bytes(alloc: Global, content: &[u8]) -> Result<Option<Vec<u8>>, AllocE
     }
 }
 
-/// A string behind `b64'`.
-pub fn in_base64(alloc: Global, tail: &[u8]) -> Result<(Front, usize), AllocError>
-    ensures { IfOk result (λ r. (r.1 ≤ length tail.now) × IsPrefixed base64 (take r.1 tail.now) (drop r.1 tail.now) (front_view r.0)) }
+/// The string that `b64'` begins, which `tail` follows, and how many bytes of `tail` it takes.
+pub fn in_base64(
+    alloc: Global,
+    tail: &[u8],
+    out: &mut Vec<u8>,
+) -> Result<(Front, usize), AllocError>
+    ensures { IfOk result (λ r. (r.1 ≤ length tail.now) × ((a : AnyFront) × IsPrefixed base64 (take r.1 tail.now) (drop r.1 tail.now) a × ((n : ℕ) → FrontStandsFor r.0 n out.old.items out.new.items a))) }
 {
     let Some(i) = find(b'\'', tail) else {
         return Ok((Front::Bad(LexReason::UnclosedString), tail.len()));
@@ -164,7 +144,10 @@ pub fn in_base64(alloc: Global, tail: &[u8]) -> Result<(Front, usize), AllocErro
     let content = front_of(tail, i);
     let (mark, m) = mark_at(rest_of(tail, i + 1));
     match base64_bytes(alloc, content)? {
-        Some(bytes) => Ok((bytes_front(bytes, mark), i + 1 + m)),
+        Some(bytes) => {
+            out.extend_from_slice(bytes.as_slice())?;
+            Ok((bytes_front(false, mark), i + 1 + m))
+        }
         None => Ok((Front::Bad(LexReason::BadBase64), i + 1 + m)),
     }
 }

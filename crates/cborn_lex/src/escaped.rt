@@ -1,25 +1,28 @@
 //! Strings between quotes, with the escapes of JSON (RFC 8259 section 7).
 
-ghost use Rattle.std.specs.Prelude.{◌≡◌, ℕ, ◌<◌, ◌≤◌, ◌++◌, ◌==◌, List, length, take, drop, slice_index, MatchOption, IfOk, IfSome, OnOk, encode_utf8, true, false};
-ghost use Rattle.cborn_lex.specs.Tokens.{marked};
-ghost use Rattle.cborn_lex.specs.Strings.{is_content, is_unclosed, is_escape, escape_code, is_low, IsText};
-ghost use Rattle.cborn_lex.specs.Forms.{IsRun, IsQuoted};
-ghost use Rattle.cborn_lex.specs.shared.Scan.{is_raw, code_at, low_code, unit_from, escape_of, string_class};
-ghost use Rattle.cborn_lex.specs.devices.View.{front_view};
+ghost use Rattle.std.specs.Prelude.{◌≡◌, ℕ, ◌<◌, ◌≤◌, ◌++◌, ◌==◌, List, length, take, drop, slice_index, MatchOption, IfOk, IfSome, OnOk, encode_utf8, true, false, None, Some};
+ghost use Rattle.cborn_lex.specs.declared.classes.Class.{Class};
+ghost use Rattle.cborn_lex.specs.declared.classes.Class.TheVariants.{Text, Bytes};
+ghost use Rattle.cborn_lex.specs.Tokens.{Front as AnyFront, Bad, marked};
+ghost use Rattle.cborn_lex.specs.Strings.{is_content, is_unclosed, is_low};
+ghost use Rattle.cborn_lex.specs.Forms.{IsQuoted};
+ghost use Rattle.cborn_lex.specs.shared.Letters.{NoText};
+ghost use Rattle.cborn_lex.specs.shared.Scan.{code_at, low_code, unit_from};
+ghost use Rattle.cborn_lex.specs.devices.View.{front_view, FrontStandsFor};
 
-use crate::classes::{Class, Mark};
+use crate::classes::{Kind, Mark};
 use crate::faults::LexReason;
 use crate::fronts::Front;
-use crate::slices::{front_of, mark_at, rest_of};
+use crate::letters::push_letters;
+use crate::slices::{mark_at, rest_of};
 use crate::units::{are_hex, hex_code, is_high, is_low};
-use cborn_model::ByteString;
-use std::alloc::{AllocError, Global};
+use std::alloc::AllocError;
 
-/// The place of the closing quote q.
+/// The offset of the closing quote. The character after a backslash closes nothing.
 #[tactic(auto, using(crate::proofs::Contents::Ends::one_more, crate::proofs::Contents::Ends::two_more, crate::proofs::Contents::Ends::ends, crate::proofs::Contents::Ends::ends_escaped))]
-fn content_end(q: u8, tail: &[u8]) -> Option<usize>
-    requires { (q == 92) ≡ false }
-    ensures { MatchOption result (is_unclosed q tail.now ≡ true) (λ i. (i < length tail.now) × (is_content q (take i tail.now) ≡ true) × (slice_index tail.now i ≡ q)) }
+fn content_end(quote: u8, tail: &[u8]) -> Option<usize>
+    requires { (quote == 92) ≡ false }
+    ensures { MatchOption result (is_unclosed quote tail.now ≡ true) (λ i. (i < length tail.now) × (is_content quote (take i tail.now) ≡ true) × (slice_index tail.now i ≡ quote)) }
 {
     let mut at: usize = 0;
     while at < tail.len() {
@@ -28,33 +31,13 @@ fn content_end(q: u8, tail: &[u8]) -> Option<usize>
                 return None;
             }
             at += 2;
-        } else if tail[at] == q {
+        } else if tail[at] == quote {
             return Some(at);
         } else {
             at += 1;
         }
     }
     None
-}
-
-/// Whether a character stands for itself.
-fn is_raw(c: u8) -> bool
-    ensures { result ≡ is_raw c }
-{
-    c >= 32 && c != b'\\'
-}
-
-/// How many characters come first that stand for themselves.
-fn raw_len(x: &[u8]) -> usize
-    ensures within { result ≤ length x.now }
-    ensures run { IsRun is_raw (take result x.now) (drop result x.now) }
-{
-    for (i, c) in x.iter().enumerate() {
-        if !is_raw(*c) {
-            return i;
-        }
-    }
-    x.len()
 }
 
 /// The number of the four hexadecimal digits at the front.
@@ -83,8 +66,8 @@ fn low_code(x: &[u8]) -> Option<u32>
     if is_low(n) { Some(n) } else { None }
 }
 
-/// The character of an escape `\uXXXX`, or of a pair of them, from its digits on, and the bytes
-/// that all of it takes.
+/// The character of an escape `\uXXXX`, or of a surrogate pair of them, and how many bytes it takes
+/// with its first backslash. `x` is what follows the first `u`.
 fn unit_at(x: &[u8]) -> Option<(char, usize)>
     ensures { result ≡ unit_from (code_at x.now) (drop 4 x.now) }
 {
@@ -99,48 +82,6 @@ fn unit_at(x: &[u8]) -> Option<(char, usize)>
     }
 }
 
-/// Whether a backslash may stand before the character, in a string with the quote `q`.
-fn is_escape(q: u8, e: u8) -> bool
-    ensures { result ≡ is_escape q e }
-{
-    match e {
-        b'"' | b'\\' | b'/' | b'b' | b'f' | b'n' | b'r' | b't' => true,
-        b'\'' => q == b'\'',
-        _ => false,
-    }
-}
-
-/// The character that it stands for behind a backslash.
-fn escape_code(e: u8) -> u8
-    ensures { result ≡ escape_code e }
-{
-    match e {
-        b'b' => 8,
-        b'f' => 12,
-        b'n' => b'\n',
-        b'r' => b'\r',
-        b't' => b'\t',
-        _ => e,
-    }
-}
-
-/// The character of the escape whose backslash stands before `x`, and the bytes that it takes with
-/// its backslash.
-fn escape_of(q: u8, x: &[u8]) -> Option<(char, usize)>
-    ensures { result ≡ escape_of q x.now }
-{
-    if x.len() == 0 {
-        return None;
-    }
-    if is_escape(q, x[0]) {
-        Some((escape_code(x[0]) as char, 2))
-    } else if x[0] == b'u' {
-        unit_at(rest_of(x, 1))
-    } else {
-        None
-    }
-}
-
 /// Appends a character in UTF-8.
 fn push_char(bytes: &mut Vec<u8>, c: char) -> Result<(), AllocError>
     ensures { OnOk result (bytes.new.items ≡ bytes.old.items ++ encode_utf8 c) }
@@ -149,63 +90,81 @@ fn push_char(bytes: &mut Vec<u8>, c: char) -> Result<(), AllocError>
     bytes.extend_from_slice(c.encode_utf8(&mut room).as_bytes())
 }
 
-/// The bytes that the content of a string stands for, if it does.
-fn text_bytes(alloc: Global, q: u8, content: &[u8]) -> Result<Option<Vec<u8>>, AllocError>
-    ensures { IfOk result (λ r. MatchOption r ((bytes : List ℕ) → IsText q content.now bytes → ⊥) (λ v. IsText q content.now v.items)) }
+/// Appends the character of an escape `\uXXXX`, or of a surrogate pair of them, in UTF-8, and
+/// answers how many bytes the escape takes with its first backslash; `None` where it is none. `x` is
+/// what follows the first `u`.
+#[inline(never)]
+pub fn push_unit_escape(x: &[u8], out: &mut Vec<u8>) -> Result<Option<usize>, AllocError>
+    ensures { IfOk result (λ r. MatchOption r (unit_from (code_at x.now) (drop 4 x.now) ≡ None) (λ size. (c : ℕ) × (unit_from (code_at x.now) (drop 4 x.now) ≡ Some (c, size)) × (out.new.items ≡ out.old.items ++ encode_utf8 c))) }
 {
-    let mut bytes = Vec::new(alloc);
-    let mut at: usize = 0;
-    loop {
-        let rest = rest_of(content, at);
-        let n = raw_len(rest);
-        bytes.extend_from_slice(front_of(rest, n))?;
-        if n == rest.len() {
-            return Ok(Some(bytes));
+    match unit_at(x) {
+        Some((c, size)) => {
+            push_char(out, c)?;
+            Ok(Some(size))
         }
-        if rest[n] != b'\\' {
-            return Ok(None);
-        }
-        let Some((c, size)) = escape_of(q, rest_of(rest, n + 1)) else {
-            return Ok(None);
-        };
-        push_char(&mut bytes, c)?;
-        at += n + size;
+        None => Ok(None),
     }
 }
 
-/// The token of a string in quotes.
-fn quoted_front(q: u8, bytes: Vec<u8>, mark: Option<Mark>) -> Front
-    ensures { front_view result ≡ marked (string_class q bytes.items) mark }
+/// Why a string stands for nothing, after its opening quote, and how many bytes of `tail` it takes
+/// with its indicator.
+#[cold]
+#[inline(never)]
+fn bad_string(quote: u8, tail: &[u8]) -> (LexReason, usize)
+    requires no_backslash { (quote == 92) ≡ false }
+    requires none { NoText quote tail.now }
+    ensures within { result.1 ≤ length tail.now }
+    ensures reads { (k : List ℕ → Mark → Class) → IsQuoted quote k (take result.1 tail.now) (drop result.1 tail.now) (Bad result.0) }
 {
-    let bytes = ByteString::new(bytes);
-    match mark {
-        None => Front::Bad(LexReason::BadIndicator),
-        Some(mark) => {
-            if q == b'"' {
-                Front::Read(Class::Text { bytes, mark })
-            } else {
-                Front::Read(Class::Bytes {
-                    quoted: true,
-                    bytes,
-                    mark,
-                })
-            }
-        }
-    }
-}
-
-/// A string after its opening quote q.
-pub fn quoted(alloc: Global, q: u8, tail: &[u8]) -> Result<(Front, usize), AllocError>
-    requires { (q == 92) ≡ false }
-    ensures { IfOk result (λ r. (r.1 ≤ length tail.now) × IsQuoted q (string_class q) (take r.1 tail.now) (drop r.1 tail.now) (front_view r.0)) }
-{
-    let Some(i) = content_end(q, tail) else {
-        return Ok((Front::Bad(LexReason::UnclosedString), tail.len()));
+    let Some(i) = content_end(quote, tail) else {
+        return (LexReason::UnclosedString, tail.len());
     };
-    let content = front_of(tail, i);
-    let (mark, m) = mark_at(rest_of(tail, i + 1));
-    match text_bytes(alloc, q, content)? {
-        Some(bytes) => Ok((quoted_front(q, bytes, mark), i + 1 + m)),
-        None => Ok((Front::Bad(LexReason::BadEscape), i + 1 + m)),
+    let (_mark, m) = mark_at(rest_of(tail, i + 1));
+    (LexReason::BadEscape, i + 1 + m)
+}
+
+/// The token of a string in double quotes with this indicator.
+#[inline(always)]
+fn text_front(mark: Option<Mark>) -> Front
+    ensures { (n : ℕ) (x : List ℕ) → front_view n x result ≡ marked (Text x) mark }
+{
+    match mark {
+        Some(mark) => Front::Read(Kind::Text(mark)),
+        None => Front::Bad(LexReason::BadIndicator),
     }
+}
+
+/// The token of a byte string with this indicator: in single quotes, or with a prefix.
+#[inline(always)]
+pub fn bytes_front(quoted: bool, mark: Option<Mark>) -> Front
+    ensures { (n : ℕ) (x : List ℕ) → front_view n x result ≡ marked (Bytes quoted x) mark }
+{
+    match mark {
+        Some(mark) => Front::Read(Kind::Bytes { quoted, mark }),
+        None => Front::Bad(LexReason::BadIndicator),
+    }
+}
+
+/// What a double quote begins, which `tail` follows, and how many bytes of `tail` that takes.
+pub fn double_quoted(tail: &[u8], out: &mut Vec<u8>) -> Result<(Front, usize), AllocError>
+    ensures { IfOk result (λ r. (r.1 ≤ length tail.now) × ((a : AnyFront) × IsQuoted 34 Text (take r.1 tail.now) (drop r.1 tail.now) a × ((n : ℕ) → FrontStandsFor r.0 n out.old.items out.new.items a))) }
+{
+    let Some(i) = push_letters(b'"', tail, 0, out)? else {
+        let (reason, n) = bad_string(b'"', tail);
+        return Ok((Front::Bad(reason), n));
+    };
+    let (mark, m) = mark_at(rest_of(tail, i + 1));
+    Ok((text_front(mark), i + 1 + m))
+}
+
+/// What a single quote begins, which `tail` follows, and how many bytes of `tail` that takes.
+pub fn single_quoted(tail: &[u8], out: &mut Vec<u8>) -> Result<(Front, usize), AllocError>
+    ensures { IfOk result (λ r. (r.1 ≤ length tail.now) × ((a : AnyFront) × IsQuoted 39 (Bytes true) (take r.1 tail.now) (drop r.1 tail.now) a × ((n : ℕ) → FrontStandsFor r.0 n out.old.items out.new.items a))) }
+{
+    let Some(i) = push_letters(b'\'', tail, 0, out)? else {
+        let (reason, n) = bad_string(b'\'', tail);
+        return Ok((Front::Bad(reason), n));
+    };
+    let (mark, m) = mark_at(rest_of(tail, i + 1));
+    Ok((bytes_front(true, mark), i + 1 + m))
 }

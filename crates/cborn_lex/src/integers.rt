@@ -1,18 +1,18 @@
 //! Integers and the numbers of tags.
 
-ghost use Rattle.std.specs.Prelude.{◌≡◌, ◌+◌, ◌<◌, ◌≤◌, length, take, drop, Err, false, ◌==◌, ◌||◌, ◌&&◌, not, ◌^◌, if◌then◌else◌};
+ghost use Rattle.std.specs.Prelude.{◌≡◌, ◌+◌, ◌<◌, ◌≤◌, length, take, drop, Bool, [], slice_index, OnSome, IfSome, true, Ok, Err, false, ◌==◌, ◌||◌, ◌&&◌, not, ◌^◌, if◌then◌else◌};
 ghost use Rattle.std.specs.List.{list_all, list_any};
 ghost use Rattle.std.specs.Char.{digit_value, is_digit};
-ghost use Rattle.cborn_lex.specs.Tokens.{begins};
+ghost use Rattle.cborn_lex.specs.Tokens.{begins, is_numeral};
 ghost use Rattle.cborn_lex.specs.Numbers.{integer, within, number, are_digits, number_front};
-ghost use Rattle.cborn_lex.specs.Forms.{ReadsNumber};
+ghost use Rattle.cborn_lex.specs.Forms.{ReadsNumber, IsRun};
 ghost use Rattle.cborn_lex.specs.devices.View.{front_view};
 
-use crate::classes::{Class, Mark};
+use crate::classes::{Kind, Mark};
 use crate::faults::LexReason;
 use crate::fronts::Front;
 use crate::slices::{
-    begins_with, begins_with_digit, front_of, has_prefix, mark_at, numeral_len, rest_of,
+    begins_with, begins_with_digit, front_of, has_prefix, is_numeral, mark_at, numeral_len, rest_of,
 };
 
 /// The value of a digit or a letter, and 36 for any other character.
@@ -117,26 +117,87 @@ fn integer(negative: bool, body: &[u8]) -> Result<u128, LexReason>
     }
 }
 
-/// The token of a number, or of a tag with it.
+/// The integer of a number in any form, after its minus, and how many bytes of `body` the number
+/// takes. Out of line, so that what is common stays small.
+#[inline(never)]
+fn any_integer(negative: bool, body: &[u8]) -> (Result<u128, LexReason>, usize)
+    ensures within { result.1 ≤ length body.now }
+    ensures run { IsRun is_numeral (take result.1 body.now) (drop result.1 body.now) }
+    ensures value { result.0 ≡ integer negative (take result.1 body.now) }
+{
+    let n = numeral_len(body);
+    (integer(negative, front_of(body, n)), n)
+}
+
+/// The decimal integer that `tail` begins with, and how many digits it has. `None` where `tail`
+/// begins with another form of number or with none, or with more than 19 digits: 19 always fit 64
+/// bits, so no digit needs a test for overflow.
+#[inline(always)]
+pub fn decimal_at(tail: &[u8]) -> Option<(u64, usize)>
+    ensures within { IfSome result (λ r. r.1 ≤ length tail.now) }
+    ensures some { IfSome result (λ r. 0 < r.1) }
+    ensures run { IfSome result (λ r. IsRun is_numeral (take r.1 tail.now) (drop r.1 tail.now)) }
+    ensures value { IfSome result (λ r. (negative : Bool) → integer negative (take r.1 tail.now) ≡ Ok r.0) }
+{
+    let most = if tail.len() < 20 { tail.len() } else { 20 };
+    let mut n: u64 = 0;
+    let mut len: usize = 0;
+    'digits: while len < most {
+        let c = tail[len];
+        if c < b'0' || c > b'9' {
+            break;
+        }
+        if len == 19 {
+            return None;
+        }
+        n = n * 10 + (c - b'0') as u64;
+        len += 1;
+    }
+    if len == 0 || (len > 1 && tail[0] == b'0') {
+        return None;
+    }
+    if len < tail.len() && is_numeral(tail[len]) {
+        return None;
+    }
+    Some((n, len))
+}
+
+/// The integer of a number after its minus, and how many bytes of `body` the number takes.
+#[inline(always)]
+fn integer_at(negative: bool, body: &[u8]) -> (Result<u128, LexReason>, usize)
+    ensures within { result.1 ≤ length body.now }
+    ensures run { IsRun is_numeral (take result.1 body.now) (drop result.1 body.now) }
+    ensures value { result.0 ≡ integer negative (take result.1 body.now) }
+{
+    match decimal_at(body) {
+        Some((n, len)) => (Ok(n as u128), len),
+        None => any_integer(negative, body),
+    }
+}
+
+/// The token of a number, or of the tag that it begins. The number is put into `number` where there
+/// is a token.
+#[inline(always)]
 fn number_front(
     negative: bool,
     tagged: bool,
     mark: Option<Mark>,
     found: Result<u128, LexReason>,
+    number: &mut u128,
 ) -> Front
-    ensures { front_view result ≡ number_front negative tagged mark found }
+    ensures { front_view number.new [] result ≡ number_front negative tagged mark found }
 {
     match found {
         Err(reason) => Front::Bad(reason),
         Ok(n) => match mark {
             None => Front::Bad(LexReason::BadIndicator),
             Some(mark) => {
+                *number = n;
                 if tagged {
-                    Front::Read(Class::TagOpen { number: n, mark })
+                    Front::Read(Kind::TagOpen(mark))
                 } else {
-                    Front::Read(Class::Number {
+                    Front::Read(Kind::Number {
                         negative: negative && n != 0,
-                        magnitude: n,
                         mark,
                     })
                 }
@@ -145,14 +206,16 @@ fn number_front(
     }
 }
 
-/// The `(` of a tag's number.
+/// Whether a number is that of a tag: a `(` follows it, and no minus precedes it.
+#[inline(always)]
 fn is_tag(negative: bool, x: &[u8]) -> bool
     ensures { result ≡ (not negative && begins (λ c. c == 40) x.now) }
 {
     !negative && begins_with(b'(', x)
 }
 
-/// The length of a number, with its indicator and the `(` of a tag.
+/// How many bytes a number of `n` bytes takes with its indicator of `m` bytes and the `(` of a tag.
+#[inline(always)]
 fn number_len(n: usize, m: usize, tagged: bool) -> usize
     requires { (if tagged then n + m + 1 else n + m) < 2 ^ 64 }
     ensures { result ≡ (if tagged then n + m + 1 else n + m) }
@@ -160,19 +223,30 @@ fn number_len(n: usize, m: usize, tagged: bool) -> usize
     if tagged { n + m + 1 } else { n + m }
 }
 
-/// A number: `tail` follows the `first` bytes of `whole`, which are its first digit, or none behind
-/// a minus.
-pub fn number_at(negative: bool, first: usize, whole: &[u8], tail: &[u8]) -> (Front, usize)
-    requires first { first ≤ length whole.now }
-    requires tail { tail.now ≡ drop first whole.now }
-    ensures within { result.1 ≤ length tail.now }
-    ensures reads { ReadsNumber negative (take first whole.now) (take result.1 tail.now) (drop result.1 tail.now) (front_view result.0) }
+/// The token of a number after its minus, if it is `negative`, and how many bytes of `body` it takes.
+pub fn number_at(negative: bool, body: &[u8], number: &mut u128) -> (Front, usize)
+    ensures within { result.1 ≤ length body.now }
+    ensures reads { ReadsNumber negative [] (take result.1 body.now) (drop result.1 body.now) (front_view number.new [] result.0) }
 {
-    let n = numeral_len(tail);
-    let after = rest_of(tail, n);
+    let (found, n) = integer_at(negative, body);
+    let after = rest_of(body, n);
     let (mark, m) = mark_at(after);
     let tagged = is_tag(negative, rest_of(after, m));
-    let found = integer(negative, front_of(whole, first + n));
-    let front = number_front(negative, tagged, mark, found);
+    let front = number_front(negative, tagged, mark, found, number);
     (front, number_len(n, m, tagged))
+}
+
+/// The token of a number without a minus, whose first digit is the first character of `text`, which
+/// `tail` follows, and how many bytes of `tail` it takes.
+#[inline(always)]
+pub fn number_from_digit(text: &[u8], tail: &[u8], number: &mut u128) -> (Front, usize)
+    requires some { 0 < length text.now }
+    requires tail { tail.now ≡ drop 1 text.now }
+    requires least { 48 ≤ slice_index text.now 0 }
+    requires most { slice_index text.now 0 ≤ 57 }
+    ensures within { result.1 ≤ length tail.now }
+    ensures reads { ReadsNumber false (take 1 text.now) (take result.1 tail.now) (drop result.1 tail.now) (front_view number.new [] result.0) }
+{
+    let (front, n) = number_at(false, text, number);
+    (front, n - 1)
 }

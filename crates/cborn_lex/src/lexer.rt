@@ -2,8 +2,9 @@
 
 ghost use Rattle.std.specs.Prelude.{◌≤◌, length, IfOk, IfErr};
 ghost use Rattle.cborn_lex.specs.Lex.{Lex, IsStopAt, IsNext, IsStopFrom};
+ghost use Rattle.cborn_lex.specs.Kinds.{IsNextBareToken};
 
-use crate::classes::{Profile, Token};
+use crate::classes::{BareToken, Profile, Token};
 use crate::faults::LexFault;
 use crate::fronts::{Front, first_of};
 use crate::slices::{is_white, rest_of};
@@ -28,9 +29,9 @@ pub fn tokens(alloc: Global, profile: Profile, text: &str) -> Result<Vec<Token>,
     Ok(found)
 }
 
-/// The first token of `text` at or behind the offset `at`, in bytes, and `None` where only white
-/// space and comments are left. Who begins at 0 and goes on at each token's `stop` gets the tokens
-/// that [`tokens`] gives, one by one, and no list of them is kept.
+/// The first token of `text` from the offset `at` on, in bytes, and `None` where only white space
+/// and comments are left. Who begins at 0 and goes on at each token's `stop` gets the tokens that
+/// [`tokens`] gives, one by one, and no list of them is kept.
 ///
 /// # Errors
 /// `Refused` where the text from `at` on begins with no token: the place, from the start of the
@@ -45,19 +46,52 @@ pub fn token_from(
     ensures ok { IfOk result (λ o. IsNext profile text.now at o) }
     ensures refused { IfErr result (λ e. IsStopFrom profile text.now at e) }
 {
+    let mut number: u128 = 0;
+    let mut content = Vec::new(alloc);
+    match next_token(alloc, profile, text, at as usize, &mut number, &mut content)? {
+        Some(token) => Ok(Some(Token {
+            start: token.start as u64,
+            stop: token.stop as u64,
+            class: token.kind.into_class(number, content),
+        })),
+        None => Ok(None),
+    }
+}
+
+/// The first token of `text` from the offset `at` on, in bytes, and `None` where only white space
+/// and comments are left (RFC 8949 section 8, RFC 8610 appendix G). What a string stands for is
+/// appended to `out`, and the number of an integer or a tag is put into `number`: so nothing is
+/// copied twice, and a token is small. Every other token leaves `out` as it was.
+///
+/// # Errors
+/// `Refused` where the text from `at` on begins with no token: the place, from the start of the
+/// text, and the reason of what is bad. `OutOfMemory` where `out` couldn't grow. After an error
+/// `out` may have a part of a string after what it had.
+pub fn next_token(
+    alloc: Global,
+    profile: Profile,
+    text: &str,
+    at: usize,
+    number: &mut u128,
+    out: &mut Vec<u8>,
+) -> Result<Option<BareToken>, LexFault>
+    requires { at ≤ length text.now }
+    ensures ok { IfOk result (λ o. IsNextBareToken profile text.now at o number.new out.old.items out.new.items) }
+    ensures refused { IfErr result (λ e. IsStopFrom profile text.now at e) }
+{
     let bytes = text.as_bytes();
-    let mut place = at as usize;
+    let mut place = at;
     while place < bytes.len() {
         if is_white(bytes[place]) {
             place += 1;
         } else {
-            let (front, n) = first_of(alloc, profile, rest_of(bytes, place))?;
+            let (front, n) = first_of(alloc, profile, rest_of(bytes, place), number, out)?;
             match front {
                 Front::Blank => {}
-                Front::Read(class) => return Ok(Some(Token {
-                    start: place as u64,
-                    stop: (place + n) as u64,
-                    class,
+                Front::Read(kind) => return Ok(Some(BareToken {
+                    start: place,
+                    stop: place + n,
+                    kind,
                 })),
                 Front::Bad(reason) => return Err(LexFault::Refused {
                     place: place as u64,

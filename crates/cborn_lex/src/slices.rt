@@ -1,6 +1,6 @@
 //! Characters and slices of a text.
 
-ghost use Rattle.std.specs.Prelude.{◌≡◌, ◌<◌, ◌≤◌, length, take, drop, slice_index, MatchOption, true, ◌==◌};
+ghost use Rattle.std.specs.Prelude.{◌≡◌, ◌<◌, ◌≤◌, length, take, drop, slice_index, MatchOption, true, ◌==◌, [], ◌∷◌};
 ghost use Rattle.std.specs.List.{list_all};
 ghost use Rattle.std.specs.Char.{is_ascii_digit};
 ghost use Rattle.cborn_lex.specs.Tokens.{is_white, is_word, is_numeral, is_not, mark_of, begins};
@@ -11,6 +11,7 @@ use crate::classes::Mark;
 use cborn_model::Width;
 
 /// Whether a character is white space.
+#[inline(always)]
 pub fn is_white(c: u8) -> bool
     ensures { result ≡ is_white c }
 {
@@ -25,13 +26,15 @@ fn is_word(c: u8) -> bool
 }
 
 /// Whether a character is one of numbers.
-fn is_numeral(c: u8) -> bool
+#[inline(always)]
+pub fn is_numeral(c: u8) -> bool
     ensures { result ≡ is_numeral c }
 {
     c.is_ascii_alphanumeric() || c == b'.'
 }
 
 /// What follows the first `n` bytes.
+#[inline(always)]
 pub fn rest_of(x: &[u8], n: usize) -> &[u8]
     requires { n ≤ length x.now }
     ensures { result.now ≡ drop n x.now }
@@ -40,6 +43,7 @@ pub fn rest_of(x: &[u8], n: usize) -> &[u8]
 }
 
 /// The first `n` bytes.
+#[inline(always)]
 pub fn front_of(x: &[u8], n: usize) -> &[u8]
     requires { n ≤ length x.now }
     ensures { result.now ≡ take n x.now }
@@ -48,6 +52,7 @@ pub fn front_of(x: &[u8], n: usize) -> &[u8]
 }
 
 /// Whether the character is at the front.
+#[inline(always)]
 pub fn begins_with(c: u8, x: &[u8]) -> bool
     ensures { result ≡ begins (λ d. d == c) x.now }
 {
@@ -72,12 +77,12 @@ pub fn has_prefix(p: &[u8], x: &[u8]) -> bool
     }
 }
 
-/// The place of the first q.
-pub fn find(q: u8, tail: &[u8]) -> Option<usize>
-    ensures { MatchOption result (list_all (is_not q) tail.now ≡ true) (λ i. (i < length tail.now) × (list_all (is_not q) (take i tail.now) ≡ true) × (slice_index tail.now i ≡ q)) }
+/// The offset of the first byte that is `wanted`.
+pub fn find(wanted: u8, tail: &[u8]) -> Option<usize>
+    ensures { MatchOption result (list_all (is_not wanted) tail.now ≡ true) (λ i. (i < length tail.now) × (list_all (is_not wanted) (take i tail.now) ≡ true) × (slice_index tail.now i ≡ wanted)) }
 {
     for (i, c) in tail.iter().enumerate() {
-        if *c == q {
+        if *c == wanted {
             return Some(i);
         }
     }
@@ -121,33 +126,51 @@ pub fn indicator_len(tail: &[u8]) -> usize
     word_len(&tail[1..]) + 1
 }
 
-/// What an indicator says.
-fn mark_of(run: &[u8]) -> Option<Mark>
-    ensures { result ≡ mark_of run.now }
-{
-    if run == b"".as_slice() {
-        Some(Mark::Absent)
-    } else if run == b"_".as_slice() {
-        Some(Mark::Endless)
-    } else if run == b"_0".as_slice() {
-        Some(Mark::Wide(Width::One))
-    } else if run == b"_1".as_slice() {
-        Some(Mark::Wide(Width::Two))
-    } else if run == b"_2".as_slice() {
-        Some(Mark::Wide(Width::Four))
-    } else if run == b"_3".as_slice() {
-        Some(Mark::Wide(Width::Eight))
-    } else {
-        None
-    }
-}
-
-/// The indicator at the front, if what stands there is one or none, and how long it is.
+/// The encoding indicator that `x` begins with (RFC 8949 section 8.1), `Mark::Absent` where `x`
+/// doesn't begin with an underscore, and `None` where what does begin with one is no indicator; and
+/// how many bytes of `x` that is.
+#[inline(always)]
 pub fn mark_at(x: &[u8]) -> (Option<Mark>, usize)
     ensures within { result.1 ≤ length x.now }
     ensures run { IsIndicator (take result.1 x.now) (drop result.1 x.now) }
     ensures mark { result.0 ≡ mark_of (take result.1 x.now) }
 {
-    let n = indicator_len(x);
-    (mark_of(front_of(x, n)), n)
+    if x.len() == 0 || x[0] != b'_' {
+        return (Some(Mark::Absent), 0);
+    }
+    underscored_mark(x)
+}
+
+/// The encoding indicator that `x` begins with, where that is an underscore; `None` where it is no
+/// indicator; and how many bytes of `x` that is.
+#[inline(never)]
+fn underscored_mark(x: &[u8]) -> (Option<Mark>, usize)
+    requires some { 0 < length x.now }
+    requires underscore { slice_index x.now 0 ≡ 95 }
+    ensures within { result.1 ≤ length x.now }
+    ensures run { IsIndicator (take result.1 x.now) (drop result.1 x.now) }
+    ensures mark { result.0 ≡ mark_of (take result.1 x.now) }
+{
+    if x.len() == 1 || !is_word(x[1]) {
+        return (Some(Mark::Endless), 1);
+    }
+    if x.len() == 2 || !is_word(x[2]) {
+        return (width_of(x[1]), 2);
+    }
+    (None, indicator_len(x))
+}
+
+/// The indicator that an underscore and this character are.
+#[inline(always)]
+fn width_of(c: u8) -> Option<Mark>
+    requires word { is_word c ≡ true }
+    ensures { result ≡ mark_of (95 ∷ c ∷ []) }
+{
+    match c {
+        b'0' => Some(Mark::Wide(Width::One)),
+        b'1' => Some(Mark::Wide(Width::Two)),
+        b'2' => Some(Mark::Wide(Width::Four)),
+        b'3' => Some(Mark::Wide(Width::Eight)),
+        _ => None,
+    }
 }

@@ -18,7 +18,7 @@ unclosed_cons : (q a : ℕ) (y : List ℕ) → eqb a 92 ≡ false → is_not q a
 unclosed_cons q a [] e h k = h
 unclosed_cons q a (b ∷ y) e h k = unclosed_plain q a b y e ∙ and_from _ _ h k
 
-unclosed_then : (q : ℕ) (x y : List ℕ) → is_content q x ≡ true → is_unclosed q y ≡ true → is_unclosed q (x ++ y) ≡ true
+pub unclosed_then : (q : ℕ) (x y : List ℕ) → is_content q x ≡ true → is_unclosed q y ≡ true → is_unclosed q (x ++ y) ≡ true
 unclosed_then q [] y h k = k
 unclosed_then q (a ∷ []) y h k = let hs = and_parts (not (eqb a 92)) (is_not q a) h in unclosed_cons q a y (not-true _ hs.0) hs.1 k
 unclosed_then q (a ∷ b ∷ x) y h k = elim (cases_Bool (eqb a 92)) [

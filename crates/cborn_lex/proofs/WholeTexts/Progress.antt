@@ -1,5 +1,5 @@
 -- A scan from piece to piece.
-use Rattle.std.proofs.Common.{◌≡◌, refl, sym, ap, ◌∙◌, subst, ℕ, ◌+◌, ◌<◌, ◌≤◌, List, [], ◌∷◌, ◌++◌, length, take, drop, get_or, arith, add-one, Some}
+use Rattle.std.proofs.Common.{◌≡◌, refl, sym, ap, ◌∙◌, subst, ℕ, ◌+◌, ◌<◌, ◌≤◌, List, [], ◌∷◌, ◌++◌, length, take, drop, get_or, arith, add-one}
 use Rattle.std.proofs.lemmas.List.{take-append-drop, length-append, length-take-le, drop_all, drop-drop, get_or-drop}
 use Rattle.std.proofs.Common.{length-drop, true}
 use Rattle.std.proofs.lemmas.Bool.{cond-true}
@@ -10,8 +10,7 @@ use Rattle.cborn_lex.specs.declared.faults.LexFault.TheVariants.{Refused, OutOfM
 use Rattle.cborn_lex.specs.declared.classes.Class.{Class}
 use Rattle.cborn_lex.specs.declared.classes.Token.{Token}
 use Rattle.cborn_lex.specs.Tokens.{Front, Blank, Read, Bad, is_white}
-use Rattle.cborn_lex.specs.Forms.{Start, white, single, start_of, ReadsFrom, Reads}
-use Rattle.cborn_lex.specs.devices.View.{single_class}
+use Rattle.cborn_lex.specs.Forms.{Start, white, start_of, ReadsFrom, Reads}
 use Rattle.cborn_lex.specs.Lex.{Through, here, gap, token, Lex, Stop, Between, IsStopAt, IsStopFrom}
 use Rattle.cborn_lex.proofs.WholeTexts.Chains.{some_long}
 
@@ -21,15 +20,6 @@ first_reads profile [] tail n a some e h k = absurd (omega arith)
 first_reads profile (c ∷ x) tail n a some e h k =
     let same : tail ≡ x = e in
     (omega arith, omega (arith, ap length same), rw add-one (subst (λ (y : List ℕ). ReadsFrom (start_of c) profile c (take n y) (drop n y) a) same k))
-
-single_is : (s : Start) (k : Class) → single_class s ≡ Some k → s ≡ single k
-single_is (single l) k e = let same : l ≡ k = cc in ap single same
-single_is _ k e = cc
-
--- a character that is a token alone
-pub single_reads : (profile : Profile) (text : List ℕ) (k : Class) → 0 < length text → single_class (start_of (get_or text 0 0)) ≡ Some k → Reads profile (take 1 text) (drop 1 text) (Read k)
-single_reads profile [] k some e = absurd (omega arith)
-single_reads profile (c ∷ x) k some e = subst (λ (s : Start). ReadsFrom s profile c [] x (Read k)) (sym (single_is (start_of c) k e)) (refl, refl)
 
 -- One part of a text after another.
 

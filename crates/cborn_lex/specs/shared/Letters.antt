@@ -1,8 +1,9 @@
--- A device of the proofs: contents of strings as lists of letters. No definition cites it.
-use Rattle.std.specs.Prelude.{◌≡◌, ℕ, Bool, true, ◌||◌, ◌&&◌, not, List, [], ◌∷◌, ◌++◌, flat_map, ◌==◌, nat_le, encode_utf8}
+-- A device of the proofs: contents of strings as lists of letters, and what is read of them. No definition cites it.
+use Rattle.std.specs.Prelude.{◌≡◌, ℕ, ◌<◌, Bool, true, ◌||◌, ◌&&◌, not, List, [], ◌∷◌, ◌++◌, flat_map, ◌==◌, nat_le, encode_utf8, length, take, slice_index}
 use Rattle.std.specs.List.{list_all}
 use Rattle.std.specs.Str.{byte}
-use Rattle.cborn_lex.specs.Strings.{four, code, are_hex, is_high, is_low, is_escape, escape_code, paired}
+use Rattle.cborn_lex.specs.Strings.{four, code, are_hex, is_high, is_low, is_escape, escape_code, paired, is_content, IsText}
+use Rattle.cborn_lex.specs.shared.Scan.{is_raw}
 
 -- one character of a content, as it is written
 pub data Letter : Type 0 where
@@ -35,3 +36,31 @@ pub record HasLetters (q : ℕ) (content bytes : List ℕ) : Type 0 where
   pub allowed : list_all (is_letter q) letters ≡ true
   pub whole : content ≡ flat_map written letters
   pub value : bytes ≡ flat_map meant letters
+
+-- the letter stands for itself, and closes no string with the quote q
+abbrev pub is_plain : ℕ → ℕ → Bool
+is_plain q c = is_raw c && not (c == q)
+
+abbrev pub is_special : ℕ → ℕ → Bool
+is_special q c = not (is_plain q c)
+
+-- the first len characters are a content, and the bytes that it stands for are added
+pub record LettersSoFar (q : ℕ) (tail : List ℕ) (len : ℕ) (old new : List ℕ) : Type 0 where
+  pub inside : is_content q (take len tail) ≡ true
+  pub letters : List Letter
+  pub allowed : list_all (is_letter q) letters ≡ true
+  pub whole : take len tail ≡ flat_map written letters
+  pub added : new ≡ old ++ flat_map meant letters
+
+-- the first len characters are a content that ends at a quote; the bytes that it stands for are added
+pub record LettersTaken (q : ℕ) (tail : List ℕ) (len : ℕ) (old new : List ℕ) : Type 0 where
+  pub within : len < length tail
+  pub inside : is_content q (take len tail) ≡ true
+  pub quote : slice_index tail len ≡ q
+  pub bytes : List ℕ
+  pub is : IsText q (take len tail) bytes
+  pub added : new ≡ old ++ bytes
+
+-- a content up to a quote stands for nothing
+abbrev pub NoText : ℕ → List ℕ → Type 0
+NoText q tail = (i : ℕ) → i < length tail → is_content q (take i tail) ≡ true → slice_index tail i ≡ q → (bytes : List ℕ) → IsText q (take i tail) bytes → ⊥

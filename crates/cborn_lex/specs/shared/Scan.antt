@@ -1,9 +1,6 @@
 -- Functions that the code computes. They are devices of the proofs; no definition cites them.
 use Rattle.std.specs.Prelude.{ℕ, ◌+◌, ◌-◌, ◌*◌, Bool, true, false, not, List, [], ◌∷◌, ◌++◌, drop, Option, Some, None, ◌==◌, ◌&&◌, nat_le, cond}
 use Rattle.std.specs.Char.{is_digit}
-use Rattle.cborn_lex.specs.declared.classes.Mark.{Mark}
-use Rattle.cborn_lex.specs.declared.classes.Class.{Class}
-use Rattle.cborn_lex.specs.declared.classes.Class.TheVariants.{Text, Bytes}
 use Rattle.cborn_lex.specs.Tokens.{is_white}
 use Rattle.cborn_lex.specs.Strings.{is_escape, escape_code, are_hex, code, is_high, is_low}
 
@@ -21,10 +18,6 @@ strip false (c ∷ x) = cond (is_digit c 16) (onto c (strip false x)) (cond (is_
 abbrev pub behind : List ℕ → Option (List ℕ) → Option (List ℕ)
 behind xs None = None
 behind xs (Some ys) = Some (xs ++ ys)
-
--- the token of a string between quotes q
-abbrev pub string_class : ℕ → List ℕ → Mark → Class
-string_class q = cond (q == 34) Text (Bytes true)
 
 -- a character of a string that stands for itself
 abbrev pub is_raw : ℕ → Bool

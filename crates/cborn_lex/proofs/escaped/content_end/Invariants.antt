@@ -3,7 +3,7 @@ use Rattle.cborn_lex.specs.Strings.{is_content}
 use Rattle.cborn_lex.proofs.escaped.content_end.Given as goal
 
 abbrev pub invariant-loop-at : goal.invariant-loop-at
-invariant-loop-at l = is_content l.q (take l.at l.tail) ≡ true
+invariant-loop-at l = is_content l.quote (take l.at l.tail) ≡ true
 
 abbrev pub decreases-loop-at : goal.decreases-loop-at
 decreases-loop-at l = length l.tail - l.at

@@ -1,9 +1,24 @@
-use Rattle.std.proofs.Common.{sym, ◌∙◌}
-use Rattle.cborn_lex.specs.devices.View.{front_view}
+use Rattle.std.proofs.Common.{sym, ◌∙◌, refl, subst, arith}
+use Rattle.cborn_lex.specs.Tokens.{Front}
+use Rattle.cborn_lex.specs.Numbers.{word_front}
+use Rattle.cborn_lex.specs.devices.View.{FrontStandsFor}
+use Rattle.cborn_lex.proofs.TwoParts.{nothing_appended}
 use Rattle.cborn_lex.proofs.Sliced.Words.{prefix_made}
 use Rattle.cborn_lex.proofs.keywords.after_word.Goals as goal
 
 pub returns-in_ok-front : goal.returns-in_ok-front
 returns-in_ok-front c =
     let h = c.in_ok-front.ensures in
-    prefix_made c.args.word.now c.args.after.now c.rest_of.result.now c.in_ok-front.n (front_view c.in_ok-front.front) (sym c.begins_with.ensures ∙ c.if-begins_with.true) c.rest_of.ensures h.0 h.1
+    let t = h.1 in
+    let p = prefix_made c.args.word.now c.args.after.now c.rest_of.result.now c.in_ok-front.n t.0 (sym c.begins_with.ensures ∙ c.if-begins_with.true) c.rest_of.ensures h.0 t.1 in
+    (p.0, (t.0, p.1, t.2))
+
+pub returns-else-begins_with : goal.returns-else-begins_with
+returns-else-begins_with c = (
+  omega arith,
+  (
+    word_front c.args.word.now,
+    (sym c.begins_with.ensures ∙ c.if-begins_with.false, c.requires.not_simple, refl),
+    λ n. subst (λ (a : Front). FrontStandsFor c.word_front.result n c.args.out.now.items c.args.out.now.items a) (c.word_front.ensures n) (nothing_appended c.word_front.result n c.args.out.now.items c.args.out.now.items refl),
+  ),
+)

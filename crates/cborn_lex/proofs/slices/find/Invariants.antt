@@ -4,4 +4,4 @@ use Rattle.cborn_lex.specs.Tokens.{is_not}
 use Rattle.cborn_lex.proofs.slices.find.Given as goal
 
 abbrev pub invariant-loop-i : goal.invariant-loop-i
-invariant-loop-i l = list_all (is_not l.q) (take l.i l.tail) ≡ true
+invariant-loop-i l = list_all (is_not l.wanted) (take l.i l.tail) ≡ true

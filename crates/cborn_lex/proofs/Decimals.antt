@@ -1,0 +1,135 @@
+-- Decimal integers at the front of a text.
+use Rattle.std.proofs.Common.{◌≡◌, refl, sym, ap, ◌∙◌, subst, ℕ, zero, suc, ◌+◌, ◌-◌, ◌*◌, ◌<◌, ◌≤◌, ◌^◌, List, [], ◌∷◌, ◌++◌, length, take, drop, get_or, Bool, true, false, ◌||◌, eqb, Ok, inl, inr, arith, append_assoc}
+use Rattle.std.proofs.Math.Nat.{pow-suc}
+use Rattle.std.proofs.lemmas.Bool.{and_parts, and_from, cond-true, cond-false, lt-ltb, ltb-true, eqb-true, cases_Bool, false≢true}
+use Rattle.std.proofs.lemmas.List.{take_more, take-append-drop}
+use Rattle.std.proofs.lemmas.List.Folds.{list_all-append}
+use Rattle.std.proofs.lemmas.Str.{digit_value_digit}
+use Rattle.std.proofs.lemmas.Str.Parse.{digit_from_value}
+use Rattle.std.specs.List.{list_all}
+use Rattle.std.specs.Char.{is_digit, digit_value}
+use Rattle.std.specs.Prelude.{codes}
+use Rattle.cborn_lex.specs.Tokens.{is_numeral, begins}
+use Rattle.cborn_lex.specs.Numbers.{number, within, integer, has_prefix, are_digits}
+use Rattle.cborn_lex.specs.Tokens.{Front, mark_of}
+use Rattle.cborn_lex.specs.Numbers.{number_front}
+use Rattle.cborn_lex.specs.Forms.{IsRun, IsNumber, ReadsNumber}
+use Rattle.cborn_lex.proofs.TwoParts.{passes, passes_at}
+
+number-append : (b n : ℕ) (xs ys : List ℕ) → number b n (xs ++ ys) ≡ number b (number b n xs) ys
+number-append b n [] ys = refl
+number-append b n (x ∷ xs) ys = number-append b (n * b + digit_value x) xs ys
+
+pub digit_more : (n len : ℕ) (tail : List ℕ) → len < length tail → 48 ≤ get_or tail len 0 → get_or tail len 0 ≤ 57 → list_all (λ d. is_digit d 10) (take len tail) ≡ true → number 10 0 (take len tail) ≡ n
+    → (list_all (λ d. is_digit d 10) (take (len + 1) tail) ≡ true) × (number 10 0 (take (len + 1) tail) ≡ n * 10 + (get_or tail len 0 - 48))
+digit_more n len tail h lo hi a v =
+    let c = get_or tail len 0 in
+    let e : take (len + 1) tail ≡ take len tail ++ c ∷ [] = take_more tail len 0 h in
+    let d : digit_value c + 48 ≡ c = digit_value_digit c (lo, hi) in
+    let is : is_digit c 10 ≡ true = lt-ltb (digit_value c) 10 (omega (arith, d)) in
+    let minus : digit_value c ≡ c - 48 = omega (arith, d) in (
+      ap (list_all (λ b. is_digit b 10)) e ∙ (list_all-append (λ b. is_digit b 10) (take len tail) (c ∷ []) ∙ and_from _ _ a (and_from _ _ is refl)),
+      ap (number 10 0) e ∙ (number-append 10 0 (take len tail) (c ∷ []) ∙ (λ i. v i * 10 + minus i)),
+    )
+
+-- at most 19 digits are below 2 ^ 64
+
+pub below_more : (n len d : ℕ) → n < 10 ^ len → d ≤ 9 → n * 10 + d < 10 ^ (len + 1)
+below_more n len d h k =
+    let one : len + 1 ≡ suc len = omega arith in
+    let step : 10 ^ (len + 1) ≡ 10 ^ len * 10 = ap (λ m. 10 ^ m) one ∙ pow-suc 10 len in
+    omega (arith, step, h, k)
+
+grows : (len k : ℕ) → 10 ^ len ≤ 10 ^ (len + k)
+grows len zero = let same : len + 0 ≡ len = omega arith in omega (arith, ap (λ m. 10 ^ m) same)
+grows len (suc k) =
+    let one : len + suc k ≡ suc (len + k) = omega arith in
+    let step : 10 ^ (len + suc k) ≡ 10 ^ (len + k) * 10 = ap (λ m. 10 ^ m) one ∙ pow-suc 10 (len + k) in
+    let less = grows len k in
+    omega (arith, step, less)
+
+pub fits_more : (n len : ℕ) → n < 10 ^ len → len < 19 → n * 10 + 9 < 2 ^ 64
+fits_more n len h l =
+    let less = grows len (18 - len) in
+    let far : len + (18 - len) ≡ 18 = omega (arith, l) in
+    let most : 10 ^ (len + (18 - len)) ≡ 1000000000000000000 = ap (λ m. 10 ^ m) far in
+    omega (arith, less, most, h)
+
+-- what the digits are
+
+digit_passes : (q : ℕ → Bool) (c : ℕ) → passes q 48 10 ≡ true → is_digit c 10 ≡ true → q c ≡ true
+digit_passes q c t h = let r = digit_from_value c (ltb-true (digit_value c) 10 h) in passes_at q 48 10 c t r.0 (omega (arith, r.1))
+
+digits_pass : (q : ℕ → Bool) (ds : List ℕ) → passes q 48 10 ≡ true → list_all (λ d. is_digit d 10) ds ≡ true → list_all q ds ≡ true
+digits_pass q [] t h = refl
+digits_pass q (c ∷ ds) t h = let hs = and_parts (is_digit c 10) (list_all (λ d. is_digit d 10) ds) h in and_from (q c) (list_all q ds) (digit_passes q c t hs.0) (digits_pass q ds t hs.1)
+
+within_bounds : (n : ℕ) → n < 2 ^ 64 → within n ≡ Ok n
+within_bounds n h = cond-true _ _ _ (lt-ltb n (2 ^ 128) (omega (arith, h)))
+
+plain_integer : (negative : Bool) (c : ℕ) (ds : List ℕ) → eqb c 48 ≡ false → list_all (λ d. is_digit d 10) (c ∷ ds) ≡ true → integer negative (c ∷ ds) ≡ within (number 10 0 (c ∷ ds))
+plain_integer negative c ds e h =
+    let hex : (has_prefix (codes "0x") (c ∷ ds) || has_prefix (codes "0X") (c ∷ ds)) ≡ false = rw e refl in
+    let octal : (has_prefix (codes "0o") (c ∷ ds) || has_prefix (codes "0O") (c ∷ ds)) ≡ false = rw e refl in
+    let binary : (has_prefix (codes "0b") (c ∷ ds) || has_prefix (codes "0B") (c ∷ ds)) ≡ false = rw e refl in
+    let all : are_digits 10 (c ∷ ds) ≡ true = h in
+    cond-false _ _ _ hex ∙ (cond-false _ _ _ octal ∙ (cond-false _ _ _ binary ∙ (cond-true _ _ _ all ∙ rw e refl)))
+
+zero_alone : (negative : Bool) (c : ℕ) (ds : List ℕ) → c ≡ 48 → ds ≡ [] → integer negative (c ∷ ds) ≡ Ok (number 10 0 (c ∷ ds))
+zero_alone negative c ds e f = rw (e, f) refl
+
+value_of : (negative : Bool) (n l c : ℕ) (y : List ℕ) → n < 2 ^ 64 → list_all (λ d. is_digit d 10) (c ∷ take l y) ≡ true → number 10 0 (c ∷ take l y) ≡ n → (0 < l → c ≡ 48 → ⊥) → integer negative (c ∷ take l y) ≡ Ok n
+value_of negative n l c y h a v lone = elim (cases_Bool (eqb c 48)) [
+  | inl e ↦ alone l a v lone (eqb-true c 48 e)
+  | inr e ↦ plain_integer negative c (take l y) e a ∙ (ap within v ∙ within_bounds n h)
+]
+  where
+    alone : (l : ℕ) → list_all (λ d. is_digit d 10) (c ∷ take l y) ≡ true → number 10 0 (c ∷ take l y) ≡ n → (0 < l → c ≡ 48 → ⊥) → c ≡ 48 → integer negative (c ∷ take l y) ≡ Ok n
+    alone zero a v lone e = zero_alone negative c [] e refl ∙ ap Ok v
+    alone (suc l) a v lone e = absurd (lone (omega arith) e)
+
+pub decimal_value : (negative : Bool) (n len : ℕ) (tail : List ℕ) → (len ≡ 0 → ⊥) → len ≤ length tail → n < 2 ^ 64 → list_all (λ d. is_digit d 10) (take len tail) ≡ true → number 10 0 (take len tail) ≡ n → (1 < len → get_or tail 0 0 ≡ 48 → ⊥) → integer negative (take len tail) ≡ Ok n
+decimal_value negative n zero tail s w h a v lone = absurd (s refl)
+decimal_value negative n (suc l) [] s w h a v lone = absurd (omega (arith, w))
+decimal_value negative n (suc l) (c ∷ y) s w h a v lone = value_of negative n l c y h a v (λ k. lone (omega (arith, k)))
+
+pub decimal_run : (len : ℕ) (tail : List ℕ) → list_all (λ d. is_digit d 10) (take len tail) ≡ true → (len < length tail → is_numeral (get_or tail len 0) ≡ false) → IsRun is_numeral (take len tail) (drop len tail)
+decimal_run len tail a f = record { pass = digits_pass is_numeral (take len tail) refl a; ends = ends tail len f }
+  where
+    ends : (tail : List ℕ) (len : ℕ) → (len < length tail → is_numeral (get_or tail len 0) ≡ false) → begins is_numeral (drop len tail) ≡ false
+    ends [] zero f = refl
+    ends [] (suc l) f = refl
+    ends (c ∷ y) zero f = f (omega arith)
+    ends (c ∷ y) (suc l) f = ends y l (λ h. f (omega (arith, h)))
+
+-- the first digit apart
+
+digit_apart : (k c : ℕ) (x : List ℕ) (a : Front) (tagged : Bool) (body mark tag : List ℕ) → is_numeral c ≡ true → IsNumber false tagged body mark tag (take k (c ∷ x)) (drop k (c ∷ x)) → a ≡ number_front false tagged (mark_of mark) (integer false body) → (1 ≤ k) × ReadsNumber false (c ∷ []) (take (k - 1) x) (drop (k - 1) x) a
+digit_apart k c x a tagged [] mark tag h n e =
+    let all : c ∷ x ≡ mark ++ (tag ++ drop k (c ∷ x)) = sym (take-append-drop k (c ∷ x)) ∙ ap (λ y. y ++ drop k (c ∷ x)) n.whole ∙ append_assoc mark tag (drop k (c ∷ x)) in
+    absurd (false≢true (sym n.run.ends ∙ ap (begins is_numeral) (sym all) ∙ h))
+digit_apart zero c x a tagged (d ∷ body) mark tag h n e = let w = n.whole in cc
+digit_apart (suc l) c x a tagged (d ∷ body) mark tag h n e =
+    let same : c ≡ d = ap (λ (y : List ℕ). get_or y 0 0) n.whole in
+    let rest : take l x ≡ body ++ (mark ++ tag) = ap (drop 1) n.whole in
+    let one : suc l - 1 ≡ l = omega arith in
+    let reads : ReadsNumber false (c ∷ []) (take l x) (drop l x) a = (
+      tagged,
+      body,
+      mark,
+      tag,
+      record {
+        run = record { pass = (and_parts (is_numeral d) (list_all is_numeral body) n.run.pass).1; ends = n.run.ends };
+        indicator = n.indicator;
+        tagging = n.tagging;
+        whole = rest;
+      },
+      e ∙ ap (λ b. number_front false tagged (mark_of mark) (integer false (b ∷ body))) (sym same),
+    ) in
+    (omega arith, subst (λ (j : ℕ). ReadsNumber false (c ∷ []) (take j x) (drop j x) a) (sym one) reads)
+
+pub digit_first : (k : ℕ) (text tail : List ℕ) (a : Front) → 0 < length text → tail ≡ drop 1 text → 48 ≤ get_or text 0 0 → get_or text 0 0 ≤ 57 → ReadsNumber false [] (take k text) (drop k text) a → (1 ≤ k) × ReadsNumber false (take 1 text) (take (k - 1) tail) (drop (k - 1) tail) a
+digit_first k [] tail a s e lo hi r = absurd (omega (arith, s))
+digit_first k (c ∷ x) tail a s e lo hi (tagged, body, mark, tag, n, f) =
+    let d = digit_apart k c x a tagged body mark tag (passes_at is_numeral 48 10 c refl lo (omega (arith, hi))) n f in
+    (d.0, subst (λ (y : List ℕ). ReadsNumber false (c ∷ []) (take (k - 1) y) (drop (k - 1) y) a) (sym e) d.1)

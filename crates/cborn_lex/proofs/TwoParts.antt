@@ -1,0 +1,163 @@
+-- Fronts in two parts: a kind, and the number or the content that goes with it.
+use Rattle.std.proofs.Common.{◌≡◌, ◌&&◌, refl, sym, ap, ◌∙◌, subst, ℕ, zero, suc, ◌<◌, ◌≤◌, List, [], ◌∷◌, ◌++◌, append-nil, length, take, drop, get_or, Bool, true, false, eqb, inl, inr, Option, Some, None, Result, Ok, Err, IfOk, arith, ◌+◌}
+use Rattle.std.proofs.lemmas.Bool.{false≢true, eq-eqb, and_right, and_parts, cases_lt, cond-true, cond-false}
+use Rattle.std.proofs.lemmas.List.{take_all, drop_all}
+use Rattle.cborn_lex.specs.declared.classes.Mark.{Mark}
+use Rattle.cborn_lex.specs.declared.classes.Kind.{Kind}
+use Rattle.cborn_lex.specs.declared.classes.Kind.TheVariants as kinds
+use Rattle.cborn_lex.specs.declared.classes.Class.{Class}
+use Rattle.cborn_lex.specs.declared.fronts.Front.{Front as FrontIn}
+use Rattle.cborn_lex.specs.declared.fronts.Front.TheVariants as fronts
+use Rattle.std.specs.Prelude.{bytes_eq, codes}
+use Rattle.cborn_lex.specs.declared.faults.LexReason.{LexReason}
+use Rattle.cborn_lex.specs.declared.faults.LexReason.TheVariants.{UnclosedString}
+use Rattle.cborn_lex.specs.Tokens.{Front, Read, Bad, marked, mark_of, is_word}
+use Rattle.cborn_lex.specs.declared.classes.Profile.{Profile}
+use Rattle.cborn_lex.specs.declared.classes.Class.TheVariants as classes
+use Rattle.cborn_lex.specs.Forms.{IsIndicator, IsString, Start, digit, start_of, ReadsFrom, Prefix, hexadecimal, base64, unknown, prefix_of, IsPrefixed, ReadsWord}
+use Rattle.cborn_lex.specs.Kinds.{class_of, content_of, StandsFor}
+use Rattle.cborn_lex.specs.devices.View.{front_view, FrontStandsFor}
+
+nothing_in : (k : Kind) (n : ℕ) → content_of (class_of k n []) ≡ []
+nothing_in (kinds.ArrayOpen m) n = refl
+nothing_in (kinds.MapOpen m) n = refl
+nothing_in kinds.ArrayClose n = refl
+nothing_in kinds.MapClose n = refl
+nothing_in kinds.ParenClose n = refl
+nothing_in kinds.Comma n = refl
+nothing_in kinds.Colon n = refl
+nothing_in kinds.EmbedOpen n = refl
+nothing_in (kinds.EmbedClose m) n = refl
+nothing_in kinds.ChunkOpen n = refl
+nothing_in (kinds.Number b m) n = refl
+nothing_in (kinds.TagOpen m) n = refl
+nothing_in (kinds.Word v) n = refl
+nothing_in kinds.SimpleOpen n = refl
+nothing_in (kinds.Text m) n = refl
+nothing_in (kinds.Bytes q m) n = refl
+
+-- where nothing was appended
+pub nothing_appended : (f : FrontIn) (n : ℕ) (old new : List ℕ) → new ≡ old → FrontStandsFor f n old new (front_view n [] f)
+nothing_appended fronts.Blank n old new e = (refl, e)
+nothing_appended (fronts.Read k) n old new e = (class_of k n [], refl, record { content = []; class = refl; written = e ∙ sym (append-nil old) ∙ ap (λ x. old ++ x) (sym (nothing_in k n)) })
+nothing_appended (fronts.Bad r) n old new e = refl
+
+-- a string
+pub string_appended : (f : FrontIn) (n : ℕ) (x old new : List ℕ) (k : Mark → Class) (m : Option Mark) → ((a : Mark) → content_of (k a) ≡ x) → front_view n x f ≡ marked k m → new ≡ old ++ x → FrontStandsFor f n old new (marked k m)
+string_appended fronts.Blank n x old new k None c e w = cc
+string_appended fronts.Blank n x old new k (Some a) c e w = cc
+string_appended (fronts.Read l) n x old new k None c e w = cc
+string_appended (fronts.Read l) n x old new k (Some a) c e w = let same : class_of l n x ≡ k a = cc in (k a, refl, record { content = x; class = sym same; written = w ∙ ap (λ y. old ++ y) (sym (c a)) })
+string_appended (fronts.Bad r) n x old new k None c e w = sym e
+string_appended (fronts.Bad r) n x old new k (Some a) c e w = cc
+
+-- a string that isn't closed
+pub unclosed_made : (whole unclosed : List ℕ → Bool) (q : ℕ) (Is : List ℕ → List ℕ → Type 0) (r : LexReason) (k : List ℕ → Mark → Class) (tail : List ℕ) → unclosed tail ≡ true → IsString whole unclosed q Is r k (take (length tail) tail) (drop (length tail) tail) (Bad UnclosedString)
+unclosed_made whole unclosed q Is r k tail h = inr (ap unclosed (take_all (length tail) tail (omega arith)) ∙ h, drop_all (length tail) tail (omega arith), refl)
+
+-- an underscore and two characters of words, or more
+pub long_mark : (x : List ℕ) (n : ℕ) → 2 < length x → get_or x 0 0 ≡ 95 → is_word (get_or x 1 0) ≡ true → is_word (get_or x 2 0) ≡ true → IsIndicator (take n x) (drop n x) → None ≡ mark_of (take n x)
+long_mark [] n l u h k i = absurd (omega (arith, l))
+long_mark (a ∷ []) n l u h k i = absurd (omega (arith, l))
+long_mark (a ∷ b ∷ []) n l u h k i = absurd (omega (arith, l))
+long_mark (a ∷ b ∷ c ∷ y) zero l u h k i = absurd (false≢true (sym i ∙ eq-eqb a 95 u))
+long_mark (a ∷ b ∷ c ∷ y) (suc zero) l u h k i = absurd (false≢true (sym i.1.ends ∙ h))
+long_mark (a ∷ b ∷ c ∷ y) (suc (suc zero)) l u h k i = absurd (false≢true (sym i.1.ends ∙ k))
+long_mark (a ∷ b ∷ c ∷ y) (suc (suc (suc n))) l u h k i =
+    sym (cond-false _ _ _ (and_right (eqb a 95) _ refl) ∙ (cond-false _ _ _ (and_right (eqb a 95) _ (and_right (eqb b 48) _ refl)) ∙ (cond-false _ _ _ (and_right (eqb a 95) _ (and_right (eqb b 49) _ refl))
+    ∙ (cond-false _ _ _ (and_right (eqb a 95) _ (and_right (eqb b 50) _ refl)) ∙ cond-false _ _ _ (and_right (eqb a 95) _ (and_right (eqb b 51) _ refl))))))
+
+-- a front that begins with the character c, where nothing was appended
+pub from_plain : (profile : Profile) (c d n m : ℕ) (tail old : List ℕ) (f : FrontIn) → c ≡ d → n ≤ length tail → ReadsFrom (start_of d) profile d (take n tail) (drop n tail) (front_view m [] f)
+    → (n ≤ length tail) × ((a : Front) × ReadsFrom (start_of c) profile c (take n tail) (drop n tail) a × FrontStandsFor f m old old a)
+from_plain profile c d n m tail old f e h r = (h, (front_view m [] f, subst (λ (b : ℕ). ReadsFrom (start_of b) profile b (take n tail) (drop n tail) (front_view m [] f)) (sym e) r, nothing_appended f m old old refl))
+
+-- the class, where its content alone was appended
+pub same_class : (k : Kind) (n : ℕ) (old new : List ℕ) (c : Class) → old ≡ [] → StandsFor k n old new c → class_of k n new ≡ c
+same_class k n old new c e t = whole k t.content t.class
+  where
+    now : (x : List ℕ) → content_of c ≡ x → new ≡ x
+    now x h = t.written ∙ ap (λ y. y ++ content_of c) e ∙ h
+
+    whole : (k : Kind) (x : List ℕ) → c ≡ class_of k n x → class_of k n new ≡ c
+    whole (kinds.ArrayOpen m) x h = sym h
+    whole (kinds.MapOpen m) x h = sym h
+    whole kinds.ArrayClose x h = sym h
+    whole kinds.MapClose x h = sym h
+    whole kinds.ParenClose x h = sym h
+    whole kinds.Comma x h = sym h
+    whole kinds.Colon x h = sym h
+    whole kinds.EmbedOpen x h = sym h
+    whole (kinds.EmbedClose m) x h = sym h
+    whole kinds.ChunkOpen x h = sym h
+    whole (kinds.Number b m) x h = sym h
+    whole (kinds.TagOpen m) x h = sym h
+    whole (kinds.Word v) x h = sym h
+    whole kinds.SimpleOpen x h = sym h
+    whole (kinds.Text m) x h = ap (λ y. classes.Text y m) (now x (ap content_of h)) ∙ sym h
+    whole (kinds.Bytes q m) x h = ap (λ y. classes.Bytes q y m) (now x (ap content_of h)) ∙ sym h
+
+-- Digits.
+
+abbrev pub passes : (ℕ → Bool) → ℕ → ℕ → Bool
+passes p lo zero = true
+passes p lo (suc n) = p lo && passes p (suc lo) n
+
+pub passes_at : (p : ℕ → Bool) (lo n c : ℕ) → passes p lo n ≡ true → lo ≤ c → c < lo + n → p c ≡ true
+passes_at p lo zero c h l k = absurd (omega arith)
+passes_at p lo (suc n) c h l k =
+    let hs = and_parts (p lo) (passes p (suc lo) n) h in
+    elim (cases_lt lo c) [
+      | inl above ↦ passes_at p (suc lo) n c hs.1 (omega arith) (omega arith)
+      | inr same ↦ let e : c ≡ lo = omega arith in rw e hs.0
+    ]
+
+abbrev is_digit_start : Start → Bool
+is_digit_start digit = true
+is_digit_start _ = false
+
+digit_start : (s : Start) → is_digit_start s ≡ true → s ≡ digit
+digit_start digit e = refl
+digit_start _ e = cc
+
+pub digit_starts : (c : ℕ) → 48 ≤ c → c ≤ 57 → start_of c ≡ digit
+digit_starts c h k = digit_start (start_of c) (passes_at (λ d. is_digit_start (start_of d)) 48 10 c refl h (omega (arith, k)))
+
+pub take_one : (x : List ℕ) → 0 < length x → take 1 x ≡ get_or x 0 0 ∷ []
+take_one [] h = absurd (omega (arith, h))
+take_one (c ∷ x) h = refl
+
+-- the same of a string, which may want memory
+pub quoted_from : {E : Type 0} (profile : Profile) (c d m : ℕ) (tail old new : List ℕ) (r : Result (FrontIn × ℕ) E) → c ≡ d → IfOk r (λ r. (r.1 ≤ length tail) × ((a : Front) × ReadsFrom (start_of d) profile d (take r.1 tail) (drop r.1 tail) a × ((n : ℕ) → FrontStandsFor r.0 n old new a)))
+    → IfOk r (λ r. (r.1 ≤ length tail) × ((a : Front) × ReadsFrom (start_of c) profile c (take r.1 tail) (drop r.1 tail) a × FrontStandsFor r.0 m old new a))
+quoted_from profile c d m tail old new (Err x) e h = tt
+quoted_from profile c d m tail old new (Ok (f, n)) e h = let t = h.1 in (h.0, (t.0, subst (λ (b : ℕ). ReadsFrom (start_of b) profile b (take n tail) (drop n tail) t.0) (sym e) t.1, t.2 m))
+
+-- Prefixes.
+
+pub prefix_known : {E : Type 0} (p : Prefix) (word tail old new : List ℕ) (r : Result (FrontIn × ℕ) E) → prefix_of word ≡ p → IfOk r (λ r. (r.1 ≤ length tail) × ((a : Front) × IsPrefixed p (take r.1 tail) (drop r.1 tail) a × ((n : ℕ) → FrontStandsFor r.0 n old new a)))
+    → IfOk r (λ r. (r.1 ≤ length tail) × ((a : Front) × IsPrefixed (prefix_of word) (take r.1 tail) (drop r.1 tail) a × ((n : ℕ) → FrontStandsFor r.0 n old new a)))
+prefix_known p word tail old new r e h = subst (λ (q : Prefix). IfOk r (λ r. (r.1 ≤ length tail) × ((a : Front) × IsPrefixed q (take r.1 tail) (drop r.1 tail) a × ((n : ℕ) → FrontStandsFor r.0 n old new a)))) (sym e) h
+
+pub prefix_hex : (word : List ℕ) → bytes_eq word (codes "h") ≡ true → prefix_of word ≡ hexadecimal
+prefix_hex word h = cond-true _ _ _ h
+
+pub prefix_base64 : (word : List ℕ) → bytes_eq word (codes "h") ≡ false → bytes_eq word (codes "b64") ≡ true → prefix_of word ≡ base64
+prefix_base64 word h k = cond-false _ _ _ h ∙ cond-true _ _ _ k
+
+pub prefix_none : (word : List ℕ) → bytes_eq word (codes "h") ≡ false → bytes_eq word (codes "b64") ≡ false → prefix_of word ≡ unknown
+prefix_none word h k = cond-false _ _ _ h ∙ cond-false _ _ _ k
+
+-- `simple(`
+
+six : (c a b d e f g : ℕ) (z : List ℕ) → c ≡ 115 → a ≡ 105 → b ≡ 109 → d ≡ 112 → e ≡ 108 → f ≡ 101 → g ≡ 40 → ReadsWord c (a ∷ b ∷ d ∷ e ∷ f ∷ g ∷ []) z (Read classes.SimpleOpen)
+six c a b d e f g z h0 h1 h2 h3 h4 h5 h6 = rw (h0, h1, h2, h3, h4, h5, h6) (105 ∷ 109 ∷ 112 ∷ 108 ∷ 101 ∷ [], 40 ∷ [], record { pass = refl; ends = refl }, refl, inr (refl, refl, refl, refl))
+
+pub simple_word : (c : ℕ) (tail : List ℕ) → 6 ≤ length tail → c ≡ 115 → get_or tail 0 0 ≡ 105 → get_or tail 1 0 ≡ 109 → get_or tail 2 0 ≡ 112 → get_or tail 3 0 ≡ 108 → get_or tail 4 0 ≡ 101 → get_or tail 5 0 ≡ 40 → ReadsWord c (take 6 tail) (drop 6 tail) (Read classes.SimpleOpen)
+simple_word c (a ∷ b ∷ d ∷ e ∷ f ∷ g ∷ z) l h0 h1 h2 h3 h4 h5 h6 = six c a b d e f g z h0 h1 h2 h3 h4 h5 h6
+simple_word c [] l h0 h1 h2 h3 h4 h5 h6 = absurd (omega (arith, l))
+simple_word c (a ∷ []) l h0 h1 h2 h3 h4 h5 h6 = absurd (omega (arith, l))
+simple_word c (a ∷ b ∷ []) l h0 h1 h2 h3 h4 h5 h6 = absurd (omega (arith, l))
+simple_word c (a ∷ b ∷ d ∷ []) l h0 h1 h2 h3 h4 h5 h6 = absurd (omega (arith, l))
+simple_word c (a ∷ b ∷ d ∷ e ∷ []) l h0 h1 h2 h3 h4 h5 h6 = absurd (omega (arith, l))
+simple_word c (a ∷ b ∷ d ∷ e ∷ f ∷ []) l h0 h1 h2 h3 h4 h5 h6 = absurd (omega (arith, l))

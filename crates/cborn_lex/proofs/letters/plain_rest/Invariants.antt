@@ -1,0 +1,10 @@
+use Rattle.std.proofs.Common.{◌≡◌, ◌≤◌, ◌-◌, true, length, take}
+use Rattle.std.specs.List.{list_all}
+use Rattle.cborn_lex.specs.shared.Letters.{is_plain}
+use Rattle.cborn_lex.proofs.letters.plain_rest.Given as goal
+
+abbrev pub invariant-letters : goal.invariant-letters
+invariant-letters l = (l.at ≤ length l.tail) × (list_all (is_plain l.quote) (take l.at l.tail) ≡ true)
+
+abbrev pub decreases-letters : goal.decreases-letters
+decreases-letters l = length l.tail - l.at

@@ -1,0 +1,5 @@
+use Rattle.cborn_lex.proofs.Runs.{marked_lanes}
+use Rattle.cborn_lex.proofs.letters.special_letters.Goals as goal
+
+pub returns : goal.returns
+returns c = marked_lanes c.args.quote c.args.letters c.fits-letters.0

@@ -1,9 +1,0 @@
-use Rattle.std.proofs.Common.{◌-◌, length, []}
-use Rattle.cborn_lex.specs.Lex.{Between}
-use Rattle.cborn_lex.proofs.lexer.token_from.Given as goal
-
-abbrev pub invariant-loop-place : goal.invariant-loop-place
-invariant-loop-place l = Between l.profile l.bytes l.fn.at l.place []
-
-abbrev pub decreases-loop-place : goal.decreases-loop-place
-decreases-loop-place l = length l.bytes - l.place

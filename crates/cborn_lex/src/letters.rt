@@ -1,0 +1,232 @@
+//! The letters between the quotes of a string (RFC 8259 section 7), by their bytes in UTF-8. A
+//! *plain* letter stands for itself and closes no string; sixteen of them are looked at at once.
+//! The others are the closing quote, escapes, and control characters, which no string holds.
+
+ghost use Rattle.std.specs.Prelude.{◌≡◌, ◌≤◌, ◌<◌, ◌+◌, ◌++◌, ℕ, List, true, length, take, drop, map, slice_index, IfOk, OnOk, MatchOption, None, Some, false, encode_utf8, ◌⊎◌};
+ghost use Rattle.std.specs.List.{list_all};
+ghost use Rattle.std.specs.Simd.Lanes.{mask_l};
+ghost use Rattle.cborn_lex.specs.Strings.{is_escape, escape_code};
+ghost use Rattle.cborn_lex.specs.shared.Scan.{escape_of};
+ghost use Rattle.cborn_lex.specs.shared.Letters.{is_plain, is_special, LettersSoFar, LettersTaken, NoText};
+
+use crate::escaped::push_unit_escape;
+use crate::slices::rest_of;
+use std::alloc::AllocError;
+use std::simd::prelude::*;
+
+/// How many plain letters `tail` begins with, in bytes, in a string whose closing quote is `quote`
+/// (RFC 8259 section 7, `unescaped`). After `tail` has been left early, or where few bytes are
+/// left, there may be more.
+#[inline(always)]
+pub fn plain_run(quote: u8, tail: &[u8]) -> usize
+    ensures within { result ≤ length tail.now }
+    ensures plain { list_all (is_plain quote) (take result tail.now) ≡ true }
+{
+    let mut at: usize = 0;
+    'blocks: while tail.len() - at >= 16 {
+        let n = run_of_block(quote, tail, at);
+        at += n;
+        if n < 16 {
+            return at;
+        }
+    }
+    plain_rest(quote, tail, at)
+}
+
+/// How many plain letters `tail` begins with, of which the first `from` are known to be plain.
+#[inline(never)]
+fn plain_rest(quote: u8, tail: &[u8], from: usize) -> usize
+    requires within { from ≤ length tail.now }
+    requires plain { list_all (is_plain quote) (take from tail.now) ≡ true }
+    ensures within { result ≤ length tail.now }
+    ensures plain { list_all (is_plain quote) (take result tail.now) ≡ true }
+    ensures ends { result < length tail.now → is_plain quote (slice_index tail.now result) ≡ false }
+{
+    let mut at = from;
+    'letters: while at < tail.len() && is_plain(quote, tail[at]) {
+        at += 1;
+    }
+    at
+}
+
+/// Whether the letter `c` is plain: no control character, no backslash and no closing quote.
+#[inline(always)]
+fn is_plain(quote: u8, c: u8) -> bool
+    ensures { result ≡ is_plain quote c }
+{
+    c >= 32 && c != b'\\' && c != quote
+}
+
+/// How many of the sixteen letters from `at` on come before the first that isn't plain.
+#[inline(always)]
+fn run_of_block(quote: u8, tail: &[u8], at: usize) -> usize
+    requires { at + 16 ≤ length tail.now }
+    ensures within { result ≤ 16 }
+    ensures plain { list_all (is_plain quote) (take result (drop at tail.now)) ≡ true }
+    ensures ends { result < 16 → is_plain quote (slice_index tail.now (at + result)) ≡ false }
+{
+    let found = special_letters(quote, u8x16::from_slice(&tail[at..]));
+    if found == 0 {
+        16
+    } else {
+        found.trailing_zeros() as usize
+    }
+}
+
+/// A bit for each of sixteen letters, the lowest for the first: set where it isn't plain.
+#[inline(always)]
+fn special_letters(quote: u8, letters: u8x16) -> u64
+    ensures { result ≡ mask_l (map (is_special quote) letters) }
+{
+    let quotes = letters.simd_eq(u8x16::splat(quote));
+    let backslashes = letters.simd_eq(u8x16::splat(b'\\'));
+    let controls = letters.simd_lt(u8x16::splat(32));
+    (quotes | backslashes | controls).to_bitmask()
+}
+
+/// Appends the bytes that the letters of a string stand for, from the offset `from` of `tail` up to
+/// the closing quote, and answers the offset of that quote (RFC 8259 section 7). `None` where no
+/// quote closes the string, or where a letter before it is a control character or begins no escape;
+/// `out` then holds a part of the bytes.
+///
+/// # Errors
+/// `AllocError` where `out` couldn't grow.
+#[inline(always)]
+pub fn push_letters(
+    quote: u8,
+    tail: &[u8],
+    from: usize,
+    out: &mut Vec<u8>,
+) -> Result<Option<usize>, AllocError>
+    requires double_or_single { (quote ≡ 34) ⊎ (quote ≡ 39) }
+    requires within { from ≤ length tail.now }
+    ensures { IfOk result (λ r. MatchOption r ((old : List ℕ) → LettersSoFar quote tail.now from old out.old.items → NoText quote tail.now) (λ len. (len < length tail.now) × ((old : List ℕ) → LettersSoFar quote tail.now from old out.old.items → LettersTaken quote tail.now len old out.new.items))) }
+{
+    let mut at = from;
+    'letters: while at < tail.len() {
+        let n = push_run(quote, tail, at, out)?;
+        at += n;
+        if n < 16 {
+            if at == tail.len() {
+                return Ok(None);
+            }
+            let c = tail[at];
+            if c == quote {
+                return Ok(Some(at));
+            }
+            if c != b'\\' {
+                return Ok(None);
+            }
+            match push_escape(quote, tail, at, out)? {
+                Some(end) => at = end,
+                None => return Ok(None),
+            }
+        }
+    }
+    Ok(None)
+}
+
+/// Appends the plain letters from `at` on, up to sixteen of them, and answers how many these are.
+#[inline(always)]
+fn push_run(quote: u8, tail: &[u8], at: usize, out: &mut Vec<u8>) -> Result<usize, AllocError>
+    requires { at ≤ length tail.now }
+    ensures within { IfOk result (λ n. at + n ≤ length tail.now) }
+    ensures plain { IfOk result (λ n. list_all (is_plain quote) (take n (drop at tail.now)) ≡ true) }
+    ensures ends { IfOk result (λ n. n < 16 → at + n < length tail.now → is_plain quote (slice_index tail.now (at + n)) ≡ false) }
+    ensures written { IfOk result (λ n. out.new.items ≡ out.old.items ++ take n (drop at tail.now)) }
+{
+    if tail.len() - at < 16 {
+        return push_last_run(quote, &tail[at..], out);
+    }
+    let n = run_of_block(quote, tail, at);
+    push_block(&tail[at..], n, out)?;
+    Ok(n)
+}
+
+/// Appends the first `n` of sixteen letters. To copy all sixteen and then cut is quicker than to
+/// copy `n`, since the length of the copy is known to the compiler.
+#[inline(always)]
+fn push_block(tail: &[u8], n: usize, out: &mut Vec<u8>) -> Result<(), AllocError>
+    requires few { n ≤ 16 }
+    requires block { 16 ≤ length tail.now }
+    ensures { OnOk result (out.new.items ≡ out.old.items ++ take n tail.now) }
+{
+    let end = out.len() + n;
+    out.extend_from_slice(&tail[..16])?;
+    out.truncate(end);
+    Ok(())
+}
+
+/// Appends the plain letters that `tail` begins with, and answers how many these are.
+#[inline(never)]
+fn push_last_run(quote: u8, tail: &[u8], out: &mut Vec<u8>) -> Result<usize, AllocError>
+    ensures within { IfOk result (λ n. n ≤ length tail.now) }
+    ensures plain { IfOk result (λ n. list_all (is_plain quote) (take n tail.now) ≡ true) }
+    ensures ends { IfOk result (λ n. n < length tail.now → is_plain quote (slice_index tail.now n) ≡ false) }
+    ensures written { IfOk result (λ n. out.new.items ≡ out.old.items ++ take n tail.now) }
+{
+    let n = plain_rest(quote, tail, 0);
+    out.extend_from_slice(&tail[..n])?;
+    Ok(n)
+}
+
+/// Appends the character of the escape whose backslash stands at the offset `at`, in UTF-8, and
+/// answers the offset after the escape. `None` where the backslash begins no escape.
+#[inline(always)]
+fn push_escape(
+    quote: u8,
+    tail: &[u8],
+    at: usize,
+    out: &mut Vec<u8>,
+) -> Result<Option<usize>, AllocError>
+    requires double_or_single { (quote ≡ 34) ⊎ (quote ≡ 39) }
+    requires inside { at < length tail.now }
+    requires backslash { slice_index tail.now at ≡ 92 }
+    ensures { IfOk result (λ r. MatchOption r (escape_of quote (drop (at + 1) tail.now) ≡ None) (λ end. (c : ℕ) × (size : ℕ) × (escape_of quote (drop (at + 1) tail.now) ≡ Some (c, size)) × (end ≡ at + size) × (out.new.items ≡ out.old.items ++ encode_utf8 c))) }
+{
+    if at + 1 == tail.len() {
+        return Ok(None);
+    }
+    let second = tail[at + 1];
+    if second == b'u' {
+        return match push_unit_escape(rest_of(tail, at + 2), out)? {
+            Some(size) => Ok(Some(at + size)),
+            None => Ok(None),
+        };
+    }
+    let Some(c) = escape_code(quote, second) else {
+        return Ok(None);
+    };
+    out.push(c)?;
+    Ok(Some(at + 2))
+}
+
+/// The character of an escape of two characters, by the second one. `\'` is one in single quotes
+/// alone.
+#[inline(always)]
+fn escape_code(quote: u8, second: u8) -> Option<u8>
+    requires double_or_single { (quote ≡ 34) ⊎ (quote ≡ 39) }
+    ensures { MatchOption result (is_escape quote second ≡ false) (λ c. (is_escape quote second ≡ true) × (c ≡ escape_code second)) }
+{
+    if second >= 128 {
+        return None;
+    }
+    let c = ESCAPED[second as usize];
+    if c == 0 {
+        return None;
+    }
+    if c == b'\'' {
+        return if quote == b'\'' { Some(c) } else { None };
+    }
+    Some(c)
+}
+
+/// The character of each escape of two characters, by the second one; 0 where there is no such
+/// escape.
+const ESCAPED: [u8; 128] = [
+    0, 0, 0, 0, 0, 0, 0, 0, 0, 0, 0, 0, 0, 0, 0, 0, 0, 0, 0, 0, 0, 0, 0, 0, 0, 0, 0, 0, 0, 0, 0, 0,
+    0, 0, b'"', 0, 0, 0, 0, b'\'', 0, 0, 0, 0, 0, 0, 0, b'/', 0, 0, 0, 0, 0, 0, 0, 0, 0, 0, 0, 0,
+    0, 0, 0, 0, 0, 0, 0, 0, 0, 0, 0, 0, 0, 0, 0, 0, 0, 0, 0, 0, 0, 0, 0, 0, 0, 0, 0, 0, 0, 0, 0, 0,
+    b'\\', 0, 0, 0, 0, 0, 8, 0, 0, 0, 12, 0, 0, 0, 0, 0, 0, 0, 10, 0, 0, 0, 13, 0, 9, 0, 0, 0, 0,
+    0, 0, 0, 0, 0, 0, 0,
+];
