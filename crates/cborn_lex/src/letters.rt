@@ -15,12 +15,12 @@ use std::alloc::AllocError;
 use std::simd::prelude::*;
 
 /// How many plain letters `tail` begins with, in bytes, in a string whose closing quote is `quote`
-/// (RFC 8259 section 7, `unescaped`). After `tail` has been left early, or where few bytes are
-/// left, there may be more.
+/// (`unescaped` of RFC 8259 section 7, but for the quote).
 #[inline(always)]
 pub fn plain_run(quote: u8, tail: &[u8]) -> usize
     ensures within { result ≤ length tail.now }
     ensures plain { list_all (is_plain quote) (take result tail.now) ≡ true }
+    ensures ends { result < length tail.now → is_plain quote (slice_index tail.now result) ≡ false }
 {
     let mut at: usize = 0;
     'blocks: while tail.len() - at >= 16 {
