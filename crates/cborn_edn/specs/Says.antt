@@ -1,4 +1,5 @@
--- What one token or one string says: the node, also where there is a slip, and the slips.
+-- What one number, one tag, one `simple(..)` or one string says: its node, and its faults of meaning, the slips (RFC 8949 section 8). There is a node also where there is a slip; it counts only where there is none.
+-- In what follows p is the place of a token, m its indicator, and n an argument, a length or a count.
 use Rattle.std.specs.Prelude.{ℕ, zero, suc, ◌^◌, List, [], ◌∷◌, ◌++◌, length, Bool, true, false, ◌&&◌, ◌||◌, not, nat_lt, if◌then◌else◌}
 use Rattle.std.specs.Str.{is_utf8}
 use Rattle.std.specs.Int.Digits.{digits_of}
@@ -17,42 +18,45 @@ use Rattle.cborn_edn.specs.declared.slips.Slip.{Slip}
 use Rattle.cborn_edn.specs.declared.faults.EdnReason.{EdnReason}
 use Rattle.cborn_edn.specs.declared.faults.EdnReason.TheVariants.{IndicatorTooNarrow, IndicatorNotAllowed, MixedString, MixedChunks, TextNotUtf8, BadSimple, TagTooLarge}
 
--- Indicators (RFC 8949 section 8.1): n is an argument, a length or a count, and p the place of the token.
+-- Encoding indicators (RFC 8949 section 8.1): `_` asks for an indefinite length, `_0` to `_3` for the argument in 1, 2, 4 or 8 bytes.
 
+-- there is no indicator
 abbrev pub is_absent : Mark → Bool
 is_absent Absent = true
 is_absent _ = false
 
+-- it is `_`
 abbrev pub is_endless : Mark → Bool
 is_endless Endless = true
 is_endless _ = false
 
--- the width that it asks for; without one, the shortest
+-- the width of the head that it asks for; without one, the shortest (RFC 8949 section 4.2.1)
 abbrev pub width : Mark → ℕ → Width
 width (Wide w) n = w
 width _ n = least n
 
+-- an array's or a map's length: indefinite, or a count in a head of that width
 abbrev pub size : Mark → ℕ → Size
 size Endless n = Unending
 size m n = Fixed (width m n)
 
--- one slip, unless the test holds
+-- one slip at p for this reason, unless the test holds
 abbrev pub unless : Bool → ℕ → EdnReason → List Slip
 unless true p l = []
 unless false p l = record { place = p; reason = l } ∷ []
 
--- the width holds n, and no length is indefinite
+-- the width that is asked for has to hold n, and no indefinite length may be asked for
 abbrev pub width_slips : ℕ → Mark → ℕ → List Slip
 width_slips p Absent n = []
 width_slips p Endless n = unless false p IndicatorNotAllowed
 width_slips p (Wide w) n = unless (holds w n) p IndicatorTooNarrow
 
--- an array or a map may be of indefinite length
+-- the same of an array or a map, whose length may be indefinite (RFC 8949 section 3.2.2)
 abbrev pub size_slips : ℕ → Mark → ℕ → List Slip
 size_slips p Endless n = []
 size_slips p m n = width_slips p m n
 
--- Integers: v, or if n -v.
+-- Integers (RFC 8949 sections 3.1, 3.4.3). A literal is v, or -v where n holds.
 
 -- below zero; -0 is 0
 abbrev pub is_below : Bool → ℕ → Bool
@@ -60,68 +64,76 @@ is_below true zero = false
 is_below true (suc v) = true
 is_below false v = false
 
--- n for n, and for -1-n
+-- the argument of its head: of v it is v, and of -1-v it is v (RFC 8949 section 3.1)
 abbrev pub argument_of : Bool → ℕ → ℕ
 argument_of true zero = 0
 argument_of true (suc v) = v
 argument_of false v = v
 
--- from -2^64 to 2^64-1
+-- it is from -2^64 to 2^64-1, and so of major type 0 or 1
 abbrev pub is_small : Bool → ℕ → Bool
 is_small n v = nat_lt (argument_of n v) (2 ^ 64)
 
--- an integer outside 64 bits is a tag over a string
+-- any other integer is a tag over a byte string, which takes a level of depth
 abbrev pub depth_of_number : Bool → ℕ → ℕ
 depth_of_number n v = if is_small n v then 0 else 1
 
+-- an integer of major type 0 or 1
 abbrev pub integer : ℕ → Bool → ℕ → Width → Tree
 integer p n v w = if is_below n v then Nint p w (argument_of n v) else Uint p w (argument_of n v)
 
--- tag 2 or 3 over the shortest bytes (RFC 8949 section 3.4.3)
+-- a bignum: tag 2 or 3 over the shortest bytes, in the shortest heads (RFC 8949 section 3.4.3)
 abbrev pub bignum : ℕ → Bool → ℕ → Tree
 bignum p n v = let x = digits_of 256 (argument_of n v) in Tagged p Direct (if is_below n v then 3 else 2) (ByteNode p (least (length x)) x)
 
+-- whichever of the two applies
 abbrev pub number_node : ℕ → Bool → ℕ → Mark → Tree
 number_node p n v m = if is_small n v then integer p n v (width m (argument_of n v)) else bignum p n v
 
+-- its slips: a bignum has no indicator
 abbrev pub number_slips : ℕ → Bool → ℕ → Mark → List Slip
 number_slips p n v m = if is_small n v then width_slips p m (argument_of n v) else unless (is_absent m) p IndicatorNotAllowed
 
+-- a tag number is below 2^64 (RFC 8949 section 3.4); of a larger one no indicator is judged
 abbrev pub tag_slips : ℕ → Mark → ℕ → List Slip
 tag_slips p m n = if nat_lt n (2 ^ 64) then width_slips p m n else unless false p TagTooLarge
 
--- a simple value, which isn't below zero
+-- a simple value: 0 to 23 or 32 to 255, and not below zero (RFC 8949 section 3.3)
 abbrev pub is_simple : Bool → ℕ → Bool
 is_simple n v = not (is_below n v) && is_simple_value v
 
--- `simple(` at p, with the number at q
+-- `simple(` at p with the number at q, which has no indicator
 abbrev pub simple_slips : ℕ → ℕ → Bool → ℕ → Mark → List Slip
 simple_slips p q n v m = unless (is_simple n v) p BadSimple ++ unless (is_absent m) q IndicatorNotAllowed
 
--- Strings.
+-- Strings (RFC 8949 sections 3.1, 3.2.3; RFC 8610 appendix G.4).
 
+-- both are byte strings, or both text strings
 abbrev pub same_kind : StringKind → StringKind → Bool
 same_kind OfBytes OfBytes = true
 same_kind OfText OfText = true
 same_kind _ _ = false
 
--- byte pieces may stand in a text string, text pieces in no byte string
+-- a piece of the kind l may follow in a string of the kind k: bytes in a text string, but no text in a byte string
 abbrev pub may_join : StringKind → StringKind → Bool
 may_join k l = same_kind k l || same_kind k OfText
 
+-- a text string is UTF-8 (RFC 8949 section 3.1)
 abbrev pub is_good : StringKind → List ℕ → Bool
 is_good OfBytes x = true
 is_good OfText x = is_utf8 x
 
+-- a definite string
 abbrev pub string_node : StringKind → ℕ → Width → List ℕ → Tree
 string_node OfBytes p w x = ByteNode p w x
 string_node OfText p w x = TextNode p w x
 
+-- a string of indefinite length
 abbrev pub chunked_node : StringKind → ℕ → List Chunk → Tree
 chunked_node OfBytes p cs = ByteChunks p cs
 chunked_node OfText p cs = TextChunks p cs
 
--- A string: its first piece gives kind and place, its last one the mark. It is lone if it is '' or "", and known if nothing embedded in it has a slip.
+-- What the pieces of a string are together. The first gives its kind and its place, the last its indicator and where that stands. It is lone if it is one '' or "", and known if nothing embedded in it has a slip, so that its bytes are what is meant.
 pub record Str : Type 0 where
   pub kind : StringKind
   pub place : ℕ
@@ -131,36 +143,39 @@ pub record Str : Type 0 where
   pub mark : Mark
   pub mark_place : ℕ
 
+-- the empty list
 abbrev pub is_nil : {A : Type 0} → List A → Bool
 is_nil [] = true
 is_nil (x ∷ l) = false
 
--- one piece; q is whether it stands in quotes
+-- one piece; q is whether it stands in quotes with no prefix
 abbrev pub quoted : StringKind → ℕ → Bool → List ℕ → Mark → Str
 quoted k p q x m = record { kind = k; place = p; lone = q && is_nil x; known = true; bytes = x; mark = m; mark_place = p }
 
--- pieces, and one behind them
+-- pieces s, and one piece t after them
 abbrev pub joined : Str → Str → Str
 joined s t = record { kind = s.kind; place = s.place; lone = false; known = s.known && t.known; bytes = s.bytes ++ t.bytes; mark = t.mark; mark_place = t.mark_place }
 
--- ''_ and ""_ are without chunks
+-- the node of a string: ''_ and ""_ are of indefinite length without a chunk (RFC 8949 section 8.1), any other is definite
 abbrev pub said_string : Str → Tree
 said_string s = if s.lone && is_endless s.mark then chunked_node s.kind s.place [] else string_node s.kind s.place (width s.mark (length s.bytes)) s.bytes
 
+-- the same string as a chunk
 abbrev pub chunk : Str → Chunk
 chunk s = record { place = s.place; width = width s.mark (length s.bytes); bytes = s.bytes }
 
--- a piece behind others: no mark stands before it, and its kind suits theirs
+-- a piece t after pieces s: no indicator stands before it, and its kind may follow theirs
 abbrev pub piece_slips : Str → Str → List Slip
 piece_slips s t = unless (is_absent s.mark) s.mark_place IndicatorNotAllowed ++ unless (may_join s.kind t.kind) t.place MixedString
 
+-- the indicator of a whole string: `_` stands only where the string may end without a chunk, and a width has to hold the length
 abbrev pub mark_slips : Bool → Str → List Slip
 mark_slips may_end s = if is_endless s.mark then unless may_end s.mark_place IndicatorNotAllowed else if s.known then width_slips s.mark_place s.mark (length s.bytes) else []
 
--- a whole string; may_end is whether it may be without chunks
+-- a whole string; may_end is whether it may be of indefinite length without a chunk
 abbrev pub string_slips : Bool → Str → List Slip
 string_slips may_end s = mark_slips may_end s ++ (if s.known then unless (is_good s.kind s.bytes) s.place TextNotUtf8 else [])
 
--- a chunk of a string whose first chunk is of the kind k
+-- a chunk after the first, which is of the kind k: it is of that kind, and itself a definite string (RFC 8949 section 3.2.3)
 abbrev pub chunk_slips : StringKind → Str → List Slip
 chunk_slips k s = unless (same_kind k s.kind) s.place MixedChunks ++ string_slips false s

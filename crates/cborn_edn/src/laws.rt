@@ -12,7 +12,8 @@ ghost use Rattle.cborn_lex.specs.declared.classes.Profile.{Profile};
 ghost use Rattle.cborn_lex.specs.declared.classes.Profile.TheVariants.{One as ProfileOne, Two as ProfileTwo};
 ghost use Rattle.cborn_lex.specs.declared.classes.Token.{Token};
 ghost use Rattle.cborn_lex.specs.declared.faults.LexReason.{LexReason};
-ghost use Rattle.cborn_lex.specs.Lex.{Lex, Stop};
+ghost use Rattle.cborn_lex.specs.Good.{HasTokens};
+ghost use Rattle.cborn_lex.specs.Bad.{FailsAt};
 ghost use Rattle.cborn_edn.specs.declared.faults.EdnFault.{EdnFault};
 ghost use Rattle.cborn_edn.specs.declared.faults.EdnReason.{EdnReason};
 ghost use Rattle.cborn_edn.specs.shared.Syntax.{Input, depth_of_input, tokens_of_input};
@@ -75,7 +76,7 @@ pub fn reading_back()
 pub fn shown_text_reads_back()
     ensures texts { (nodes : Trees) → FitsAll nodes → (AreShowable nodes ↔ Shown nodes (shown_lines nodes)) }
     ensures utf8 { (nodes : Trees) (text : List ℕ) → FitsAll nodes → Shown nodes text → is_utf8 text ≡ true }
-    ensures tokens { (profile : Profile) (nodes : Trees) (text : List ℕ) → FitsAll nodes → Shown nodes text → (tokens : List Token) × Lex profile text tokens × (map bare tokens ≡ tokens_of_input (notated_input nodes)) }
+    ensures tokens { (profile : Profile) (nodes : Trees) (text : List ℕ) → FitsAll nodes → Shown nodes text → (tokens : List Token) × HasTokens profile text tokens × (map bare tokens ≡ tokens_of_input (notated_input nodes)) }
     ensures back { (profile : Profile) (limit : ℕ) (nodes : Trees) (text : List ℕ) → FitsAll nodes → Shown nodes text → depth_all nodes ≤ limit → (says : Trees) × Notates profile limit text says × (unplaced_all says ≡ unplaced_all nodes) × (spelled_all says ≡ spelled_all nodes) }
     ensures only { (profile : Profile) (limit : ℕ) (nodes : Trees) (text : List ℕ) (says : Trees) → FitsAll nodes → Shown nodes text → Notates profile limit text says → (unplaced_all says ≡ unplaced_all nodes) × (spelled_all says ≡ spelled_all nodes) }
 {}
@@ -103,10 +104,10 @@ pub fn one_notation()
 /// counted: lengths and counts are below 2^64, strings are bytes, and words are below 24. No text,
 /// however long, notates nodes and has a slip, whatever the limits.
 pub fn short_text()
-    ensures answered { (profile : Profile) (limit : ℕ) (text : List ℕ) → AreBytes text → length text < 2 ^ 56 → ((nodes : Trees) × Notates profile limit text nodes) ⊎ (((p : ℕ) × (r : LexReason) × Stop profile text p r) ⊎ ((p : ℕ) × (r : EdnReason) × (Jams profile limit text p r ⊎ Slips profile limit text p r))) }
+    ensures answered { (profile : Profile) (limit : ℕ) (text : List ℕ) → AreBytes text → length text < 2 ^ 56 → ((nodes : Trees) × Notates profile limit text nodes) ⊎ (((p : ℕ) × (r : LexReason) × FailsAt profile text p r) ⊎ ((p : ℕ) × (r : EdnReason) × (Jams profile limit text p r ⊎ Slips profile limit text p r))) }
     ensures no_slip { (profile : Profile) (limit most : ℕ) (text : List ℕ) (nodes : Trees) (p : ℕ) (r : EdnReason) → Notates profile limit text nodes → Slips profile most text p r → ⊥ }
     ensures fits { (profile : Profile) (limit : ℕ) (text : List ℕ) (nodes : Trees) → AreBytes text → length text < 2 ^ 56 → Notates profile limit text nodes → FitsAll nodes × (depth_all nodes ≤ limit) }
-    ensures counted { (profile : Profile) (text : List ℕ) (tokens : List Token) (t : Input) → AreBytes text → length text < 2 ^ 56 → Lex profile text tokens → Parse profile tokens t → CountedInput t }
+    ensures counted { (profile : Profile) (text : List ℕ) (tokens : List Token) (t : Input) → AreBytes text → length text < 2 ^ 56 → HasTokens profile text tokens → Parse profile tokens t → CountedInput t }
 {}
 
 /// Of the nodes that a text notates, and of the chunks in them, each stands behind those before it

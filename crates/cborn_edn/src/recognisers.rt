@@ -6,7 +6,8 @@
 //! twenty times the text and more.
 
 ghost use Rattle.std.specs.Prelude.{◌≡◌, ◌≤◌, ◌⊎◌, List, length, IfOk, IfErr};
-ghost use Rattle.cborn_lex.specs.Lex.{Lex, Between, IsStopFrom};
+ghost use Rattle.cborn_lex.specs.Good.{HasTokens};
+ghost use Rattle.cborn_lex.specs.Lex.{Between, IsStopFrom};
 ghost use Rattle.cborn_lex.specs.declared.classes.Token.{Token};
 ghost use Rattle.cborn_lex.specs.declared.faults.LexFault.{LexFault as LexStop};
 ghost use Rattle.cborn_edn.specs.Faults.{HasTree, IsNoTree};
@@ -30,7 +31,7 @@ use std::alloc::{AllocError, Global};
 /// with which no text of the grammar within the limit goes on, or the text's end where more must
 /// follow. `OutOfMemory` where memory was refused.
 pub fn recognise(alloc: Global, limit: Limit, profile: Profile, text: &str) -> Result<(), EdnFault>
-    ensures tree { IfOk result (λ _. (tokens : List Token) × Lex profile text.now tokens × HasTree profile limit tokens) }
+    ensures tree { IfOk result (λ _. (tokens : List Token) × HasTokens profile text.now tokens × HasTree profile limit tokens) }
     ensures refused { IfErr result (IsNoTree profile limit text.now) }
 {
     let mut shape = Shape::new(alloc);

@@ -11,7 +11,7 @@ use Rattle.cborn_det.specs.Det.{DetSeq}
 use Rattle.cborn_lex.specs.declared.classes.Profile.{Profile}
 use Rattle.cborn_lex.specs.declared.classes.Profile.TheVariants as profile
 use Rattle.cborn_edn.specs.Grammar.{Notates}
-use Rattle.cborn_edn.specs.Shown.{Shown}
+use Rattle.cborn_edn.specs.Plain.{IsPlain}
 use Rattle.cborn_engine.specs.declared.kinds.Kind.{Kind}
 use Rattle.cborn_engine.specs.declared.kinds.Kind.TheVariants as kind
 
@@ -44,14 +44,14 @@ pub record HoldSameItems (k l : Kind) (limit : ℕ) (x y : List ℕ) : Type 0 wh
   pub held2 : Holds l limit y theirs
   pub same : AllZip Same ours theirs
 
--- the text is the fixed notation of nodes that spell these bytes
-pub record IsFixedText (bytes text : List ℕ) : Type 0 where
+-- the text is the notation of these bytes, which are deterministic encodings: that of nodes that spell them
+pub record IsPlainText (bytes text : List ℕ) : Type 0 where
   pub nodes : List Tree
   pub fit : FitsAll (trees nodes)
   pub spelled : spelled_all (trees nodes) ≡ bytes
-  pub shown : Shown (trees nodes) text
+  pub plain : IsPlain (trees nodes) text
 
--- the canonical form of items under an order of keys: their deterministic encodings, one after another (RFC 8949 section 4.2), or the fixed notation of these
+-- the canonical form of items under an order of keys: their deterministic encodings, one after another (RFC 8949 section 4.2), or the notation of these
 abbrev pub Canon : (List ℕ → List ℕ → Ordering) → Kind → List Value → List ℕ → Type 0
 Canon order kind.Wire items w = DetSeq order items w
-Canon order _ items w = (x : List ℕ) × DetSeq order items x × IsFixedText x w
+Canon order _ items w = (x : List ℕ) × DetSeq order items x × IsPlainText x w

@@ -5,7 +5,8 @@ ghost use Rattle.cborn_engine.specs.declared.faults.EngineFault.TheVariants as f
 ghost use Rattle.cborn_engine.specs.declared.kinds.Kind.TheVariants as kinds;
 ghost use Rattle.cborn_engine.specs.Canonical.{Normalises};
 ghost use Rattle.cborn_engine.specs.Reading.{most_bytes};
-ghost use Rattle.cborn_engine.specs.Holding.{Holds, IsFixedText};
+ghost use Rattle.cborn_engine.specs.Holding.{Holds};
+ghost use Rattle.cborn_engine.specs.devices.Encoding.{IsFixedText};
 ghost use Rattle.cborn_engine.specs.devices.Encoding.{IsWrittenAs};
 ghost use Rattle.cborn_engine.specs.Showing.{Shows};
 ghost use Rattle.cborn_streams.specs.Failures.{CountsFault};

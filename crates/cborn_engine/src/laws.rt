@@ -5,10 +5,13 @@ ghost use Rattle.std.specs.Prelude.{◌≡◌, ◌≤◌, ◌↔◌, ◌⊎◌, 
 ghost use Rattle.std.specs.Cow.{cow_slice_items};
 ghost use Rattle.std.specs.Io.KnownBytes.{Consumes, IsAtEnd};
 ghost use Rattle.std.specs.List.{AllZip, AllByRecursion};
-ghost use Rattle.cborn_model.specs.Tree.{Tree};
+ghost use Rattle.cborn_model.specs.Tree.{Tree, Trees};
+ghost use Rattle.cborn_model.specs.Spelled.{FitsAll, spelled_all};
 ghost use Rattle.cborn_model.specs.Valid.{IsProper};
 ghost use Rattle.cborn_model.specs.Value.{Value, Values, Same, SameValues, values_of};
-ghost use Rattle.cborn_det.specs.Det.{DetValues};
+ghost use Rattle.cborn_det.specs.Det.{DetValues, DetSeq};
+ghost use Rattle.cborn_edn.specs.Plain.{IsPlain};
+ghost use Rattle.cborn_edn.specs.Shown.{Shown};
 ghost use Rattle.cborn_engine.specs.declared.faults.EngineFault.{EngineFault};
 ghost use Rattle.cborn_engine.specs.declared.kinds.Kind.{Kind};
 ghost use Rattle.cborn_engine.specs.declared.kinds.Kind.TheVariants as kinds;
@@ -38,6 +41,12 @@ pub fn headline<O: KeyOrder>()
     ensures alike { (k l out : Kind) (limit : ℕ) (x y v w : List ℕ) → length x ≤ most_bytes → length y ≤ most_bytes → IsCanonical O.order k out limit x v → IsCanonical O.order l out limit y w → (v ≡ w) ↔ HoldSameItems k l limit x y }
     ensures held { (k out : Kind) (limit : ℕ) (x v : List ℕ) → length x ≤ most_bytes → IsCanonical O.order k out limit x v → HoldSameItems k out limit x v }
     ensures again { (k out : Kind) (limit : ℕ) (x v : List ℕ) → length x ≤ most_bytes → IsCanonical O.order k out limit x v → IsCanonical O.order out out limit v v }
+{}
+
+/// Nodes that spell deterministic encodings have the same text in the notation of these, in which
+/// there is no indicator and no string in chunks, as in the fixed notation of all nodes.
+pub fn canonical_text<O: KeyOrder>()
+    ensures { (items : List Value) (nodes : Trees) (text : List ℕ) → FitsAll nodes → DetSeq O.order items (spelled_all nodes) → IsPlain nodes text ↔ Shown nodes text }
 {}
 
 /// The headline of two calls. This law has a body: it calls `normalise_slice` twice. It fails only

@@ -1,17 +1,18 @@
 -- What is taken as white space, a comment or a token reads as that.
-use Rattle.std.proofs.Common.{◌≡◌, refl, sym, ap, ◌∙◌, subst, ℕ, zero, suc, ◌+◌, ◌-◌, ◌<◌, ◌≤◌, ◌^◌, List, [], ◌∷◌, ◌++◌, Bool, true, false, ◌&&◌, ◌||◌, cond, eqb, ltb, ◌⊎◌, inl, inr, Option, Some, None, Ok, append-nil, arith}
+use Rattle.std.proofs.Common.{◌≡◌, refl, sym, ap, ◌∙◌, subst, ℕ, zero, suc, ◌+◌, ◌-◌, ◌<◌, ◌≤◌, ◌^◌, List, [], ◌∷◌, ◌++◌, Bool, true, false, ◌&&◌, ◌||◌, not, cond, eqb, ltb, ◌⊎◌, inl, inr, Option, Some, None, Result, Ok, Err, append-nil, append_assoc, arith}
 use Rattle.std.proofs.lemmas.Bool.{eqb-true, and_parts, or_parts, ltb-true, ltb-false, lt-ltb}
 use Rattle.std.specs.List.{list_all}
-use Rattle.std.specs.Char.{is_digit}
-use Rattle.std.specs.Prelude.{codes, drop}
+use Rattle.std.specs.Char.{is_digit, is_ascii_digit}
+use Rattle.std.specs.Prelude.{bytes_eq, codes, drop}
 use Rattle.cborn_lex.specs.declared.classes.Profile.{Profile}
-use Rattle.cborn_lex.specs.declared.classes.Profile.TheVariants.{Two}
+use Rattle.cborn_lex.specs.declared.classes.Profile.TheVariants.{One, Two}
 use Rattle.cborn_lex.specs.declared.classes.Mark.{Mark}
+use Rattle.cborn_lex.specs.declared.faults.LexReason.{LexReason}
 use Rattle.cborn_lex.specs.declared.classes.Class.{Class}
-use Rattle.cborn_lex.specs.declared.classes.Class.TheVariants.{ArrayOpen, MapOpen, EmbedClose, Text, Bytes, TagOpen, Word}
-use Rattle.cborn_lex.specs.Tokens.{Front, Blank, Read, is_white, is_word, is_numeral, is_not, begins, mark_of, marked}
+use Rattle.cborn_lex.specs.declared.classes.Class.TheVariants.{ArrayOpen, MapOpen, EmbedClose, ArrayClose, MapClose, ParenClose, Comma, Colon, EmbedOpen, ChunkOpen, SimpleOpen, Text, Bytes, Number, TagOpen, Word}
+use Rattle.cborn_lex.specs.Tokens.{Front, Blank, Read, Bad, is_white, is_word, is_numeral, is_not, begins, mark_of, marked}
 use Rattle.cborn_lex.specs.Numbers.{are_digits, number, within, has_prefix, integer, signed, number_front}
-use Rattle.cborn_lex.specs.Forms.{white, hash, digit, start_of, ReadsFrom, Reads}
+use Rattle.cborn_lex.specs.Forms.{IsRun, Start, white, hash, digit, start_of, ReadsFrom, ReadsNumber, Reads}
 use Rattle.cborn_lex.specs.Good as good
 use Rattle.cborn_lex.specs.Good.{IsMark, IsLiteral, IsNumeral, IsName, IsCoded, Takes}
 
@@ -32,11 +33,11 @@ and_false : (b : Bool) → (b && false) ≡ false
 and_false true = refl
 and_false false = refl
 
-or_cases : (a b : Bool) → (a || b) ≡ true → (a ≡ true) ⊎ (b ≡ true)
+pub or_cases : (a b : Bool) → (a || b) ≡ true → (a ≡ true) ⊎ (b ≡ true)
 or_cases true b e = inl refl
 or_cases false b e = inr e
 
-never : {A : Type 0} → false ≡ true → A
+pub never : {A : Type 0} → false ≡ true → A
 never e = absurd (let f : false ≡ true = e in cc)
 
 -- a decimal digit
@@ -65,7 +66,7 @@ starts_at (suc (suc (suc (suc (suc (suc (suc (suc zero)))))))) h = refl
 starts_at (suc (suc (suc (suc (suc (suc (suc (suc (suc zero))))))))) h = refl
 starts_at (suc (suc (suc (suc (suc (suc (suc (suc (suc (suc k)))))))))) h = absurd (omega (arith, h))
 
-starts_digit : (c : ℕ) → 48 ≤ c → c ≤ 57 → start_of c ≡ digit
+pub starts_digit : (c : ℕ) → 48 ≤ c → c ≤ 57 → start_of c ≡ digit
 starts_digit c low high = let same : 48 + (c - 48) ≡ c = omega (arith, low) in subst (λ d. start_of d ≡ digit) same (starts_at (c - 48) (omega (arith, low, high)))
 
 -- two characters at the front
@@ -88,21 +89,24 @@ no_prefix b (c ∷ d ∷ y) e h =
 within_back : (n : ℕ) → n < 2 ^ 128 → within n ≡ Ok n
 within_back n h = rw (lt-ltb n (2 ^ 128) h) refl
 
--- a literal is read as its value
-value : (negative : Bool) (x : List ℕ) (v : ℕ) → IsLiteral x v → v < 2 ^ 128 → integer negative x ≡ Ok v
-value negative x v (good.decimal y d z) h =
-    rw (no_prefix 120 y d (omega arith), no_prefix 88 y d (omega arith), no_prefix 111 y d (omega arith), no_prefix 79 y d (omega arith), no_prefix 98 y d (omega arith), no_prefix 66 y d (omega arith), d, z) (within_back (number 10 0 y) h)
-value negative x v (good.hexadecimal y a d) h = rw (a, d) (within_back (number 16 0 (drop 2 y)) h)
-value negative x v (good.octal y a d) h = go (or_cases (has_prefix (codes "0o") y) (has_prefix (codes "0O") y) a)
+-- a literal is read as its value, if that is below 2^128
+pub literal_is : (negative : Bool) (x : List ℕ) (v : ℕ) → IsLiteral x v → integer negative x ≡ within v
+literal_is negative x v (good.decimal y d z) =
+    rw (no_prefix 120 y d (omega arith), no_prefix 88 y d (omega arith), no_prefix 111 y d (omega arith), no_prefix 79 y d (omega arith), no_prefix 98 y d (omega arith), no_prefix 66 y d (omega arith), d, z) refl
+literal_is negative x v (good.hexadecimal y a d) = rw (a, d) refl
+literal_is negative x v (good.octal y a d) = go (or_cases (has_prefix (codes "0o") y) (has_prefix (codes "0O") y) a)
   where
-    go : (has_prefix (codes "0o") y ≡ true) ⊎ (has_prefix (codes "0O") y ≡ true) → integer negative y ≡ Ok (number 8 0 (drop 2 y))
-    go (inl e) = let s = second 111 y e in subst (λ l. are_digits 8 (drop 2 l) ≡ true → number 8 0 (drop 2 l) < 2 ^ 128 → integer negative l ≡ Ok (number 8 0 (drop 2 l))) (sym s.1) (λ f g. rw f (within_back (number 8 0 s.0) g)) d h
-    go (inr e) = let s = second 79 y e in subst (λ l. are_digits 8 (drop 2 l) ≡ true → number 8 0 (drop 2 l) < 2 ^ 128 → integer negative l ≡ Ok (number 8 0 (drop 2 l))) (sym s.1) (λ f g. rw f (within_back (number 8 0 s.0) g)) d h
-value negative x v (good.binary y a d) h = go (or_cases (has_prefix (codes "0b") y) (has_prefix (codes "0B") y) a)
+    go : (has_prefix (codes "0o") y ≡ true) ⊎ (has_prefix (codes "0O") y ≡ true) → integer negative y ≡ within (number 8 0 (drop 2 y))
+    go (inl e) = let s = second 111 y e in subst (λ l. are_digits 8 (drop 2 l) ≡ true → integer negative l ≡ within (number 8 0 (drop 2 l))) (sym s.1) (λ f. rw f refl) d
+    go (inr e) = let s = second 79 y e in subst (λ l. are_digits 8 (drop 2 l) ≡ true → integer negative l ≡ within (number 8 0 (drop 2 l))) (sym s.1) (λ f. rw f refl) d
+literal_is negative x v (good.binary y a d) = go (or_cases (has_prefix (codes "0b") y) (has_prefix (codes "0B") y) a)
   where
-    go : (has_prefix (codes "0b") y ≡ true) ⊎ (has_prefix (codes "0B") y ≡ true) → integer negative y ≡ Ok (number 2 0 (drop 2 y))
-    go (inl e) = let s = second 98 y e in subst (λ l. are_digits 2 (drop 2 l) ≡ true → number 2 0 (drop 2 l) < 2 ^ 128 → integer negative l ≡ Ok (number 2 0 (drop 2 l))) (sym s.1) (λ f g. rw f (within_back (number 2 0 s.0) g)) d h
-    go (inr e) = let s = second 66 y e in subst (λ l. are_digits 2 (drop 2 l) ≡ true → number 2 0 (drop 2 l) < 2 ^ 128 → integer negative l ≡ Ok (number 2 0 (drop 2 l))) (sym s.1) (λ f g. rw f (within_back (number 2 0 s.0) g)) d h
+    go : (has_prefix (codes "0b") y ≡ true) ⊎ (has_prefix (codes "0B") y ≡ true) → integer negative y ≡ within (number 2 0 (drop 2 y))
+    go (inl e) = let s = second 98 y e in subst (λ l. are_digits 2 (drop 2 l) ≡ true → integer negative l ≡ within (number 2 0 (drop 2 l))) (sym s.1) (λ f. rw f refl) d
+    go (inr e) = let s = second 66 y e in subst (λ l. are_digits 2 (drop 2 l) ≡ true → integer negative l ≡ within (number 2 0 (drop 2 l))) (sym s.1) (λ f. rw f refl) d
+
+pub value : (negative : Bool) (x : List ℕ) (v : ℕ) → IsLiteral x v → v < 2 ^ 128 → integer negative x ≡ Ok v
+value negative x v l h = literal_is negative x v l ∙ within_back v h
 
 -- its first character is a digit
 pub record Begins (x : List ℕ) : Type 0 where
@@ -122,7 +126,7 @@ decimals : (x : List ℕ) → are_digits 10 x ≡ true → Begins x
 decimals [] d = never d
 decimals (c ∷ y) d = let h = in_ten c (and_parts (is_digit c 10) (list_all (λ n. is_digit n 10) y) d).0 in record { first = c; others = y; whole = refl; starts = starts_digit c h.0 h.1 }
 
-first_digit : (x : List ℕ) (v : ℕ) → IsLiteral x v → Begins x
+pub first_digit : (x : List ℕ) (v : ℕ) → IsLiteral x v → Begins x
 first_digit x v (good.decimal y d z) = decimals y d
 first_digit x v (good.hexadecimal y a d) = prefixed 120 88 y a
 first_digit x v (good.octal y a d) = prefixed 111 79 y a

@@ -1,36 +1,75 @@
--- A text has the same tokens by what is taken and by what reads.
-use Rattle.std.proofs.Common.{◌≡◌, subst, ℕ, ◌+◌, List, [], ◌∷◌, ◌++◌, length, append-nil, arith}
-use Rattle.std.proofs.lemmas.List.{length-append}
+-- The same stands between two places of a text by what is taken and fails, and by what reads.
+use Rattle.std.proofs.Common.{◌≡◌, subst, ℕ, List, ◌++◌, Option, Some, None}
+use Rattle.std.specs.Prelude.{drop}
 use Rattle.cborn_lex.specs.declared.classes.Profile.{Profile}
 use Rattle.cborn_lex.specs.declared.classes.Token.{Token}
-use Rattle.cborn_lex.specs.Tokens.{Blank, Read}
+use Rattle.cborn_lex.specs.declared.faults.LexFault.{LexFault}
+use Rattle.cborn_lex.specs.declared.faults.LexFault.TheVariants.{Refused, OutOfMemory}
+use Rattle.cborn_lex.specs.declared.faults.LexReason.{LexReason}
+use Rattle.cborn_lex.specs.Tokens.{Blank, Read, Bad}
 use Rattle.cborn_lex.specs.Good as good
-use Rattle.cborn_lex.specs.Good.{Covers, HasTokens}
+use Rattle.cborn_lex.specs.Good.{Covers, HasTokens, IsTokenFrom}
+use Rattle.cborn_lex.specs.Bad.{BeginsNothing, FailsAt, HasNoTokens, HasNoTokenFrom}
 use Rattle.cborn_lex.specs.Lex as lex
-use Rattle.cborn_lex.specs.Lex.{Through, Lex}
+use Rattle.cborn_lex.specs.Lex.{Through, Lex, Stop, HasNoPiece, IsStopAt, IsStopFrom, IsNext}
 use Rattle.cborn_lex.proofs.GoodFronts.{taken}
 use Rattle.cborn_lex.proofs.GoodBack.{read}
+use Rattle.cborn_lex.proofs.BadBack.{fails}
 
 module _ (p : Profile) where
-  covers : {n m : ℕ} {x y : List ℕ} {ts : List Token} → Through p n x ts m y → (us : List Token) → Covers p m y us → Covers p n x (ts ++ us)
-  covers (lex.here n x) us k = k
-  covers (lex.gap n m s x y ts r h) us k = good.gap n s x (ts ++ us) (taken p s x Blank r) (covers h us k)
-  covers (lex.token n m c s x y ts r h) us k = good.token n c s x (ts ++ us) (taken p s x (Read c) r) (covers h us k)
+  pub covers : {n m : ℕ} {x y : List ℕ} {ts : List Token} → Through p n x ts m y → Covers p n x ts m y
+  covers (lex.here n x) = good.end n x
+  covers (lex.gap n m s x y ts r h) = good.gap n m s x y ts (taken p s x Blank r) (covers h)
+  covers (lex.token n m c s x y ts r h) = good.token n m c s x y ts (taken p s x (Read c) r) (covers h)
+
+  pub through : {n m : ℕ} {x y : List ℕ} {ts : List Token} → Covers p n x ts m y → Through p n x ts m y
+  through (good.end n x) = lex.here n x
+  through (good.gap n m s x y ts t k) = lex.gap n m s x y ts (read p t) (through k)
+  through (good.token n m c s x y ts t k) = lex.token n m c s x y ts (read p t) (through k)
 
   -- LAW: the tokens of a text are taken
   pub has_tokens : (text : List ℕ) (ts : List Token) → Lex p text ts → HasTokens p text ts
-  has_tokens text ts h = subst (λ us. Covers p 0 text us) (append-nil ts) (covers h [] (good.end (length text)))
-
-  through : {n : ℕ} {x : List ℕ} {ts : List Token} → Covers p n x ts → Through p n x ts (n + length x) []
-  through (good.end n) = let same : n ≡ n + 0 = omega arith in subst (λ m. Through p n [] [] m []) same (lex.here n [])
-  through (good.gap n s x ts t k) =
-      let same : (n + length s) + length x ≡ n + length (s ++ x) = omega (arith, length-append s x) in
-      subst (λ m. Through p n (s ++ x) ts m []) same (lex.gap n ((n + length s) + length x) s x [] ts (read p t) (through k))
-  through (good.token n c s x ts t k) =
-      let same : (n + length s) + length x ≡ n + length (s ++ x) = omega (arith, length-append s x) in
-      let all = record { start = n; stop = n + length s; class = c } ∷ ts in
-      subst (λ m. Through p n (s ++ x) all m []) same (lex.token n ((n + length s) + length x) c s x [] ts (read p t) (through k))
+  has_tokens text ts h = covers h
 
   -- LAW: and what is taken are its tokens
   pub lexed : (text : List ℕ) (ts : List Token) → HasTokens p text ts → Lex p text ts
-  lexed text ts h = let same : 0 + length text ≡ length text = omega arith in subst (λ m. Through p 0 text ts m []) same (through h)
+  lexed text ts h = through h
+
+  -- LAW: where a text stops, it fails
+  pub failed : (text : List ℕ) (n : ℕ) (r : LexReason) → Stop p text n r → FailsAt p text n r
+  failed text n r (ts, s, x, t, b) = (ts, s ++ x, covers t, taken p s x (Bad r) b)
+
+  -- LAW: and where it fails, it stops
+  pub stopped : (text : List ℕ) (n : ℕ) (r : LexReason) → FailsAt p text n r → Stop p text n r
+  stopped text n r (ts, y, c, f) = let b = fails p f in (ts, b.front, b.rest, subst (λ l. Through p 0 text ts n l) b.whole (through c), b.reads)
+
+  -- LAW: the same of what a refusal tells of a whole text
+  pub no_tokens : (text : List ℕ) (e : LexFault) → IsStopAt p text e → HasNoTokens p text e
+  no_tokens text (Refused n r) h = failed text n r h
+  no_tokens text OutOfMemory h = tt
+
+  pub stop_at : (text : List ℕ) (e : LexFault) → HasNoTokens p text e → IsStopAt p text e
+  stop_at text (Refused n r) h = stopped text n r h
+  stop_at text OutOfMemory h = tt
+
+  -- LAW: and from a place on
+  pub no_token_from : (text : List ℕ) (n : ℕ) (e : LexFault) → IsStopFrom p text n e → HasNoTokenFrom p text n e
+  no_token_from text n (Refused q r) h = (h.0, h.1, failed (drop n text) h.0 r h.2)
+  no_token_from text n OutOfMemory h = tt
+
+  pub stop_from : (text : List ℕ) (n : ℕ) (e : LexFault) → HasNoTokenFrom p text n e → IsStopFrom p text n e
+  stop_from text n (Refused q r) h = (h.0, h.1, stopped (drop n text) h.0 r h.2)
+  stop_from text n OutOfMemory h = tt
+
+  pub begins_nothing : {y : List ℕ} → HasNoPiece p y → BeginsNothing p y
+  begins_nothing h s z None e t = (h s z e).0 (read p t)
+  begins_nothing h s z (Some k) e t = (h s z e).1 k (read p t)
+
+  -- LAW: the first token from a place on
+  pub token_from : (text : List ℕ) (n : ℕ) (o : Option Token) → IsNext p text n o → IsTokenFrom p text n o
+  token_from text n (Some t) h = covers h
+  token_from text n None h = covers h
+
+  pub next_from : (text : List ℕ) (n : ℕ) {o q : Option Token} → o ≡ q → IsTokenFrom p text n o → IsNext p text n q
+  next_from text n {o = o} {q = Some t} e h = through (subst (IsTokenFrom p text n) e h)
+  next_from text n {o = o} {q = None} e h = through (subst (IsTokenFrom p text n) e h)

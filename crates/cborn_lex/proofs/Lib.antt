@@ -4,6 +4,8 @@ pub mod Sliced
 pub mod WholeTexts
 pub mod GoodFronts
 pub mod GoodBack
+pub mod BadNumbers
+pub mod BadBack
 pub mod GoodTexts
 pub mod Runs
 pub mod TwoParts

@@ -1,6 +1,6 @@
 -- What may stand at the front of a text of the notation: white space, a comment or a token (RFC 8949 section 8, RFC 8610 appendix G).
 -- A text is a list of bytes in UTF-8. Each character that means something is ASCII, so no definition decodes. In what follows s is what is taken and z is what follows it.
-use Rattle.std.specs.Prelude.{◌≡◌, ℕ, ◌+◌, ◌<◌, length, ◌^◌, true, false, ◌||◌, not, List, [], ◌∷◌, ◌++◌, ◌==◌, bytes_eq, drop, codes, Option, Some, None}
+use Rattle.std.specs.Prelude.{◌≡◌, ℕ, ◌+◌, ◌<◌, length, ◌^◌, Bool, true, false, ◌&&◌, ◌||◌, not, List, [], ◌∷◌, ◌++◌, ◌==◌, bytes_eq, drop, codes, Option, Some, None, ◌⊎◌}
 use Rattle.std.specs.List.{list_all}
 use Rattle.std.specs.Str.{byte}
 use Rattle.cborn_lex.specs.declared.classes.Profile.{Profile}
@@ -8,7 +8,7 @@ use Rattle.cborn_lex.specs.declared.classes.Profile.TheVariants.{Two}
 use Rattle.cborn_lex.specs.declared.classes.Token.{Token}
 use Rattle.cborn_lex.specs.declared.classes.Mark.{Mark}
 use Rattle.cborn_lex.specs.declared.classes.Class.{Class}
-use Rattle.cborn_lex.specs.declared.classes.Class.TheVariants.{ArrayOpen, MapOpen, EmbedClose, ArrayClose, MapClose, ParenClose, Comma, Colon, EmbedOpen, ChunkOpen, SimpleOpen, Text, Bytes, TagOpen, Word}
+use Rattle.cborn_lex.specs.declared.classes.Class.TheVariants.{ArrayOpen, MapOpen, EmbedClose, ArrayClose, MapClose, ParenClose, Comma, Colon, EmbedOpen, ChunkOpen, SimpleOpen, Text, Bytes, Number, TagOpen, Word}
 use Rattle.cborn_lex.specs.Tokens.{is_white, is_word, is_numeral, is_not, begins, mark_of}
 use Rattle.cborn_lex.specs.Numbers.{are_digits, has_prefix, number, signed}
 use Rattle.cborn_lex.specs.Forms.{IsRun, IsIndicator}
@@ -69,12 +69,21 @@ pub data Takes (profile : Profile) : List ℕ → List ℕ → Option Class → 
   positive : (x s z : List ℕ) (v : ℕ) (m : Mark) → IsNumeral x s z v m → begins (λ c. c == byte "(") z ≡ false → Takes profile (x ++ s) z (Some (signed false v m))
   tag : (x s z : List ℕ) (n : ℕ) (m : Mark) → IsNumeral x s (byte "(" ∷ z) n m → Takes profile (x ++ (s ++ byte "(" ∷ [])) z (Some (TagOpen n m))
 
--- from the place n on, x is white space, comments and these tokens
-pub data Covers (profile : Profile) : ℕ → List ℕ → List Token → Type 0 where
-  end : (n : ℕ) → Covers profile n [] []
-  gap : (n : ℕ) (s x : List ℕ) (ts : List Token) → Takes profile s x None → Covers profile (n + length s) x ts → Covers profile n (s ++ x) ts
-  token : (n : ℕ) (k : Class) (s x : List ℕ) (ts : List Token) → Takes profile s x (Some k) → Covers profile (n + length s) x ts → Covers profile n (s ++ x) (record { start = n; stop = n + length s; class = k } ∷ ts)
+-- White space, comments and these tokens, from the place n, after which x stands, up to the place m, after which y stands.
+pub data Covers (profile : Profile) : ℕ → List ℕ → List Token → ℕ → List ℕ → Type 0 where
+  end : (n : ℕ) (x : List ℕ) → Covers profile n x [] n x
+  gap : (n m : ℕ) (s x y : List ℕ) (ts : List Token) → Takes profile s x None → Covers profile (n + length s) x ts m y → Covers profile n (s ++ x) ts m y
+  token : (n m : ℕ) (k : Class) (s x y : List ℕ) (ts : List Token) → Takes profile s x (Some k) → Covers profile (n + length s) x ts m y → Covers profile n (s ++ x) (record { start = n; stop = n + length s; class = k } ∷ ts) m y
 
--- the tokens of a text
+-- The tokens of a text, in their order. Nothing else stands in it but white space and comments.
 abbrev pub HasTokens : Profile → List ℕ → List Token → Type 0
-HasTokens profile x ts = Covers profile 0 x ts
+HasTokens profile x ts = Covers profile 0 x ts (length x) []
+
+-- the tokens between the offsets n and m of a text, where it goes on after m
+abbrev pub TokensBetween : Profile → List ℕ → ℕ → ℕ → List Token → Type 0
+TokensBetween profile x n m ts = Covers profile n (drop n x) ts m (drop m x)
+
+-- the first token from the offset n on, or none up to the end
+abbrev pub IsTokenFrom : Profile → List ℕ → ℕ → Option Token → Type 0
+IsTokenFrom profile x n (Some t) = TokensBetween profile x n t.stop (t ∷ [])
+IsTokenFrom profile x n None = TokensBetween profile x n (length x) []

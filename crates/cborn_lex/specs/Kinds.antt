@@ -6,7 +6,7 @@ use Rattle.cborn_lex.specs.declared.classes.Kind.TheVariants as kinds
 use Rattle.cborn_lex.specs.declared.classes.BareToken.{BareToken}
 use Rattle.cborn_lex.specs.declared.classes.Class.{Class}
 use Rattle.cborn_lex.specs.declared.classes.Class.TheVariants as classes
-use Rattle.cborn_lex.specs.Lex.{Between}
+use Rattle.cborn_lex.specs.Good.{TokensBetween}
 
 -- the class of a token of this kind, with the number n or, of a string, with the content x
 abbrev pub class_of : Kind → ℕ → List ℕ → Class
@@ -41,5 +41,5 @@ pub record StandsFor (k : Kind) (n : ℕ) (old new : List ℕ) (c : Class) : Typ
 
 -- the first token from n on, in two parts, or none up to the end, and then nothing is appended
 abbrev pub IsNextBareToken : Profile → List ℕ → ℕ → Option BareToken → ℕ → List ℕ → List ℕ → Type 0
-IsNextBareToken profile text n (Some t) number old new = (c : Class) × Between profile text n t.stop (record { start = t.start; stop = t.stop; class = c } ∷ []) × StandsFor t.kind number old new c
-IsNextBareToken profile text n None number old new = Between profile text n (length text) [] × (new ≡ old)
+IsNextBareToken profile text n (Some t) number old new = (c : Class) × TokensBetween profile text n t.stop (record { start = t.start; stop = t.stop; class = c } ∷ []) × StandsFor t.kind number old new c
+IsNextBareToken profile text n None number old new = TokensBetween profile text n (length text) [] × (new ≡ old)

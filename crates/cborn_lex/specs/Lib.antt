@@ -4,6 +4,7 @@ pub mod Strings
 pub mod Forms
 pub mod Good
 pub mod Kinds
+pub mod Bad
 pub mod Lex
 pub mod shared
 pub mod devices

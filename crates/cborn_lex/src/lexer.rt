@@ -1,7 +1,8 @@
 //! The tokens of a text.
 
 ghost use Rattle.std.specs.Prelude.{◌≤◌, length, IfOk, IfErr};
-ghost use Rattle.cborn_lex.specs.Lex.{Lex, IsStopAt, IsNext, IsStopFrom};
+ghost use Rattle.cborn_lex.specs.Good.{HasTokens, IsTokenFrom};
+ghost use Rattle.cborn_lex.specs.Bad.{HasNoTokens, HasNoTokenFrom};
 ghost use Rattle.cborn_lex.specs.Kinds.{IsNextBareToken};
 
 use crate::classes::{BareToken, Profile, Token};
@@ -17,8 +18,8 @@ use std::alloc::Global;
 /// `Refused` where the text isn't made of tokens: the place and the reason of the first that is
 /// bad. `OutOfMemory` where memory was refused.
 pub fn tokens(alloc: Global, profile: Profile, text: &str) -> Result<Vec<Token>, LexFault>
-    ensures ok { IfOk result (λ v. Lex profile text.now v.items) }
-    ensures refused { IfErr result (λ e. IsStopAt profile text.now e) }
+    ensures ok { IfOk result (λ v. HasTokens profile text.now v.items) }
+    ensures refused { IfErr result (λ e. HasNoTokens profile text.now e) }
 {
     let mut found = Vec::new(alloc);
     let mut at = 0;
@@ -43,8 +44,8 @@ pub fn token_from(
     at: u64,
 ) -> Result<Option<Token>, LexFault>
     requires { at ≤ length text.now }
-    ensures ok { IfOk result (λ o. IsNext profile text.now at o) }
-    ensures refused { IfErr result (λ e. IsStopFrom profile text.now at e) }
+    ensures ok { IfOk result (λ o. IsTokenFrom profile text.now at o) }
+    ensures refused { IfErr result (λ e. HasNoTokenFrom profile text.now at e) }
 {
     let mut number: u128 = 0;
     let mut content = Vec::new(alloc);
@@ -77,7 +78,7 @@ pub fn next_token(
 ) -> Result<Option<BareToken>, LexFault>
     requires { at ≤ length text.now }
     ensures ok { IfOk result (λ o. IsNextBareToken profile text.now at o number.new out.old.items out.new.items) }
-    ensures refused { IfErr result (λ e. IsStopFrom profile text.now at e) }
+    ensures refused { IfErr result (λ e. HasNoTokenFrom profile text.now at e) }
 {
     let bytes = text.as_bytes();
     let mut place = at;

@@ -3,13 +3,13 @@ use Rattle.std.proofs.Common.{◌≡◌, sym, ap, ◌∙◌, subst, ℕ, ◌^◌
 use Rattle.cborn_model.specs.Bytes.{AreBytes}
 use Rattle.cborn_model.specs.Tree.{Trees, depth_all}
 use Rattle.cborn_model.specs.Spelled.{FitsAll, spelled_all}
-use Rattle.cborn_lex.specs.Lex.{Stop}
+use Rattle.cborn_lex.specs.Bad.{FailsAt}
 use Rattle.cborn_lex.specs.declared.classes.Token.{Token}
 use Rattle.cborn_lex.specs.declared.classes.Profile.{Profile}
 use Rattle.cborn_lex.specs.declared.classes.Profile.TheVariants.{One as ProfileOne, Two as ProfileTwo}
 use Rattle.cborn_lex.specs.declared.faults.LexReason.{LexReason}
 use Rattle.cborn_lex.proofs.WholeTexts.Chains.{one_list, both_profiles as both_lexed, not_both as not_stopped}
-use Rattle.cborn_lex.proofs.GoodTexts.{has_tokens, lexed as lex_of}
+use Rattle.cborn_lex.proofs.GoodTexts.{has_tokens, lexed as lex_of, failed, stopped}
 use Rattle.cborn_edn.specs.declared.faults.EdnReason.{EdnReason}
 use Rattle.cborn_edn.specs.declared.faults.EdnFault.TheVariants.{Refused}
 use Rattle.cborn_edn.specs.declared.slips.Slip.{Slip}
@@ -63,8 +63,8 @@ pub notated_fits : (profile : Profile) (limit : ℕ) (text : List ℕ) (nodes : 
 notated_fits p limit text nodes are short h = tree_fits p limit text nodes are short (notated_by p limit text are short nodes h)
 
 -- LAW: a text that notates nodes isn't refused
-pub no_stop : (p : Profile) (limit : ℕ) (text : List ℕ) (nodes : Trees) → Notates p limit text nodes → (q : ℕ) (r : LexReason) → Stop p text q r → ⊥
-no_stop p limit text nodes (x, lex, h) q r s = not_stopped p text x q r (lex_of p text x lex) s
+pub no_stop : (p : Profile) (limit : ℕ) (text : List ℕ) (nodes : Trees) → Notates p limit text nodes → (q : ℕ) (r : LexReason) → FailsAt p text q r → ⊥
+no_stop p limit text nodes (x, lex, h) q r s = not_stopped p text x q r (lex_of p text x lex) (stopped p text q r s)
 
 pub no_jam : (p : Profile) (limit : ℕ) (text : List ℕ) (nodes : Trees) → Notates p limit text nodes → (q : ℕ) (r : EdnReason) → Jams p limit text q r → ⊥
 no_jam p limit text nodes (x, lex, h) q r (y, lexed, j) =
@@ -80,10 +80,10 @@ no_slip p limit most text nodes (x, lex, h) q r (y, ts, l, lexed, k, f) =
 
 -- LAW: a short text has an answer
 pub short_answer : (p : Profile) (limit : ℕ) (text : List ℕ) → AreBytes text → length text < 2 ^ 56
-    → ((nodes : Trees) × Notates p limit text nodes) ⊎ (((q : ℕ) × (r : LexReason) × Stop p text q r) ⊎ ((q : ℕ) × (r : EdnReason) × (Jams p limit text q r ⊎ Slips p limit text q r)))
+    → ((nodes : Trees) × Notates p limit text nodes) ⊎ (((q : ℕ) × (r : LexReason) × FailsAt p text q r) ⊎ ((q : ℕ) × (r : EdnReason) × (Jams p limit text q r ⊎ Slips p limit text q r)))
 short_answer p limit text are short = go (tree_answer p limit text are short)
   where
-    go : Answered p limit text → ((nodes : Trees) × Notates p limit text nodes) ⊎ (((q : ℕ) × (r : LexReason) × Stop p text q r) ⊎ ((q : ℕ) × (r : EdnReason) × (Jams p limit text q r ⊎ Slips p limit text q r)))
+    go : Answered p limit text → ((nodes : Trees) × Notates p limit text nodes) ⊎ (((q : ℕ) × (r : LexReason) × FailsAt p text q r) ⊎ ((q : ℕ) × (r : EdnReason) × (Jams p limit text q r ⊎ Slips p limit text q r)))
     go (inl (nodes, h)) = inl (nodes, notated p limit text nodes h)
-    go (inr (inl s)) = inr (inl s)
+    go (inr (inl (q, r, s))) = inr (inl (q, r, failed p text q r s))
     go (inr (inr (q, r, h))) = inr (inr (q, r, refused p limit text are short (Refused q r) h))

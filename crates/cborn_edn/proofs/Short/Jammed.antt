@@ -3,7 +3,7 @@ use Rattle.std.proofs.Common.{◌≡◌, subst, ℕ, ◌≤◌, List, [], ◌∷
 use Rattle.cborn_model.specs.Tree.{Trees}
 use Rattle.cborn_lex.specs.declared.classes.Token.{Token}
 use Rattle.cborn_lex.specs.declared.classes.Profile.{Profile}
-use Rattle.cborn_lex.proofs.GoodTexts.{has_tokens}
+use Rattle.cborn_lex.proofs.GoodTexts.{has_tokens, failed}
 use Rattle.cborn_edn.specs.declared.faults.EdnReason.{EdnReason}
 use Rattle.cborn_edn.specs.declared.faults.EdnReason.TheVariants.{UnexpectedToken, UnexpectedEnd, TooDeep, IndicatorTooNarrow, IndicatorNotAllowed, MixedString, MixedChunks, TextNotUtf8, BadSimple, TagTooLarge}
 use Rattle.cborn_edn.specs.declared.slips.Slip.{Slip}
@@ -13,7 +13,7 @@ use Rattle.cborn_edn.specs.devices.Parse.{Parse}
 use Rattle.cborn_edn.specs.devices.Notates as trees
 use Rattle.cborn_edn.specs.Grammar.{IsText, Notates}
 use Rattle.cborn_edn.specs.Faults.{HasTree, GoesOn, StopsAt, Jam, IsNoTree, IsNoNotation}
-use Rattle.cborn_lex.specs.Lex.{Lex}
+use Rattle.cborn_lex.specs.Good.{HasTokens}
 use Rattle.cborn_lex.specs.declared.faults.LexFault.TheVariants.{Refused as LexRefused, OutOfMemory as LexOutOfMemory}
 use Rattle.cborn_edn.specs.declared.faults.EdnFault.{EdnFault}
 use Rattle.cborn_edn.specs.declared.faults.EdnFault.TheVariants.{Lex as LexPart, Refused, OutOfMemory}
@@ -93,7 +93,7 @@ jammed p limit end x q TagTooLarge h = h
 
 -- LAW: why tokens have no tree
 pub no_tree : (p : Profile) (limit : ℕ) (text : List ℕ) (why : EdnFault) → trees.IsNoTree p limit text why → IsNoTree p limit text why
-no_tree p limit text (LexPart (LexRefused q r)) h = h
+no_tree p limit text (LexPart (LexRefused q r)) h = failed p text q r h
 no_tree p limit text (LexPart LexOutOfMemory) h = h
 no_tree p limit text (Refused q r) (x, lex, j) = (x, has_tokens p text x lex, jam p limit (length text) x q r j)
 no_tree p limit text OutOfMemory h = h
@@ -108,5 +108,5 @@ nothing_notated p limit text OutOfMemory h = h
 pub not_had : (p : Profile) (limit : ℕ) (text : List ℕ) (why : EdnFault) → trees.IsNoTree p limit text why → IsNoNotation p limit text why
 not_had p limit text why h = nothing_notated p limit text why (no_tree p limit text why h)
 
-pub has_text : (p : Profile) (limit : ℕ) (text : List ℕ) → (t : Input) × trees.Parses p limit text t → (x : List Token) × Lex p text x × HasTree p limit x
-has_text p limit text (t, h) = (h.tokens, h.lex, has_tree p limit h.tokens (t, h.parse, h.shallow))
+pub has_text : (p : Profile) (limit : ℕ) (text : List ℕ) → (t : Input) × trees.Parses p limit text t → (x : List Token) × HasTokens p text x × HasTree p limit x
+has_text p limit text (t, h) = (h.tokens, has_tokens p text h.tokens h.lex, has_tree p limit h.tokens (t, h.parse, h.shallow))

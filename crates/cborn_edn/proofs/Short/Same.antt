@@ -5,7 +5,7 @@ use Rattle.cborn_model.specs.First.{IsFirst}
 use Rattle.cborn_model.specs.Tree.{Trees}
 use Rattle.cborn_lex.specs.declared.classes.Profile.{Profile}
 use Rattle.cborn_lex.specs.declared.faults.LexFault.TheVariants.{Refused as LexRefused, OutOfMemory as LexOutOfMemory}
-use Rattle.cborn_lex.proofs.GoodTexts.{has_tokens, lexed as lex_of}
+use Rattle.cborn_lex.proofs.GoodTexts.{has_tokens, lexed as lex_of, failed, stopped}
 use Rattle.cborn_edn.specs.declared.faults.EdnReason.{EdnReason}
 use Rattle.cborn_edn.specs.declared.faults.EdnFault.{EdnFault}
 use Rattle.cborn_edn.specs.declared.faults.EdnFault.TheVariants.{Lex as LexPart, Refused, OutOfMemory}
@@ -68,14 +68,14 @@ module _ (p : Profile) (limit : ℕ) (text : List ℕ) (are : AreBytes text) (sh
 
   -- LAW: why it notates nothing
   pub refused : (why : EdnFault) → trees.IsNoNotation p limit text why → IsNoNotation p limit text why
-  refused (LexPart (LexRefused q r)) h = h
+  refused (LexPart (LexRefused q r)) h = failed p text q r h
   refused (LexPart LexOutOfMemory) h = h
   refused (Refused q r) (inl (x, lex, j)) = inl (x, has_tokens p text x lex, jam p limit (length text) x q r j)
   refused (Refused q r) (inr s) = inr (slips q r s)
   refused OutOfMemory h = h
 
   pub refused_by : (why : EdnFault) → IsNoNotation p limit text why → trees.IsNoNotation p limit text why
-  refused_by (LexPart (LexRefused q r)) h = h
+  refused_by (LexPart (LexRefused q r)) h = stopped p text q r h
   refused_by (LexPart LexOutOfMemory) h = h
   refused_by (Refused q r) (inl (x, taken, j)) = inl (x, lex_of p text x taken, jammed p limit (length text) x q r j)
   refused_by (Refused q r) (inr s) = inr (slipped q r s)

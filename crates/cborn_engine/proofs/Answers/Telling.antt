@@ -10,7 +10,7 @@ use Rattle.cborn_engine.specs.declared.faults.EngineFault.{EngineFault}
 use Rattle.cborn_engine.specs.declared.faults.EngineFault.TheVariants as fault
 use Rattle.cborn_engine.specs.declared.kinds.Kind.{Kind}
 use Rattle.cborn_engine.specs.declared.kinds.Kind.TheVariants as kind
-use Rattle.cborn_engine.specs.Holding.{IsFixedText}
+use Rattle.cborn_engine.specs.devices.Encoding.{IsFixedText}
 use Rattle.cborn_engine.specs.Loading.{IsNoFlaw}
 use Rattle.cborn_engine.specs.devices.Reading.{Reads}
 use Rattle.cborn_engine.specs.Refusing.{IsRefused, IsRead}

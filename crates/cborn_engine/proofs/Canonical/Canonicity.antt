@@ -27,6 +27,7 @@ use Rattle.cborn_engine.proofs.Held.Notated.{fits}
 use Rattle.cborn_engine.proofs.Canonical.Proper.{sequence_proper, sequence_shallow}
 use Rattle.cborn_engine.proofs.Held.Meant.{holds_once, all_same, all_turned, AreSound}
 use Rattle.cborn_engine.proofs.Canonical.FixedText.{text_once, bytes_once, text_back}
+use Rattle.cborn_engine.proofs.Canonical.PlainText.{as_plain, as_fixed}
 use Rattle.cborn_engine.proofs.Held.ReadsBack.{SequenceReadsBack, sequence_back}
 use Rattle.cborn_engine.proofs.Answers.Unanswered.{nothing_written}
 
@@ -41,13 +42,13 @@ module _ (order : List ℕ → List ℕ → Ordering) (laws : IsKeyOrder order) 
 
 pub canon_of : (order : List ℕ → List ℕ → Ordering) (out : Kind) (vs : List Value) (x w : List ℕ) → DetSeq order vs x → IsWrittenAs out x w → Canon order out vs w
 canon_of order kind.Wire vs x w d e = subst (DetSeq order vs) (sym e) d
-canon_of order kind.Notation vs x w d e = (x, d, e)
-canon_of order kind.Notation2 vs x w d e = (x, d, e)
+canon_of order kind.Notation vs x w d e = (x, d, as_plain order vs x w d e)
+canon_of order kind.Notation2 vs x w d e = (x, d, as_plain order vs x w d e)
 
 canon_is : (order : List ℕ → List ℕ → Ordering) (out : Kind) (vs : List Value) (w : List ℕ) → Canon order out vs w → (x : List ℕ) × DetSeq order vs x × IsWrittenAs out x w
 canon_is order kind.Wire vs w d = (w, d, refl)
-canon_is order kind.Notation vs w c = c
-canon_is order kind.Notation2 vs w c = c
+canon_is order kind.Notation vs w c = (c.0, c.1, as_fixed order vs c.0 w c.1 c.2)
+canon_is order kind.Notation2 vs w c = (c.0, c.1, as_fixed order vs c.0 w c.1 c.2)
 
 output_once : (out : Kind) (x v w : List ℕ) → IsWrittenAs out x v → IsWrittenAs out x w → v ≡ w
 output_once kind.Wire x v w h k = h ∙ sym k

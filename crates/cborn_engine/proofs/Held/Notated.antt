@@ -4,7 +4,7 @@ use Rattle.cborn_model.specs.Tree.{Tree, trees, depth_all}
 use Rattle.cborn_model.specs.Spelled.{FitsAll}
 use Rattle.cborn_lex.specs.declared.classes.Profile.{Profile}
 use Rattle.cborn_lex.specs.declared.faults.LexReason.{LexReason}
-use Rattle.cborn_lex.specs.Lex.{Stop}
+use Rattle.cborn_lex.specs.Bad.{FailsAt}
 use Rattle.cborn_lex.proofs.WholeTexts.Weights.{utf8_bytes}
 use Rattle.cborn_edn.specs.declared.faults.EdnReason.{EdnReason}
 use Rattle.cborn_edn.specs.Faults.{Jams, Slips}
@@ -16,7 +16,7 @@ module _ (p : Profile) (limit : ℕ) (text : List ℕ) (ns : List Tree) (h : IsN
   pub fits : length text ≤ most_bytes → FitsAll (trees ns) × (depth_all (trees ns) ≤ limit)
   fits l = notated_fits p limit text (trees ns) (utf8_bytes text h.0) (omega (arith, l)) h.1
 
-  pub no_stop : (q : ℕ) (r : LexReason) → Stop p text q r → ⊥
+  pub no_stop : (q : ℕ) (r : LexReason) → FailsAt p text q r → ⊥
   no_stop = never_stops p limit text (trees ns) h.1
 
   pub no_jam : (q : ℕ) (r : EdnReason) → Jams p limit text q r → ⊥

@@ -9,13 +9,23 @@ use Rattle.cborn_lex.specs.declared.classes.Profile.{Profile}
 use Rattle.cborn_lex.specs.declared.classes.Profile.TheVariants as profile
 use Rattle.cborn_engine.specs.declared.kinds.Kind.{Kind}
 use Rattle.cborn_engine.specs.declared.kinds.Kind.TheVariants as kind
-use Rattle.cborn_engine.specs.Holding.{Holds, IsFixedText}
+use Rattle.cborn_edn.specs.Shown.{Shown}
+use Rattle.cborn_model.specs.Tree.{Tree, trees}
+use Rattle.cborn_model.specs.Spelled.{FitsAll, spelled_all}
+use Rattle.cborn_engine.specs.Holding.{Holds}
 use Rattle.cborn_engine.specs.Refusing.{IsRefused}
 
 -- the kind of input that is notation of this profile
 abbrev pub kind_of : Profile → Kind
 kind_of profile.One = kind.Notation
 kind_of profile.Two = kind.Notation2
+
+-- the text is the fixed notation of nodes that spell these bytes
+pub record IsFixedText (bytes text : List ℕ) : Type 0 where
+  pub nodes : List Tree
+  pub fit : FitsAll (trees nodes)
+  pub spelled : spelled_all (trees nodes) ≡ bytes
+  pub shown : Shown (trees nodes) text
 
 -- bytes as an output of a kind: themselves, or in the fixed notation
 abbrev pub IsWrittenAs : Kind → List ℕ → List ℕ → Type 0

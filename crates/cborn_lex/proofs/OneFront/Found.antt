@@ -117,7 +117,7 @@ tagging_from : (c : ℕ) (y : List ℕ) (b : Bool) → eqb c 40 ≡ b → Taggin
 tagging_from c y true e = record { tagged = true; s = c ∷ []; z = y; whole = refl; tag = (refl, refl, e, refl) }
 tagging_from c y false e = record { tagged = false; s = []; z = c ∷ y; whole = refl; tag = (refl, e) }
 
-tagging : (negative : Bool) (y : List ℕ) → Tagging negative y
+pub tagging : (negative : Bool) (y : List ℕ) → Tagging negative y
 tagging true y = record { tagged = false; s = []; z = y; whole = refl; tag = (refl, refl) }
 tagging false [] = record { tagged = false; s = []; z = []; whole = refl; tag = (refl, refl) }
 tagging false (c ∷ y) = tagging_from c y (eqb c 40) refl

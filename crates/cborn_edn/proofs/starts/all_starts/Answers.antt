@@ -1,5 +1,6 @@
 use Rattle.std.proofs.Common.{sym, subst, ◌∙◌, ap, List, ◌++◌, ◌∷◌, [], Some, None, cond, arith, ℕ}
-use Rattle.cborn_lex.specs.Lex.{IsNext, IsStopFrom}
+use Rattle.cborn_lex.specs.Lex.{IsStopFrom}
+use Rattle.cborn_lex.proofs.GoodTexts.{next_from, stop_from}
 use Rattle.cborn_lex.proofs.WholeTexts.Progress.{inside, few}
 use Rattle.cborn_edn.specs.devices.Begun as pure
 use Rattle.cborn_edn.proofs.Started.Walks.{copies}
@@ -15,23 +16,23 @@ tokens-init c = (
 pub embedded_after-embedded-requires : goal.embedded_after-embedded-requires
 embedded_after-embedded-requires c =
     let t = c.in-Ok-Some.token in
-    let next = subst (IsNext c.args.profile c.args.text.now c.tokens.at) c.in-Ok-Some.field-0-is c.in-Ok-Some.ensures.ok in
+    let next = next_from c.args.profile c.args.text.now c.tokens.at c.in-Ok-Some.field-0-is c.in-Ok-Some.ensures.ok in
     omega (arith, c.tokens.invariant.0.few, few c.args.profile c.args.text.now c.tokens.at t.stop (t ∷ []) next)
 
 pub returns-in-Ok-None : goal.returns-in-Ok-None
 returns-in-Ok-None c =
-    let last = subst (IsNext c.args.profile c.args.text.now c.tokens.at) c.in-Ok-None.field-0-is c.in-Ok-None.ensures.ok in
+    let last = next_from c.args.profile c.args.text.now c.tokens.at c.in-Ok-None.field-0-is c.in-Ok-None.ensures.ok in
     all_taken c.args.profile c.args.text.now c.tokens.at c.tokens.embedded c.tokens.places.items c.tokens.shape c.tokens.invariant.0 last
 
 pub returns-in-Err-Refused : goal.returns-in-Err-Refused
 returns-in-Err-Refused c =
-    let stop = subst (IsStopFrom c.args.profile c.args.text.now c.tokens.at) c.in-Err-Refused.field-0-is c.in-Err-Refused.ensures.refused in
+    let stop = subst (IsStopFrom c.args.profile c.args.text.now c.tokens.at) c.in-Err-Refused.field-0-is (stop_from c.args.profile c.args.text.now c.tokens.at c.in-Err-Refused.field-0 c.in-Err-Refused.ensures.refused) in
     no_stop c.args.profile c.args.text.now c.tokens.at c.tokens.embedded c.tokens.places.items c.tokens.shape c.tokens.invariant.0 c.in-Err-Refused.field-0-0 c.in-Err-Refused.field-0-1 stop
 
 pub returns-then-not-taken : goal.returns-then-not-taken
 returns-then-not-taken c =
     let t = c.in-Ok-Some.token in
-    let next = subst (IsNext c.args.profile c.args.text.now c.tokens.at) c.in-Ok-Some.field-0-is c.in-Ok-Some.ensures.ok in
+    let next = next_from c.args.profile c.args.text.now c.tokens.at c.in-Ok-Some.field-0-is c.in-Ok-Some.ensures.ok in
     let front = c.tokens.places.items in
     let pushed = c.in_ok-push_times.ensures ∙ ap (λ w. front ++ w) (copies_are c.begun-count.result t.start) ∙ ap (λ n. front ++ copies n t.start) c.begun-count.ensures in
     let none = c.in_ok-taken.ensures ∙ ap (λ b. cond b (Some c.step.new.self) None) c.if-not-taken.true in
@@ -40,13 +41,13 @@ returns-then-not-taken c =
 pub tokens-smaller : goal.tokens-smaller
 tokens-smaller c =
     let t = c.in-Ok-Some.token in
-    let next = subst (IsNext c.args.profile c.args.text.now c.tokens.at) c.in-Ok-Some.field-0-is c.in-Ok-Some.ensures.ok in
+    let next = next_from c.args.profile c.args.text.now c.tokens.at c.in-Ok-Some.field-0-is c.in-Ok-Some.ensures.ok in
     omega (arith, (inside c.args.profile c.args.text.now c.tokens.at t.stop (t ∷ []) c.tokens.invariant.1 next).1, few c.args.profile c.args.text.now c.tokens.at t.stop (t ∷ []) next)
 
 pub tokens-preserved : goal.tokens-preserved
 tokens-preserved c =
     let t = c.in-Ok-Some.token in
-    let next = subst (IsNext c.args.profile c.args.text.now c.tokens.at) c.in-Ok-Some.field-0-is c.in-Ok-Some.ensures.ok in
+    let next = next_from c.args.profile c.args.text.now c.tokens.at c.in-Ok-Some.field-0-is c.in-Ok-Some.ensures.ok in
     let far = few c.args.profile c.args.text.now c.tokens.at t.stop (t ∷ []) next in
     let front = c.tokens.places.items in
     let d = c.step.new.self in

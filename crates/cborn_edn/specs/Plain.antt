@@ -1,0 +1,37 @@
+-- The notation of a deterministic encoding (RFC 8949 sections 4.2 and 8). Its heads are the shortest and its lengths definite, so no indicator stands in it and no string is in chunks.
+use Rattle.std.specs.Prelude.{◌≡◌, ℕ, suc, List, [], ◌∷◌, ◌++◌, codes, decimal}
+use Rattle.std.specs.List.{flat_map}
+use Rattle.std.specs.Str.{IsUtf8}
+use Rattle.hex.specs.Hex.{encode_lower}
+use Rattle.cborn_model.specs.Tree.{Tree, Uint, Nint, Bytes as ByteNode, Text as TextNode, Items, Pairs as PairNode, Tagged, Simple, Trees, no_item as no_node, more, Entries, no_entry, entry}
+use Rattle.cborn_edn.specs.Shown.{escaped, shown_simple, joined_by}
+
+-- An integer is in decimal, a byte string in hexadecimal, a text string in double quotes; what an array, a map or a tag holds stands in brackets. Nothing is said of a string in chunks, of which there is none.
+abbrev mutual
+  pub plain : Tree → List ℕ
+  plain (Uint p w n) = decimal n
+  plain (Nint p w n) = codes "-" ++ decimal (suc n)
+  plain (ByteNode p w x) = codes "h'" ++ (encode_lower x ++ codes "'")
+  plain (TextNode p w x) = codes "\"" ++ (flat_map escaped x ++ codes "\"")
+  plain (Items p s ts) = codes "[" ++ (joined_by (codes ", ") (plain_items ts) ++ codes "]")
+  plain (PairNode p s es) = codes "{" ++ (joined_by (codes ", ") (plain_pairs es) ++ codes "}")
+  plain (Tagged p w n t) = decimal n ++ (codes "(" ++ (plain t ++ codes ")"))
+  plain (Simple p n) = shown_simple n
+  plain _ = []
+
+  pub plain_items : Trees → List (List ℕ)
+  plain_items no_node = []
+  plain_items (more t ts) = plain t ∷ plain_items ts
+
+  pub plain_pairs : Entries → List (List ℕ)
+  plain_pairs no_entry = []
+  plain_pairs (entry k v es) = (plain k ++ (codes ": " ++ plain v)) ∷ plain_pairs es
+
+-- a sequence: a comma and LF between its items, LF at the end
+abbrev pub plain_lines : Trees → List ℕ
+plain_lines no_node = []
+plain_lines ts = joined_by (codes ",\n") (plain_items ts) ++ codes "\n"
+
+-- the text of nodes, which is UTF-8
+abbrev pub IsPlain : Trees → List ℕ → Type 0
+IsPlain ts x = IsUtf8 x × (x ≡ plain_lines ts)

@@ -1,0 +1,266 @@
+-- Nodes that spell deterministic encodings have no indicator and no chunk in their fixed notation: it is their plain text.
+use Rattle.std.proofs.Common.{◌≡◌, refl, sym, ap, ◌∙◌, subst, ℕ, zero, suc, ◌+◌, ◌*◌, ◌<◌, ◌^◌, inl, inr, Bool, true, false, eqb, List, [], ◌∷◌, ◌++◌, length, map, codes, decimal, arith, Ordering, append-nil}
+use Rattle.std.proofs.lemmas.Bool.{eq-eqb, cond-true}
+use Rattle.std.specs.List.{AllZip, flat_map}
+use Rattle.std.specs.Int.{byte_at, bytes_high_first}
+use Rattle.std.specs.Prelude.{IsTrue, ◌/◌, ◌%◌}
+use Rattle.hex.specs.Hex.{encode_lower}
+use Rattle.std.proofs.lemmas.List.Sorted.{length_permutation}
+use Rattle.cborn_model.specs.declared.heads.Width.{Width}
+use Rattle.cborn_model.specs.declared.heads.Width.TheVariants.{Direct, One, Two, Four, Eight}
+use Rattle.cborn_model.specs.declared.heads.Major.{Major}
+use Rattle.cborn_model.specs.declared.heads.Major.TheVariants.{Unsigned, Negative, ByteString, TextString, Array, Map, Tag, Other}
+use Rattle.cborn_model.specs.declared.heads.Size.{Size}
+use Rattle.cborn_model.specs.declared.heads.Size.TheVariants.{Fixed, Endless}
+use Rattle.cborn_model.specs.declared.nodes.Chunk.{Chunk}
+use Rattle.cborn_model.specs.Bytes.{AreBytes, big_endian}
+use Rattle.cborn_model.specs.Heads.{code, information, following, WidthFits, SizeFits, Given, Unbounded, head, argument, least, head_bytes, is_simple_value}
+use Rattle.cborn_model.specs.Tree.{Tree, Uint, Nint, Bytes, Text, ByteChunks, TextChunks, Items, Pairs, Tagged, Simple, Trees, no_item, more, trees, Entries, no_entry, entry, count, count_entries}
+use Rattle.cborn_model.specs.Spelled.{ending, string, chunk_bytes, spelled, spelled_all, spelled_entries, ChunksFit, Fits, FitsAll, FitsEntries}
+use Rattle.cborn_model.specs.Value.{Value, Values, Couples, integer, bytes, text, array, dict, tagged, simple, no_values, value, no_pairs, pair, value_count, pair_count, listed}
+use Rattle.cborn_model.proofs.Bytes.{bytes-append, bytes-left, bytes-right}
+use Rattle.cborn_model.proofs.Numbers.Simples.{simple_fits}
+use Rattle.cborn_model.proofs.SameItems.Rearranging.{carried}
+use Rattle.cborn_det.specs.Det.{Entry, IsInteger, Det, DetValues, DetPairs, DetSeq, joined}
+use Rattle.cborn_lex.specs.declared.classes.Mark.TheVariants.{Absent, Wide}
+use Rattle.cborn_edn.specs.Shown.{escaped, mark_for, indicator, opened, joined_by, shown, item_texts, pair_texts, shown_lines, Shown}
+use Rattle.cborn_edn.specs.Plain.{plain, plain_items, plain_pairs, plain_lines, IsPlain}
+use Rattle.cborn_edn.proofs.Shown.SameText.{same_text}
+use Rattle.cborn_edn.proofs.Shown.PlainText.{same_plain}
+use Rattle.cborn_engine.specs.Holding.{IsPlainText}
+use Rattle.cborn_engine.specs.devices.Encoding.{IsFixedText}
+use Rattle.cborn_engine.proofs.Held.SameNodes.{same_nodes}
+
+-- What nodes spell are bytes.
+
+is_byte : (i n : ℕ) → byte_at i n < 256
+is_byte zero n = omega arith
+is_byte (suc i) n = mod_small (n / 256 ^ suc i)
+  where
+    mod_small : (m : ℕ) → m % 256 < 256
+    mod_small m = omega arith
+
+high_bytes : (k n : ℕ) → AreBytes (bytes_high_first k n)
+high_bytes zero n = tt
+high_bytes (suc k) n = (is_byte k n, high_bytes k n)
+
+small_code : (m : Major) → code m < 8
+small_code Unsigned = omega arith
+small_code Negative = omega arith
+small_code ByteString = omega arith
+small_code TextString = omega arith
+small_code Array = omega arith
+small_code Map = omega arith
+small_code Tag = omega arith
+small_code Other = omega arith
+
+head_is : (m : ℕ) (w : Width) (n : ℕ) → m < 8 → WidthFits w n → AreBytes (head_bytes m w n)
+head_is m Direct n l f = (omega (arith, l, f), tt)
+head_is m One n l f = (omega (arith, l), (f, tt))
+head_is m Two n l f = (omega (arith, l), high_bytes 2 n)
+head_is m Four n l f = (omega (arith, l), high_bytes 4 n)
+head_is m Eight n l f = (omega (arith, l), high_bytes 8 n)
+
+unbounded_is : (m : ℕ) → m < 8 → AreBytes ((32 * m + 31) ∷ [])
+unbounded_is m l = (omega (arith, l), tt)
+
+argument_is : (m : Major) (s : Size) (n : ℕ) → SizeFits s n → AreBytes (head m (argument s n))
+argument_is m (Fixed w) n f = head_is (code m) w n (small_code m) f
+argument_is m Endless n f = unbounded_is (code m) (small_code m)
+
+string_is : (m : Major) (w : Width) (b : List ℕ) → WidthFits w (length b) → AreBytes b → AreBytes (string m w b)
+string_is m w b f h = bytes-append (head m (Given w (length b))) b (head_is (code m) w (length b) (small_code m) f) h
+
+ending_is : (s : Size) → AreBytes (ending s)
+ending_is (Fixed w) = tt
+ending_is Endless = unbounded_is 7 (omega arith)
+
+chunks_are : (m : Major) (cs : List Chunk) → ChunksFit cs → AreBytes (flat_map (chunk_bytes m) cs)
+chunks_are m [] h = tt
+chunks_are m (c ∷ cs) h = bytes-append (chunk_bytes m c) (flat_map (chunk_bytes m) cs) (string_is m c.width c.bytes h.0.0 h.0.1) (chunks_are m cs h.1)
+
+long_is : (m : Major) (cs : List Chunk) → ChunksFit cs → AreBytes ((head m Unbounded ++ flat_map (chunk_bytes m) cs) ++ ending Endless)
+long_is m cs h = bytes-append (head m Unbounded ++ flat_map (chunk_bytes m) cs) (ending Endless) (bytes-append (head m Unbounded) (flat_map (chunk_bytes m) cs) (unbounded_is (code m) (small_code m)) (chunks_are m cs h)) (ending_is Endless)
+
+simple_is : (n : ℕ) → IsTrue (is_simple_value n) → AreBytes (head_bytes 7 (least n) n)
+simple_is n h = head_is 7 (least n) n (omega arith) (simple_fits n h)
+
+mutual
+  are_bytes : (t : Tree) → Fits t → AreBytes (spelled t)
+  are_bytes (Uint p w n) h = head_is 0 w n (omega arith) h
+  are_bytes (Nint p w n) h = head_is 1 w n (omega arith) h
+  are_bytes (Bytes p w b) h = string_is ByteString w b h.0 h.1
+  are_bytes (Text p w b) h = string_is TextString w b h.0 h.1
+  are_bytes (ByteChunks p cs) h = long_is ByteString cs h
+  are_bytes (TextChunks p cs) h = long_is TextString cs h
+  are_bytes (Items p s ts) h =
+      bytes-append (head Array (argument s (count ts)) ++ spelled_all ts) (ending s) (bytes-append (head Array (argument s (count ts))) (spelled_all ts) (argument_is Array s (count ts) h.0) (all_are_bytes ts h.1)) (ending_is s)
+  are_bytes (Pairs p s es) h =
+      bytes-append (head Map (argument s (count_entries es)) ++ spelled_entries es) (ending s) (bytes-append (head Map (argument s (count_entries es))) (spelled_entries es) (argument_is Map s (count_entries es) h.0) (entries_are_bytes es h.1)) (ending_is s)
+  are_bytes (Tagged p w n t) h = bytes-append (head Tag (Given w n)) (spelled t) (head_is 6 w n (omega arith) h.0) (are_bytes t h.1)
+  are_bytes (Simple p n) h = simple_is n h
+
+  pub all_are_bytes : (ts : Trees) → FitsAll ts → AreBytes (spelled_all ts)
+  all_are_bytes no_item h = tt
+  all_are_bytes (more t ts) h = bytes-append (spelled t) (spelled_all ts) (are_bytes t h.0) (all_are_bytes ts h.1)
+
+  entries_are_bytes : (es : Entries) → FitsEntries es → AreBytes (spelled_entries es)
+  entries_are_bytes no_entry h = tt
+  entries_are_bytes (entry k v es) h = bytes-append (spelled k ++ spelled v) (spelled_entries es) (bytes-append (spelled k) (spelled v) (are_bytes k h.0) (are_bytes v h.1)) (entries_are_bytes es h.2)
+
+-- Nodes in the shortest heads.
+
+absent : (n : ℕ) → mark_for (least n) n ≡ Absent
+absent n = let k = length (following (least n) n) in cond-true (eqb k k) Absent (Wide (least n)) (eq-eqb k k refl)
+
+none : (n : ℕ) → indicator (mark_for (least n) n) ≡ []
+none n = ap indicator (absent n)
+
+-- a node that spells x, and whose text is plain
+pub record PlainNode (x : List ℕ) : Type 0 where
+  pub node : Tree
+  pub spells : spelled node ≡ x
+  pub fits : Fits node
+  pub told : shown node ≡ plain node
+
+pub record PlainNodes (x : List ℕ) (n : ℕ) : Type 0 where
+  pub nodes : Trees
+  pub counted : count nodes ≡ n
+  pub spells : spelled_all nodes ≡ x
+  pub fits : FitsAll nodes
+  pub told : item_texts nodes ≡ plain_items nodes
+
+pub record PlainEntry (e : Entry) : Type 0 where
+  pub key : PlainNode e.0
+  pub val : PlainNode e.1
+
+pub record PlainEntries (es : List Entry) (n : ℕ) : Type 0 where
+  pub nodes : Entries
+  pub counted : count_entries nodes ≡ n
+  pub spells : spelled_entries nodes ≡ joined es
+  pub fits : FitsEntries nodes
+  pub told : pair_texts nodes ≡ plain_pairs nodes
+
+told_bytes : (b : List ℕ) → shown (Bytes 0 (least (length b)) b) ≡ plain (Bytes 0 (least (length b)) b)
+told_bytes b = ap (λ l. codes "h'" ++ (encode_lower b ++ (codes "'" ++ l))) (none (length b))
+
+bignum : (t : ℕ) (m h c x : List ℕ) → WidthFits (least t) t → h ≡ head_bytes 6 (least t) t → (k : List ℕ) → WidthFits (least (length m)) (length m) → k ≡ head_bytes 2 (least (length m)) (length m) → c ≡ k ++ m → x ≡ h ++ c → AreBytes m → PlainNode x
+bignum t m h c x f e k g i j l are = record {
+  node = Tagged 0 (least t) t (Bytes 0 (least (length m)) m);
+  spells = (λ n. sym e n ++ (sym i n ++ m)) ∙ ap (λ y. h ++ y) (sym j) ∙ sym l;
+  fits = (f, (g, are));
+  told = λ n. decimal t ++ (none t n ++ (codes "(" ++ (told_bytes m n ++ codes ")")));
+}
+
+an_integer : (s : Bool) (m x : List ℕ) → AreBytes x → IsInteger s m x → PlainNode x
+an_integer false m x are (inl d) = let n = big_endian m in record { node = Uint 0 (least n) n; spells = sym d.1.1; fits = d.1.0; told = ap (λ l. decimal n ++ l) (none n) ∙ append-nil (decimal n) }
+an_integer true m x are (inl d) =
+    let n = big_endian m in
+    record { node = Nint 0 (least n) n; spells = sym d.1.1; fits = d.1.0; told = ap (λ l. codes "-" ++ (decimal (suc n) ++ l)) (none n) ∙ ap (λ l. codes "-" ++ l) (append-nil (decimal (suc n))) }
+an_integer false m x are (inr d) = bignum 2 m d.1 d.2 x d.3.0 d.3.1 d.4.0 d.4.1.0 d.4.1.1 d.4.2 d.5 (bytes-right d.4.0 m (subst AreBytes d.4.2 (bytes-right d.1 d.2 (subst AreBytes d.5 are))))
+an_integer true m x are (inr d) = bignum 3 m d.1 d.2 x d.3.0 d.3.1 d.4.0 d.4.1.0 d.4.1.1 d.4.2 d.5 (bytes-right d.4.0 m (subst AreBytes d.4.2 (bytes-right d.1 d.2 (subst AreBytes d.5 are))))
+
+-- entries, each of which has nodes where it is of bytes
+abbrev Backed : Value × Value → Entry → Type 0
+Backed r e = AreBytes (e.0 ++ e.1) → PlainEntry e
+
+entries_of : (rs : List (Value × Value)) (es : List Entry) → AllZip Backed rs es → AreBytes (joined es) → PlainEntries es (length rs)
+entries_of [] [] h are = record { nodes = no_entry; counted = refl; spells = refl; fits = tt; told = refl }
+entries_of [] (e ∷ es) h are = absurd h
+entries_of (r ∷ rs) [] h are = absurd h
+entries_of (r ∷ rs) (e ∷ es) h are =
+    let one = h.0 (bytes-left (e.0 ++ e.1) (joined es) are) in
+    let rest = entries_of rs es h.1 (bytes-right (e.0 ++ e.1) (joined es) are) in
+    record {
+      nodes = entry one.key.node one.val.node rest.nodes;
+      counted = ap suc rest.counted;
+      spells = λ i. one.key.spells i ++ one.val.spells i ++ rest.spells i;
+      fits = (one.key.fits, one.val.fits, rest.fits);
+      told = λ i. (one.key.told i ++ (codes ": " ++ one.val.told i)) ∷ rest.told i;
+    }
+
+length-listed : (ps : Couples) → length (listed ps) ≡ pair_count ps
+length-listed no_pairs = refl
+length-listed (pair k v ps) = ap suc (length-listed ps)
+
+module _ (order : List ℕ → List ℕ → Ordering) where
+  a_map : (ps : Couples) (x : List ℕ) → AreBytes x → Det order (dict ps) x → ((es : List Entry) → DetPairs order ps es → AllZip Backed (listed ps) es) → PlainNode x
+  a_map ps x are d back =
+      let n : ℕ = pair_count ps in
+      let moved = carried Backed (listed ps) d.1 d.2 (back d.1 d.4) d.5 in
+      let all = entries_of moved.0 d.2 moved.2 (bytes-right d.0 (joined d.2) (subst AreBytes d.7 are)) in
+      let counted : count_entries all.nodes ≡ n = all.counted ∙ length_permutation (listed ps) moved.0 moved.1 ∙ length-listed ps in
+      let c : ℕ = count_entries all.nodes in
+      record {
+        node = Pairs 0 (Fixed (least c)) all.nodes;
+        spells = append-nil (head Map (Given (least c) c) ++ spelled_entries all.nodes) ∙ (λ i. head Map (Given (least (counted i)) (counted i)) ++ all.spells i) ∙ ap (λ l. l ++ joined d.2) (sym d.3.1) ∙ sym d.7;
+        fits = (subst (λ k. WidthFits (least k) k) (sym counted) d.3.0, all.fits);
+        told = λ i. codes "{" ++ (opened (absent c i) ++ (joined_by (codes ", ") (all.told i) ++ codes "}"));
+      }
+
+  mutual
+    a_node : (v : Value) (x : List ℕ) → AreBytes x → Det order v x → PlainNode x
+    a_node (integer s m) x are d = an_integer s m x are d
+    a_node (bytes b) x are d = record { node = Bytes 0 (least (length b)) b; spells = ap (λ l. l ++ b) (sym d.1.1) ∙ sym d.2; fits = (d.1.0, bytes-right d.0 b (subst AreBytes d.2 are)); told = told_bytes b }
+    a_node (text b) x are d = record {
+      node = Text 0 (least (length b)) b;
+      spells = ap (λ l. l ++ b) (sym d.1.1) ∙ sym d.2;
+      fits = (d.1.0, bytes-right d.0 b (subst AreBytes d.2 are));
+      told = ap (λ l. codes "\"" ++ (flat_map escaped b ++ (codes "\"" ++ l))) (none (length b));
+    }
+    a_node (array vs) x are d =
+        let all = some_nodes vs d.1 (bytes-right d.0 d.1 (subst AreBytes d.4 are)) d.3 in
+        let c : ℕ = count all.nodes in
+        record {
+          node = Items 0 (Fixed (least c)) all.nodes;
+          spells = append-nil (head Array (Given (least c) c) ++ spelled_all all.nodes) ∙ (λ i. head Array (Given (least (all.counted i)) (all.counted i)) ++ all.spells i) ∙ ap (λ l. l ++ d.1) (sym d.2.1) ∙ sym d.4;
+          fits = (subst (λ k. WidthFits (least k) k) (sym all.counted) d.2.0, all.fits);
+          told = λ i. codes "[" ++ (opened (absent c i) ++ (joined_by (codes ", ") (all.told i) ++ codes "]"));
+        }
+    a_node (dict ps) x are d = a_map ps x are d (λ es e. some_entries ps es e)
+    a_node (tagged t v) x are d =
+        let inner = a_node v d.1 (bytes-right d.0 d.1 (subst AreBytes d.4 are)) d.3 in
+        record { node = Tagged 0 (least t) t inner.node; spells = (λ i. sym d.2.1 i ++ inner.spells i) ∙ sym d.4; fits = (d.2.0, inner.fits); told = λ i. decimal t ++ (none t i ++ (codes "(" ++ (inner.told i ++ codes ")"))) }
+    a_node (simple n) x are d = record { node = Simple 0 n; spells = sym d.1.1; fits = d.0; told = refl }
+
+    some_nodes : (vs : Values) (x : List ℕ) → AreBytes x → DetValues order vs x → PlainNodes x (value_count vs)
+    some_nodes no_values x are d = record { nodes = no_item; counted = refl; spells = sym d; fits = tt; told = refl }
+    some_nodes (value v vs) x are d =
+        let both = subst AreBytes d.4 are in
+        let one = a_node v d.0 (bytes-left d.0 d.1 both) d.2 in
+        let rest = some_nodes vs d.1 (bytes-right d.0 d.1 both) d.3 in
+        record { nodes = more one.node rest.nodes; counted = ap suc rest.counted; spells = (λ i. one.spells i ++ rest.spells i) ∙ sym d.4; fits = (one.fits, rest.fits); told = λ i. one.told i ∷ rest.told i }
+
+    some_entries : (ps : Couples) (es : List Entry) → DetPairs order ps es → AllZip Backed (listed ps) es
+    some_entries no_pairs [] d = tt
+    some_entries no_pairs (e ∷ es) d = absurd d
+    some_entries (pair k v ps) [] d = absurd d
+    some_entries (pair k v ps) (e ∷ es) d = ((λ are. record { key = a_node k e.0 (bytes-left e.0 e.1 are) d.0; val = a_node v e.1 (bytes-right e.0 e.1 are) d.1 }), some_entries ps es d.2)
+
+  sequence : (vs : List Value) (x : List ℕ) → AreBytes x → DetSeq order vs x → PlainNodes x (length vs)
+  sequence [] x are d = record { nodes = no_item; counted = refl; spells = sym d; fits = tt; told = refl }
+  sequence (v ∷ vs) x are d =
+      let both = subst AreBytes d.4 are in
+      let one = a_node v d.0 (bytes-left d.0 d.1 both) d.2 in
+      let rest = sequence vs d.1 (bytes-right d.0 d.1 both) d.3 in
+      record { nodes = more one.node rest.nodes; counted = ap suc rest.counted; spells = (λ i. one.spells i ++ rest.spells i) ∙ sym d.4; fits = (one.fits, rest.fits); told = λ i. one.told i ∷ rest.told i }
+
+  lines : (ts : Trees) → item_texts ts ≡ plain_items ts → shown_lines ts ≡ plain_lines ts
+  lines no_item e = refl
+  lines (more t ts) e = ap (λ l. joined_by (codes ",\n") l ++ codes "\n") e
+
+  -- LAW: nodes that spell deterministic encodings have plain text
+  pub plain_is : (vs : List Value) (ts : Trees) → FitsAll ts → DetSeq order vs (spelled_all ts) → shown_lines ts ≡ plain_lines ts
+  plain_is vs ts fit d =
+      let s = sequence vs (spelled_all ts) (all_are_bytes ts fit) d in
+      let same = same_nodes ts s.nodes fit s.fits (sym s.spells) in
+      same_text ts s.nodes same ∙ lines s.nodes s.told ∙ same_plain s.nodes ts (sym same)
+
+  -- LAW: and the text of such bytes is the same in both forms
+  pub as_plain : (vs : List Value) (x w : List ℕ) → DetSeq order vs x → IsFixedText x w → IsPlainText x w
+  as_plain vs x w d h =
+      record { nodes = h.nodes; fit = h.fit; spelled = h.spelled; plain = (h.shown.0, h.shown.1 ∙ plain_is vs (trees h.nodes) h.fit (subst (DetSeq order vs) (sym h.spelled) d)) }
+
+  pub as_fixed : (vs : List Value) (x w : List ℕ) → DetSeq order vs x → IsPlainText x w → IsFixedText x w
+  as_fixed vs x w d h =
+      record { nodes = h.nodes; fit = h.fit; spelled = h.spelled; shown = (h.plain.0, h.plain.1 ∙ sym (plain_is vs (trees h.nodes) h.fit (subst (DetSeq order vs) (sym h.spelled) d))) }
