@@ -5,3 +5,4 @@ pub mod Lowests
 pub mod Characters
 pub mod Readable
 pub mod SameText
+pub mod PlainText

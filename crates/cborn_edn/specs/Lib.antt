@@ -2,6 +2,7 @@ pub mod Says
 pub mod Grammar
 pub mod Faults
 pub mod Shown
+pub mod Plain
 pub mod ReadingBack
 pub mod Starts
 pub mod shared

@@ -16,57 +16,39 @@ ghost use Rattle.cborn_lex.specs.Good.{HasTokens};
 ghost use Rattle.cborn_lex.specs.Bad.{FailsAt};
 ghost use Rattle.cborn_edn.specs.declared.faults.EdnFault.{EdnFault};
 ghost use Rattle.cborn_edn.specs.declared.faults.EdnReason.{EdnReason};
-ghost use Rattle.cborn_edn.specs.shared.Syntax.{Input, depth_of_input, tokens_of_input};
-ghost use Rattle.cborn_edn.specs.devices.Parse.{Parse, HasTree, Jam};
-ghost use Rattle.cborn_edn.specs.shared.Meaning.{Says, HasSlip, FirstSlip};
-ghost use Rattle.cborn_edn.specs.devices.Counted.{CountedInput};
-ghost use Rattle.cborn_edn.specs.ReadingBack.{bare, notated_input, ReadsBack, unplaced_all};
+ghost use Rattle.cborn_edn.specs.shared.Syntax.{tokens_of_input};
+ghost use Rattle.cborn_edn.specs.devices.Parse as trees;
+ghost use Rattle.cborn_edn.specs.ReadingBack.{bare, notated_input, unplaced_all};
 ghost use Rattle.cborn_edn.specs.Shown.{AreShowable, Shown, shown_lines};
 ghost use Rattle.cborn_edn.specs.Starts.{spots_all, IsRising};
-ghost use Rattle.cborn_edn.specs.Grammar.{Notates};
-ghost use Rattle.cborn_edn.specs.Faults.{Slips, Jams, IsNoNotation};
-ghost use Rattle.cborn_edn.specs.Faults as relation;
+ghost use Rattle.cborn_edn.specs.Grammar.{IsText, Notates};
+ghost use Rattle.cborn_edn.specs.declared.slips.Slip.{Slip};
+ghost use Rattle.cborn_edn.specs.Faults.{HasTree, Jam, Slips, Jams, IsNoNotation};
 ghost use Rattle.cborn_edn.specs.devices.Notates as trees_say;
 
-/// Tokens have at most one tree, whatever the profiles.
-pub fn one_tree()
-    ensures { (profile other : Profile) (tokens : List Token) (t u : Input) → Parse profile tokens t → Parse other tokens u → t ≡ u }
+/// Tokens are a text of the grammar in at most one way, with the same nodes and slips whatever the
+/// profiles and the limits.
+pub fn one_text()
+    ensures { (profile other : Profile) (limit most : ℕ) (tokens : List Token) (nodes others : Trees) (slips faults : List Slip) → IsText profile limit tokens nodes slips → IsText other most tokens others faults → (nodes ≡ others) × (slips ≡ faults) }
 {}
 
-/// Tokens have a tree within the limit or one jam, never both or two. `end` is the length of their
-/// text.
+/// Tokens are a text of the grammar within the limit or have one jam, never both or two. `end` is
+/// the length of their text.
 pub fn one_answer()
     ensures some { (profile : Profile) (limit end : ℕ) (tokens : List Token) → HasTree profile limit tokens ⊎ ((p : ℕ) × (r : EdnReason) × Jam profile limit end tokens p r) }
     ensures not_both { (profile : Profile) (limit end : ℕ) (tokens : List Token) (p : ℕ) (r : EdnReason) → HasTree profile limit tokens → Jam profile limit end tokens p r → ⊥ }
     ensures not_two { (profile : Profile) (limit end : ℕ) (tokens : List Token) (p q : ℕ) (r s : EdnReason) → Jam profile limit end tokens p r → Jam profile limit end tokens q s → (p ≡ q) × (r ≡ s) }
 {}
 
-/// What has a tree within a limit has it within each larger one.
+/// What is a text of the grammar within a limit is one within each larger limit.
 pub fn larger_limit()
     ensures { (profile : Profile) (limit most : ℕ) (tokens : List Token) → limit ≤ most → HasTree profile limit tokens → HasTree profile most tokens }
 {}
 
-/// What profile 1 takes, profile 2 takes as the same tree, and so with the same nodes and places.
+/// What is a text of the grammar in profile 1 is one in profile 2, with the same nodes, places and
+/// slips.
 pub fn both_profiles()
-    ensures { (tokens : List Token) (t : Input) → Parse ProfileOne tokens t → Parse ProfileTwo tokens t }
-{}
-
-/// A tree that says nodes has no slip. For the converse the tree is counted: lengths and counts are
-/// below 2^64, strings are bytes, and words are below 24. A counted tree without a slip says nodes,
-/// and what it says fits its widths and is no deeper than the tree. Where there is a slip, there is
-/// one first.
-pub fn one_meaning()
-    ensures says { (t : Input) → CountedInput t → ((p : ℕ) (r : EdnReason) → HasSlip t p r → ⊥) → (nodes : Trees) × Says t nodes }
-    ensures no_slip { (t : Input) (nodes : Trees) (p : ℕ) (r : EdnReason) → Says t nodes → HasSlip t p r → ⊥ }
-    ensures fits { (t : Input) (nodes : Trees) → CountedInput t → Says t nodes → FitsAll nodes × (depth_all nodes ≤ depth_of_input t) }
-    ensures first { (t : Input) (p : ℕ) (r : EdnReason) → HasSlip t p r → (q : ℕ) × (s : EdnReason) × FirstSlip t q s }
-    ensures one_first { (t : Input) (p q : ℕ) (r s : EdnReason) → FirstSlip t p r → FirstSlip t q s → (p ≡ q) × (r ≡ s) }
-{}
-
-/// Tokens that are those of the fixed notation of nodes, places aside, say nodes that spell the
-/// same bytes, under both profiles, where the nodes are within the limit.
-pub fn reading_back()
-    ensures { (profile : Profile) (limit : ℕ) (nodes : Trees) (tokens : List Token) → FitsAll nodes → AreShowable nodes → depth_all nodes ≤ limit → map bare tokens ≡ tokens_of_input (notated_input nodes) → ReadsBack profile limit nodes tokens }
+    ensures { (limit : ℕ) (tokens : List Token) (nodes : Trees) (slips : List Slip) → IsText ProfileOne limit tokens nodes slips → IsText ProfileTwo limit tokens nodes slips }
 {}
 
 /// Nodes have a fixed notation exactly if each text and text chunk among them is UTF-8. The text of
@@ -100,14 +82,12 @@ pub fn one_notation()
 {}
 
 /// A text of fewer than 2^56 bytes has an answer: it notates nodes, or it has a lexical stop, a jam
-/// or a slip. The nodes that it notates fit their widths and are within the limit. Its tree is
-/// counted: lengths and counts are below 2^64, strings are bytes, and words are below 24. No text,
-/// however long, notates nodes and has a slip, whatever the limits.
+/// or a slip. The nodes that it notates fit their widths and are within the limit. No text, however
+/// long, notates nodes and has a slip, whatever the limits.
 pub fn short_text()
     ensures answered { (profile : Profile) (limit : ℕ) (text : List ℕ) → AreBytes text → length text < 2 ^ 56 → ((nodes : Trees) × Notates profile limit text nodes) ⊎ (((p : ℕ) × (r : LexReason) × FailsAt profile text p r) ⊎ ((p : ℕ) × (r : EdnReason) × (Jams profile limit text p r ⊎ Slips profile limit text p r))) }
     ensures no_slip { (profile : Profile) (limit most : ℕ) (text : List ℕ) (nodes : Trees) (p : ℕ) (r : EdnReason) → Notates profile limit text nodes → Slips profile most text p r → ⊥ }
     ensures fits { (profile : Profile) (limit : ℕ) (text : List ℕ) (nodes : Trees) → AreBytes text → length text < 2 ^ 56 → Notates profile limit text nodes → FitsAll nodes × (depth_all nodes ≤ limit) }
-    ensures counted { (profile : Profile) (text : List ℕ) (tokens : List Token) (t : Input) → AreBytes text → length text < 2 ^ 56 → HasTokens profile text tokens → Parse profile tokens t → CountedInput t }
 {}
 
 /// Of the nodes that a text notates, and of the chunks in them, each stands behind those before it
@@ -122,8 +102,8 @@ pub fn spots_rise()
 /// the grammar says.
 pub fn short_form()
     ensures notates { (profile : Profile) (limit : ℕ) (text : List ℕ) (nodes : Trees) → trees_say.Notates profile limit text nodes → Notates profile limit text nodes }
-    ensures tree { (profile : Profile) (limit : ℕ) (tokens : List Token) → HasTree profile limit tokens ↔ relation.HasTree profile limit tokens }
-    ensures jam { (profile : Profile) (limit end : ℕ) (tokens : List Token) (p : ℕ) (r : EdnReason) → Jam profile limit end tokens p r ↔ relation.Jam profile limit end tokens p r }
+    ensures tree { (profile : Profile) (limit : ℕ) (tokens : List Token) → trees.HasTree profile limit tokens ↔ HasTree profile limit tokens }
+    ensures jam { (profile : Profile) (limit end : ℕ) (tokens : List Token) (p : ℕ) (r : EdnReason) → trees.Jam profile limit end tokens p r ↔ Jam profile limit end tokens p r }
     ensures nodes { (profile : Profile) (limit : ℕ) (text : List ℕ) (nodes : Trees) → AreBytes text → length text < 2 ^ 56 → trees_say.Notates profile limit text nodes ↔ Notates profile limit text nodes }
     ensures slip { (profile : Profile) (limit : ℕ) (text : List ℕ) (p : ℕ) (r : EdnReason) → AreBytes text → length text < 2 ^ 56 → trees_say.Slips profile limit text p r ↔ Slips profile limit text p r }
     ensures refused { (profile : Profile) (limit : ℕ) (text : List ℕ) (why : EdnFault) → AreBytes text → length text < 2 ^ 56 → trees_say.IsNoNotation profile limit text why ↔ IsNoNotation profile limit text why }

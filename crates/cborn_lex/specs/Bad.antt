@@ -72,7 +72,7 @@ pub data Fails (profile : Profile) : List ℕ → LexReason → Type 0 where
   unclosed : (w x : List ℕ) (r : LexReason) → IsPrefix w r → list_all (is_not (byte "'")) x ≡ true → Fails profile (w ++ byte "'" ∷ x) UnclosedString
   -- a content between quotes that stands for no bytes in the alphabet of its prefix
   content : (w x z : List ℕ) (r : LexReason) → IsPrefix w r → list_all (is_not (byte "'")) x ≡ true → ((b : List ℕ) → IsCoded w x b → ⊥) → Fails profile (w ++ (byte "'" ∷ x ++ byte "'" ∷ z)) r
-  -- what is a token with the indicator _3, and has another that is none (RFC 8949 section 8.1)
+  -- a token but for what stands in the place of its indicator: with _3 there it would be one (RFC 8949 section 8.1)
   indicator : (s m z : List ℕ) (k : Class) → Takes profile (s ++ codes "_3") [] (Some k) → IsIndicator m z → mark_of m ≡ None → Fails profile (s ++ (m ++ z)) BadIndicator
   -- a string in chunks begins with `(_`, and no other indicator
   chunks : (z : List ℕ) → begins is_word z ≡ true → Fails profile (codes "(_" ++ z) BadIndicator

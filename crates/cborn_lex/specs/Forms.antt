@@ -1,4 +1,4 @@
--- What the front of a text of the notation is: white space, a comment, a token, or what is wrong with it (RFC 8949 section 8, RFC 8610 appendix G).
+-- A device of the proofs, but for `IsRun` and `IsIndicator`: what the front of a text of the notation is, by its first character: white space, a comment, a token, or what is wrong with it (RFC 8949 section 8, RFC 8610 appendix G).
 -- A text is a list of bytes in UTF-8. Each character that means something is ASCII, so no definition decodes.
 use Rattle.std.specs.Prelude.{◌≡◌, ℕ, Bool, true, false, ◌&&◌, not, List, [], ◌∷◌, ◌++◌, ◌==◌, bytes_eq, codes, Option, ◌⊎◌, if◌then◌else◌}
 use Rattle.std.specs.List.{list_all}

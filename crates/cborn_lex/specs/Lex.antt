@@ -1,4 +1,4 @@
--- The tokens of a text, and where it stops being tokens.
+-- A device of the proofs: the tokens of a text, and where it stops being tokens, by what a first character begins. The law `good_tokens` holds it against Good.antt, and `bad_tokens` against Bad.antt.
 use Rattle.std.specs.Prelude.{◌≡◌, ℕ, ◌+◌, ◌<◌, ◌≤◌, List, [], ◌∷◌, ◌++◌, length, drop, Option, Some, None}
 use Rattle.cborn_lex.specs.declared.classes.Profile.{Profile}
 use Rattle.cborn_lex.specs.declared.classes.Class.{Class}

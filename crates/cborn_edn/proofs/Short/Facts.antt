@@ -1,5 +1,5 @@
 -- What holds of the relation as of the trees: a text notates one list of nodes, the same under larger limits and under profile 2, and it isn't refused; what was shown reads back.
-use Rattle.std.proofs.Common.{◌≡◌, sym, ap, ◌∙◌, subst, ℕ, ◌^◌, ◌<◌, ◌≤◌, List, [], length, ◌⊎◌, inl, inr, arith}
+use Rattle.std.proofs.Common.{◌≡◌, refl, sym, ap, ◌∙◌, subst, ℕ, ◌^◌, ◌<◌, ◌≤◌, List, [], length, ◌⊎◌, inl, inr, arith}
 use Rattle.cborn_model.specs.Bytes.{AreBytes}
 use Rattle.cborn_model.specs.Tree.{Trees, depth_all}
 use Rattle.cborn_model.specs.Spelled.{FitsAll, spelled_all}
@@ -38,12 +38,24 @@ one_notation p limit most text us vs (x, lex, h) (y, lexed, k) =
     let b = parsed p most y vs [] k in
     sym a.says ∙ ap nodes_of_input (same_parse p p limit most x y us vs [] [] (one_list p text x y (lex_of p text x lex) (lex_of p text y lexed)) a b) ∙ b.says
 
+-- LAW: tokens are a text in one way
+pub one_text : (p q : Profile) (limit most : ℕ) (x : List Token) (ts us : Trees) (l m : List Slip) → IsText p limit x ts l → IsText q most x us m → (ts ≡ us) × (l ≡ m)
+one_text p q limit most x ts us l m h k =
+    let a = parsed p limit x ts l h in
+    let b = parsed q most x us m k in
+    let e = same_parse p q limit most x x ts us l m refl a b in
+    (sym a.says ∙ ap nodes_of_input e ∙ b.says, sym a.slips ∙ ap faults_of_input e ∙ b.slips)
+
 -- the same text, under another limit or profile
 again : (p q : Profile) (limit most : ℕ) (x : List Token) (ts : Trees) (l : List Slip) (a : Parsed p limit x ts l) → Parse q x a.tree → depth_of_input a.tree ≤ most → IsText q most x ts l
 again p q limit most x ts l a parse low = subst (λ us. IsText q most x us l) a.says (subst (λ m. IsText q most x (nodes_of_input a.tree) m) a.slips (text_of q most x a.tree parse low))
 
 pub larger : (profile : Profile) (limit most : ℕ) (text : List ℕ) (nodes : Trees) → limit ≤ most → Notates profile limit text nodes → Notates profile most text nodes
 larger p limit most text nodes low (x, lex, h) = let a = parsed p limit x nodes [] h in (x, lex, again p p limit most x nodes [] a a.parse (omega (arith, low, a.shallow)))
+
+-- LAW: what is a text in profile 1 is the same text in profile 2
+pub both_texts : (limit : ℕ) (x : List Token) (ts : Trees) (l : List Slip) → IsText ProfileOne limit x ts l → IsText ProfileTwo limit x ts l
+both_texts limit x ts l h = let a = parsed ProfileOne limit x ts l h in again ProfileOne ProfileTwo limit limit x ts l a (both_profiles x a.tree a.parse) a.shallow
 
 pub both_notate : (limit : ℕ) (text : List ℕ) (nodes : Trees) → Notates ProfileOne limit text nodes → Notates ProfileTwo limit text nodes
 both_notate limit text nodes (x, lex, h) = let a = parsed ProfileOne limit x nodes [] h in (x, has_tokens ProfileTwo text x (both_lexed text x (lex_of ProfileOne text x lex)), again ProfileOne ProfileTwo limit limit x nodes [] a (both_profiles x a.tree a.parse) a.shallow)
