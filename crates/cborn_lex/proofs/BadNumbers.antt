@@ -1,10 +1,9 @@
 -- A number that is a float is read as one.
-use Rattle.std.proofs.Common.{◌≡◌, refl, sym, ap, ◌∙◌, subst, ℕ, ◌^◌, List, [], ◌∷◌, Bool, true, false, ◌&&◌, ◌||◌, not, cond, eqb, ltb, ◌⊎◌, inl, inr, ⊎_elim, Result, Ok, Err}
-use Rattle.std.proofs.lemmas.Bool.{eqb-true, and_parts, and_left, and_right, or_parts, not-true}
+use Rattle.std.proofs.Common.{◌≡◌, refl, sym, subst, ℕ, ◌^◌, List, [], ◌∷◌, Bool, true, false, ◌||◌, not, cond, eqb, ltb, ⊎_elim, Ok, Err}
+use Rattle.std.proofs.lemmas.Bool.{eqb-true, and_parts, and_left, and_right, not-true}
 use Rattle.std.specs.List.{list_all, list_any}
-use Rattle.std.specs.Char.{is_digit, is_ascii_digit}
+use Rattle.std.specs.Char.{is_digit}
 use Rattle.std.specs.Prelude.{bytes_eq, codes, drop, take}
-use Rattle.cborn_lex.specs.declared.faults.LexReason.{LexReason}
 use Rattle.cborn_lex.specs.declared.faults.LexReason.TheVariants.{BadNumber, NumberTooLarge, FloatLeftOut}
 use Rattle.cborn_lex.specs.Tokens.{begins}
 use Rattle.cborn_lex.specs.Numbers.{are_digits, within, has_prefix, has_any, integer}

@@ -1,18 +1,17 @@
 -- What is taken as white space, a comment or a token reads as that.
-use Rattle.std.proofs.Common.{◌≡◌, refl, sym, ap, ◌∙◌, subst, ℕ, zero, suc, ◌+◌, ◌-◌, ◌<◌, ◌≤◌, ◌^◌, List, [], ◌∷◌, ◌++◌, Bool, true, false, ◌&&◌, ◌||◌, not, cond, eqb, ltb, ◌⊎◌, inl, inr, Option, Some, None, Result, Ok, Err, append-nil, append_assoc, arith}
+use Rattle.std.proofs.Common.{◌≡◌, refl, sym, ap, ◌∙◌, subst, ℕ, zero, suc, ◌+◌, ◌-◌, ◌<◌, ◌≤◌, ◌^◌, List, [], ◌∷◌, ◌++◌, Bool, true, false, ◌&&◌, ◌||◌, cond, eqb, ltb, ◌⊎◌, inl, inr, Option, Some, None, Ok, append-nil, arith}
 use Rattle.std.proofs.lemmas.Bool.{eqb-true, and_parts, or_parts, ltb-true, ltb-false, lt-ltb}
 use Rattle.std.specs.List.{list_all}
-use Rattle.std.specs.Char.{is_digit, is_ascii_digit}
-use Rattle.std.specs.Prelude.{bytes_eq, codes, drop}
+use Rattle.std.specs.Char.{is_digit}
+use Rattle.std.specs.Prelude.{codes, drop}
 use Rattle.cborn_lex.specs.declared.classes.Profile.{Profile}
-use Rattle.cborn_lex.specs.declared.classes.Profile.TheVariants.{One, Two}
+use Rattle.cborn_lex.specs.declared.classes.Profile.TheVariants.{Two}
 use Rattle.cborn_lex.specs.declared.classes.Mark.{Mark}
-use Rattle.cborn_lex.specs.declared.faults.LexReason.{LexReason}
 use Rattle.cborn_lex.specs.declared.classes.Class.{Class}
-use Rattle.cborn_lex.specs.declared.classes.Class.TheVariants.{ArrayOpen, MapOpen, EmbedClose, ArrayClose, MapClose, ParenClose, Comma, Colon, EmbedOpen, ChunkOpen, SimpleOpen, Text, Bytes, Number, TagOpen, Word}
-use Rattle.cborn_lex.specs.Tokens.{Front, Blank, Read, Bad, is_white, is_word, is_numeral, is_not, begins, mark_of, marked}
+use Rattle.cborn_lex.specs.declared.classes.Class.TheVariants.{ArrayOpen, MapOpen, EmbedClose, Text, Bytes, TagOpen, Word}
+use Rattle.cborn_lex.specs.Tokens.{Front, Blank, Read, is_white, is_word, is_numeral, is_not, begins, mark_of, marked}
 use Rattle.cborn_lex.specs.Numbers.{are_digits, number, within, has_prefix, integer, signed, number_front}
-use Rattle.cborn_lex.specs.Forms.{IsRun, Start, white, hash, digit, start_of, ReadsFrom, ReadsNumber, Reads}
+use Rattle.cborn_lex.specs.Forms.{white, hash, digit, start_of, ReadsFrom, Reads}
 use Rattle.cborn_lex.specs.Good as good
 use Rattle.cborn_lex.specs.Good.{IsMark, IsLiteral, IsNumeral, IsName, IsCoded, Takes}
 

@@ -1,8 +1,7 @@
 -- What reads at the front of a text as white space, a comment or a token is taken as that, and what reads as bad fails for that reason.
-use Rattle.std.proofs.Common.{◌≡◌, refl, sym, ap, ◌∙◌, subst, ℕ, ◌<◌, ◌≤◌, ◌^◌, List, [], ◌∷◌, ◌++◌, Bool, true, false, ◌&&◌, ◌||◌, not, cond, eqb, ltb, ◌⊎◌, inl, inr, Option, Some, None, Result, Ok, Err, append-nil, append_assoc, arith}
+use Rattle.std.proofs.Common.{◌≡◌, refl, sym, ap, ◌∙◌, subst, ℕ, ◌<◌, ◌^◌, List, [], ◌∷◌, ◌++◌, Bool, true, false, ◌&&◌, ◌||◌, not, cond, eqb, ltb, inl, inr, Option, Some, None, Result, Ok, Err, append-nil, append_assoc}
 use Rattle.std.proofs.lemmas.Bool.{eqb-true, and_parts, and_from, or_parts, or_from, ltb-true, ltb-false}
 use Rattle.std.specs.List.{list_all, list_any}
-use Rattle.std.specs.Str.{byte}
 use Rattle.std.specs.Char.{is_ascii_digit, is_ascii_alphabetic, is_ascii_alphanumeric}
 use Rattle.std.specs.Int.{is_in_range}
 use Rattle.std.specs.Prelude.{bytes_eq, codes, drop}
@@ -14,16 +13,16 @@ use Rattle.cborn_lex.specs.declared.classes.Mark.TheVariants.{Wide}
 use Rattle.cborn_lex.specs.declared.faults.LexReason.{LexReason}
 use Rattle.cborn_lex.specs.declared.faults.LexReason.TheVariants.{UnexpectedCharacter, UnclosedString, UnclosedComment, BadEscape, BadHex, BadBase64, UnknownPrefix, BadIndicator, BadNumber, NumberTooLarge, FloatLeftOut}
 use Rattle.cborn_lex.specs.declared.classes.Class.{Class}
-use Rattle.cborn_lex.specs.declared.classes.Class.TheVariants.{ArrayOpen, MapOpen, EmbedClose, ArrayClose, MapClose, ParenClose, Comma, Colon, EmbedOpen, ChunkOpen, SimpleOpen, Text, Bytes, Number, TagOpen, Word}
+use Rattle.cborn_lex.specs.declared.classes.Class.TheVariants.{ArrayOpen, MapOpen, EmbedClose, ArrayClose, MapClose, ParenClose, Comma, Colon, EmbedOpen, ChunkOpen, SimpleOpen, Text, Bytes, TagOpen, Word}
 use Rattle.cborn_lex.specs.Tokens.{Front, Blank, Read, Bad, is_white, is_word, is_numeral, is_not, begins, mark_of, marked}
 use Rattle.cborn_lex.specs.Numbers.{are_digits, number, within, has_prefix, has_any, integer, signed, number_front, word_front}
 use Rattle.cborn_lex.specs.Strings.{is_content, is_unclosed, IsText, IsHex, IsBase64}
-use Rattle.cborn_lex.specs.Forms.{IsRun, IsIndicator, Through, Lacks, Stands, Closed, IsString, Prefix, hexadecimal, base64, unknown, prefix_of, IsPrefixed, IsAfterWord, ReadsWord, IsTag, IsNumber, ReadsNumber, Start, white, slash, hash, less, greater, paren, double, simple, letter, minus, digit, other, single, opening, start_of, paren_front, ReadsFrom, Reads}
+use Rattle.cborn_lex.specs.Forms.{IsRun, IsIndicator, IsString, hexadecimal, base64, unknown, prefix_of, IsPrefixed, IsAfterWord, IsTag, Start, white, slash, hash, less, greater, paren, double, simple, letter, minus, digit, other, single, opening, ReadsFrom, Reads}
 use Rattle.cborn_lex.specs.Good as good
 use Rattle.cborn_lex.specs.Good.{IsMark, IsLiteral, IsNumeral, IsName, IsCoded, Takes}
 use Rattle.cborn_lex.specs.Bad as bad
 use Rattle.cborn_lex.specs.Bad.{is_start, IsWord, is_float_word, IsPrefix, is_based, IsFloat, IsNoInteger, Fails}
-use Rattle.cborn_lex.proofs.GoodBack.{or_cases, never, literal_is}
+use Rattle.cborn_lex.proofs.GoodBack.{never, literal_is}
 use Rattle.cborn_lex.proofs.BadNumbers.{float_is, no_within}
 use Rattle.cborn_lex.proofs.OneFront.Quotes.{quoted}
 
