@@ -24,7 +24,8 @@ use Rattle.cborn_judge.specs.declared.defects.DefectReason.{DefectReason}
 use Rattle.cborn_judge.specs.declared.defects.DefectReason.TheVariants.{LongHead, EndlessLength, LooseBignum, KeyOrder}
 use Rattle.cborn_judge.proofs.Meaning.Placing.{defect_within}
 use Rattle.cborn_transcode.specs.devices.Departing.{Stands, Stops}
-use Rattle.cborn_transcode.proofs.Opening.{opening, opened, stands}
+use Rattle.cborn_transcode.proofs.Opening.{stands}
+use Rattle.cborn_wire.proofs.Parts.Openings.{opening, opened}
 use Rattle.cborn_transcode.proofs.Departing.{width_of, number_of, low}
 
 -- what the head at the front says of the node

@@ -28,7 +28,8 @@ use Rattle.cborn_transcode.specs.Transcoding.{ItemTranscoded, IsEncodedAs}
 use Rattle.cborn_transcode.specs.devices.Departing.{Stands, AllStand, Clears, Stops, StopsBehind, Decides, Remain, Leads, LeadsOn}
 use Rattle.cborn_transcode.specs.shared.Walking.{IsDeterministic, ItemWalked}
 use Rattle.cborn_wire.proofs.Parts.Heads.{behind}
-use Rattle.cborn_transcode.proofs.Opening.{opened, one_front, put_there}
+use Rattle.cborn_transcode.proofs.Opening.{put_there}
+use Rattle.cborn_wire.proofs.Parts.Openings.{opened, one_front}
 use Rattle.cborn_transcode.proofs.Placing.{means-from}
 
 -- ---- an array

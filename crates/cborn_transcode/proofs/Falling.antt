@@ -35,7 +35,8 @@ use Rattle.cborn_transcode.specs.shared.Walking.{ItemWalked}
 use Rattle.cborn_transcode.proofs.Departed.{low_entries}
 use Rattle.cborn_transcode.proofs.Departing.{width_of, number_of, own_coded, item_clears}
 use Rattle.cborn_wire.proofs.Parts.Heads.{behind}
-use Rattle.cborn_transcode.proofs.Opening.{opened, stands}
+use Rattle.cborn_transcode.proofs.Opening.{stands}
+use Rattle.cborn_wire.proofs.Parts.Openings.{opened}
 
 -- ---- a map
 

@@ -20,7 +20,7 @@ use Rattle.cborn_wire.specs.Slots.{element_or_end}
 use Rattle.cborn_wire.specs.shared.InitialBytes.{Info, Now, Next, Unended, info_at, head_reason}
 use Rattle.cborn_wire.proofs.HeadReading.InitialBytes.{same_alone}
 use Rattle.cborn_wire.proofs.Machine.TakesHeads.{quotient, remainder, info_at-now}
-use Rattle.cborn_transcode.proofs.Opening.{opening, contents, opens, opening_fits, one_argument}
+use Rattle.cborn_wire.proofs.Parts.Openings.{opening, contents, opens, opening_fits, one_argument}
 
 free_front : (m : Major) (i : ℕ) (j : Info) (y : List ℕ) → i < 32 → info_at i ≡ j → head_reason element_or_end false m j y ≡ None → reason_alone ((32 * code m + i) ∷ y) ≡ None
 free_front m i j y h e r =

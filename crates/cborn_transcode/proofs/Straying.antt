@@ -40,7 +40,7 @@ use Rattle.cborn_transcode.proofs.Falling.{is_map, key_stands, value_stands}
 use Rattle.cborn_transcode.specs.Transcoding.{ItemTranscoded, IsTranscoded}
 use Rattle.cborn_transcode.proofs.Lists.{all_mean}
 use Rattle.cborn_transcode.proofs.Placing.{placements, means-from}
-use Rattle.cborn_transcode.proofs.Opening.{opening, contents, opened}
+use Rattle.cborn_wire.proofs.Parts.Openings.{opening, contents, opened}
 use Rattle.cborn_transcode.proofs.Tagging.{is_tag, string_under}
 use Rattle.cborn_transcode.proofs.Telling.{tell_none}
 

@@ -25,7 +25,7 @@ use Rattle.cborn_transcode.specs.devices.Departing.{Stands, Stops, StopsBehind, 
 use Rattle.cborn_transcode.specs.shared.Walking.{LeastHeadRead}
 use Rattle.cborn_transcode.proofs.Departing.{width_of, number_of, coded}
 use Rattle.cborn_wire.proofs.Parts.Heads.{behind}
-use Rattle.cborn_transcode.proofs.Opening.{opened, one_argument}
+use Rattle.cborn_wire.proofs.Parts.Openings.{opened, one_argument}
 
 string_means : (t : Tree) (b : List ℕ) → IsByteString t b → Means t (bytes b)
 string_means (Bytes q w c) b e = ap bytes e

@@ -3,3 +3,4 @@ pub mod Heads
 pub mod Strings
 pub mod Nodes
 pub mod Pairs
+pub mod Openings

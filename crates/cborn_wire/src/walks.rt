@@ -5,7 +5,7 @@ ghost use Rattle.std.specs.Prelude.{◌≡◌, ◌≢◌, ◌⊎◌, ◌<◌, �
 /// Whether no more is to be taken: all that there may be is taken, or a break ends it.
 #[inline(always)]
 pub fn is_done(count: u64, most: u64, may_end: bool, bytes: &[u8]) -> bool
-    ensures { MatchBool result ((count ≡ most) ⊎ (may_end ≡ true) × ((rest : List ℕ) × (bytes.now ≡ 255 ∷ rest))) (count ≢ most) }
+    ensures { MatchBool result ((count ≡ most) ⊎ (may_end ≡ true) × ((rest : List ℕ) × (bytes.now ≡ 255 ∷ rest))) ((count ≢ most) × (may_end ≡ true → (rest : List ℕ) → bytes.now ≢ 255 ∷ rest)) }
 {
     count == most || (may_end && matches!(bytes, [255, ..]))
 }

@@ -101,14 +101,14 @@ search_items-items-preserved-in-Some t c =
     let x : Searched c.args.only_texts c.args.room c.args.total left rest None false = subst (λ (y : List ℕ). Searched c.args.only_texts c.args.room c.args.total left y None false) (sym (take_rest left c.in-Some.len)) (c.in-Some.ensures.integer c.args.only_texts c.args.room c.args.total) in
     let some : SearchedAll c.args.only_texts c.args.room c.args.total (c.items.count + 1) c.args.bytes.now rest c.items.first =
     all_more c.args.only_texts c.args.room c.args.total c.items.count c.args.bytes.now left rest c.items.first None c.items.first false c.requires.within c.items.invariant.0 x (still c.items.first) in
-    let more : c.items.count ≢ c.args.most = c.if-is_done.ensures in
+    let more : c.items.count ≢ c.args.most = c.if-is_done.ensures.0 in
     (some, omega (arith, c.items.invariant.1), omega (arith, nodes_left some, c.requires.within))
 
 pub search_items-items-preserved : goal.search_items-items-preserved
 search_items-items-preserved t c =
     let some : SearchedAll c.args.only_texts c.args.room c.args.total (c.items.count + 1) c.args.bytes.now c.in_ok-rest.rest.now c.earliest-first.result =
     all_more c.args.only_texts c.args.room c.args.total c.items.count c.args.bytes.now c.items.rest.now c.in_ok-rest.rest.now c.items.first c.search_item.new.found.flaw c.earliest-first.result _ c.requires.within c.items.invariant.0 c.in_ok-rest.ensures c.earliest-first.ensures in
-    let more : c.items.count ≢ c.args.most = c.if-is_done.ensures in
+    let more : c.items.count ≢ c.args.most = c.if-is_done.ensures.0 in
     (some, omega (arith, c.items.invariant.1), omega (arith, nodes_left some, c.requires.within))
 
 pub search_fixed_array-returns : goal.search_fixed_array-returns

@@ -74,7 +74,7 @@ pub put_items-items-preserved : goal.put_items-items-preserved
 put_items-items-preserved g t c =
     let some : ItemsTranscoded g.O.KeyOrder.order c.args.room (c.items.count + c.in_ok-after.found) c.args.bytes.now c.in_ok-after.after.now c.args.out.now.items c.put_run.new.out.items =
     run_more g.O.KeyOrder.order c.args.out.now.items c.items.invariant.0 c.in_ok-after.found (c.in_ok-after.ensures.run g.O.KeyOrder.order) in
-    let more : c.items.count + c.in_ok-after.found ≢ c.args.most = c.if-is_done.ensures in
+    let more : c.items.count + c.in_ok-after.found ≢ c.args.most = c.if-is_done.ensures.0 in
     (all_more g.O.KeyOrder.order c.args.out.now.items some c.in_ok-rest.ensures, omega (arith, c.items.invariant.1, c.in_ok-after.ensures.most))
 
 pub put_items-returns : goal.put_items-returns
@@ -143,7 +143,7 @@ put_pairs-pairs-init g t c =
 
 pub put_pairs-pairs-preserved : goal.put_pairs-pairs-preserved
 put_pairs-pairs-preserved g t c =
-    ((λ nil. c.in_ok-rest.ensures c.pairs.count c.args.bytes.now c.args.out.now.items (c.pairs.invariant.0 nil)), (let more : c.pairs.count ≢ c.args.most = c.if-is_done.ensures in omega (arith, c.pairs.invariant.1)))
+    ((λ nil. c.in_ok-rest.ensures c.pairs.count c.args.bytes.now c.args.out.now.items (c.pairs.invariant.0 nil)), (let more : c.pairs.count ≢ c.args.most = c.if-is_done.ensures.0 in omega (arith, c.pairs.invariant.1)))
 
 pub put_pair-returns : goal.put_pair-returns
 put_pair-returns g t c n input start s =

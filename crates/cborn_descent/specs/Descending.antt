@@ -1,0 +1,111 @@
+-- What a descent says of the front of its input (RFC 8949 section 3): a node stands there, which the sink took; or none does; or the sink stopped at it.
+-- Start with Descended. It is of any sink: P is what holds of a node that the sink took, and B what holds of one at which it stopped.
+use Rattle.std.specs.Prelude.{◌≡◌, ℕ, ◌<◌, ◌≤◌, ◌⊎◌, List, [], ◌∷◌, ◌++◌, Bool, true, false}
+use Rattle.cborn_model.specs.declared.nodes.Chunk.{Chunk}
+use Rattle.cborn_model.specs.declared.heads.Width.{Width}
+use Rattle.cborn_model.specs.declared.heads.Size.{Size}
+use Rattle.cborn_model.specs.declared.heads.Major.{Major}
+use Rattle.cborn_model.specs.declared.heads.Major.TheVariants.{ByteString, TextString}
+use Rattle.cborn_model.specs.Tree.{Tree, Uint, Nint, Bytes, Text, ByteChunks, TextChunks, Items, Pairs, Tagged, trees, entries}
+use Rattle.cborn_wire.specs.Parts.{Pair, NodeRead, NodesRead, PairRead, PairsRead, ChunkRead, Leaves}
+use Rattle.cborn_descent.specs.declared.descents.Descent.{Descent}
+use Rattle.cborn_descent.specs.declared.descents.Descent.TheVariants.{Taken, Malformed, Stopped}
+use Rattle.cborn_descent.specs.declared.sinks.Opening.{Opening}
+use Rattle.cborn_descent.specs.declared.sinks.Opening.TheVariants.{Inside, Whole}
+
+abbrev pub major_of : Bool → Major
+major_of false = ByteString
+major_of true = TextString
+
+abbrev pub integer_node : Bool → ℕ → Width → ℕ → Tree
+integer_node false p w n = Uint p w n
+integer_node true p w n = Nint p w n
+
+abbrev pub string_node : Bool → ℕ → Width → List ℕ → Tree
+string_node false p w x = Bytes p w x
+string_node true p w x = Text p w x
+
+abbrev pub chunks_node : Bool → ℕ → List Chunk → Tree
+chunks_node false p cs = ByteChunks p cs
+chunks_node true p cs = TextChunks p cs
+
+-- B holds of each node
+unfoldable pub Always : (Tree → Type 0) → Type 0
+Always B = (t : Tree) → B t
+
+-- Whatever node no deeper than the room stands at the front, B holds of it. If B never holds, none stands there.
+unfoldable pub Only : (Tree → Type 0) → ℕ → List ℕ → Type 0
+Only B room x = (rest : List ℕ) (t : NodeRead (λ _. Unit {0}) room x rest) → B t.node
+
+abbrev pub Never : Tree → Type 0
+Never t = ⊥
+
+-- where B holds of a node, it holds of each array, map and tag that holds the node
+pub record Rises (B : Tree → Type 0) : Type 0 where
+  pub items : (p : ℕ) (s : Size) (front back : List Tree) (t : Tree) → B t → B (Items p s (trees (front ++ t ∷ back)))
+  pub keys : (p : ℕ) (s : Size) (front back : List Pair) (e : Pair) → B e.0 → B (Pairs p s (entries (front ++ e ∷ back)))
+  pub values : (p : ℕ) (s : Size) (front back : List Pair) (e : Pair) → B e.1 → B (Pairs p s (entries (front ++ e ∷ back)))
+  pub tagged : (p : ℕ) (w : Width) (n : ℕ) (t : Tree) → B t → B (Tagged p w n t)
+
+-- A node stands at the front, with so many bytes after it, and P holds of it; or no node no deeper than the room stands there; or B holds of whatever node does.
+abbrev pub Descended : (P B : Tree → Type 0) → ℕ → List ℕ → Descent → Type 0
+Descended P B room x (Taken left) = Leaves (NodeRead P room x) left
+Descended P B room x Malformed = Only Never room x
+Descended P B room x Stopped = Only B room x
+
+-- where a map or a tag begins: Q holds of what is kept of it, or this became of the whole, in any room
+abbrev pub Opened : {T : Type 0} → (T → Type 0) → (P B : Tree → Type 0) → List ℕ → Opening T → Type 0
+Opened Q P B x (Inside o) = Q o
+Opened Q P B x (Whole d) = (room : ℕ) → 1 ≤ room → Descended P B room x d
+
+-- The next item wasn't taken: after k items that were read, fewer than there may be, and where no break ends them, B holds of whatever node stands there; or B holds of each node.
+unfoldable pub ItemsFail : (Tree → Type 0) → (room most : ℕ) → (may_end : Bool) → List ℕ → Type 0
+ItemsFail B room most may_end x =
+    ((t : Tree) → B t)
+    ⊎ ((k : ℕ) × (mid : List ℕ) × NodesRead (λ _. Unit {0}) room k x mid × (k < most) × (may_end ≡ true → (rest : List ℕ) → mid ≡ 255 ∷ rest → ⊥) × Only B room mid)
+
+-- where a descent over items or pairs fails: F of why
+abbrev pub Fails : ((Tree → Type 0) → Type 0) → (Tree → Type 0) → Descent → Type 0
+Fails F B (Taken left) = ⊥
+Fails F B Malformed = F Never
+Fails F B Stopped = F B
+
+-- B holds of the key or of the value of whatever pair stands there
+unfoldable pub PairFails : (Tree → Type 0) → ℕ → List ℕ → Type 0
+PairFails B room x = (rest : List ℕ) (p : PairRead (λ _. Unit {0}) room x rest) → B p.pair.0 ⊎ B p.pair.1
+
+-- The next pair wasn't taken: after k pairs that were read, B holds of the key or of the value of whatever pair stands there; or B holds of each node.
+unfoldable pub PairsFail : (Tree → Type 0) → (room most : ℕ) → (may_end : Bool) → List ℕ → Type 0
+PairsFail B room most may_end x =
+    ((t : Tree) → B t)
+    ⊎ ((k : ℕ) × (mid : List ℕ) × PairsRead (λ _. Unit {0}) room k x mid × (k < most) × (may_end ≡ true → (rest : List ℕ) → mid ≡ 255 ∷ rest → ⊥) × PairFails B room mid)
+
+abbrev pub PairDescended : (Pair → Type 0) → (Tree → Type 0) → ℕ → List ℕ → Descent → Type 0
+PairDescended P B room x (Taken left) = Leaves (PairRead P room x) left
+PairDescended P B room x Malformed = PairFails Never room x
+PairDescended P B room x Stopped = PairFails B room x
+
+-- ---- chunks
+
+-- B holds of the content of whatever chunk stands there
+unfoldable pub ChunkFails : (List ℕ → Type 0) → Major → List ℕ → Type 0
+ChunkFails B m x = (rest : List ℕ) (c : ChunkRead (λ _. Unit {0}) m x rest) → B c.chunk.bytes
+
+-- B holds of each string in chunks of which one holds these bytes
+unfoldable pub BlamesChunk : (Tree → Type 0) → Bool → List ℕ → Type 0
+BlamesChunk B text x = (p : ℕ) (front back : List Chunk) (c : Chunk) → c.bytes ≡ x → B (chunks_node text p (front ++ c ∷ back))
+
+-- B holds of each string that holds these bytes
+unfoldable pub BlamesString : (Tree → Type 0) → Bool → List ℕ → Type 0
+BlamesString B text x = (p : ℕ) (w : Width) → B (string_node text p w x)
+
+abbrev pub ChunkDescended : (Chunk → Type 0) → (Tree → Type 0) → Bool → List ℕ → Descent → Type 0
+ChunkDescended P B text x (Taken left) = Leaves (ChunkRead P (major_of text) x) left
+ChunkDescended P B text x Malformed = ChunkFails (λ _. ⊥) (major_of text) x
+ChunkDescended P B text x Stopped = ChunkFails (BlamesChunk B text) (major_of text) x
+
+-- so many bytes follow the pair, where one was read
+abbrev pub PairEnds : ℕ → List ℕ → Descent → Type 0
+PairEnds room x (Taken left) = Leaves (PairRead (λ _. Unit {0}) room x) left
+PairEnds room x Malformed = Unit {0}
+PairEnds room x Stopped = Unit {0}

@@ -1,0 +1,306 @@
+//! Items, one after another and inside one another.
+
+ghost use Rattle.std.specs.Prelude.{◌≡◌, ◌⊎◌, ◌≤◌, ◌∷◌, ◌++◌, ℕ, List, [], length, None, true, false, MatchResult, MatchOption};
+ghost use Rattle.cborn_model.specs.declared.heads.Major.TheVariants.{Array, Map, Tag};
+ghost use Rattle.cborn_model.specs.Heads.{Argument as HeadArgument, Given, Unbounded, head, WidthFits};
+ghost use Rattle.cborn_model.specs.Tree.{Tree};
+ghost use Rattle.cborn_wire.specs.Parts.{Pair, NodesRead, PairRead, PairsRead, Leaves};
+ghost use Rattle.cborn_descent.specs.Descending.{Descended, ItemsFail, PairFails, PairsFail, PairEnds, PairDescended, Fails};
+
+use crate::descents::Descent;
+use crate::sinks::{Opening, Sink};
+use crate::strings::{take_chunks, take_string};
+use cborn_model::{Major, Width};
+use cborn_wire::{Argument, HeadRead, behind_break, is_done, last, read_head};
+
+/// Gives a sink the item at the front of `bytes`, if its nesting depth is at most `room`.
+///
+/// The answer is exact: an item that stands there is taken, or the sink stopped at it. After
+/// `Malformed` and `Stopped` the sink may have taken a front of the item.
+#[inline(always)]
+pub fn descend<S: Sink>(sink: &mut S, room: u64, bytes: &[u8]) -> Descent
+    requires { room ≤ 1024 }
+    ensures { Descended (S.took sink.old sink.new) (S.blames sink.new) room bytes.now result }
+{
+    take_node(sink, room, bytes)
+}
+
+/// Gives a sink the item at the front of `bytes`, out of line. The answer comes back in registers, so
+/// that the frames of a deep nest stay small; for the same reason strings are read out of line.
+#[cycle(descended)]
+#[inline(never)]
+fn take_node<S: Sink>(sink: &mut S, room: u64, bytes: &[u8]) -> Descent
+    requires { room ≤ 1024 }
+    ensures { Descended (S.took sink.old sink.new) (S.blames sink.new) room bytes.now result }
+{
+    let HeadRead::Full(head, len) = read_head(bytes) else {
+        return Descent::Malformed;
+    };
+    let rest = &bytes[len..];
+    let major = head.major_type();
+    match head.argument {
+        Argument::Given(width, n) => match major {
+            Major::Unsigned => after_head(sink.integer(false, width, n), rest),
+            Major::Negative => after_head(sink.integer(true, width, n), rest),
+            Major::ByteString => take_string(sink, false, width, n, rest),
+            Major::TextString => take_string(sink, true, width, n, rest),
+            Major::Array => take_array(sink, room, width, n, rest),
+            Major::Map => take_map(sink, room, width, n, rest),
+            Major::Tag => take_tagged(sink, room, width, n, rest),
+            Major::Other => after_head(sink.simple(n), rest),
+        },
+        Argument::Endless => match major {
+            Major::ByteString => take_chunks(sink, false, rest),
+            Major::TextString => take_chunks(sink, true, rest),
+            Major::Array => take_endless_array(sink, room, rest),
+            Major::Map => take_endless_map(sink, room, rest),
+            _ => Descent::Malformed,
+        },
+    }
+}
+
+/// What became of an item that is its head alone, with `rest` after it.
+#[inline(always)]
+fn after_head(step: Option<()>, rest: &[u8]) -> Descent
+    ensures { MatchOption step (result ≡ Descent.Stopped) (λ _. result ≡ Descent.Taken (length rest.now)) }
+{
+    match step {
+        Some(()) => Descent::Taken(rest.len()),
+        None => Descent::Stopped,
+    }
+}
+
+/// Reads an array of `n` items, which stand at the front of `bytes`.
+#[cycle(descended)]
+#[inline(never)]
+fn take_array<S: Sink>(sink: &mut S, room: u64, width: Width, n: u64, bytes: &[u8]) -> Descent
+    requires room { room ≤ 1024 }
+    requires fits { WidthFits width n }
+    ensures { Descended (S.took sink.old sink.new) (S.blames sink.new) room (head Array (Given width n) ++ bytes.now) result }
+{
+    if room == 0 || n > bytes.len() as u64 {
+        return Descent::Malformed;
+    }
+    let Some(mut begun) = sink.open_array(width, n, bytes) else {
+        return Descent::Stopped;
+    };
+    match take_items(sink, &mut begun, room - 1, n, false, bytes) {
+        Ok((rest, count)) => match sink.close_array(begun, false, count) {
+            Some(()) => Descent::Taken(rest.len()),
+            None => Descent::Stopped,
+        },
+        Err(descent) => descent,
+    }
+}
+
+/// Reads an array of indefinite length, whose items stand at the front of `bytes`.
+#[cycle(descended)]
+#[inline(never)]
+fn take_endless_array<S: Sink>(sink: &mut S, room: u64, bytes: &[u8]) -> Descent
+    requires { room ≤ 1024 }
+    ensures { Descended (S.took sink.old sink.new) (S.blames sink.new) room (head Array Unbounded ++ bytes.now) result }
+{
+    if room == 0 {
+        return Descent::Malformed;
+    }
+    let Some(mut begun) = sink.open_endless_array(bytes) else {
+        return Descent::Stopped;
+    };
+    match take_items(sink, &mut begun, room - 1, bytes.len() as u64, true, bytes) {
+        Ok((rest, count)) => {
+            let Some(after) = behind_break(rest) else {
+                return Descent::Malformed;
+            };
+            match sink.close_array(begun, true, count) {
+                Some(()) => Descent::Taken(after.len()),
+                None => Descent::Stopped,
+            }
+        }
+        Err(descent) => descent,
+    }
+}
+
+/// Reads the items of an array up to the count `most`, or, if `may_end`, up to a break. Answers what
+/// follows them, and how many they are.
+#[cycle(descended)]
+#[inline(always)]
+fn take_items<'a, S: Sink>(
+    sink: &mut S,
+    begun: &mut S::Array,
+    room: u64,
+    most: u64,
+    may_end: bool,
+    bytes: &'a [u8],
+) -> Result<(&'a [u8], u64), Descent>
+    requires { room ≤ 1024 }
+    ensures { (a : S) (g : HeadArgument) → S.in_array a sink.old begun.old g [] → MatchResult result (λ r. NodesRead (λ ts. S.in_array a sink.new begun.new g ts) room r.1 bytes.now r.0.now × ((r.1 ≡ most) ⊎ (may_end ≡ true) × ((rest : List ℕ) × (r.0.now ≡ 255 ∷ rest)))) (λ d. Fails (λ B. ItemsFail B room most may_end bytes.now) (S.blames sink.new) d) }
+{
+    let mut rest = bytes;
+    let mut count = 0;
+    'items: loop {
+        let Some((len, more)) = sink.integers(begun, count, most - count, rest) else {
+            return Err(Descent::Stopped);
+        };
+        rest = &rest[len..];
+        count += more;
+        if is_done(count, most, may_end, rest) {
+            return Ok((rest, count));
+        }
+        let Some(()) = sink.before_item(begun, count, may_end, rest) else {
+            return Err(Descent::Stopped);
+        };
+        match take_node(sink, room, rest) {
+            Descent::Taken(left) => {
+                let Some(after) = last(rest, left) else {
+                    return Err(Descent::Malformed);
+                };
+                rest = after;
+            }
+            Descent::Malformed => return Err(Descent::Malformed),
+            Descent::Stopped => return Err(Descent::Stopped),
+        }
+        let Some(()) = sink.after_item(begun) else {
+            return Err(Descent::Stopped);
+        };
+        count += 1;
+    }
+}
+
+/// Reads a map of `n` pairs, which stand at the front of `bytes`.
+#[cycle(descended)]
+#[inline(never)]
+fn take_map<S: Sink>(sink: &mut S, room: u64, width: Width, n: u64, bytes: &[u8]) -> Descent
+    requires room { room ≤ 1024 }
+    requires fits { WidthFits width n }
+    ensures { Descended (S.took sink.old sink.new) (S.blames sink.new) room (head Map (Given width n) ++ bytes.now) result }
+{
+    if room == 0 || n > bytes.len() as u64 {
+        return Descent::Malformed;
+    }
+    let mut begun = match sink.open_map(width, n, bytes) {
+        Opening::Inside(begun) => begun,
+        Opening::Whole(descent) => return descent,
+    };
+    match take_pairs(sink, &mut begun, room - 1, n, false, bytes) {
+        Ok((rest, count)) => match sink.close_map(begun, false, count) {
+            Some(()) => Descent::Taken(rest.len()),
+            None => Descent::Stopped,
+        },
+        Err(descent) => descent,
+    }
+}
+
+/// Reads a map of indefinite length, whose pairs stand at the front of `bytes`.
+#[cycle(descended)]
+#[inline(never)]
+fn take_endless_map<S: Sink>(sink: &mut S, room: u64, bytes: &[u8]) -> Descent
+    requires { room ≤ 1024 }
+    ensures { Descended (S.took sink.old sink.new) (S.blames sink.new) room (head Map Unbounded ++ bytes.now) result }
+{
+    if room == 0 {
+        return Descent::Malformed;
+    }
+    let Some(mut begun) = sink.open_endless_map(bytes) else {
+        return Descent::Stopped;
+    };
+    match take_pairs(sink, &mut begun, room - 1, bytes.len() as u64, true, bytes) {
+        Ok((rest, count)) => {
+            let Some(after) = behind_break(rest) else {
+                return Descent::Malformed;
+            };
+            match sink.close_map(begun, true, count) {
+                Some(()) => Descent::Taken(after.len()),
+                None => Descent::Stopped,
+            }
+        }
+        Err(descent) => descent,
+    }
+}
+
+/// Reads the pairs of a map up to the count `most`, or, if `may_end`, up to a break. Answers what
+/// follows them, and how many they are.
+#[cycle(descended)]
+#[inline(always)]
+fn take_pairs<'a, S: Sink>(
+    sink: &mut S,
+    begun: &mut S::Map,
+    room: u64,
+    most: u64,
+    may_end: bool,
+    bytes: &'a [u8],
+) -> Result<(&'a [u8], u64), Descent>
+    requires { room ≤ 1024 }
+    ensures { (a : S) (g : HeadArgument) → S.in_map a sink.old begun.old g [] → MatchResult result (λ r. PairsRead (λ ps. S.in_map a sink.new begun.new g ps) room r.1 bytes.now r.0.now × ((r.1 ≡ most) ⊎ (may_end ≡ true) × ((rest : List ℕ) × (r.0.now ≡ 255 ∷ rest)))) (λ d. Fails (λ B. PairsFail B room most may_end bytes.now) (S.blames sink.new) d) }
+{
+    let mut rest = bytes;
+    let mut count = 0;
+    'pairs: loop {
+        if is_done(count, most, may_end, rest) {
+            return Ok((rest, count));
+        }
+        let Some(()) = sink.before_key(begun, count, may_end, rest) else {
+            return Err(Descent::Stopped);
+        };
+        match take_pair(sink, begun, room, rest) {
+            Descent::Taken(left) => {
+                let Some(after) = last(rest, left) else {
+                    return Err(Descent::Malformed);
+                };
+                rest = after;
+            }
+            Descent::Malformed => return Err(Descent::Malformed),
+            Descent::Stopped => return Err(Descent::Stopped),
+        }
+        count += 1;
+    }
+}
+
+/// Reads the key and the value at the front of `bytes`.
+#[cycle(descended)]
+#[inline(always)]
+fn take_pair<S: Sink>(sink: &mut S, begun: &mut S::Map, room: u64, bytes: &[u8]) -> Descent
+    requires { room ≤ 1024 }
+    ensures read { PairEnds room bytes.now result }
+    ensures taken { (a : S) (g : HeadArgument) (ps : List Pair) → S.at_key a sink.old begun.old g ps → PairDescended (λ p. S.in_map a sink.new begun.new g (ps ++ p ∷ [])) (S.blames sink.new) room bytes.now result }
+{
+    let left = match take_node(sink, room, bytes) {
+        Descent::Taken(left) => left,
+        other => return other,
+    };
+    let Some(()) = sink.before_value(begun, bytes, left) else {
+        return Descent::Stopped;
+    };
+    let Some(after) = last(bytes, left) else {
+        return Descent::Malformed;
+    };
+    match take_node(sink, room, after) {
+        Descent::Taken(end) => match sink.after_value(begun) {
+            Some(()) => Descent::Taken(end),
+            None => Descent::Stopped,
+        },
+        other => other,
+    }
+}
+
+/// Reads the content of the tag `n`, which stands at the front of `bytes`.
+#[cycle(descended)]
+#[inline(never)]
+fn take_tagged<S: Sink>(sink: &mut S, room: u64, width: Width, n: u64, bytes: &[u8]) -> Descent
+    requires room { room ≤ 1024 }
+    requires fits { WidthFits width n }
+    ensures { Descended (S.took sink.old sink.new) (S.blames sink.new) room (head Tag (Given width n) ++ bytes.now) result }
+{
+    if room == 0 {
+        return Descent::Malformed;
+    }
+    if let Opening::Whole(descent) = sink.open_tag(width, n, bytes) {
+        return descent;
+    }
+    match take_node(sink, room - 1, bytes) {
+        Descent::Taken(left) => match sink.close_tag() {
+            Some(()) => Descent::Taken(left),
+            None => Descent::Stopped,
+        },
+        other => other,
+    }
+}
