@@ -6,3 +6,4 @@ pub mod Notated
 pub mod Known
 pub mod ShownBack
 pub mod BadTexts
+pub mod NotatedTexts

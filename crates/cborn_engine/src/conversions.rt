@@ -94,16 +94,17 @@ fn written_as(
     }
 }
 
-/// Bytes that hold items, in notation, in one pass that keeps no tree.
+/// Bytes that hold items, in notation, in one pass that keeps no tree. They have one: such bytes are
+/// well-formed, and their text strings are UTF-8.
 ///
 /// # Errors
-/// Where memory was refused: such bytes are well-formed, and their text strings are UTF-8.
+/// Where a growth of the text was refused.
 pub fn fixed_text(alloc: Global, limit: Limit, bytes: &[u8]) -> Result<Vec<u8>, AllocError>
     requires { (items : List Value) × Holds kinds.Wire limit bytes.now items }
     ensures { IfOk result (λ text. IsFixedText bytes.now text.items) }
 {
-    match show_bytes(alloc, limit, bytes) {
+    match show_bytes(alloc, limit, bytes)? {
         Some(text) => Ok(text),
-        None => Err(AllocError),
+        None => unreachable!(),
     }
 }

@@ -2,7 +2,7 @@
 //! are what their nodes spell, once it is known that they are well-formed. Else they become
 //! notation by a pass that keeps no tree; where it answers nothing, what is wrong with them is
 //! looked for, without a tree too. A text becomes bytes first, by such a pass.
-ghost use Rattle.std.specs.Prelude.{◌≡◌, ◌≤◌, ◌+◌, ℕ, List, length, IfSome, IsTrue, IsFalse};
+ghost use Rattle.std.specs.Prelude.{◌≡◌, ◌≤◌, ◌+◌, ℕ, List, length, IfOk, IfSome, IsTrue, IsFalse};
 ghost use Rattle.cborn_model.specs.Placed.{PlacedAll};
 ghost use Rattle.cborn_model.specs.Spelled.{Wellformed};
 ghost use Rattle.cborn_model.specs.Tree.{Tree, trees};
@@ -29,7 +29,7 @@ use cborn_search::first_bad_text;
 use cborn_show::show_bytes;
 use cborn_streams::{Source, read_bytes};
 use cborn_wire::{WireFault, scan};
-use std::alloc::Global;
+use std::alloc::{AllocError, Global};
 
 /// The items of the whole input as they are spelled, in a form of this kind. Bytes that are to stay
 /// bytes are moved.
@@ -75,6 +75,7 @@ pub fn show_input(
     out_kind: Kind,
     input: &[u8],
 ) -> Result<Vec<u8>, EngineFault>
+    requires { length input.now ≤ most_bytes }
     ensures answers { length input.now ≤ most_bytes → TellAnswers in_kind out_kind limit most_bytes input.now result }
     ensures malformed { length input.now ≤ most_bytes → TellsFault in_kind limit input.now result }
     ensures failures { (n : ℕ) → read_failures result n ≡ n }
@@ -85,8 +86,9 @@ pub fn show_input(
     }
 }
 
-/// What `show_input` answers of bytes. Where the pass answers nothing, and nothing is wrong with
-/// them, memory was refused.
+/// What `show_input` answers of bytes. Bytes that aren't well-formed are refused by their fault,
+/// also where memory was refused; else where they have no notation, the text is looked for that
+/// isn't UTF-8.
 fn tell_bytes(
     alloc: Global,
     limit: Limit,
@@ -97,31 +99,41 @@ fn tell_bytes(
     ensures malformed { TellsFault kinds.Wire limit input.now result }
     ensures failures { (n : ℕ) → read_failures result n ≡ n }
 {
-    if let Some(answer) = tell_bytes_by_pass(alloc, limit, out_kind, input) {
-        return Ok(answer);
-    }
+    let told = match tell_bytes_by_pass(alloc, limit, out_kind, input) {
+        Ok(Some(answer)) => return Ok(answer),
+        Ok(None) => Ok(()),
+        Err(refused) => Err(refused),
+    };
     if let Some((place, reason)) = scan(limit, input) {
         return Err(EngineFault::Wire(WireFault::Refused { place, reason }));
     }
+    told?;
     if let Some(place) = bad_text(alloc, limit, out_kind, input) {
         return Err(EngineFault::Show(ShowFault::NotUtf8 { place }));
     }
     Err(EngineFault::OutOfMemory)
 }
 
-/// The same by a pass, of bytes that are to become notation. None promises nothing.
-fn tell_bytes_by_pass(alloc: Global, limit: Limit, out_kind: Kind, input: &[u8]) -> Option<Vec<u8>>
-    ensures { IfSome result (λ answer. IsShown kinds.Wire out_kind limit input.now answer.items) }
+/// Bytes that are to become notation, in notation, if they have one.
+///
+/// # Errors
+/// Where a growth of the text was refused.
+fn tell_bytes_by_pass(
+    alloc: Global,
+    limit: Limit,
+    out_kind: Kind,
+    input: &[u8],
+) -> Result<Option<Vec<u8>>, AllocError>
+    ensures { IfOk result (λ told. IfSome told (λ answer. IsShown kinds.Wire out_kind limit input.now answer.items)) }
 {
     match out_kind {
-        Kind::Wire => None,
+        Kind::Wire => Ok(None),
         Kind::Notation | Kind::Notation2 => show_bytes(alloc, limit, input),
     }
 }
 
 /// What `show_input` answers of a text: it is spelled, and these bytes are told. Where it spells
-/// none, it is refused; where they aren't told, memory was refused, since texts of notation are
-/// UTF-8.
+/// none, it is refused. The text strings that it notates are UTF-8, so that they have a notation.
 fn tell_text(
     alloc: Global,
     limit: Limit,
@@ -129,6 +141,7 @@ fn tell_text(
     out_kind: Kind,
     input: &[u8],
 ) -> Result<Vec<u8>, EngineFault>
+    requires { length input.now ≤ most_bytes }
     ensures answers { length input.now ≤ most_bytes → TellAnswers (kind_of profile) out_kind limit most_bytes input.now result }
     ensures failures { (n : ℕ) → read_failures result n ≡ n }
 {
@@ -137,9 +150,9 @@ fn tell_text(
     };
     match out_kind {
         Kind::Wire => Ok(bytes),
-        Kind::Notation | Kind::Notation2 => match show_bytes(alloc, limit, &bytes) {
+        Kind::Notation | Kind::Notation2 => match show_bytes(alloc, limit, &bytes)? {
             Some(answer) => Ok(answer),
-            None => Err(EngineFault::OutOfMemory),
+            None => unreachable!(),
         },
     }
 }

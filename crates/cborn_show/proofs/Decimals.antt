@@ -1,6 +1,6 @@
 -- Digits that are copied as a block, with what is of no use cut off or written over.
-use Rattle.std.specs.Prelude.{OnSome}
-use Rattle.std.proofs.Common.{Option, None, Some, ◌≡◌, ◌≤◌, ◌<◌, ℕ, suc, ◌+◌, ◌-◌, Bool, true, false, if◌then◌else◌, nat_lt, zero, length-append, ltb-true, lt-ltb, List, [], ◌∷◌, ◌++◌, length, take, drop, refl, sym, ap, ◌∙◌, codes, decimal, arith, take_at, append_assoc}
+use Rattle.std.specs.Prelude.{OnOk, Result, Ok, Err}
+use Rattle.std.proofs.Common.{◌≡◌, ◌≤◌, ◌<◌, ℕ, suc, ◌+◌, ◌-◌, Bool, true, false, if◌then◌else◌, nat_lt, zero, length-append, ltb-true, lt-ltb, List, [], ◌∷◌, ◌++◌, length, take, drop, refl, sym, ap, ◌∙◌, codes, decimal, arith, take_at, append_assoc}
 use Rattle.std.proofs.lemmas.List.{take-take, length-take-le, length-drop}
 use borrow.Rule.Slice.PartMut.{put_mid}
 use Rattle.std.proofs.lemmas.Slice.{take-put_mid}
@@ -9,16 +9,16 @@ use Rattle.std.proofs.lemmas.Fmt.{length-decimal-le}
 use Rattle.cborn_edn.specs.shared.Between.{between}
 use Rattle.cborn_show.specs.Passed.{signed}
 
-pub block_cut : (start end : ℕ) (old text z behind block ext new : List ℕ) → start + length text ≡ 32 → behind ≡ text ++ z → block ≡ take 32 (take (64 - start) behind) → ext ≡ old ++ block → end ≡ length old + (32 - start) → new ≡ take end ext → new ≡ old ++ text
+pub block_cut : (start end : ℕ) (old text z behind block ext new : List ℕ) → start + length text ≡ 32 → behind ≡ text ++ z → block ≡ take 32 behind → ext ≡ old ++ block → end ≡ length old + (32 - start) → new ≡ take end ext → new ≡ old ++ text
 block_cut start end old text z behind block ext new s b t e f n =
     let len : 32 - start ≡ length text = omega (arith, s) in
     let front : take (32 - start) block ≡ text =
-    ap (take (32 - start)) (t ∙ take-take 32 (64 - start) behind (omega (arith, s))) ∙ take-take (32 - start) 32 behind (omega arith) ∙ ap (take (32 - start)) b ∙ take_at text z (32 - start) (sym len) in
+    ap (take (32 - start)) t ∙ take-take (32 - start) 32 behind (omega arith) ∙ ap (take (32 - start)) b ∙ take_at text z (32 - start) (sym len) in
     n ∙ (λ i. take (f i) (e i)) ∙ take-append-add old block (32 - start) ∙ ap (λ l. old ++ l) front
 
-pub on : {A : Type 0} {P Q : Type 0} (r : Option A) → (P → Q) → OnSome r P → OnSome r Q
-on None f h = h
-on (Some x) f h = f h
+pub on : {A E : Type 0} {P Q : Type 0} (r : Result A E) → (P → Q) → OnOk r P → OnOk r Q
+on (Err e) f h = h
+on (Ok x) f h = f h
 
 -- a number with its sign, and what stands before it, written from the end
 

@@ -1,3 +1,5 @@
+pub mod Blames
+pub mod Checked
 pub mod Decimals
 pub mod EightDigits
 pub mod Nodes

@@ -1,5 +1,6 @@
 -- Whole texts, and nodes at their places.
-use Rattle.std.proofs.Common.{◌≡◌, ◌≤◌, ℕ, suc, ◌+◌, List, [], ◌∷◌, ◌++◌, map, length, codes, refl, sym, ap, ◌∙◌, subst, arith, true, false, ◌==◌}
+use Rattle.std.specs.Prelude.{Bool, Result, Ok, Err, IfOk, ◌<◌}
+use Rattle.std.proofs.Common.{length-append, ◌≡◌, ◌≤◌, ℕ, suc, ◌+◌, List, [], ◌∷◌, ◌++◌, map, length, codes, refl, sym, ap, append-nil, ◌∙◌, subst, arith, true, false, ◌==◌}
 use Rattle.std.proofs.lemmas.Bool.{eqb-true}
 use Rattle.std.proofs.lemmas.Str.{IsUtf8-nil}
 use Rattle.std.specs.Str.{IsUtf8}
@@ -15,11 +16,21 @@ use Rattle.cborn_edn.specs.ReadingBack.{unplaced_chunks, unplaced, unplaced_all,
 use Rattle.cborn_edn.proofs.Shown.Separated.{lines_joined}
 use Rattle.cborn_edn.proofs.Shown.Characters.{lines_text}
 use Rattle.cborn_edn.proofs.Shown.SameText.{same_notation}
+use Rattle.cborn_wire.specs.Parts.{NodeRead, NodesRead}
 use Rattle.cborn_wire.specs.Places.{chunks_from, placed_from, all_from, entries_from}
 use Rattle.cborn_wire.proofs.Parts.Nodes.{wellformed}
 use Rattle.cborn_wire.proofs.Spelled.AsPlaced.{spelled_all-from, depth_all-from, fits_all-from, placed_all-from}
 use Rattle.cborn_wire.proofs.Spelled.TreeLists.{tree_list, trees-tree_list}
-use Rattle.cborn_show.specs.Passed.{NodesShown, PassShown, IsShownText}
+use Rattle.cborn_edn.specs.shared.Texts.{IsShowable, EachShowable}
+use Rattle.cborn_edn.proofs.Shown.Lowests.{each_showable}
+use Rattle.cborn_descent.specs.Descending.{Only}
+use Rattle.cborn_descent.proofs.Inside.{Next, listed, next_at_end, some_byte}
+use Rattle.cborn_show.specs.Rising.{inner_item}
+use Rattle.cborn_show.specs.declared.notations.Halt.{Halt}
+use Rattle.cborn_show.specs.declared.notations.Halt.TheVariants.{Refused, BadText, Doubtful}
+use Rattle.cborn_show.specs.declared.passes.Pass.{Pass}
+use Rattle.cborn_show.specs.declared.passes.Pass.TheVariants.{Shown as PassShows, Unshown, Doubtful as InDoubt}
+use Rattle.cborn_show.specs.Passed.{NodesShown, PassShown, IsShownText, HasNoNotation, Blamed, Passes, Answers}
 
 chunks-aside : (m : Major) (cs : List Chunk) (p : ℕ) → unplaced_chunks (chunks_from m p cs) ≡ unplaced_chunks cs
 chunks-aside m [] p = refl
@@ -83,3 +94,29 @@ nothing_left (x ∷ l) h = let e : length (x ∷ l) ≡ 0 = eqb-true (length (x 
 pub something_left : (l : List ℕ) → (length l == 0) ≡ false → l ≡ [] → ⊥
 something_left [] h e = let t : true ≡ false = h in cc
 something_left (x ∷ l) h e = let t : length (x ∷ l) ≡ 0 = ap length e in omega arith
+
+-- ---- no notation
+
+-- behind those that were read no node stands, or none that is showable
+pub failed : {P : List Tree → Type 0} (B : Tree → Type 0) (room n : ℕ) (input rest : List ℕ) → ((t : Tree) → B t → IsShowable t → ⊥) → NodesRead P room n input rest → (rest ≡ [] → ⊥) → Only B room rest → HasNoNotation room input
+unfolding Only HasNoNotation
+failed B room n input rest not s some only nodes w good =
+    let (l, same) = listed nodes in
+    let v : Wellformed room (trees l) input = subst (λ (ts : Trees). Wellformed room ts input) (sym same) w in
+    let x : Next room l rest = next_at_end room s.nodes l rest s.fits v.fit v.shallow (sym s.read ∙ sym v.spells ∙ sym (append-nil (spelled_all (trees l)))) some in
+    let b : B x.node = only x.rest (record { node = x.node; read = x.read; fits = x.fits; shallow = x.shallow; holds = tt }) in
+    let each : EachShowable (trees l) = subst EachShowable (sym same) (each_showable nodes good) in
+    not x.node b (inner_item x.front x.back x.node (subst (λ (ts : List Tree). EachShowable (trees ts)) x.is each))
+
+-- what a pass that stopped at the rest answers
+pub blamed_pass : {P : List Tree → Type 0} (hinted : Bool) (halt : Halt) (p : Pass) (room n : ℕ) (input rest : List ℕ) → Answers halt p → NodesRead P room n input rest → (rest ≡ [] → ⊥) → Only (Blamed hinted halt) room rest → Passes hinted room input p
+blamed_pass hinted BadText Unshown room n input rest a s some only = failed (λ t. IsShowable t → ⊥) room n input rest (λ t b h. b h) s some only
+blamed_pass hinted Doubtful InDoubt room n input rest a s some only = λ e. failed (λ t. hinted ≡ true) room n input rest (λ t b h. let same : true ≡ false = sym b ∙ e in cc) s some only
+blamed_pass hinted halt p room n input rest a s some only = absurd a
+
+pub blamed_result : {P : List Tree → Type 0} {E : Type 0} (hinted : Bool) (halt : Halt) (r : Result Pass E) (room n : ℕ) (input rest : List ℕ) → IfOk r (Answers halt) → NodesRead P room n input rest → (rest ≡ [] → ⊥) → Only (Blamed hinted halt) room rest → IfOk r (Passes hinted room input)
+blamed_result hinted halt (Err e) room n input rest a s some only = tt
+blamed_result hinted halt (Ok p) room n input rest a s some only = blamed_pass hinted halt p room n input rest a s some only
+
+pub node_some : {P : Tree → Type 0} {room : ℕ} {input rest : List ℕ} → NodeRead P room input rest → length rest < length input
+node_some {P} {room} {input} {rest} y = omega (arith, ap length y.read, length-append (spelled y.node) rest, some_byte y.node)

@@ -1,2 +1,3 @@
 pub mod Passed
+pub mod Rising
 pub mod devices

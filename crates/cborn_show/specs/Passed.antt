@@ -1,26 +1,26 @@
--- What one pass reads at the front of its input, and the notation that it writes at the end of its buffer.
--- Start with IsShownText, at the end: it is all that the public call promises. What stands before it says the same of a part
--- of the input: of input, the pass took a front and left rest; of its buffer, what was old became new.
-use Rattle.std.specs.Prelude.{◌≡◌, ℕ, suc, List, ◌∷◌, ◌++◌, map, Bool, true, false, codes, decimal}
+-- What a pass over bytes writes of the nodes that it reads: their fixed notation, at the end of its buffer.
+-- Start with IsShownText and HasNoNotation, at the end: they are all that the public call promises.
+use Rattle.std.specs.Prelude.{◌≡◌, ℕ, zero, suc, List, [], ◌++◌, map, length, Bool, true, false, codes, decimal}
 use Rattle.std.specs.List.{flat_map}
-use Rattle.std.specs.Str.{is_utf8}
 use Rattle.cborn_model.specs.declared.heads.Width.{Width}
 use Rattle.cborn_model.specs.declared.nodes.Chunk.{Chunk}
 use Rattle.cborn_model.specs.declared.heads.Major.{Major}
-use Rattle.cborn_model.specs.declared.heads.Major.TheVariants.{Unsigned, Negative, ByteString, TextString}
-use Rattle.cborn_model.specs.Heads.{least}
+use Rattle.cborn_model.specs.declared.heads.Major.TheVariants.{Unsigned, Negative}
+use Rattle.cborn_model.specs.Heads.{Argument as HeadArgument, Given, Unbounded}
 use Rattle.cborn_model.specs.Placed.{PlacedAll}
-use Rattle.cborn_model.specs.Spelled.{Wellformed, Fits}
-use Rattle.cborn_model.specs.Tree.{Tree, trees, entries, Simple}
+use Rattle.cborn_model.specs.Spelled.{Wellformed}
+use Rattle.cborn_model.specs.Tree.{Tree, Trees, trees, entries}
 use Rattle.hex.specs.Hex.{encode_lower}
 use Rattle.cborn_edn.specs.declared.strings.StringKind.{StringKind}
 use Rattle.cborn_edn.specs.declared.strings.StringKind.TheVariants.{Bytes as OfBytes, Text as OfText}
-use Rattle.cborn_edn.specs.shared.Between.{between, others, shown_pair}
-use Rattle.cborn_edn.specs.Shown.{Shown, joined_by, shown, shown_string, shown_chunk, shown_chunks, shown_simple, escaped}
+use Rattle.cborn_edn.specs.shared.Between.{between, shown_pair}
+use Rattle.cborn_edn.specs.Shown.{Shown, AreShowable, joined_by, shown, shown_chunk, shown_chunks, mark_for, indicator, opened, escaped}
 use Rattle.cborn_edn.specs.shared.Texts.{AreTexts, IsShowable, EachShowable, ArePairsShowable}
-use Rattle.cborn_wire.specs.declared.heads.Argument.{Argument}
-use Rattle.cborn_wire.specs.declared.heads.Argument.TheVariants as arguments
-use Rattle.cborn_wire.specs.Parts.{Pair, StringRead, ChunkRead, ChunksRead, NodeRead, NodesRead, PairRead, PairsRead, Leaves}
+use Rattle.cborn_wire.specs.Parts.{Pair, NodeRead, NodesRead}
+use Rattle.cborn_show.specs.declared.notations.Halt.{Halt}
+use Rattle.cborn_show.specs.declared.notations.Halt.TheVariants.{Refused, BadText, Doubtful}
+use Rattle.cborn_show.specs.declared.passes.Pass.{Pass}
+use Rattle.cborn_show.specs.declared.passes.Pass.TheVariants.{Shown as PassShows, Unshown, Doubtful as InDoubt}
 
 abbrev pub kind_of : Bool → StringKind
 kind_of true = OfText
@@ -31,22 +31,12 @@ abbrev pub integer_major : Bool → Major
 integer_major true = Negative
 integer_major false = Unsigned
 
-abbrev pub major_of : Bool → Major
-major_of true = TextString
-major_of false = ByteString
-
 -- a string, with no indicator
 abbrev pub shown_content : Bool → List ℕ → List ℕ
 shown_content true x = codes "\"" ++ (flat_map escaped x ++ codes "\"")
 shown_content false x = codes "h'" ++ (encode_lower x ++ codes "'")
 
--- What is found of the parts that are read: texts are UTF-8, and what is shown was written.
-
-abbrev pub StringWritten : (text : Bool) (old new : List ℕ) → Width → List ℕ → Type 0
-StringWritten text old new w x = (text ≡ true → is_utf8 x ≡ true) × (new ≡ old ++ shown_string (kind_of text) w x)
-
-abbrev pub ChunksWritten : (text : Bool) (old new : List ℕ) → (List Chunk → List ℕ) → List Chunk → Type 0
-ChunksWritten text old new shown_as cs = (text ≡ true → AreTexts cs) × (new ≡ old ++ shown_as cs)
+-- What a pass has written at the end of its buffer: of what was old it became new, of a node, of nodes, or of what is still open.
 
 abbrev pub NodeWritten : (old new : List ℕ) → Tree → Type 0
 NodeWritten old new t = IsShowable t × (new ≡ old ++ shown t)
@@ -54,31 +44,65 @@ NodeWritten old new t = IsShowable t × (new ≡ old ++ shown t)
 abbrev pub NodesWritten : (sep old new : List ℕ) → List Tree → Type 0
 NodesWritten sep old new ts = EachShowable (trees ts) × (new ≡ old ++ joined_by sep (map shown ts))
 
-abbrev pub PairWritten : (old new : List ℕ) → Pair → Type 0
-PairWritten old new p = (IsShowable p.0 × IsShowable p.1) × (new ≡ old ++ shown_pair p)
-
 abbrev pub PairsWritten : (old new : List ℕ) → List Pair → Type 0
 PairsWritten old new ps = ArePairsShowable (entries ps) × (new ≡ old ++ joined_by (codes ", ") (map shown_pair ps))
 
--- the content of a string of n bytes; the string is written
-abbrev pub StringShown : (text : Bool) (w : Width) (n : ℕ) (input rest old new : List ℕ) → Type 0
-StringShown text w n input rest old new = (content : List ℕ) × StringRead n input content rest × StringWritten text old new w content
+-- what stands before the chunk at the index
+abbrev pub before_chunk : ℕ → List ℕ
+before_chunk zero = codes "(_ "
+before_chunk (suc i) = codes ", "
 
--- a chunk, which is written
-abbrev pub ChunkShown : (text : Bool) (input rest old new : List ℕ) → Type 0
-ChunkShown text input rest old new = ChunkRead (λ c. StringWritten text old new c.width c.bytes) (major_of text) input rest
+-- what stands behind so many chunks; where there is none, it is all
+abbrev pub behind_chunks : StringKind → ℕ → List ℕ
+behind_chunks k zero = shown_chunks k []
+behind_chunks k (suc i) = codes ")"
 
--- chunks one after another, each written behind a comma
-abbrev pub ChunksShown : (text : Bool) (input rest old new : List ℕ) → Type 0
-ChunksShown text input rest old new = ChunksRead (ChunksWritten text old new (λ cs. others (codes ", ") (map (shown_chunk (kind_of text)) cs))) (major_of text) input rest
+-- the chunks so far, each behind what stands before it
+abbrev pub begun_chunks : StringKind → List Chunk → List ℕ
+begun_chunks k [] = []
+begun_chunks k cs = codes "(_ " ++ joined_by (codes ", ") (map (shown_chunk k) cs)
 
--- the chunks of a string up to its break; the string is written
-abbrev pub LongStringShown : (text : Bool) (input rest old new : List ℕ) → Type 0
-LongStringShown text input rest old new = ChunksRead (ChunksWritten text old new (shown_chunks (kind_of text))) (major_of text) input (255 ∷ rest)
+abbrev pub ChunksOpen : (text : Bool) (old new : List ℕ) → List Chunk → Type 0
+ChunksOpen text old new cs = (text ≡ true → AreTexts cs) × (new ≡ old ++ begun_chunks (kind_of text) cs)
 
--- a simple value's head; the value is written
-abbrev pub SimpleShown : Argument → List ℕ → List ℕ → Type 0
-SimpleShown a old new = (n : ℕ) × (a ≡ arguments.Given (least n) n) × Fits (Simple 0 n) × (new ≡ old ++ shown_simple n)
+-- what follows an opening bracket
+abbrev pub behind_bracket : HeadArgument → List ℕ
+behind_bracket (Given w n) = opened (mark_for w n)
+behind_bracket Unbounded = codes "_ "
+
+-- the bracket of an array, and its indicator
+abbrev pub ItemsOpen : HeadArgument → (old new : List ℕ) → List Tree → Type 0
+ItemsOpen g old new ts = NodesWritten (codes ", ") ((old ++ codes "[") ++ behind_bracket g) new ts
+
+abbrev pub ItemNext : HeadArgument → (old new : List ℕ) → List Tree → Type 0
+ItemNext g old new ts = (half : List ℕ) × ItemsOpen g old half ts × (new ≡ half ++ between (codes ", ") (length ts))
+
+abbrev pub PairsOpen : HeadArgument → (old new : List ℕ) → List Pair → Type 0
+PairsOpen g old new ps = PairsWritten ((old ++ codes "{") ++ behind_bracket g) new ps
+
+abbrev pub KeyNext : HeadArgument → (old new : List ℕ) → List Pair → Type 0
+KeyNext g old new ps = (half : List ℕ) × PairsOpen g old half ps × (new ≡ half ++ between (codes ", ") (length ps))
+
+abbrev pub ValueNext : HeadArgument → (old new : List ℕ) → List Pair → Tree → Type 0
+ValueNext g old new ps k = (before key : List ℕ) × KeyNext g old before ps × NodeWritten before key k × (new ≡ key ++ codes ": ")
+
+abbrev pub TagOpen : Width → ℕ → (old new : List ℕ) → Type 0
+TagOpen w n old new = new ≡ (old ++ (decimal n ++ indicator (mark_for w n))) ++ codes "("
+
+-- nodes behind those whose texts end what was old, of which there are as many as the index says
+abbrev pub RunWritten : (index : ℕ) (old new : List ℕ) → List Tree → Type 0
+RunWritten index old new us =
+    EachShowable (trees us)
+    × ((front : List Tree) (start : List ℕ) → length front ≡ index → old ≡ start ++ joined_by (codes ", ") (map shown front) → new ≡ start ++ joined_by (codes ", ") (map shown (front ++ us)))
+
+abbrev pub RunShown : (index n : ℕ) (input rest old new : List ℕ) → Type 0
+RunShown index n input rest old new = NodesRead (RunWritten index old new) 0 n input rest
+
+-- what is known of a node at which a pass stopped: if memory was refused, nothing; at a bad text, that one of its texts isn't UTF-8; in doubt, that the pass looks ahead
+abbrev pub Blamed : (hinted : Bool) → Halt → Tree → Type 0
+Blamed hinted (Refused e) t = Unit {0}
+Blamed hinted BadText t = IsShowable t → ⊥
+Blamed hinted Doubtful t = hinted ≡ true
 
 -- n, or -1-n, in decimal
 abbrev pub signed : Bool → ℕ → List ℕ
@@ -89,10 +113,6 @@ signed true n = codes "-" ++ decimal (suc n)
 abbrev pub NodeShown : (room : ℕ) (input rest old new : List ℕ) → Type 0
 NodeShown room input rest old new = NodeRead (NodeWritten old new) room input rest
 
--- such a node, behind which so many bytes are left
-abbrev pub NodeLeaves : (room : ℕ) (input : List ℕ) (left : ℕ) (old new : List ℕ) → Type 0
-NodeLeaves room input left old new = Leaves (λ rest. NodeShown room input rest old new) left
-
 -- a node, which is written behind what stands before the one at the index
 abbrev pub NextShown : (room index : ℕ) (input rest old new : List ℕ) → Type 0
 NextShown room index input rest old new = NodeShown room input rest (old ++ between (codes ", ") index) new
@@ -100,14 +120,6 @@ NextShown room index input rest old new = NodeShown room input rest (old ++ betw
 -- n nodes one after another, which are written with a separator between them
 abbrev pub NodesShown : (sep : List ℕ) (room n : ℕ) (input rest old new : List ℕ) → Type 0
 NodesShown sep room n input rest old new = NodesRead (NodesWritten sep old new) room n input rest
-
--- one pair, which is written
-abbrev pub PairShown : (room : ℕ) (input rest old new : List ℕ) → Type 0
-PairShown room input rest old new = PairRead (PairWritten old new) room input rest
-
--- n pairs one after another, which are written with commas between them
-abbrev pub PairsShown : (room n : ℕ) (input rest old new : List ℕ) → Type 0
-PairsShown room n input rest old new = PairsRead (PairsWritten old new) room n input rest
 
 -- the input is the spelling of nodes, none deeper than the limit, and the text is their fixed notation
 pub record PassShown (limit : ℕ) (input text : List ℕ) : Type 0 where
@@ -121,3 +133,19 @@ pub record IsShownText (limit : ℕ) (input text : List ℕ) : Type 0 where
   pub read : Wellformed limit (trees nodes) input
   pub placed : PlacedAll 0 (trees nodes)
   pub shown : Shown (trees nodes) text
+
+-- whatever nodes, none deeper than the limit, the input spells, a text among them isn't UTF-8
+unfoldable pub HasNoNotation : (limit : ℕ) (input : List ℕ) → Type 0
+HasNoNotation limit input = (nodes : Trees) → Wellformed limit nodes input → AreShowable nodes → ⊥
+
+-- what a pass over a whole input answers; in doubt, without looking ahead, as where there is no notation
+abbrev pub Passes : (hinted : Bool) (limit : ℕ) (input : List ℕ) → Pass → Type 0
+Passes hinted limit input (PassShows text) = PassShown limit input text.items
+Passes hinted limit input Unshown = HasNoNotation limit input
+Passes hinted limit input InDoubt = hinted ≡ false → HasNoNotation limit input
+
+-- what a pass that stopped answers
+abbrev pub Answers : Halt → Pass → Type 0
+Answers BadText Unshown = Unit {0}
+Answers Doubtful InDoubt = Unit {0}
+Answers _ _ = ⊥

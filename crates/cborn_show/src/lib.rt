@@ -12,18 +12,18 @@
 //! each at its place, and the text is their fixed notation as `cborn_edn` defines it. So what is
 //! shown here is what the writer that keeps nodes shows, byte for byte.
 //!
-//! It answers only where all is as it should be. Where it answers none, the bytes may hold no
-//! items, or a text in them isn't UTF-8, or memory was refused: the reader and the writer that keep
-//! trees tell which.
+//! Where it answers none, the items have no notation (`HasNoNotation`): the bytes hold none within
+//! the limit, or a text in them isn't UTF-8. The error is that of a growth that was refused.
 //!
-//! In the code start with `passes`; `items` has a function for each kind of item that holds others,
-//! `leaves` the strings and simple values, `numbers` decimals and indicators, `runs` integers in a
-//! row, with the digits of `digits`; `prospects` looks over what is left where a text grows long.
+//! In the code start with `passes`; `notations` is what the descent over the bytes tells of what it
+//! reads; `leaves` has the strings, `numbers` decimals and indicators, `runs` integers in a row, with
+//! the digits of `digits`.
 #![tactic(auto)]
 
+mod checks;
 mod digits;
-mod items;
 mod leaves;
+mod notations;
 mod numbers;
 mod passes;
 mod prospects;

@@ -1,6 +1,6 @@
 //! Numbers in decimal.
 
-ghost use Rattle.std.specs.Prelude.{◌≡◌, ◌≤◌, ◌+◌, ◌++◌, ℕ, List, suc, length, drop, OnSome, codes, decimal};
+ghost use Rattle.std.specs.Prelude.{◌≡◌, ◌≤◌, ◌+◌, ◌++◌, ℕ, List, suc, length, drop, OnOk, codes, decimal};
 ghost use Rattle.cborn_edn.specs.shared.Between.{between};
 ghost use Rattle.cborn_edn.specs.Shown.{mark_for, indicator};
 
@@ -8,11 +8,12 @@ use crate::digits::write_number;
 use cborn_edn::push_indicator;
 use cborn_model::Width;
 use itoa::Buffer;
+use std::alloc::AllocError;
 
 /// A number, and its indicator.
 #[inline(never)]
-pub(crate) fn put_number(width: Width, n: u64, out: &mut Vec<u8>) -> Option<()>
-    ensures { OnSome result (out.new.items ≡ out.old.items ++ (decimal n ++ indicator (mark_for width n))) }
+pub(crate) fn put_number(width: Width, n: u64, out: &mut Vec<u8>) -> Result<(), AllocError>
+    ensures { OnOk result (out.new.items ≡ out.old.items ++ (decimal n ++ indicator (mark_for width n))) }
 {
     put_decimal(n, out)?;
     put_indicator(width, n, out)
@@ -20,43 +21,42 @@ pub(crate) fn put_number(width: Width, n: u64, out: &mut Vec<u8>) -> Option<()>
 
 /// -1-n, and its indicator.
 #[inline(never)]
-pub(crate) fn put_below(width: Width, n: u64, out: &mut Vec<u8>) -> Option<()>
-    ensures { OnSome result (out.new.items ≡ out.old.items ++ (codes "-" ++ (decimal (suc n) ++ indicator (mark_for width n)))) }
+pub(crate) fn put_below(width: Width, n: u64, out: &mut Vec<u8>) -> Result<(), AllocError>
+    ensures { OnOk result (out.new.items ≡ out.old.items ++ (codes "-" ++ (decimal (suc n) ++ indicator (mark_for width n)))) }
 {
-    out.push(b'-').ok()?;
+    out.push(b'-')?;
     put_successor(n, out)?;
     put_indicator(width, n, out)
 }
 
 /// The decimal digits of `n` + 1.
 #[inline(always)]
-fn put_successor(n: u64, out: &mut Vec<u8>) -> Option<()>
-    ensures { OnSome result (out.new.items ≡ out.old.items ++ decimal (suc n)) }
+fn put_successor(n: u64, out: &mut Vec<u8>) -> Result<(), AllocError>
+    ensures { OnOk result (out.new.items ≡ out.old.items ++ decimal (suc n)) }
 {
     if n == u64::MAX {
         let mut buffer = Buffer::new();
-        out.extend_from_slice(buffer.format(n as u128 + 1).as_bytes())
-            .ok()?;
-        return Some(());
+        out.extend_from_slice(buffer.format(n as u128 + 1).as_bytes())?;
+        return Ok(());
     }
     put_decimal(n + 1, out)
 }
 
 /// The indicator of a head that isn't the shortest for `n`.
 #[inline(always)]
-pub(crate) fn put_indicator(width: Width, n: u64, out: &mut Vec<u8>) -> Option<()>
-    ensures { OnSome result (out.new.items ≡ out.old.items ++ indicator (mark_for width n)) }
+pub(crate) fn put_indicator(width: Width, n: u64, out: &mut Vec<u8>) -> Result<(), AllocError>
+    ensures { OnOk result (out.new.items ≡ out.old.items ++ indicator (mark_for width n)) }
 {
     if width.is_shortest_for(n) {
-        return Some(());
+        return Ok(());
     }
-    push_indicator(out, width, n).ok()
+    push_indicator(out, width, n)
 }
 
 /// The decimal digits of `n`.
 #[inline(always)]
-fn put_decimal(n: u64, out: &mut Vec<u8>) -> Option<()>
-    ensures { OnSome result (out.new.items ≡ out.old.items ++ decimal n) }
+fn put_decimal(n: u64, out: &mut Vec<u8>) -> Result<(), AllocError>
+    ensures { OnOk result (out.new.items ≡ out.old.items ++ decimal n) }
 {
     let mut digits = [0; 64];
     let start = write_number(n, &mut digits);
@@ -65,24 +65,23 @@ fn put_decimal(n: u64, out: &mut Vec<u8>) -> Option<()>
 
 /// What the block holds from `start` up to its byte 32, which is copied as a whole and cut off.
 #[inline(always)]
-fn put_block(block: &[u8; 64], start: usize, out: &mut Vec<u8>) -> Option<()>
+fn put_block(block: &[u8; 64], start: usize, out: &mut Vec<u8>) -> Result<(), AllocError>
     requires { start ≤ 32 }
-    ensures { OnSome result ((text behind : List ℕ) → drop start block.now ≡ text ++ behind → start + length text ≡ 32 → out.new.items ≡ out.old.items ++ text) }
+    ensures { OnOk result ((text behind : List ℕ) → drop start block.now ≡ text ++ behind → start + length text ≡ 32 → out.new.items ≡ out.old.items ++ text) }
 {
     let end = out.len() + (32 - start);
-    let front = block[start..].first_chunk::<32>()?;
-    out.extend_from_slice(front).ok()?;
+    out.extend_from_slice(&block[start..start + 32])?;
     out.truncate(end);
-    Some(())
+    Ok(())
 }
 
 /// What stands before the item or the pair with this index.
 #[inline(always)]
-pub(crate) fn put_between(index: u64, out: &mut Vec<u8>) -> Option<()>
-    ensures { OnSome result (out.new.items ≡ out.old.items ++ between (codes ", ") index) }
+pub(crate) fn put_between(index: u64, out: &mut Vec<u8>) -> Result<(), AllocError>
+    ensures { OnOk result (out.new.items ≡ out.old.items ++ between (codes ", ") index) }
 {
     if index > 0 {
-        out.extend_from_slice(b", ").ok()?;
+        out.extend_from_slice(b", ")?;
     }
-    Some(())
+    Ok(())
 }

@@ -1,46 +1,107 @@
 //! A whole input.
 
-ghost use Rattle.std.specs.Prelude.{◌≤◌, IfSome};
-ghost use Rattle.cborn_show.specs.Passed.{PassShown, IsShownText};
+ghost use Rattle.std.specs.Prelude.{◌≤◌, IfOk, MatchOption};
+ghost use Rattle.cborn_show.specs.Passed.{IsShownText, HasNoNotation, Passes, Answers};
 
-use crate::items::put_item;
+use crate::checks::is_showable;
+use crate::notations::{Halt, Notation};
 use crate::prospects::Outlook;
+use cborn_descent::{Descent, descend};
 use cborn_edn::push_between;
 use cborn_model::Limit;
-use std::alloc::Global;
+use cborn_wire::last;
+use std::alloc::{AllocError, Global};
 
-/// The fixed notation of the items that the bytes hold. None promises nothing: the bytes may hold
-/// no items, or memory was refused, or a text in them isn't UTF-8.
-pub fn show_bytes(alloc: Global, limit: Limit, bytes: &[u8]) -> Option<Vec<u8>>
-    ensures { IfSome result (λ text. IsShownText limit bytes.now text.items) }
+/// What a pass over a whole input came to.
+#[derive(Drop)]
+pub(crate) enum Pass {
+    /// This is the text.
+    Shown(Vec<u8>),
+    /// There is none.
+    Unshown,
+    /// What is left doesn't look as if it would be shown.
+    Doubtful,
+}
+
+/// The fixed notation of the items that the bytes hold. None where there is none: the bytes hold no
+/// items within the limit (RFC 8949 section 3), or a text string in them isn't UTF-8 (section 8).
+/// The text is empty where the bytes are; else a line for each item.
+///
+/// Memory is at most about twice the input and the text together: where a text grows longer than
+/// one and a half times the input, what is left is looked over first.
+///
+/// # Errors
+/// A growth of the text was refused.
+pub fn show_bytes(alloc: Global, limit: Limit, bytes: &[u8]) -> Result<Option<Vec<u8>>, AllocError>
+    ensures { IfOk result (λ shown. MatchOption shown (HasNoNotation limit bytes.now) (λ text. IsShownText limit bytes.now text.items)) }
 {
-    put_all(alloc, limit.get(), bytes)
+    let room = limit.get();
+    match put_all::<true>(alloc, room, bytes)? {
+        Pass::Shown(text) => Ok(Some(text)),
+        Pass::Unshown => Ok(None),
+        Pass::Doubtful => show_in_doubt(alloc, room, bytes),
+    }
+}
+
+/// The text, or none, where a pass that looks ahead was in doubt: what the doubt was about is
+/// settled first, in a walk that takes no memory.
+#[inline(never)]
+fn show_in_doubt(alloc: Global, room: u64, bytes: &[u8]) -> Result<Option<Vec<u8>>, AllocError>
+    requires { room ≤ 1024 }
+    ensures { IfOk result (λ shown. MatchOption shown (HasNoNotation room bytes.now) (λ text. IsShownText room bytes.now text.items)) }
+{
+    if !is_showable(room, bytes) {
+        return Ok(None);
+    }
+    match put_all::<false>(alloc, room, bytes)? {
+        Pass::Shown(text) => Ok(Some(text)),
+        Pass::Unshown => Ok(None),
+        Pass::Doubtful => Ok(None),
+    }
 }
 
 /// The text of the items, none deeper than `room`, up to the end.
-fn put_all(alloc: Global, room: u64, bytes: &[u8]) -> Option<Vec<u8>>
+fn put_all<const HINTED: bool>(alloc: Global, room: u64, bytes: &[u8]) -> Result<Pass, AllocError>
     requires { room ≤ 1024 }
-    ensures { IfSome result (λ text. PassShown room bytes.now text.items) }
+    ensures { IfOk result (Passes HINTED room bytes.now) }
 {
-    let mut out = Vec::with_capacity(alloc, bytes.len()).ok()?;
+    let out = Vec::with_capacity(alloc, bytes.len())?;
     if bytes.is_empty() {
-        return Some(out);
+        return Ok(Pass::Shown(out));
     }
-    let mut outlook = Outlook::new(room, bytes.len());
+    let outlook = Outlook::new(room, bytes.len());
+    let mut notation: Notation<HINTED> = Notation::new(alloc, outlook, out);
     let mut rest = bytes;
-    'items: for i in 0..bytes.len() {
-        if rest.is_empty() {
-            break;
+    let mut count = 0;
+    'items: while !rest.is_empty() {
+        if notation.is_doubtful(false, rest) {
+            return Ok(Pass::Doubtful);
         }
-        if !outlook.is_good(false, rest, out.len()) {
-            return None;
+        push_between(&mut notation.out, count, b",\n")?;
+        match descend(&mut notation, room, rest) {
+            Descent::Taken(left) => {
+                let Some(after) = last(rest, left) else {
+                    return Ok(Pass::Unshown);
+                };
+                rest = after;
+            }
+            Descent::Malformed => return Ok(Pass::Unshown),
+            Descent::Stopped => return answer_of(notation.halt),
         }
-        push_between(&mut out, i, b",\n").ok()?;
-        rest = put_item(alloc, room, &mut outlook, rest, &mut out)?;
+        count += 1;
     }
-    if !rest.is_empty() {
-        return None;
+    notation.out.push(b'\n')?;
+    let Notation { out, .. } = notation;
+    Ok(Pass::Shown(out))
+}
+
+/// What a pass that stopped answers.
+fn answer_of(halt: Halt) -> Result<Pass, AllocError>
+    ensures { IfOk result (Answers halt) }
+{
+    match halt {
+        Halt::Refused(e) => Err(e),
+        Halt::BadText => Ok(Pass::Unshown),
+        Halt::Doubtful => Ok(Pass::Doubtful),
     }
-    out.push(b'\n').ok()?;
-    Some(out)
 }

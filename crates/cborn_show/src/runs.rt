@@ -1,14 +1,15 @@
 //! Integers in a row, which is what long arrays mostly hold: their texts are gathered in a block, and
 //! appended together.
 
-ghost use Rattle.std.specs.Prelude.{◌≡◌, ◌<◌, ◌≤◌, ◌+◌, ◌-◌, ◌++◌, ◌∷◌, [], ℕ, List, suc, length, take, drop, if◌then◌else◌, codes, IfSome};
+ghost use Rattle.std.specs.Prelude.{◌≡◌, ◌<◌, ◌≤◌, ◌+◌, ◌-◌, ◌++◌, ◌∷◌, [], ℕ, List, suc, length, take, drop, if◌then◌else◌, codes, IfSome, IfOk};
 ghost use Rattle.cborn_edn.specs.shared.Between.{between};
 ghost use Rattle.cborn_show.specs.declared.runs.TheConstants.{GATHERED, LONGEST};
-ghost use Rattle.cborn_show.specs.Passed.{NextShown, NodesShown, integer_major, signed};
+ghost use Rattle.cborn_show.specs.Passed.{NextShown, RunShown, integer_major, signed};
 
 use crate::digits::write_number;
 use cborn_model::Major;
 use cborn_wire::{Argument, HeadRead, read_mixed_head};
+use std::alloc::AllocError;
 
 /// How many bytes of text are gathered.
 const GATHERED: usize = 256;
@@ -25,23 +26,28 @@ pub(crate) fn put_integers(
     most: u64,
     bytes: &[u8],
     out: &mut Vec<u8>,
-) -> Option<(usize, u64)>
+) -> Result<(usize, u64), AllocError>
     requires { index + most < 18446744073709551616 }
-    ensures within { IfSome result (λ r. (r.0 ≤ length bytes.now) × (r.1 ≤ most)) }
-    ensures shown { IfSome result (λ r. (room : ℕ) (input old : List ℕ) → NodesShown (codes ", ") room index input bytes.now old out.old.items → NodesShown (codes ", ") room (index + r.1) input (drop r.0 bytes.now) old out.new.items) }
+    ensures within { IfOk result (λ r. (r.0 ≤ length bytes.now) × (r.1 ≤ most)) }
+    ensures shown { IfOk result (λ r. RunShown index r.1 bytes.now (drop r.0 bytes.now) out.old.items out.new.items) }
 {
     match bytes {
         [0..64, _, _, ..] => put_run(index, most, bytes, out),
-        _ => Some((0, 0)),
+        _ => Ok((0, 0)),
     }
 }
 
 /// The same, where an integer is likely.
 #[inline(never)]
-fn put_run(index: u64, most: u64, bytes: &[u8], out: &mut Vec<u8>) -> Option<(usize, u64)>
+fn put_run(
+    index: u64,
+    most: u64,
+    bytes: &[u8],
+    out: &mut Vec<u8>,
+) -> Result<(usize, u64), AllocError>
     requires { index + most < 18446744073709551616 }
-    ensures within { IfSome result (λ r. (r.0 ≤ length bytes.now) × (r.1 ≤ most)) }
-    ensures shown { IfSome result (λ r. (room : ℕ) (input old : List ℕ) → NodesShown (codes ", ") room index input bytes.now old out.old.items → NodesShown (codes ", ") room (index + r.1) input (drop r.0 bytes.now) old out.new.items) }
+    ensures within { IfOk result (λ r. (r.0 ≤ length bytes.now) × (r.1 ≤ most)) }
+    ensures shown { IfOk result (λ r. RunShown index r.1 bytes.now (drop r.0 bytes.now) out.old.items out.new.items) }
 {
     let mut texts = [0; GATHERED];
     let mut end = 0;
@@ -58,8 +64,8 @@ fn put_run(index: u64, most: u64, bytes: &[u8], out: &mut Vec<u8>) -> Option<(us
         at += len;
         count += 1;
     }
-    out.extend_from_slice(&texts[..end]).ok()?;
-    Some((at, count))
+    out.extend_from_slice(&texts[..end])?;
+    Ok((at, count))
 }
 
 /// The integer at the front, if its head is the shortest: whether it is below zero, the argument of

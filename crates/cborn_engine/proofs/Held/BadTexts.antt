@@ -1,14 +1,20 @@
--- The first flaw that is a text which isn't UTF-8 is what keeps nodes from having notation.
+-- The first flaw that is a text which isn't UTF-8 is what keeps nodes from having notation. What holds items has one.
 use Rattle.std.proofs.Common.{◌≡◌, ℕ, ◌⊎◌, inl, inr, List, [], ◌∷◌, Bool, true, false, refl, subst}
 use Rattle.std.specs.Prelude.{IsUtf8}
 use Rattle.std.specs.Str.{is_utf8}
 use Rattle.std.proofs.lemmas.Str.{IsUtf8-from_is_utf8, is_utf8-from_IsUtf8}
 use Rattle.cborn_model.specs.declared.nodes.Chunk.{Chunk}
-use Rattle.cborn_model.specs.Tree.{Tree, Uint, Nint, Bytes, Text, ByteChunks, TextChunks, Items, Pairs, Tagged, Simple, Trees, no_item, more, Entries, no_entry, entry}
+use Rattle.cborn_model.specs.Value.{Value, values_of}
+use Rattle.cborn_model.specs.Tree.{trees, Tree, Uint, Nint, Bytes, Text, ByteChunks, TextChunks, Items, Pairs, Tagged, Simple, Trees, no_item, more, Entries, no_entry, entry}
 use Rattle.cborn_judge.specs.Flaws.{Within, WithinAll, WithinEntries, HasBadChunk, FlawAt}
 use Rattle.cborn_judge.specs.declared.faults.InvalidReason.TheVariants.{NotUtf8}
 use Rattle.cborn_edn.specs.Shown.{IsBadText, IsBadAmong, IsBadInPairs, IsBadChunk, LowestBadText}
+use Rattle.cborn_judge.proofs.Meaning.Judging.{sound_all}
+use Rattle.cborn_transcode.proofs.Lists.{all_mean}
 use Rattle.cborn_search.specs.Searching.{HasBadText, IsFirstBadText}
+use Rattle.cborn_show.specs.Passed.{HasNoNotation}
+use Rattle.cborn_engine.specs.declared.kinds.Kind.TheVariants as kind
+use Rattle.cborn_engine.specs.Holding.{Holds}
 
 not_utf8 : (b : List ℕ) → (IsUtf8 b → ⊥) → is_utf8 b ≡ false
 not_utf8 b f = go (is_utf8 b) refl
@@ -89,3 +95,10 @@ module _ (p : ℕ) where
 
 pub lowest_bad_text : (nodes : Trees) (p : ℕ) → IsFirstBadText nodes p → LowestBadText nodes p
 lowest_bad_text nodes p h = record { is = bad_among h.is.0 p h.is.2 nodes h.is.1; lowest = λ q b. h.lowest q (flawed_among q nodes b) }
+
+-- bytes that hold items have a notation
+pub held_shows : (limit : ℕ) (x : List ℕ) (items : List Value) → Holds kind.Wire limit x items → HasNoNotation limit x → ⊥
+unfolding HasNoNotation
+held_shows limit x items h no =
+    no (trees h.nodes) h.spelled
+    (λ p b. let f = flawed_among p (trees h.nodes) b in sound_all (trees h.nodes) (values_of items) (all_mean h.nodes items h.meant) f.0 f.1 p NotUtf8 f.2)

@@ -1,0 +1,153 @@
+-- The text strings of what is notated are UTF-8, so its bytes have a notation.
+use Rattle.std.proofs.Common.{◌≡◌, ◌≤◌, ℕ, List, [], ◌∷◌, ◌++◌, Bool, true, false, ◌&&◌, length, refl, arith, if◌then◌else◌}
+use Rattle.std.specs.Prelude.{IsUtf8}
+use Rattle.std.specs.Str.{is_utf8}
+use Rattle.cborn_model.specs.declared.heads.Width.{Width}
+use Rattle.cborn_model.specs.declared.nodes.Chunk.{Chunk}
+use Rattle.cborn_model.specs.Spelled.{Wellformed}
+use Rattle.cborn_model.specs.Tree.{Tree, Trees, Entries, trees}
+use Rattle.cborn_lex.specs.declared.classes.Mark.{Mark}
+use Rattle.cborn_lex.specs.declared.classes.Token.{Token}
+use Rattle.cborn_lex.specs.declared.classes.Profile.{Profile}
+use Rattle.cborn_lex.proofs.WholeTexts.Weights.{utf8_bytes}
+use Rattle.cborn_edn.specs.declared.strings.StringKind.{StringKind}
+use Rattle.cborn_edn.specs.declared.strings.StringKind.TheVariants.{Bytes as OfBytes, Text as OfText}
+use Rattle.cborn_edn.specs.declared.slips.Slip.{Slip}
+use Rattle.cborn_edn.specs.declared.faults.EdnReason.{EdnReason}
+use Rattle.cborn_edn.specs.declared.faults.EdnReason.TheVariants.{MixedChunks, TextNotUtf8}
+use Rattle.cborn_edn.specs.Says.{unless, mark_slips, string_slips, chunk_slips, is_good, same_kind, is_endless, is_small, is_below, argument_of, integer, bignum, width, is_nil, number_node, string_node, chunked_node, said_string, chunk, Str}
+use Rattle.cborn_edn.specs.Grammar.{IsItem, IsPiece, ArePieces, AreChunks, AreItems, IsContent, ArePairs, IsFields, IsText, number, word, simple, tag, array, map, string, chunked, text_piece, byte_piece, embedded, piece, also, first, next, last, before, empty, tight, loose, last_pair, pair_before, no_fields, tight_fields, loose_fields, nothing, items}
+use Rattle.cborn_edn.specs.shared.Texts.{AreTexts, IsShowable, EachShowable, ArePairsShowable}
+use Rattle.cborn_edn.proofs.Shown.Lowests.{are_showable}
+use Rattle.cborn_edn.proofs.Short.Facts.{notated_fits}
+use Rattle.cborn_spell.specs.Descent.{IsSpelling}
+use Rattle.cborn_show.specs.Passed.{HasNoNotation}
+use Rattle.cborn_engine.specs.Reading.{most_bytes}
+
+-- of two lists that are empty together, each is
+nothing_in : {A : Type 0} (a b : List A) → a ++ b ≡ [] → (a ≡ []) × (b ≡ [])
+nothing_in [] b e = (refl, e)
+nothing_in (x ∷ a) b e = absurd cc
+
+met : (c : Bool) (p : ℕ) (r : EdnReason) → unless c p r ≡ [] → c ≡ true
+met true p r e = refl
+met false p r e = absurd cc
+
+both : (a b : Bool) → a ≡ true → b ≡ true → (a && b) ≡ true
+both true b e f = f
+both false b e f = absurd cc
+
+either : (c : Bool) (t u : Tree) → IsShowable t → IsShowable u → IsShowable (if c then t else u)
+either true t u h k = h
+either false t u h k = k
+
+number_shows : (p : ℕ) (n : Bool) (v : ℕ) (m : Mark) → IsShowable (number_node p n v m)
+number_shows p n v m =
+    either (is_small n v) (integer p n v (width m (argument_of n v))) (bignum p n v) (either (is_below n v) _ _ tt tt) tt
+
+-- ---- strings
+
+string_shows : (k : StringKind) (p : ℕ) (w : Width) (x : List ℕ) → is_good k x ≡ true → IsShowable (string_node k p w x)
+string_shows OfBytes p w x e = tt
+string_shows OfText p w x e = e
+
+empty_shows : (k : StringKind) (p : ℕ) → IsShowable (chunked_node k p [])
+empty_shows OfBytes p = tt
+empty_shows OfText p = tt
+
+said_shows : (s : Str) → is_good s.kind s.bytes ≡ true → IsShowable (said_string s)
+said_shows s e = either (s.lone && is_endless s.mark) (chunked_node s.kind s.place []) _ (empty_shows s.kind s.place) (string_shows s.kind s.place (width s.mark (length s.bytes)) s.bytes e)
+
+string_good : (may_end : Bool) (s : Str) → s.known ≡ true → string_slips may_end s ≡ [] → is_good s.kind s.bytes ≡ true
+string_good may_end s k e = go s.known k (nothing_in (mark_slips may_end s) _ e).1
+  where
+    go : (c : Bool) → c ≡ true → (if c then unless (is_good s.kind s.bytes) s.place TextNotUtf8 else []) ≡ [] → is_good s.kind s.bytes ≡ true
+    go true k e = met (is_good s.kind s.bytes) s.place TextNotUtf8 e
+    go false k e = absurd cc
+
+nil_known : (l : List Slip) → l ≡ [] → is_nil l ≡ true
+nil_known [] e = refl
+nil_known (x ∷ l) e = absurd cc
+
+piece_known : {p : Profile} {d : ℕ} {x : List Token} {s : Str} {l : List Slip} → IsPiece p d x s l → l ≡ [] → s.known ≡ true
+piece_known (text_piece a) e = refl
+piece_known (byte_piece a) e = refl
+piece_known {l = l} (embedded a b m h) e = nil_known l e
+
+pieces_known : {p : Profile} {d : ℕ} {x : List Token} {s : Str} {l : List Slip} → ArePieces p d x s l → l ≡ [] → s.known ≡ true
+pieces_known (piece h) e = piece_known h e
+pieces_known (also {l = l} {r = r} h k) e =
+    let f = nothing_in l _ e in
+    both _ _ (pieces_known h f.0) (piece_known k (nothing_in r _ f.1).0)
+
+text_more : (cs : List Chunk) (c : Chunk) → AreTexts cs → is_utf8 c.bytes ≡ true → AreTexts (cs ++ c ∷ [])
+text_more [] c f g = (g, tt)
+text_more (d ∷ cs) c f g = (f.0, text_more cs c f.1 g)
+
+text_good : (k : StringKind) (x : List ℕ) → k ≡ OfText → is_good k x ≡ true → is_utf8 x ≡ true
+text_good OfText x e g = g
+text_good OfBytes x e g = absurd cc
+
+kind_same : (k l : StringKind) → same_kind k l ≡ true → k ≡ OfText → l ≡ OfText
+kind_same OfText OfText e f = refl
+kind_same OfText OfBytes e f = absurd cc
+kind_same OfBytes l e f = absurd cc
+
+chunks_texts : {p : Profile} {d : ℕ} {x : List Token} {k : StringKind} {cs : List Chunk} {l : List Slip} → AreChunks p d x k cs l → l ≡ [] → k ≡ OfText → AreTexts cs
+chunks_texts (first {s = s} {l = l} h) e t =
+    let f = nothing_in l _ e in
+    (text_good s.kind s.bytes t (string_good false s (pieces_known h f.0) f.1), tt)
+chunks_texts (next {k = k} {cs = cs} {s = s} {l = l} {r = r} a h g) e t =
+    let f = nothing_in l _ e in
+    let j = nothing_in r _ f.1 in
+    let c = nothing_in (unless (same_kind k s.kind) s.place MixedChunks) _ j.1 in
+    text_more cs (chunk s) (chunks_texts h f.0 t) (text_good s.kind s.bytes (kind_same k s.kind (met _ s.place MixedChunks c.0) t) (string_good false s (pieces_known g j.0) c.1))
+
+chunked_shows : (k : StringKind) (p : ℕ) (cs : List Chunk) → (k ≡ OfText → AreTexts cs) → IsShowable (chunked_node k p cs)
+chunked_shows OfBytes p cs h = tt
+chunked_shows OfText p cs h = h refl
+
+-- ---- items
+
+mutual
+  item_shows : {p : Profile} {d : ℕ} {x : List Token} {t : Tree} {l : List Slip} → IsItem p d x t l → l ≡ [] → IsShowable t
+  item_shows (number {v = v} {n = n} {m = m} a low) e = number_shows a.start n v m
+  item_shows (word a) e = tt
+  item_shows (simple a b c low) e = tt
+  item_shows (tag a b h) e = item_shows h (nothing_in _ _ e).1
+  item_shows (array {l = l} a b h) e = content_shows h (nothing_in l _ e).0
+  item_shows (map {l = l} a b h) e = fields_show h (nothing_in l _ e).0
+  item_shows (string {s = s} {l = l} h) e = let f = nothing_in l _ e in said_shows s (string_good s.lone s (pieces_known h f.0) f.1)
+  item_shows (chunked {k = k} {cs = cs} a b h) e = chunked_shows k a.start cs (chunks_texts h e)
+
+  items_show : {p : Profile} {d : ℕ} {x : List Token} {ts : Trees} {l : List Slip} → AreItems p d x ts l → l ≡ [] → EachShowable ts
+  items_show (last h) e = (item_shows h e, tt)
+  items_show (before {l = l} a h k) e = let f = nothing_in l _ e in (item_shows h f.0, items_show k f.1)
+
+  content_shows : {p : Profile} {d : ℕ} {x : List Token} {ts : Trees} {l : List Slip} → IsContent p d x ts l → l ≡ [] → EachShowable ts
+  content_shows empty e = tt
+  content_shows (tight h) e = items_show h e
+  content_shows (loose a q h) e = items_show h e
+
+  pairs_show : {p : Profile} {d : ℕ} {x : List Token} {es : Entries} {l : List Slip} → ArePairs p d x es l → l ≡ [] → ArePairsShowable es
+  pairs_show (last_pair {l = l} a h k) e = let f = nothing_in l _ e in (item_shows h f.0, item_shows k f.1, tt)
+  pairs_show (pair_before {l = l} {r = r} a c h k q) e =
+      let f = nothing_in l _ e in
+      let g = nothing_in r _ f.1 in
+      (item_shows h f.0, item_shows k g.0, pairs_show q g.1)
+
+  fields_show : {p : Profile} {d : ℕ} {x : List Token} {es : Entries} {l : List Slip} → IsFields p d x es l → l ≡ [] → ArePairsShowable es
+  fields_show no_fields e = tt
+  fields_show (tight_fields h) e = pairs_show h e
+  fields_show (loose_fields a q h) e = pairs_show h e
+
+text_shows : {p : Profile} {d : ℕ} {x : List Token} {ts : Trees} {l : List Slip} → IsText p d x ts l → l ≡ [] → EachShowable ts
+text_shows nothing e = tt
+text_shows (items h) e = items_show h e
+
+-- the bytes that a text notates have a notation
+pub spelled_shows : (p : Profile) (limit : ℕ) (text bytes : List ℕ) → length text ≤ most_bytes → IsUtf8 text → IsSpelling p limit text bytes → HasNoNotation limit bytes → ⊥
+unfolding HasNoNotation
+spelled_shows p limit text bytes within u s no =
+    let f = notated_fits p limit text (trees s.nodes) (utf8_bytes text u) (omega (arith, within)) s.notated in
+    no (trees s.nodes) (record { spells = s.spells; fit = f.0; shallow = f.1 }) (are_showable (trees s.nodes) (text_shows s.notated.2 refl))

@@ -1,0 +1,221 @@
+//! Whether bytes have a fixed notation, with nothing written.
+#![tactic(auto, unfolding(cborn_descent::specs::Descending::Always, cborn_descent::specs::Descending::Only, cborn_descent::specs::Descending::BlamesString, cborn_descent::specs::Descending::BlamesChunk))]
+
+ghost use Rattle.std.specs.Prelude.{◌≡◌, ◌≤◌, length, drop, false, true};
+ghost use Rattle.cborn_model.specs.Tree.{trees, entries};
+ghost use Rattle.cborn_edn.specs.shared.Texts.{AreTexts, IsShowable, EachShowable, ArePairsShowable};
+ghost use Rattle.cborn_wire.specs.Parts.{NodesRead};
+ghost use Rattle.cborn_show.specs.Passed.{HasNoNotation};
+ghost use Rattle.cborn_show.specs.Rising.{bad_rises};
+
+use crate::leaves::is_bad_text;
+use cborn_descent::{Descent, Opening, Sink, descend};
+use cborn_model::Width;
+use cborn_wire::last;
+
+/// Whether the bytes hold items, none of them deeper than `room`, whose texts are UTF-8. Takes no
+/// memory.
+pub(crate) fn is_showable(room: u64, bytes: &[u8]) -> bool
+    requires { room ≤ 1024 }
+    ensures { result ≡ false → HasNoNotation room bytes.now }
+{
+    let mut checking = Checking { count: 0 };
+    let mut rest = bytes;
+    'items: while !rest.is_empty() {
+        match descend(&mut checking, room, rest) {
+            Descent::Taken(left) => {
+                let Some(after) = last(rest, left) else {
+                    return false;
+                };
+                rest = after;
+            }
+            Descent::Malformed => return false,
+            Descent::Stopped => return false,
+        }
+    }
+    true
+}
+
+/// How many integers of one byte each stand at the front, at most `most`.
+fn small_integers(most: u64, bytes: &[u8]) -> usize
+    ensures within { (result ≤ length bytes.now) × (result ≤ most) }
+    ensures read { NodesRead (λ us. EachShowable (trees us)) 0 result bytes.now (drop result bytes.now) }
+{
+    let end = if most > bytes.len() as u64 {
+        bytes.len()
+    } else {
+        most as usize
+    };
+    let mut at = 0;
+    'integers: while at < end && bytes[at] < 24 {
+        at += 1;
+    }
+    at
+}
+
+/// Takes items whose texts are UTF-8, and stops at another. It keeps nothing.
+#[derive(Drop)]
+struct Checking {
+    count: u64,
+}
+
+impl Sink for Checking {
+    type Chunks = ();
+
+    type Array = ();
+
+    type Map = ();
+
+    ghost took = { λ a b t. IsShowable t };
+
+    ghost in_chunks = { λ a b o text cs. text ≡ true → AreTexts cs };
+
+    ghost in_array = { λ a b o g ts. EachShowable (trees ts) };
+
+    ghost at_item = { λ a b o g ts. EachShowable (trees ts) };
+
+    ghost in_map = { λ a b o g ps. ArePairsShowable (entries ps) };
+
+    ghost at_key = { λ a b o g ps. ArePairsShowable (entries ps) };
+
+    ghost at_value = { λ a b o g ps k. ArePairsShowable (entries ps) × IsShowable k };
+
+    ghost in_tag = { λ a b w n. Unit {0} };
+
+    ghost blames = { λ s t. IsShowable t → ⊥ };
+
+    #[inline(always)]
+    fn integer(&mut self, _negative: bool, _width: Width, _n: u64) -> Option<()> {
+        Some(())
+    }
+
+    #[inline(always)]
+    fn string(&mut self, text: bool, _width: Width, content: &[u8]) -> Option<()> {
+        if is_bad_text(text, content) {
+            return None;
+        }
+        Some(())
+    }
+
+    #[inline(always)]
+    fn simple(&mut self, _n: u64) -> Option<()> {
+        Some(())
+    }
+
+    #[inline(always)]
+    fn open_chunks(&mut self, _text: bool, _rest: &[u8]) -> Option<()> {
+        Some(())
+    }
+
+    #[inline(always)]
+    fn chunk(
+        &mut self,
+        _begun: &mut (),
+        text: bool,
+        _index: u64,
+        _width: Width,
+        content: &[u8],
+        _rest: &[u8],
+    ) -> Option<()> {
+        if is_bad_text(text, content) {
+            return None;
+        }
+        Some(())
+    }
+
+    #[inline(always)]
+    fn close_chunks(&mut self, _begun: (), _text: bool, _count: u64) -> Option<()> {
+        Some(())
+    }
+
+    #[inline(always)]
+    fn open_array(&mut self, _width: Width, _n: u64, _rest: &[u8]) -> Option<()> {
+        Some(())
+    }
+
+    #[inline(always)]
+    fn open_endless_array(&mut self, _rest: &[u8]) -> Option<()> {
+        Some(())
+    }
+
+    #[inline(always)]
+    fn integers(
+        &mut self,
+        _begun: &mut (),
+        _index: u64,
+        most: u64,
+        bytes: &[u8],
+    ) -> Option<(usize, u64)> {
+        let count = small_integers(most, bytes);
+        Some((count, count as u64))
+    }
+
+    #[inline(always)]
+    fn before_item(
+        &mut self,
+        _begun: &mut (),
+        _index: u64,
+        _may_end: bool,
+        _bytes: &[u8],
+    ) -> Option<()> {
+        Some(())
+    }
+
+    #[inline(always)]
+    fn after_item(&mut self, _begun: &mut ()) -> Option<()> {
+        Some(())
+    }
+
+    #[inline(always)]
+    fn close_array(&mut self, _begun: (), _endless: bool, _count: u64) -> Option<()> {
+        Some(())
+    }
+
+    #[inline(always)]
+    fn open_map(&mut self, _width: Width, _n: u64, _rest: &[u8]) -> Opening<()> {
+        Opening::Inside(())
+    }
+
+    #[inline(always)]
+    fn open_endless_map(&mut self, _rest: &[u8]) -> Option<()> {
+        Some(())
+    }
+
+    #[inline(always)]
+    fn before_key(
+        &mut self,
+        _begun: &mut (),
+        _index: u64,
+        _may_end: bool,
+        _bytes: &[u8],
+    ) -> Option<()> {
+        Some(())
+    }
+
+    #[inline(always)]
+    fn before_value(&mut self, _begun: &mut (), _bytes: &[u8], _left: usize) -> Option<()> {
+        Some(())
+    }
+
+    #[inline(always)]
+    fn after_value(&mut self, _begun: &mut ()) -> Option<()> {
+        Some(())
+    }
+
+    #[inline(always)]
+    fn close_map(&mut self, _begun: (), _endless: bool, _count: u64) -> Option<()> {
+        Some(())
+    }
+
+    #[inline(always)]
+    fn open_tag(&mut self, _width: Width, _n: u64, _rest: &[u8]) -> Opening<()> {
+        Opening::Inside(())
+    }
+
+    #[inline(always)]
+    fn close_tag(&mut self) -> Option<()> {
+        Some(())
+    }
+
+    ghost rises = { λ s. bad_rises };
+}
