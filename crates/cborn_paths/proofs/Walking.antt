@@ -6,3 +6,4 @@ pub mod Stops
 pub mod Whole
 pub mod Keys
 pub mod Differences
+pub mod FirstItem

@@ -1,1 +1,2 @@
+pub mod FirstItem
 pub mod Walks

@@ -12,6 +12,7 @@
 #![tactic(auto)]
 
 mod differences;
+mod first_items;
 mod heads;
 mod nestings;
 mod paths;
@@ -19,8 +20,9 @@ mod places;
 mod walks;
 
 pub use differences::{Difference, find_difference, walk_to_difference};
+pub use first_items::{behind, first_end};
 pub use heads::{content_len, whole_head};
 pub use nestings::Nesting;
 pub use paths::{Path, Step};
 pub use places::{path_to, walk_to_place};
-pub use walks::{Level, Open, Walk, behind};
+pub use walks::{Level, Open, Walk};

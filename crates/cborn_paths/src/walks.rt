@@ -5,6 +5,7 @@ ghost use Rattle.cborn_wire.specs.HeadReading.{major_at, seen_argument};
 ghost use Rattle.cborn_paths.specs.Paths.{LeadsTo, up_to_key};
 ghost use Rattle.cborn_paths.specs.Levels.{levels, path_of};
 ghost use Rattle.cborn_paths.specs.devices.Walks.{finish, leave, begun, size_of, take_head, around, has_key, IsWalked, IsOpened, AreCounted};
+ghost use Rattle.cborn_paths.specs.devices.FirstItem.{IsBefore, IsUpTo};
 
 use crate::heads::{may_stand, whole_head};
 use crate::nestings::Nesting;
@@ -54,6 +55,7 @@ impl Walk {
     /// A walk at the front of some bytes.
     pub(crate) fn new(alloc: Global) -> Walk
         ensures walked { (x : List ℕ) → IsWalked x result }
+        ensures before { IsBefore (levels result) }
         ensures at { result.at ≡ 0 }
     {
         Walk {
@@ -87,6 +89,8 @@ impl Walk {
         ensures before { OnOk result (self.new.at ≤ place) }
         ensures on { IfOk result (λ went. went ≡ true → self.old.at < self.new.at) }
         ensures stays { IfOk result (λ went. went ≡ false → LeadsTo bytes.now place (path_of (levels self.new))) }
+        ensures waits { IfOk result (λ went. went ≡ false → levels self.new ≡ levels self.old) }
+        ensures first { IfOk result (λ went. IsBefore (levels self.old) → IsUpTo (levels self.new)) }
     {
         let Some((head, len)) = whole_head(&bytes[self.at..place]) else {
             return Ok(false);
@@ -268,11 +272,6 @@ impl Walk {
             self.at = start;
         }
     }
-
-    /// An item is whole, and none is open.
-    fn has_item(&self) -> bool {
-        matches!(self.top.level.nesting, Nesting::Sequence(1..))
-    }
 }
 
 /// How many parts are announced.
@@ -283,26 +282,4 @@ fn size_of(argument: Argument) -> Option<u64>
         Argument::Given(_, count) => Some(count),
         Argument::Endless => None,
     }
-}
-
-/// Where the item ends that begins at `at`.
-///
-/// # Errors
-/// Where memory was refused.
-fn item_end(alloc: Global, bytes: &[u8], at: usize) -> Result<usize, AllocError>
-    requires { at ≤ length bytes.now }
-    ensures { IfOk result (λ end. end ≤ length bytes.now) }
-{
-    let rest = &bytes[at..];
-    let mut walk = Walk::new(alloc);
-    'heads: while !walk.has_item() && walk.step(rest, rest.len())? {}
-    Ok(at + walk.at)
-}
-
-/// Where the item ends that begins at `at`, or the end of the bytes.
-pub fn behind(alloc: Global, bytes: &[u8], at: usize) -> Result<usize, AllocError> {
-    if at > bytes.len() {
-        return Ok(bytes.len());
-    }
-    item_end(alloc, bytes, at)
 }

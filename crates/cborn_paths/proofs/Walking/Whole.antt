@@ -4,8 +4,8 @@ use Rattle.std.proofs.lemmas.Bool.{cases_lt}
 use Rattle.std.proofs.lemmas.List.{length-drop, length-take-le, take-append-drop, take-append-le}
 use Rattle.std.proofs.Math.Seq.{take-add, take-append_seam}
 use Rattle.cborn_model.specs.Bytes.{AreBytes}
-use Rattle.cborn_model.specs.Tree.{Trees, no_item}
-use Rattle.cborn_model.specs.Spelled.{spelled_all}
+use Rattle.cborn_model.specs.Tree.{Trees, no_item, depth_all}
+use Rattle.cborn_model.specs.Spelled.{spelled_all, FitsAll}
 use Rattle.cborn_model.proofs.Bytes.{bytes-left}
 use Rattle.cborn_wire.specs.declared.heads.Head.{Head}
 use Rattle.cborn_wire.specs.Slots.{Begun, beginnings, slot, AreBegun}
@@ -53,20 +53,21 @@ scanned_lives (Live fed ready os (gathering p g n got)) at ls h = absurd h
 scanned_lives (Failed ready p r) at ls h = absurd h
 
 -- a front that ends between two heads is one that the machine takes
-ends_between : (g : List ℕ) (path : List Step) → EndsAt g path → (ready : Trees) × (os : List Begun) × (run 1024 (start 0) g ≡ Live (length g) ready os nothing)
-ends_between g path (ts, os, fits, deep, begun, is, e) =
+pub taken_between : (g : List ℕ) (ts : Trees) (os : List Begun) → FitsAll ts → depth_all ts ≤ 1024 → AreBegun 1024 os → g ≡ spelled_all ts ++ beginnings os
+    → run 1024 (start 0) g ≡ Live (length g) (all_from 0 ts) (open_from (0 + length (spelled_all (all_from 0 ts))) os) nothing
+taken_between g ts os fits deep begun is =
     let us = all_from 0 ts in
     let same : spelled_all us ≡ spelled_all ts = spelled_all-from ts 0 in
     let whole : g ≡ spelled_all us ++ (beginnings os ++ []) = is ∙ ap (λ l. l ++ beginnings os) (sym same) ∙ ap (λ l. spelled_all us ++ l) (sym (append-nil (beginnings os))) in
     let q = 0 + length (spelled_all us) in
-    let total : q + length (beginnings os) ≡ length g = omega (arith, ap length is, ap length same, length-append (spelled_all ts) (beginnings os)) in (
-      us,
-      open_from q os,
-      ap (run 1024 (start 0)) whole
-          ∙ takes_sequence us 1024 0 no_item (beginnings os ++ []) (fits_all-from ts 0 fits) (omega (arith, depth_all-from ts 0, deep)) (placed_all-from ts 0)
-          ∙ takes_open 1024 os q us [] begun
-          ∙ ap (λ k. Live k us (open_from q os) nothing) total,
-    )
+    let total : q + length (beginnings os) ≡ length g = omega (arith, ap length is, ap length same, length-append (spelled_all ts) (beginnings os)) in
+    ap (run 1024 (start 0)) whole
+    ∙ takes_sequence us 1024 0 no_item (beginnings os ++ []) (fits_all-from ts 0 fits) (omega (arith, depth_all-from ts 0, deep)) (placed_all-from ts 0)
+    ∙ takes_open 1024 os q us [] begun
+    ∙ ap (λ k. Live k us (open_from q os) nothing) total
+
+ends_between : (g : List ℕ) (path : List Step) → EndsAt g path → (ready : Trees) × (os : List Begun) × (run 1024 (start 0) g ≡ Live (length g) ready os nothing)
+ends_between g path (ts, os, fits, deep, begun, is, e) = (all_from 0 ts, open_from (0 + length (spelled_all (all_from 0 ts))) os, taken_between g ts os fits deep begun is)
 
 -- The path leads to all places behind the end, too.
 pub leads_beyond : (x : List ℕ) (n place : ℕ) (path : List Step) → (n ≡ place) ⊎ ((n ≡ length x) × (length x ≤ place)) → LeadsTo x n path → LeadsTo x place path

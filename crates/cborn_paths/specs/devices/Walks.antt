@@ -1,5 +1,5 @@
 -- A device of the proofs: what a walk keeps of what is open, and what heads and items make of that. No public contract cites it; the contracts of the crate's own functions do.
-use Rattle.std.specs.Prelude.{◌≡◌, ℕ, ◌+◌, ◌-◌, ◌^◌, ◌<◌, ◌≤◌, List, [], ◌∷◌, ◌++◌, length, take, Bool, false, ◌&&◌, ◌||◌, not, Option, Some, None, if◌then◌else◌, nat_le}
+use Rattle.std.specs.Prelude.{◌≡◌, ℕ, ◌+◌, ◌-◌, ◌^◌, ◌<◌, ◌≤◌, List, [], ◌∷◌, length, take, Bool, false, ◌&&◌, ◌||◌, not, Option, Some, None, if◌then◌else◌, nat_le}
 use Rattle.cborn_model.specs.declared.heads.Major.{Major}
 use Rattle.cborn_model.specs.declared.heads.Major.TheVariants.{ByteString, TextString, Other}
 use Rattle.cborn_model.specs.declared.heads.Major.TheVariants as majors

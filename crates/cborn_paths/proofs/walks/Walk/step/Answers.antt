@@ -7,6 +7,8 @@ use Rattle.cborn_paths.specs.Paths.{LeadsTo}
 use Rattle.cborn_paths.specs.Levels.{levels, path_of}
 use Rattle.cborn_paths.specs.devices.Walks.{slot_of, may_stand, open_count, IsBetween}
 use Rattle.cborn_paths.proofs.Walking.Levels.{count_open}
+use Rattle.cborn_paths.specs.devices.FirstItem.{IsUpTo}
+use Rattle.cborn_paths.proofs.Walking.FirstItem.{taken_up}
 use Rattle.cborn_paths.proofs.Walking.Whole.{walk_counted, walk_taken, walk_ends, walk_refused}
 use Rattle.cborn_paths.proofs.walks.Walk.step.Goals as goal
 
@@ -56,3 +58,8 @@ returns-clause-walked c =
       omega (arith, at, h.1, inside),
       subst (λ k. IsBetween k (levels new) (run 1024 (start 0) (take k x))) (sym at) (subst (λ l. IsBetween (w.at + n) l (run 1024 (start 0) (take (w.at + n) x))) (sym c.in_ok-take.ensures.open) h.2),
     )
+
+pub returns-clause-first : goal.returns-clause-first
+returns-clause-first c = λ before.
+    let head = c.in-Some.head in
+    subst IsUpTo (sym c.in_ok-take.ensures.open) (taken_up (levels c.args.self.now) c.args.self.now.at (major_at head.major) (seen_argument head.argument) before)
