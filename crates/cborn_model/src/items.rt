@@ -56,10 +56,7 @@ impl ItemList {
     ghost use Rattle.std.specs.Prelude.{◌≡◌, map};
     ghost use Rattle.cborn_model.specs.ItemView.{item_value};
 
-    /// This item, on the heap.
-    ///
-    /// # Errors
-    /// Where memory was refused; the item is then freed.
+    /// These items. Takes no memory.
     pub fn new(items: Vec<Item>) -> ItemList
         ensures { result ≡ map item_value items.items }
     {

@@ -17,7 +17,7 @@ pub enum Nesting {
     Array(Option<u64>, u64),
     /// A map, with the number of pairs that are announced; a key comes next.
     Map(Option<u64>, u64),
-    /// The same, where the value of a pair comes next.
+    /// A map, with the number of pairs that are announced; the value of a pair comes next.
     MapValue(Option<u64>, u64),
     /// A tag of this number.
     Tag(u64),

@@ -42,7 +42,8 @@ pub(crate) fn search_item<'a>(
     last(bytes, left)
 }
 
-/// What `search_item` does; answers how many bytes follow the item.
+/// Searches the item at the front of `bytes`, and answers how many bytes follow it: a number comes
+/// back in a register, and a slice doesn't. None promises nothing.
 #[cycle(searched)]
 #[inline(never)]
 fn search_node(
@@ -339,7 +340,8 @@ fn search_key<'a>(
     }
 }
 
-/// What `search_item` does, quicker where an integer comes first.
+/// Searches the item at the front of `bytes`, and answers what follows it. Quicker than
+/// `search_item` where an integer comes first.
 #[cycle(searched)]
 #[inline(always)]
 fn search_value<'a>(

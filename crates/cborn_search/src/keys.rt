@@ -250,8 +250,8 @@ fn compare_marks(total: u64, pairs: &[u8], written: &[u8], a: &Mark, b: &Mark) -
     }
 }
 
-/// The same of marks with one hint. It stands out of line, so that a sort has little code at each of
-/// its comparisons.
+/// How two marks with one hint compare. Out of line, so that a sort has little code at each of its
+/// comparisons.
 #[inline(never)]
 fn compare_bytes(total: u64, pairs: &[u8], written: &[u8], a: &Mark, b: &Mark) -> Ordering {
     match bytes_of(pairs, written, a).cmp(bytes_of(pairs, written, b)) {

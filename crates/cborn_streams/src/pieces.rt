@@ -53,7 +53,8 @@ pub fn make_room(bytes: &mut Vec<u8>, filled: usize) -> Result<(), AllocError>
     bytes.resize(filled + filled.max(FIRST_ROOM).min(MOST_ROOM), 0)
 }
 
-/// What `read_piece` does, behind the first `filled` bytes, which stay.
+/// Reads a piece of an input, of which at most `left` more bytes are allowed, to `bytes` from the
+/// offset `filled` on, and answers its length: 0 only at the end. The bytes before that stay.
 ///
 /// # Errors
 /// Those of `read_piece`.
@@ -73,7 +74,7 @@ pub fn read_behind<R: Source>(
     read_at(reader, bytes.as_mut_slice(), filled, left)
 }
 
-/// The same in a slice.
+/// Reads a piece of an input to a slice, from the offset `filled` on.
 fn read_at<R: Source>(
     reader: &mut R,
     buf: &mut [u8],

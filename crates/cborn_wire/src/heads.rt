@@ -98,9 +98,9 @@ pub fn read_head(bytes: &[u8]) -> HeadRead
     read_head_by(false, bytes)
 }
 
-/// The same, quicker where heads of several widths follow one another, as in an array of integers
-/// of mixed sizes, and slower elsewhere: an argument is shifted out of eight bytes, where
-/// `read_head` branches by its width.
+/// The head at the front of `bytes`, as `read_head` answers it. Quicker where heads of several
+/// widths follow one another, as in an array of integers of mixed sizes, and slower elsewhere: it
+/// shifts the argument out of eight bytes, where `read_head` branches by its width.
 #[inline]
 pub fn read_mixed_head(bytes: &[u8]) -> HeadRead
     ensures { ReadsHead bytes.now result }
@@ -292,8 +292,8 @@ pub(crate) fn read_number(width: Width, bytes: &[u8]) -> Option<u64>
     }
 }
 
-/// The same of an argument of `len` bytes; where widths are mixed, it is cut out of eight bytes if
-/// there are so many.
+/// The number that the first `len` bytes make, which are those of this width; `None` if there are
+/// fewer. Where widths are mixed, it is cut out of eight bytes if there are so many.
 #[inline(always)]
 fn argument_of(mixed: bool, width: Width, len: usize, bytes: &[u8]) -> Option<u64>
     requires { len ≡ width_bytes width }

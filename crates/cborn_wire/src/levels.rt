@@ -17,9 +17,9 @@ pub(crate) enum Level {
     EndlessArray,
     /// A map in which so many pairs are missing. A key comes next.
     Map(u64),
-    /// The same, where a value comes next.
+    /// A map in which so many values are missing. A value comes next.
     MapValue(u64),
-    /// A key comes next, or the break.
+    /// A map of indefinite length. A key comes next, or the break.
     EndlessMap,
     EndlessMapValue,
     Tag,
@@ -151,7 +151,7 @@ impl Levels {
         self.finish_any();
     }
 
-    /// The same of anything that may be open.
+    /// Puts a whole item into whatever is open.
     #[inline(always)]
     fn finish_any(&mut self)
         requires kept { self.old.len ≤ 1025 }
@@ -167,7 +167,7 @@ impl Levels {
         }
     }
 
-    /// The same, where the innermost is whole.
+    /// Puts a whole item into what is open, where the innermost is whole with it.
     #[inline(never)]
     fn settle(&mut self)
         requires kept { self.old.len ≤ 1025 }

@@ -12,7 +12,7 @@
 //! whether an input that is held whole is well-formed, or its one fault, and keeps nothing of the
 //! items (`scanning`): of what is open only how much is missing (`levels`). What other walks over
 //! bytes ask at each step is in `walks`, and what they read, whatever they find of it, is told by
-//! `Parts` in `specs/shared`.
+//! `specs/Parts.antt`.
 //!
 //! A reader of the definitions starts at `specs/Faults.antt`, which tells where bytes are no items,
 //! and why; what the items of well-formed bytes are is told by `cborn_model`. `specs/SlotFaults.antt`

@@ -80,8 +80,8 @@ impl Nest {
         self.take_more(limit, at, part, piece)
     }
 
-    /// The same where there may be a part. It stands apart, since a head that has none would pay
-    /// for its locals.
+    /// Takes what goes on with a part of a head or a string. Out of line, so that the frame of the
+    /// common heads stays small.
     #[inline(never)]
     fn take_more(
         &mut self,
@@ -139,7 +139,7 @@ impl Nest {
         self.take_any_head(limit, at, piece)
     }
 
-    /// The same of any head.
+    /// Takes whatever head stands at the front of `piece`.
     #[inline(always)]
     fn take_any_head(
         &mut self,

@@ -40,7 +40,8 @@ impl Slot {
         self.refusal_in_order(is_full, major, information)
     }
 
-    /// The same for any initial byte. The tests stand in the order of the reasons.
+    /// Why a head with this initial byte may not stand here, for any byte. The tests stand in the
+    /// order of the reasons.
     #[inline(never)]
     fn refusal_in_order(self, is_full: bool, major: Major, information: u8) -> Option<WireReason>
         requires { information < 32 }

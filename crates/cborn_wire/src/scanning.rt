@@ -69,7 +69,7 @@ impl Levels {
         self.take_any(limit, piece)
     }
 
-    /// The same where an integer that is its initial byte comes first.
+    /// Takes the integer at the front of `piece`, which is its initial byte.
     #[inline(always)]
     fn take_small(&mut self, limit: u64, piece: &[u8]) -> Step
         requires kept { self.old.len ≤ 1025 }
@@ -120,7 +120,7 @@ impl Levels {
         matches!(self.top, Some(Level::Chunks(_)))
     }
 
-    /// The same for any head.
+    /// Takes whatever head stands at the front of `piece`, and the bytes of a string with it.
     #[inline(never)]
     fn take_any(&mut self, limit: u64, piece: &[u8]) -> Step
         requires kept { self.old.len ≤ 1025 }

@@ -148,8 +148,8 @@ impl Stack {
         }
     }
 
-    /// The same where `node` comes first, whose head is `len` bytes. It is put away here where it
-    /// has nothing around it, or an array that goes on.
+    /// Reads the integer `node` at the front of `piece`, whose head is `len` bytes. The commonest
+    /// places are dealt with here: with nothing around it, or in an array that goes on.
     #[inline(always)]
     fn advance_integer(&mut self, node: Node, len: usize, piece: &[u8]) -> Result<usize, WireFault>
         requires live { self.old.fault ≡ None }
@@ -186,8 +186,8 @@ impl Stack {
         self.advance_any(piece)
     }
 
-    /// The same where it stands apart, as for a string or a part: any other head would pay for the
-    /// locals of those.
+    /// `advance_any` out of line, for strings and parts, so that the frame of the common heads stays
+    /// small.
     #[inline(never)]
     fn advance_apart(&mut self, piece: &[u8]) -> Result<usize, WireFault>
         requires live { self.old.fault ≡ None }
@@ -198,7 +198,7 @@ impl Stack {
         self.advance_any(piece)
     }
 
-    /// The same of anything that may stand there.
+    /// Reads whatever stands at the front of `piece`.
     #[inline(always)]
     fn advance_any(&mut self, piece: &[u8]) -> Result<usize, WireFault>
         requires live { self.old.fault ≡ None }
@@ -269,7 +269,7 @@ fn keep(ready: &mut VecDeque<Spelled>, item: Spelled) -> Result<(), AllocError>
     Ok(())
 }
 
-/// The same where there may be no room.
+/// Appends an item to those that are ready, where there may be no room for it.
 #[inline(never)]
 fn keep_growing(ready: &mut VecDeque<Spelled>, item: Spelled) -> Result<(), AllocError>
     ensures { Added ready.old.items item ready.new.items result }
