@@ -1,8 +1,8 @@
 #!/usr/bin/env python3
 """Run each line '$ COMMAND' of the README, the guide and the man page, and compare what it prints with the lines below it.
-Then see whether each function, file and clause that docs/PROMISES.md names is in the source, whether each link of the
-documents leads somewhere, whether each target that they give to make is one, whether the formats and the man page have the
-words of each fault, and whether all that tells a version tells that of bindings/library.mk.
+Then see whether each link of the documents leads somewhere, whether each target that they give to make is one, whether the
+formats and the man page have the words of each fault, and whether all that tells a version tells that of
+bindings/library.mk.
 
     documents.py PROGRAM
 
@@ -45,59 +45,6 @@ def examples(path):
             command, printed = line[6:], []
         elif is_code and command is not None:
             printed.append(line[4:] + "\n")
-
-
-def clauses_of(files):
-    """The functions that stand in some files, and the names of the clauses of each, behind `ensures`."""
-    found = {}
-    for file in files:
-        _, *parts = re.split(r"\bfn (?=\w)", file.read_text())
-        for part in parts:
-            found.setdefault(re.match(r"\w+", part)[0], set()).update(re.findall(r"\bensures (\w+) \{", part))
-    return found
-
-
-def lacking_clauses(source, functions, where):
-    """What a cell `Where` names and the source lacks. A clause has to be one of the function that the cell names in front of
-    it, or else of each of those of its row that are in that file; behind a file, in brackets, of any in that file, as the
-    clauses of a type are."""
-    named = [source / name for name in re.findall(r"`(\w+\.rt)`", where)]
-    yield from (str(file) for file in named if not file.exists())
-    files = [file for file in named or sorted(source.glob("*.rt")) if file.exists()]
-    all_of, text = clauses_of(files), "".join(file.read_text() for file in files)
-    anywhere = set().union(*all_of.values())
-    of_row = [name for name in functions if name in all_of]
-    allowed = set.intersection(*(all_of[name] for name in of_row)) if of_row else anywhere
-    inner, is_inner, before = anywhere, False, []
-    for name, mark in re.findall(r"`([\w.]+)`|([();])", where):
-        if mark:
-            is_inner = mark == "(" or (is_inner and mark != ")")
-            before = []
-        elif name.endswith(".rt"):
-            before += [source / name] if (source / name).exists() else []
-            inner = set().union(*clauses_of(before).values())
-        elif is_inner:
-            if name not in inner:
-                yield f"{source}: {name}"
-        elif name in all_of and (name in functions or not of_row):
-            inner = all_of[name]
-            allowed = inner if name in functions else allowed
-        elif name not in allowed and not re.search(rf"\b(struct|trait) {name}\b", text):
-            yield f"{source}: {name}"
-
-
-def lacking(root):
-    """The names in docs/PROMISES.md that the source of their crate lacks: `Function` is a column of functions, `Where` of files and clauses."""
-    source = None
-    for line in (root / "docs/PROMISES.md").read_text().splitlines():
-        cells = line.strip("| ").split(" | ")
-        if line.startswith("## `"):
-            source = root / "crates" / line.strip("#` ") / "src"
-        elif source and len(cells) == 3 and not line.startswith(("|---", "| Function")):
-            functions = [name.rpartition("::")[2] for name in re.findall(r"`([\w:]+)`", cells[0]) if name != "laws"]
-            text = "".join(file.read_text() for file in sorted(source.glob("*.rt")))
-            yield from (f"{source}: {name}" for name in functions if not re.search(rf"\b(fn|struct|trait) {name}\b", text))
-            yield from lacking_clauses(source, functions, cells[2])
 
 
 def slug(heading):
@@ -203,9 +150,6 @@ def main():
                 passed, failed = passed + is_same, failed + (not is_same)
                 if not is_same:
                     print(f"{name}, in {shell}: {command}: {done.stdout!r}, not {printed!r}")
-    for name in lacking(root):
-        failed += 1
-        print(f"docs/PROMISES.md: there is no {name}")
     for line in lost(root):
         failed += 1
         print(line)

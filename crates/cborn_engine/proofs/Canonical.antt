@@ -5,3 +5,4 @@ pub mod PlainText
 pub mod Canonicity
 pub mod Headline
 pub mod OfBytes
+pub mod NormalForm

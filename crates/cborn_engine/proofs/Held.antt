@@ -5,5 +5,6 @@ pub mod Meant
 pub mod Notated
 pub mod Known
 pub mod ShownBack
+pub mod SameBytes
 pub mod BadTexts
 pub mod NotatedTexts

@@ -1,8 +1,10 @@
 -- What normalising an input answers.
-use Rattle.std.specs.Prelude.{◌≡◌, ℕ, ◌≤◌, List, [], length, Option, Result, Ok, Err}
+use Rattle.std.specs.Prelude.{◌≡◌, ◌↔◌, ℕ, ◌≤◌, List, [], length, Option, Result, Ok, Err}
 use Rattle.std.specs.declared.cmp.Ordering.{Ordering}
 use Rattle.std.specs.Io.KnownBytes.{Consumes, Appends}
-use Rattle.cborn_model.specs.Value.{Value}
+use Rattle.std.specs.List.{AllZip, AllByRecursion}
+use Rattle.cborn_model.specs.Valid.{IsProper}
+use Rattle.cborn_model.specs.Value.{Value, Same}
 use Rattle.cborn_engine.specs.declared.faults.EngineFault.{EngineFault}
 use Rattle.cborn_engine.specs.declared.faults.EngineFault.TheVariants as fault
 use Rattle.cborn_engine.specs.declared.kinds.Kind.{Kind}
@@ -15,6 +17,19 @@ pub record IsCanonical (order : List ℕ → List ℕ → Ordering) (k out : Kin
   pub items : List Value
   pub held : Holds k limit input items
   pub written : Canon order out items output
+
+-- What the answer of an input is worth. The input holds `items`, and the answer is their canonical form.
+pub record IsNormalForm (order : List ℕ → List ℕ → Ordering) (k out : Kind) (limit : ℕ) (input output : List ℕ) : Type 0 where
+  pub items : List Value
+  pub held : Holds k limit input items
+  -- no other output is their canonical form
+  pub one : (w : List ℕ) → Canon order out items w ↔ (w ≡ output)
+  -- valid items have this canonical form exactly if they are the same, one by one
+  pub alike : (others : List Value) → AllByRecursion IsProper others → Canon order out others output ↔ AllZip Same items others
+  -- the output holds items that are the same
+  pub kept : (others : List Value) × Holds out limit output others × AllZip Same items others
+  -- the output is its own canonical form, and has no other
+  pub again : (w : List ℕ) → IsCanonical order out out limit output w ↔ (w ≡ output)
 
 -- the whole answer went out; or the writer failed, and a front of it went out; or the input is refused, and nothing went out
 abbrev pub NormaliseAnswers : (List ℕ → List ℕ → Ordering) → Kind → Kind → ℕ → ℕ → List ℕ → List ℕ → Result Unit EngineFault → Type 0

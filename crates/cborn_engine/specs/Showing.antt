@@ -44,6 +44,12 @@ pub record IsShown (k out : Kind) (limit : ℕ) (input output : List ℕ) : Type
   pub spelled : Spells k limit input nodes
   pub shown : IsSpelledAs out nodes output
 
+-- input and output spell the same bytes
+pub record SpellSameBytes (k out : Kind) (limit : ℕ) (input output : List ℕ) : Type 0 where
+  pub bytes : List ℕ
+  pub read : IsShown k kind.Wire limit input bytes
+  pub written : IsShown out kind.Wire limit output bytes
+
 -- what telling this input in another form answers: the output, or why there is none
 abbrev pub TellAnswers : Kind → Kind → ℕ → ℕ → List ℕ → Result (Vec ℕ Global) EngineFault → Type 0
 TellAnswers k out limit most input (Ok bytes) = (length input ≤ most) × IsShown k out limit input bytes.items

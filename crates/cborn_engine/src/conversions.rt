@@ -1,14 +1,15 @@
 //! From a reader to a writer.
-ghost use Rattle.std.specs.Prelude.{◌≡◌, ◌≢◌, ◌≤◌, ◌+◌, List, IfOk, IfErr, OnOk};
+ghost use Rattle.std.specs.Prelude.{◌≡◌, ◌≢◌, ◌≤◌, ◌+◌, ℕ, List, IfOk, IfErr, OnOk};
+ghost use Rattle.std.specs.Io.KnownBytes.{Consumes, Appends};
 ghost use Rattle.cborn_model.specs.Value.{Value};
 ghost use Rattle.cborn_engine.specs.declared.faults.EngineFault.TheVariants as fault;
 ghost use Rattle.cborn_engine.specs.declared.kinds.Kind.TheVariants as kinds;
-ghost use Rattle.cborn_engine.specs.Canonical.{Normalises};
+ghost use Rattle.cborn_engine.specs.Canonical.{Normalises, IsNormalForm};
 ghost use Rattle.cborn_engine.specs.Reading.{most_bytes};
 ghost use Rattle.cborn_engine.specs.Holding.{Holds};
 ghost use Rattle.cborn_engine.specs.devices.Encoding.{IsFixedText};
 ghost use Rattle.cborn_engine.specs.devices.Encoding.{IsWrittenAs};
-ghost use Rattle.cborn_engine.specs.Showing.{Shows};
+ghost use Rattle.cborn_engine.specs.Showing.{Shows, SpellSameBytes};
 ghost use Rattle.cborn_streams.specs.Failures.{CountsFault};
 
 use crate::encodings::read_encoded;
@@ -39,6 +40,7 @@ pub fn normalise<O: KeyOrder, R: Source, W: Sink>(
     writer: &mut W,
 ) -> Result<(), EngineFault>
     ensures normalises { Normalises O.order in_kind out_kind limit most_bytes (R.remaining reader.old) (R.remaining reader.new) (W.contents writer.old) (W.contents writer.new) result }
+    ensures headline { OnOk result ((input : List ℕ) × (output : List ℕ) × Consumes (R.remaining reader.old) (R.remaining reader.new) input × Appends (W.contents writer.old) (W.contents writer.new) output × IsNormalForm O.order in_kind out_kind limit input output) }
     ensures read_failures { CountsFault fault.ReadFault result (R.failed reader.old) (R.failed reader.new) }
     ensures write_failures { CountsFault fault.WriteFault result (W.failed writer.old) (W.failed writer.new) }
     ensures untouched { IfErr result (λ why. why ≢ fault.WriteFault → writer.new ≡ writer.old) }
@@ -68,6 +70,7 @@ pub fn show_all<R: Source, W: Sink>(
     writer: &mut W,
 ) -> Result<(), EngineFault>
     ensures shows { Shows in_kind out_kind limit most_bytes (R.remaining reader.old) (R.remaining reader.new) (W.contents writer.old) (W.contents writer.new) result }
+    ensures same_bytes { OnOk result ((input : List ℕ) × (output : List ℕ) × Consumes (R.remaining reader.old) (R.remaining reader.new) input × Appends (W.contents writer.old) (W.contents writer.new) output × SpellSameBytes in_kind out_kind limit input output) }
     ensures read_failures { CountsFault fault.ReadFault result (R.failed reader.old) (R.failed reader.new) }
     ensures write_failures { CountsFault fault.WriteFault result (W.failed writer.old) (W.failed writer.new) }
     ensures untouched { IfErr result (λ why. why ≢ fault.WriteFault → writer.new ≡ writer.old) }

@@ -8,12 +8,12 @@ ghost use Rattle.cborn_engine.specs.declared.faults.EngineFault.TheVariants as f
 ghost use Rattle.cborn_engine.specs.declared.kinds.Kind.TheVariants as kinds;
 ghost use Rattle.cborn_engine.specs.declared.kinds.Kind.{Kind};
 ghost use Rattle.cborn_engine.specs.Bytes.{BytesHold};
-ghost use Rattle.cborn_engine.specs.Canonical.{IsCanonical};
+ghost use Rattle.cborn_engine.specs.Canonical.{IsCanonical, IsNormalForm};
 ghost use Rattle.cborn_engine.specs.Checking.{IsChecked};
 ghost use Rattle.cborn_engine.specs.Comparing.{AreCompared};
 ghost use Rattle.cborn_engine.specs.devices.Encoding.{IsEncoded, IsWrittenAs};
 ghost use Rattle.cborn_engine.specs.Holding.{Holds, HoldSameItems};
-ghost use Rattle.cborn_engine.specs.Showing.{IsShown};
+ghost use Rattle.cborn_engine.specs.Showing.{IsShown, SpellSameBytes};
 ghost use Rattle.cborn_engine.specs.Whole.{IsRefusedWhole, IsUnshownWhole, AreRefusedWhole, TellsFault, TellsFirstFault};
 ghost use Rattle.cborn_engine.specs.Reading.{most_bytes};
 
@@ -46,6 +46,7 @@ pub fn normalise_slice<'a, O: KeyOrder>(
     input: &'a [u8],
 ) -> Result<CowSlice<'a, u8, Global>, EngineFault>
     ensures canonical { IfOk result (λ output. (length input.now ≤ most_bytes) × IsCanonical O.order in_kind out_kind limit input.now (cow_slice_items output)) }
+    ensures headline { IfOk result (λ output. IsNormalForm O.order in_kind out_kind limit input.now (cow_slice_items output)) }
     ensures bytes { IfOk result (λ output. in_kind ≡ kinds.Wire → out_kind ≡ kinds.Wire → (items : Values) × BytesHold input.now items × DetValues O.order items (cow_slice_items output)) }
     ensures room { IfOk result (λ output. in_kind ≡ kinds.Wire → out_kind ≡ kinds.Wire → 3 * length (cow_slice_items output) ≤ 4 * length input.now) }
     ensures refused { IfErr result (IsRefusedWhole in_kind limit most_bytes input.now) }
@@ -69,6 +70,7 @@ pub fn show_slice<'a>(
     input: &'a [u8],
 ) -> Result<CowSlice<'a, u8, Global>, EngineFault>
     ensures shown { IfOk result (λ output. (length input.now ≤ most_bytes) × IsShown in_kind out_kind limit input.now (cow_slice_items output)) }
+    ensures same_bytes { IfOk result (λ output. SpellSameBytes in_kind out_kind limit input.now (cow_slice_items output)) }
     ensures refused { IfErr result (IsUnshownWhole in_kind out_kind limit most_bytes input.now) }
     ensures malformed { length input.now ≤ most_bytes → TellsFault in_kind limit input.now result }
     ensures unfailing { in_kind ≡ kinds.Wire → out_kind ≡ kinds.Wire → result ≢ Err fault.OutOfMemory }

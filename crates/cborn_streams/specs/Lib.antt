@@ -1,3 +1,4 @@
 pub mod Failures
 pub mod Reading
 pub mod Writing
+pub mod Counts

@@ -8,18 +8,26 @@ use crate::sinks::Sink;
 use crate::sources::Source;
 use std::io;
 use std::io::{Read, Write};
+use std::marker::Model;
 
-/// A reader or a writer of std, with counts. Each stays at `u64::MAX` once it is there. An
-/// interrupted call is a failure as any other: nothing is tried again.
+/// A reader or a writer of std, with counts: of its failures, of the reads that were asked for, and
+/// of the bytes that were written since the last flush that didn't fail. Each count stays at
+/// `u64::MAX` once it is there. An interrupted call is a failure as any other: nothing is tried
+/// again.
 #[derive(Drop)]
 pub struct Counted<T> {
-    pub inner: T,
-    /// How many calls failed.
-    pub failed: u64,
-    /// How many reads were asked for.
-    pub asked: u64,
-    /// How many bytes were written since the last flush that didn't fail.
-    pub unflushed: u64,
+    inner: T,
+    failed: u64,
+    asked: u64,
+    unflushed: u64,
+}
+
+impl<T> Model for Counted<T> {
+    ghost use Rattle.cborn_streams.specs.Counts.{Counts};
+
+    ghost Value = { Counts T };
+
+    ghost view = { λ c. record { inner = c.inner; failed = c.failed; asked = c.asked; unflushed = c.unflushed } };
 }
 
 impl<T> Counted<T> {

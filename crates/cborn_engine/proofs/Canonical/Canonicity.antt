@@ -80,7 +80,7 @@ holds_back kind.Notation2 limit vs x w back e =
 
 -- ---- what was read is sound
 
-spelled_fits : (k : Kind) (limit : ℕ) (input : List ℕ) (ns : List Tree) → length input ≤ most_bytes → Spells k limit input ns → FitsAll (trees ns) × (depth_all (trees ns) ≤ limit)
+pub spelled_fits : (k : Kind) (limit : ℕ) (input : List ℕ) (ns : List Tree) → length input ≤ most_bytes → Spells k limit input ns → FitsAll (trees ns) × (depth_all (trees ns) ≤ limit)
 spelled_fits kind.Wire limit input ns l h = (h.fit, h.shallow)
 spelled_fits kind.Notation limit input ns l h = fits profile.One limit input ns h l
 spelled_fits kind.Notation2 limit input ns l h = fits profile.Two limit input ns h l

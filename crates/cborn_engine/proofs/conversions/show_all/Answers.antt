@@ -2,6 +2,7 @@ use Rattle.std.proofs.Common.{rules}
 use Rattle.cborn_engine.specs.Showing.{Shows}
 use Rattle.cborn_engine.proofs.Answers.Told.{told}
 use Rattle.cborn_engine.proofs.Answers.Telling.{not_told, told_out}
+use Rattle.cborn_engine.proofs.Held.SameBytes.{written_bytes}
 use Rattle.cborn_engine.proofs.Streams.Counted.{write_counted}
 use Rattle.cborn_engine.proofs.conversions.show_all.Goals as goal
 
@@ -24,3 +25,6 @@ returns-in_err-answer-clause-write_failures g c = search (rules, write_counted)
 
 pub returns-in_err-answer-clause-untouched : goal.returns-in_err-answer-clause-untouched
 returns-in_err-answer-clause-untouched g c = search rules
+
+pub returns-clause-same_bytes : goal.returns-clause-same_bytes
+returns-clause-same_bytes g c = written_bytes c.args.in_kind c.args.out_kind c.args.limit _ _ _ _ _ (returns-clause-shows g c)

@@ -1,0 +1,99 @@
+#!/usr/bin/env python3
+"""Makes the tables of docs/PROMISES.md from the sources: each public function of each library, the first sentence of its docstring, its file, and its clauses by name.
+
+A function is public if its module is, or if the crate's root file names it, or the type or trait that it belongs to, in a `pub use`. A single clause has no name, and is told as `one`.
+
+    python3 tests/promises.py           writes the tables behind the page's introduction
+    python3 tests/promises.py --check   fails if the page isn't what the sources say
+"""
+import re
+import sys
+from pathlib import Path
+
+ROOT = Path(__file__).resolve().parent.parent
+PAGE = ROOT / "docs/PROMISES.md"
+# the order of the chapters: from the calls that a user makes down to what they stand on
+CRATES = "engine c commands options streams model wire det judge lex edn transcode search show descent spell places paths causes explain".split()
+MADE = "<!-- from here on made by tests/promises.py -->\n"
+PUBLIC = re.compile(r"pub use (?!cborn_)\w+::(?:\{([^}]*)\}|(\w+));")
+FUNCTION = re.compile(r'^( *)(pub )?(?:pub\(crate\) )?(?:const )?(?:unsafe )?(?:extern "C" )?fn (\w+)')
+OWNER = re.compile(r"^(?:pub )?(impl|trait)(?:<[^{]*?>)? (?:([\w<>&]+) for )?(\w+)")
+CLAUSE = re.compile(r"^ +ensures(?: (\w+))? \{")
+
+
+def exported(root_file):
+    """The modules that a crate makes public whole, and the names that it hands on."""
+    text = root_file.read_text()
+    modules = set(re.findall(r"^pub mod (\w+);", text, re.M))
+    names = set(re.findall(r'^pub (?:extern "C" )?fn (\w+)', text, re.M))
+    for listed, one in PUBLIC.findall(text):
+        names |= {name.strip() for name in (listed or one).split(",") if name.strip()}
+    return modules, names
+
+
+def first_sentence(lines):
+    """The first sentence of a docstring on one line, without links, sources and what follows a colon."""
+    text = re.sub(r"\[(`[^`]*`)\]", r"\1", " ".join(line.strip() for line in lines).split("  ")[0])
+    text = re.sub(r" \((?:RFC|section)[^)]*\)", "", text)
+    return re.match(r"(.*?)(?:[.:;](?: |$)|$)", text).group(1).replace("|", "\\|")
+
+
+def functions(file, modules, names):
+    """The public functions of a file: name, first sentence, names of clauses."""
+    owner, of_trait, said, all_of = "", False, [], []
+    is_listed = False
+    for line in file.read_text().splitlines():
+        text = line.strip()
+        if match := OWNER.match(line):
+            owner, of_trait = match.group(3), bool(match.group(2))
+            is_trait = match.group(1) == "trait"
+        elif line == "}":
+            owner, is_listed = "", False
+        if text.startswith("///"):
+            said.append(text[3:])
+        elif match := FUNCTION.match(line):
+            indent, is_pub, name = match.groups()
+            if indent:
+                is_listed = owner in names and not of_trait and bool(is_pub or is_trait)
+            else:
+                is_listed = bool(is_pub) and (file.stem in modules or name in names)
+            if is_listed:
+                all_of.append((f"{owner}::{name}" if indent else name, first_sentence(said), []))
+            said = []
+        elif is_listed and (match := CLAUSE.match(line)):
+            all_of[-1][2].append(match.group(1) or "")
+        elif text and not text.startswith("#["):
+            said = []
+    return all_of
+
+
+def chapter(crate):
+    """The chapter of one crate: a table of its functions."""
+    source = ROOT / "crates" / f"cborn_{crate}" / "src"
+    if not source.exists():
+        return ""
+    modules, names = exported(source / "lib.rt")
+    rows = []
+    for file in sorted(source.glob("*.rt"), key=lambda file: (file.stem == "laws", file.stem)):
+        for name, sentence, clauses in functions(file, modules, names):
+            told = ", ".join(f"`{clause}`" if clause else "one" for clause in clauses) or "none"
+            rows.append(f"| `{name}` | {sentence} | {told} |")
+    return f"## `cborn_{crate}`\n\n| Function | What it does, or the law | Clauses |\n|---|---|---|\n" + "\n".join(rows) + "\n"
+
+
+def main():
+    page = PAGE.read_text()
+    introduction = page.partition(MADE)[0]
+    made = introduction + MADE + "\n" + "\n".join(filter(None, map(chapter, CRATES)))
+    if "--check" in sys.argv[1:]:
+        if page != made:
+            print("docs/PROMISES.md isn't what the sources say: python3 tests/promises.py makes it anew")
+            return 1
+        print(f"docs/PROMISES.md: {made.count('| `')} functions, as the sources have them")
+        return 0
+    PAGE.write_text(made)
+    return 0
+
+
+if __name__ == "__main__":
+    sys.exit(main())
