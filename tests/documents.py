@@ -111,7 +111,7 @@ def other_versions(root):
     version = re.search(r"^VERSION := ([\d.]+)$", rules, re.MULTILINE).group(1)
     number = "0x" + "".join(f"{int(part):02x}" for part in version.split("."))
     told = {
-        "CHANGELOG.md": f"## {version}\n",
+        "CHANGELOG.md": f"## {version} (",
         "README.md": f"cborn-{version}-linux",
         "docs/LIBRARY.md": f"cborn-{version}-linux",
         "crates/cborn_options/src/options.rt": f'.version("{version}")',
