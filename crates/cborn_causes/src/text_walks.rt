@@ -1,9 +1,7 @@
 //! A walk over a text from token to token, which keeps what is open.
 
-ghost use Rattle.std.specs.Prelude.{◌≤◌, ◌<◌, ◌^◌, length};
-
 use crate::quotes::valid_front;
-use cborn_lex::{Class, LexFault, Profile, Token, token_from};
+use cborn_lex::{BareToken, Kind, LexFault, Profile, next_token};
 use cborn_paths::Step;
 use std::alloc::{AllocError, Global};
 
@@ -86,6 +84,8 @@ pub struct TextWalk {
     pub before: Before,
     /// Where the last token ends.
     pub stop: usize,
+    /// What the last string stands for, in a buffer that is used again. Nothing is read of it.
+    content: Vec<u8>,
 }
 
 /// Walks over a text up to the token at `place`, or that holds it, or the first that is bad.
@@ -116,6 +116,7 @@ impl TextWalk {
             open: Vec::new(alloc),
             before: Before::Opening,
             stop: 0,
+            content: Vec::new(alloc),
         }
     }
 
@@ -134,12 +135,21 @@ impl TextWalk {
         if self.stop > text.len() || self.open.len() > MOST_OPEN {
             return Ok(false);
         }
-        match token_from(alloc, profile, text, self.stop as u64) {
+        let mut number: u128 = 0;
+        self.content.clear();
+        match next_token(
+            alloc,
+            profile,
+            text,
+            self.stop,
+            &mut number,
+            &mut self.content,
+        ) {
             Ok(Some(token)) => {
-                if token.start >= place as u64 || token.stop > place as u64 {
+                if token.start >= place || token.stop > place {
                     return Ok(false);
                 }
-                self.take(&token)?;
+                self.take(&token, number)?;
                 Ok(true)
             }
             Ok(None) | Err(LexFault::Refused { .. }) => Ok(false),
@@ -147,26 +157,24 @@ impl TextWalk {
         }
     }
 
-    /// Goes on behind a token.
-    fn take(&mut self, token: &Token) -> Result<(), AllocError>
-        requires { token.now.stop < 2 ^ 64 }
-    {
-        let start = token.start as usize;
-        match &token.class {
-            Class::ArrayOpen(_) => self.begin(Bracket::Array, start)?,
-            Class::MapOpen(_) => self.begin(Bracket::Map, start)?,
-            Class::TagOpen { number, .. } => self.begin(Bracket::Tag(*number), start)?,
-            Class::ChunkOpen => self.begin(Bracket::Chunks, start)?,
-            Class::SimpleOpen => self.begin(Bracket::Simple, start)?,
-            Class::EmbedOpen => self.begin(Bracket::Embedded, start)?,
-            Class::EmbedClose(_) => self.end(Before::Piece),
-            Class::ArrayClose | Class::MapClose | Class::ParenClose => self.end(Before::Item),
-            Class::Comma => self.separate(),
-            Class::Colon => self.end_key(),
-            Class::Number { .. } | Class::Word(_) => self.put(Before::Item, start),
-            Class::Text { .. } | Class::Bytes { .. } => self.put(Before::Piece, start),
+    /// Goes on after a token, with the number that it has if it is a tag.
+    fn take(&mut self, token: &BareToken, number: u128) -> Result<(), AllocError> {
+        let start = token.start;
+        match token.kind {
+            Kind::ArrayOpen(_) => self.begin(Bracket::Array, start)?,
+            Kind::MapOpen(_) => self.begin(Bracket::Map, start)?,
+            Kind::TagOpen(_) => self.begin(Bracket::Tag(number), start)?,
+            Kind::ChunkOpen => self.begin(Bracket::Chunks, start)?,
+            Kind::SimpleOpen => self.begin(Bracket::Simple, start)?,
+            Kind::EmbedOpen => self.begin(Bracket::Embedded, start)?,
+            Kind::EmbedClose(_) => self.end(Before::Piece),
+            Kind::ArrayClose | Kind::MapClose | Kind::ParenClose => self.end(Before::Item),
+            Kind::Comma => self.separate(),
+            Kind::Colon => self.end_key(),
+            Kind::Number { .. } | Kind::Word(_) => self.put(Before::Item, start),
+            Kind::Text(_) | Kind::Bytes { .. } => self.put(Before::Piece, start),
         }
-        self.stop = token.stop as usize;
+        self.stop = token.stop;
         Ok(())
     }
 

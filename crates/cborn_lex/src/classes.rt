@@ -66,6 +66,7 @@ pub enum Kind {
 impl Kind {
     /// The class of a token of this kind: with this number if it is an integer or a tag, and with
     /// this content if it is a string.
+    #[inline(always)]
     pub(crate) fn into_class(self, number: u128, content: Vec<u8>) -> Class
         ensures { result ≡ class_of self number content.items }
     {

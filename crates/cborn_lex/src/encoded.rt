@@ -82,11 +82,13 @@ fn to_standard(c: u8) -> u8
 fn without_white(alloc: Global, content: &[u8]) -> Result<Vec<u8>, AllocError>
     ensures { IfOk result (λ v. v.items ≡ map to_standard (filter (λ c. not (is_white c)) content.now)) }
 {
-    content
-        .iter()
-        .filter(|c| !is_white(**c))
-        .map(|c| to_standard(*c))
-        .collect(alloc)
+    let mut text = Vec::with_capacity(alloc, content.len())?;
+    for c in content {
+        if !is_white(*c) {
+            text.push(to_standard(*c))?;
+        }
+    }
+    Ok(text)
 }
 
 /// Appends padding.

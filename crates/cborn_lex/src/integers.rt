@@ -1,6 +1,6 @@
 //! Integers and the numbers of tags.
 
-ghost use Rattle.std.specs.Prelude.{◌≡◌, ◌+◌, ◌<◌, ◌≤◌, length, take, drop, Bool, [], slice_index, OnSome, IfSome, true, Ok, Err, false, ◌==◌, ◌||◌, ◌&&◌, not, ◌^◌, if◌then◌else◌};
+ghost use Rattle.std.specs.Prelude.{◌≡◌, ◌+◌, ◌*◌, ◌<◌, ◌≤◌, MatchOption, length, take, drop, Bool, [], slice_index, OnSome, IfSome, true, Ok, Err, false, ◌==◌, ◌||◌, ◌&&◌, not, ◌^◌, if◌then◌else◌};
 ghost use Rattle.std.specs.List.{list_all, list_any};
 ghost use Rattle.std.specs.Char.{digit_value, is_digit};
 ghost use Rattle.cborn_lex.specs.Tokens.{begins, is_numeral};
@@ -48,16 +48,27 @@ fn value(base: u8, ds: &[u8]) -> Result<u128, LexReason>
 {
     let mut n: u128 = 0;
     for d in ds {
-        let Some(m) = n.checked_mul(base as u128) else {
+        let Some(longer) = with_digit(base, n, digit_of(*d)) else {
             return Err(LexReason::NumberTooLarge);
         };
-        let Some(sum) = m.checked_add(digit_of(*d) as u128) else {
-            return Err(LexReason::NumberTooLarge);
-        };
-        n = sum;
+        n = longer;
     }
     Ok(n)
 }
+
+/// The number that `n` and one more digit spell, if it fits 128 bits. Most need no test for overflow.
+#[inline(always)]
+fn with_digit(base: u8, n: u128, digit: u8) -> Option<u128>
+    ensures { MatchOption result (2 ^ 128 ≤ n * base + digit) (λ m. m ≡ n * base + digit) }
+{
+    if n < ROOM_FOR_MORE {
+        return Some(n * base as u128 + digit as u128);
+    }
+    n.checked_mul(base as u128)?.checked_add(digit as u128)
+}
+
+/// Any number below 2^120 has room for one more digit of any base in 128 bits.
+const ROOM_FOR_MORE: u128 = 0x0100_0000_0000_0000_0000_0000_0000_0000;
 
 /// Whether there is a point, or one of the two letters.
 fn has_point_or(a: u8, b: u8, x: &[u8]) -> bool

@@ -68,6 +68,7 @@ pub fn token_from(
 /// `Refused` where the text from `at` on begins with no token: the place, from the start of the
 /// text, and the reason of what is bad. `OutOfMemory` where `out` couldn't grow. After an error
 /// `out` may have a part of a string after what it had.
+#[inline(always)]
 pub fn next_token(
     alloc: Global,
     profile: Profile,

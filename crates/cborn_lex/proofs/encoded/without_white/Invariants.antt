@@ -1,0 +1,8 @@
+use Rattle.std.proofs.Common.{◌≡◌, ◌++◌, map, not, drop}
+use Rattle.std.specs.List.{filter}
+use Rattle.cborn_lex.specs.Tokens.{is_white}
+use Rattle.cborn_lex.specs.Strings.{to_standard}
+use Rattle.cborn_lex.proofs.encoded.without_white.Given as goal
+
+abbrev pub invariant-loop-c : goal.invariant-loop-c
+invariant-loop-c l = l.text.items ++ map to_standard (filter (λ c. not (is_white c)) (drop l.c-index l.content)) ≡ map to_standard (filter (λ c. not (is_white c)) l.content)
