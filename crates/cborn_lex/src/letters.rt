@@ -106,41 +106,42 @@ pub fn push_letters(
     'letters: while at < tail.len() {
         let n = push_run(quote, tail, at, out)?;
         at += n;
-        if n < 16 {
-            if at == tail.len() {
-                return Ok(None);
-            }
-            let c = tail[at];
-            if c == quote {
-                return Ok(Some(at));
-            }
-            if c != b'\\' {
-                return Ok(None);
-            }
-            match push_escape(quote, tail, at, out)? {
-                Some(end) => at = end,
-                None => return Ok(None),
-            }
+        if at == tail.len() {
+            return Ok(None);
+        }
+        let c = tail[at];
+        if c == quote {
+            return Ok(Some(at));
+        }
+        if c != b'\\' {
+            return Ok(None);
+        }
+        match push_escape(quote, tail, at, out)? {
+            Some(end) => at = end,
+            None => return Ok(None),
         }
     }
     Ok(None)
 }
 
-/// Appends the plain letters from `at` on, up to sixteen of them, and answers how many these are.
+/// Appends the plain letters from `at` on, and answers how many these are.
 #[inline(always)]
 fn push_run(quote: u8, tail: &[u8], at: usize, out: &mut Vec<u8>) -> Result<usize, AllocError>
     requires { at ≤ length tail.now }
     ensures within { IfOk result (λ n. at + n ≤ length tail.now) }
     ensures plain { IfOk result (λ n. list_all (is_plain quote) (take n (drop at tail.now)) ≡ true) }
-    ensures ends { IfOk result (λ n. n < 16 → at + n < length tail.now → is_plain quote (slice_index tail.now (at + n)) ≡ false) }
+    ensures ends { IfOk result (λ n. at + n < length tail.now → is_plain quote (slice_index tail.now (at + n)) ≡ false) }
     ensures written { IfOk result (λ n. out.new.items ≡ out.old.items ++ take n (drop at tail.now)) }
 {
     if tail.len() - at < 16 {
-        return push_last_run(quote, &tail[at..], out);
+        return push_long_run(quote, &tail[at..], out);
     }
     let n = run_of_block(quote, tail, at);
-    push_block(&tail[at..], n, out)?;
-    Ok(n)
+    if n < 16 {
+        push_block(&tail[at..], n, out)?;
+        return Ok(n);
+    }
+    push_long_run(quote, &tail[at..], out)
 }
 
 /// Appends the first `n` of sixteen letters. To copy all sixteen and then cut is quicker than to
@@ -157,15 +158,16 @@ fn push_block(tail: &[u8], n: usize, out: &mut Vec<u8>) -> Result<(), AllocError
     Ok(())
 }
 
-/// Appends the plain letters that `tail` begins with, and answers how many these are.
+/// Appends the plain letters that `tail` begins with, and answers how many these are. They are
+/// counted first, so that a buffer that is empty takes as much memory as they need, and no more.
 #[inline(never)]
-fn push_last_run(quote: u8, tail: &[u8], out: &mut Vec<u8>) -> Result<usize, AllocError>
+fn push_long_run(quote: u8, tail: &[u8], out: &mut Vec<u8>) -> Result<usize, AllocError>
     ensures within { IfOk result (λ n. n ≤ length tail.now) }
     ensures plain { IfOk result (λ n. list_all (is_plain quote) (take n tail.now) ≡ true) }
     ensures ends { IfOk result (λ n. n < length tail.now → is_plain quote (slice_index tail.now n) ≡ false) }
     ensures written { IfOk result (λ n. out.new.items ≡ out.old.items ++ take n tail.now) }
 {
-    let n = plain_rest(quote, tail, 0);
+    let n = plain_run(quote, tail);
     out.extend_from_slice(&tail[..n])?;
     Ok(n)
 }

@@ -13,10 +13,10 @@ returns-then-c-quote c =
 pub returns-then-c-ne92 : goal.returns-then-c-ne92
 returns-then-c-ne92 c =
     let near : c.letters.at + c.in_ok-n.n < length c.args.tail.now = omega (arith, c.in_ok-n.ensures.within, c.if-at-tail.false) in
-    λ old s. none_at_control c.args.quote c.args.tail.now old c.push_run.new.out.items (c.letters.at + c.in_ok-n.n) c.requires.double_or_single (run_more c.args.quote c.args.tail.now old c.letters.out.items c.push_run.new.out.items c.letters.at c.in_ok-n.n c.in_ok-n.ensures.plain c.in_ok-n.ensures.written (c.letters.invariant.1 old s)) near c.if-c-quote.false c.if-c-ne92.true (c.in_ok-n.ensures.ends c.if-n-lt16.true near)
+    λ old s. none_at_control c.args.quote c.args.tail.now old c.push_run.new.out.items (c.letters.at + c.in_ok-n.n) c.requires.double_or_single (run_more c.args.quote c.args.tail.now old c.letters.out.items c.push_run.new.out.items c.letters.at c.in_ok-n.n c.in_ok-n.ensures.plain c.in_ok-n.ensures.written (c.letters.invariant.1 old s)) near c.if-c-quote.false c.if-c-ne92.true (c.in_ok-n.ensures.ends near)
 
-pub letters-smaller-in-Some : goal.letters-smaller-in-Some
-letters-smaller-in-Some c =
+pub letters-smaller : goal.letters-smaller
+letters-smaller c =
     let near : c.letters.at + c.in_ok-n.n < length c.args.tail.now = omega (arith, c.in_ok-n.ensures.within, c.if-at-tail.false) in
     let h = rw c.in-Some.is at c.in_ok-end.ensures in
     let w = escape_within c.args.quote c.args.tail.now (c.letters.at + c.in_ok-n.n) h.0 h.1 near c.if-c-ne92.false h.2 in
@@ -25,8 +25,8 @@ letters-smaller-in-Some c =
     let j = w.1 in
     omega arith
 
-pub letters-preserved-in-Some : goal.letters-preserved-in-Some
-letters-preserved-in-Some c =
+pub letters-preserved : goal.letters-preserved
+letters-preserved c =
     let near : c.letters.at + c.in_ok-n.n < length c.args.tail.now = omega (arith, c.in_ok-n.ensures.within, c.if-at-tail.false) in
     let h = rw c.in-Some.is at c.in_ok-end.ensures in
     let w = escape_within c.args.quote c.args.tail.now (c.letters.at + c.in_ok-n.n) h.0 h.1 near c.if-c-ne92.false h.2 in
@@ -39,9 +39,6 @@ returns-in-None c =
     let near : c.letters.at + c.in_ok-n.n < length c.args.tail.now = omega (arith, c.in_ok-n.ensures.within, c.if-at-tail.false) in
     let h = rw c.in-None.is at c.in_ok-end.ensures in
     λ old s. none_at_escape c.args.quote c.args.tail.now old c.push_run.new.out.items (c.letters.at + c.in_ok-n.n) c.requires.double_or_single near c.if-c-ne92.false h (run_more c.args.quote c.args.tail.now old c.letters.out.items c.push_run.new.out.items c.letters.at c.in_ok-n.n c.in_ok-n.ensures.plain c.in_ok-n.ensures.written (c.letters.invariant.1 old s))
-
-pub letters-preserved : goal.letters-preserved
-letters-preserved c = (c.in_ok-n.ensures.within, λ old s. run_more c.args.quote c.args.tail.now old c.letters.out.items c.push_run.new.out.items c.letters.at c.in_ok-n.n c.in_ok-n.ensures.plain c.in_ok-n.ensures.written (c.letters.invariant.1 old s))
 
 pub returns : goal.returns
 returns c = λ old s. none_at_end c.args.quote c.args.tail.now old c.letters.out.items c.letters.at c.requires.double_or_single (c.letters.invariant.1 old s) (omega (arith, c.letters-test.false))
