@@ -4,7 +4,6 @@ use Rattle.std.proofs.lemmas.Bool.{eq-eqb, cond-true}
 use Rattle.std.specs.List.{AllZip, flat_map}
 use Rattle.std.specs.Int.{byte_at, bytes_high_first}
 use Rattle.std.specs.Prelude.{IsTrue, ◌/◌, ◌%◌}
-use Rattle.hex.specs.Hex.{encode_lower}
 use Rattle.std.proofs.lemmas.List.Sorted.{length_permutation}
 use Rattle.cborn_model.specs.declared.heads.Width.{Width}
 use Rattle.cborn_model.specs.declared.heads.Width.TheVariants.{Direct, One, Two, Four, Eight}
@@ -142,7 +141,7 @@ pub record PlainEntries (es : List Entry) (n : ℕ) : Type 0 where
   pub told : pair_texts nodes ≡ plain_pairs nodes
 
 told_bytes : (b : List ℕ) → shown (Bytes 0 (least (length b)) b) ≡ plain (Bytes 0 (least (length b)) b)
-told_bytes b = ap (λ l. codes "h'" ++ (encode_lower b ++ (codes "'" ++ l))) (none (length b))
+told_bytes b = rw (none (length b)) refl
 
 bignum : (t : ℕ) (m h c x : List ℕ) → WidthFits (least t) t → h ≡ head_bytes 6 (least t) t → (k : List ℕ) → WidthFits (least (length m)) (length m) → k ≡ head_bytes 2 (least (length m)) (length m) → c ≡ k ++ m → x ≡ h ++ c → AreBytes m → PlainNode x
 bignum t m h c x f e k g i j l are = record {
