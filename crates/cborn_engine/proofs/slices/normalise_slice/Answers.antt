@@ -3,6 +3,7 @@ use Rattle.cborn_engine.proofs.Answers.AtHand.{held, room}
 use Rattle.cborn_engine.specs.Whole.{TellsFault}
 use Rattle.cborn_engine.proofs.Answers.Malformed.{handed, answered}
 use Rattle.cborn_engine.proofs.Answers.Told.{told}
+use Rattle.cborn_engine.proofs.Canonical.Canonicity.{canon_of}
 use Rattle.cborn_engine.proofs.Canonical.OfBytes.{encoded_bytes}
 use Rattle.cborn_engine.proofs.slices.normalise_slice.Goals as goal
 
@@ -28,3 +29,9 @@ returns-clause-malformed g c l = answered c.args.in_kind c.args.limit c.args.inp
 pub returns-clause-bytes : goal.returns-clause-bytes
 returns-clause-bytes g c =
     encoded_bytes g.O.KeyOrder.order c.args.in_kind c.args.out_kind c.args.limit c.args.input.now (cow_slice_items c.in_ok-bytes.bytes) (cow_slice_items c.in_ok-written_as.field-0) c.in_ok-bytes.ensures.encoded.1 c.in_ok-written_as.ensures
+
+pub returns-clause-canonical : goal.returns-clause-canonical
+returns-clause-canonical g c =
+    let e = c.in_ok-bytes.ensures.encoded in
+    let written = canon_of g.O.KeyOrder.order c.args.out_kind e.1.items (cow_slice_items c.in_ok-bytes.bytes) (cow_slice_items c.in_ok-written_as.field-0) e.1.encoded c.in_ok-written_as.ensures in
+    (e.0, record { items = e.1.items; held = e.1.held; written = written })
