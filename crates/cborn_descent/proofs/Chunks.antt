@@ -1,20 +1,19 @@
 -- Chunks: the next one isn't there, or is blamed.
-use Rattle.std.proofs.Common.{◌≡◌, ℕ, suc, ◌+◌, ◌-◌, ◌<◌, ◌≤◌, List, [], ◌∷◌, ◌++◌, length, take, drop, refl, sym, ap, ◌∙◌, subst, arith, append_assoc, append-nil, length-append, true, false, Bool}
+use Rattle.std.proofs.Common.{◌≡◌, ℕ, ◌<◌, List, [], ◌∷◌, ◌++◌, length, refl, sym, ap, ◌∙◌, subst, arith, append_assoc, length-append, true, false, Bool}
 use Rattle.std.specs.List.{flat_map}
 use Rattle.cborn_model.specs.Bytes.{AreBytes}
 use Rattle.cborn_model.specs.declared.heads.Width.{Width}
 use Rattle.cborn_model.specs.declared.nodes.Chunk.{Chunk}
 use Rattle.cborn_model.specs.declared.heads.Major.{Major}
-use Rattle.cborn_model.specs.declared.heads.Major.TheVariants.{Unsigned, Negative, ByteString, TextString, Array, Map, Tag, Other}
 use Rattle.cborn_model.specs.Heads.{Argument, Given, Unbounded, head, WidthFits}
 use Rattle.cborn_model.specs.Tree.{Tree, Uint, Nint, Bytes, Text, ByteChunks, TextChunks, Items, Pairs, Tagged, Simple}
-use Rattle.cborn_model.specs.Spelled.{spelled, Fits, ChunksFit, chunk_bytes, ending}
+use Rattle.cborn_model.specs.Spelled.{Fits, ChunksFit, chunk_bytes}
 use Rattle.cborn_wire.specs.Parts.{NodeRead, ChunkRead, ChunksRead, Leaves}
 use Rattle.cborn_descent.specs.declared.descents.Descent.{Descent}
 use Rattle.cborn_descent.specs.declared.descents.Descent.TheVariants.{Taken, Malformed, Stopped}
 use Rattle.cborn_wire.specs.HeadReading.{ArgumentFits}
 use Rattle.cborn_wire.proofs.Parts.Strings.{byte_chunks_read, text_chunks_read}
-use Rattle.cborn_descent.specs.Descending.{Only, Never, Descended, ChunkDescended, string_node, chunks_node, major_of, ChunkFails, BlamesChunk, BlamesString}
+use Rattle.cborn_descent.specs.Descending.{Only, Never, Descended, ChunkDescended, chunks_node, major_of, ChunkFails, BlamesChunk, BlamesString}
 use Rattle.cborn_wire.specs.Parts.{StringRead}
 use Rattle.cborn_descent.proofs.Texts.{string_only, string_bytes}
 use Rattle.cborn_wire.proofs.Parts.Openings.{opening, contents, opened, one_front}

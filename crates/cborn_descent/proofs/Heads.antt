@@ -1,5 +1,5 @@
 -- No node stands where no head does, or one that begins none.
-use Rattle.std.proofs.Common.{◌≡◌, ℕ, suc, ◌+◌, ◌*◌, ◌/◌, ◌%◌, ◌-◌, ◌<◌, ◌≤◌, List, [], ◌∷◌, ◌++◌, length, drop, refl, sym, ap, ◌∙◌, subst, arith, append_assoc, append-nil, length-append, Option, Some, None, true, false, Bool, ◌⊎◌, inl, inr}
+use Rattle.std.proofs.Common.{◌≡◌, ℕ, ◌+◌, ◌*◌, ◌%◌, ◌<◌, ◌≤◌, List, [], ◌++◌, length, refl, sym, ap, ◌∙◌, subst, arith, append_assoc, append-nil, length-append, Some, None, true, false, Bool, inl, inr}
 use Rattle.std.specs.Prelude.{IsTrue}
 use Rattle.cborn_model.specs.declared.heads.Width.{Width}
 use Rattle.cborn_model.specs.declared.heads.Width.TheVariants.{Direct, One, Two, Four, Eight}
@@ -16,7 +16,7 @@ use Rattle.cborn_wire.specs.shared.InitialBytes.{info_at, info_for, is_reserved,
 use Rattle.cborn_wire.proofs.HeadReading.InitialBytes.{same_alone}
 use Rattle.cborn_wire.proofs.Machine.TakesHeads.{quotient, remainder, info_at-now}
 use Rattle.std.proofs.lemmas.Bool.{le-ltb, ltb-false}
-use Rattle.cborn_model.specs.Spelled.{spelled, Fits}
+use Rattle.cborn_model.specs.Spelled.{Fits}
 use Rattle.cborn_wire.specs.HeadReading.{IsFrontOfHead, IsHeadOf, ArgumentFits, ReadsHead, reason_alone, seen_argument}
 use Rattle.cborn_wire.specs.declared.heads.Argument as read
 use Rattle.cborn_wire.specs.declared.heads.Argument.TheVariants as arguments
@@ -26,8 +26,7 @@ use Rattle.std.proofs.Common.{ltb}
 use Rattle.cborn_wire.specs.declared.heads.Head.{Head}
 use Rattle.cborn_wire.specs.declared.heads.HeadRead.{HeadRead}
 use Rattle.cborn_wire.specs.declared.heads.HeadRead.TheVariants.{Full, Short, Bad}
-use Rattle.cborn_wire.specs.Parts.{NodeRead}
-use Rattle.cborn_descent.specs.Descending.{Only, Never}
+use Rattle.cborn_descent.specs.Descending.{Only}
 use Rattle.cborn_wire.proofs.Parts.Openings.{opening, contents, opens, opened, one_argument, opening_fits}
 
 -- the front of a head

@@ -1,7 +1,6 @@
 -- Where no node stands at the front, or of each that stands there something holds that rises.
-use Rattle.std.proofs.Common.{◌≡◌, ℕ, suc, ◌+◌, ◌-◌, ◌<◌, ◌≤◌, List, [], ◌∷◌, ◌++◌, length, refl, sym, ap, ◌∙◌, subst, arith, Bool, true, false, Option, Some, None, ◌≢◌, ◌⊎◌, inl, inr, append_assoc, append-nil, length-append}
+use Rattle.std.proofs.Common.{◌≡◌, ℕ, suc, ◌+◌, ◌-◌, ◌<◌, ◌≤◌, List, ◌∷◌, ◌++◌, length, refl, sym, ap, ◌∙◌, subst, arith, Bool, true, false, Option, Some, None, ◌≢◌, ◌⊎◌, inl, inr, length-append}
 use Rattle.cborn_model.specs.declared.heads.Width.{Width}
-use Rattle.cborn_model.specs.declared.heads.Size.{Size}
 use Rattle.cborn_model.specs.declared.heads.Major.TheVariants.{Array, Tag}
 use Rattle.cborn_model.specs.Heads.{Given, Unbounded, head, WidthFits}
 use Rattle.cborn_model.specs.Tree.{Tree, Items, Tagged, trees, depth}
@@ -9,13 +8,13 @@ use Rattle.cborn_model.specs.Spelled.{spelled, spelled_all, Fits}
 use Rattle.cborn_wire.specs.Parts.{NodeRead, NodesRead}
 use Rattle.cborn_descent.specs.Descending.{Only, Never, Rises, Always, ItemsFail, Fails, Descended}
 use Rattle.std.specs.Prelude.{MatchOption, OnSome}
-use Rattle.cborn_model.specs.declared.heads.Size.TheVariants.{Fixed, Endless}
-use Rattle.cborn_wire.proofs.Parts.Nodes.{nodes_as, nodes_more, nodes_within, array_read}
+use Rattle.cborn_model.specs.declared.heads.Size.TheVariants.{Fixed}
+use Rattle.cborn_wire.proofs.Parts.Nodes.{nodes_as, nodes_more, array_read}
 use Rattle.cborn_descent.specs.declared.descents.Descent.{Descent}
 use Rattle.cborn_descent.specs.declared.descents.Descent.TheVariants.{Taken, Malformed, Stopped}
 use Rattle.cborn_wire.proofs.HeadReading.HeadFronts.{no_head}
 use Rattle.cborn_descent.proofs.Heads.{short_never}
-use Rattle.cborn_wire.proofs.Parts.Openings.{opening, contents, opened}
+use Rattle.cborn_wire.proofs.Parts.Openings.{contents, opened}
 use Rattle.cborn_descent.proofs.Inside.{ItemsIn, Next, array_in, endless_array_in, tag_of, next_of, next_before_break, bytes_of}
 
 pub never_rises : Rises Never

@@ -1,17 +1,16 @@
 -- Pairs that were read, and the one behind them that isn't there: as of items in `Inside` and `Onlies`.
-use Rattle.std.proofs.Common.{◌≡◌, ℕ, suc, ◌+◌, ◌-◌, ◌<◌, ◌≤◌, ◌⊎◌, inl, inr, List, [], ◌∷◌, ◌++◌, length, refl, sym, ap, ◌∙◌, subst, arith, append_assoc, append-nil, length-append}
+use Rattle.std.proofs.Common.{◌≡◌, ℕ, ◌-◌, ◌<◌, ◌≤◌, ◌⊎◌, inl, inr, List, [], ◌∷◌, ◌++◌, length, refl, sym, ap, ◌∙◌, subst, arith, append_assoc, append-nil, length-append}
 use Rattle.cborn_model.specs.declared.heads.Width.{Width}
 use Rattle.cborn_model.specs.declared.heads.Size.{Size}
 use Rattle.cborn_model.specs.declared.heads.Size.TheVariants.{Fixed, Endless}
-use Rattle.cborn_model.specs.declared.heads.Major.{Major}
-use Rattle.cborn_model.specs.declared.heads.Major.TheVariants.{Unsigned, Negative, ByteString, TextString, Array, Map, Tag, Other}
-use Rattle.cborn_model.specs.Heads.{Argument, Given, Unbounded, head, WidthFits}
-use Rattle.cborn_model.specs.Tree.{Tree, Uint, Nint, Bytes, Text, ByteChunks, TextChunks, Items, Pairs, Tagged, Simple, Entries, no_entry, entry, entries, depth, depth_entries, count_entries}
+use Rattle.cborn_model.specs.declared.heads.Major.TheVariants.{Map}
+use Rattle.cborn_model.specs.Heads.{Given, Unbounded, head, WidthFits}
+use Rattle.cborn_model.specs.Tree.{Tree, Uint, Nint, Bytes, Text, ByteChunks, TextChunks, Items, Pairs, Tagged, Simple, Entries, no_entry, entry, entries, depth, depth_entries}
 use Rattle.cborn_model.specs.Spelled.{spelled, spelled_entries, Fits, FitsEntries}
 use Rattle.cborn_model.proofs.Listed.Trees.{count_entries-entries}
-use Rattle.cborn_wire.specs.Parts.{Pair, NodeRead, PairRead, PairsRead}
-use Rattle.cborn_descent.specs.Descending.{Only, Never, Rises, PairFails}
-use Rattle.cborn_wire.proofs.Parts.Openings.{opening, contents, opens, opened, one_front}
+use Rattle.cborn_wire.specs.Parts.{Pair, NodeRead, PairsRead}
+use Rattle.cborn_descent.specs.Descending.{Only, Rises, PairFails}
+use Rattle.cborn_wire.proofs.Parts.Openings.{opening, contents, opened, one_front}
 use Rattle.cborn_descent.proofs.Inside.{no_break, some_byte}
 
 listed_pairs : (es : Entries) → (l : List Pair) × (entries l ≡ es)

@@ -1,17 +1,13 @@
 -- Strings that end too early, and those that are blamed.
-use Rattle.std.proofs.Common.{◌≡◌, ℕ, suc, ◌+◌, ◌-◌, ◌<◌, ◌≤◌, List, [], ◌∷◌, ◌++◌, length, take, drop, refl, sym, ap, ◌∙◌, subst, arith, append_assoc, append-nil, length-append, true, false, Bool}
+use Rattle.std.proofs.Common.{◌≡◌, ℕ, ◌<◌, ◌≤◌, List, ◌++◌, length, take, drop, refl, sym, ap, ◌∙◌, subst, arith, length-append, true, false, Bool}
 use Rattle.cborn_model.specs.declared.heads.Width.{Width}
-use Rattle.cborn_model.specs.declared.heads.Major.{Major}
-use Rattle.cborn_model.specs.declared.heads.Major.TheVariants.{Unsigned, Negative, ByteString, TextString, Array, Map, Tag, Other}
-use Rattle.cborn_model.specs.Heads.{Argument, Given, Unbounded, head, WidthFits}
+use Rattle.cborn_model.specs.Heads.{Given, head, WidthFits}
 use Rattle.cborn_model.specs.Tree.{Tree, Uint, Nint, Bytes, Text, ByteChunks, TextChunks, Items, Pairs, Tagged, Simple}
-use Rattle.cborn_model.specs.Spelled.{spelled, Fits}
 use Rattle.cborn_model.proofs.Numbers.OneHead.{append_same}
 use Rattle.cborn_model.specs.Bytes.{AreBytes}
-use Rattle.cborn_model.proofs.Bytes.{bytes-left}
 use Rattle.cborn_wire.specs.Parts.{NodeRead, StringRead}
 use Rattle.cborn_wire.proofs.Parts.Strings.{string_front, bytes_read, text_read}
-use Rattle.cborn_descent.specs.Descending.{Only, Never, string_node, major_of, BlamesString}
+use Rattle.cborn_descent.specs.Descending.{Only, string_node, major_of, BlamesString}
 use Rattle.cborn_wire.proofs.Parts.Openings.{opening, contents, opened}
 
 string_is : (text : Bool) (t : Tree) (w : Width) (n : ℕ) → (opening t).0 ≡ major_of text → (opening t).1 ≡ Given w n → (p : ℕ) × (v : Width) × (t ≡ string_node text p v (contents t)) × (length (contents t) ≡ n)

@@ -1,6 +1,6 @@
 -- What a descent says of the front of its input (RFC 8949 section 3): a node stands there, which the sink took; or none does; or the sink stopped at it.
 -- Start with Descended. It is of any sink: P is what holds of a node that the sink took, and B what holds of one at which it stopped.
-use Rattle.std.specs.Prelude.{◌≡◌, ℕ, ◌<◌, ◌≤◌, ◌⊎◌, List, [], ◌∷◌, ◌++◌, Bool, true, false}
+use Rattle.std.specs.Prelude.{◌≡◌, ℕ, ◌<◌, ◌≤◌, ◌⊎◌, List, ◌∷◌, ◌++◌, Bool, true, false}
 use Rattle.cborn_model.specs.declared.nodes.Chunk.{Chunk}
 use Rattle.cborn_model.specs.declared.heads.Width.{Width}
 use Rattle.cborn_model.specs.declared.heads.Size.{Size}

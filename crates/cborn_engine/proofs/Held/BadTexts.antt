@@ -99,6 +99,6 @@ lowest_bad_text nodes p h = record { is = bad_among h.is.0 p h.is.2 nodes h.is.1
 -- bytes that hold items have a notation
 pub held_shows : (limit : ℕ) (x : List ℕ) (items : List Value) → Holds kind.Wire limit x items → HasNoNotation limit x → ⊥
 unfolding HasNoNotation
-held_shows limit x items h no =
-    no (trees h.nodes) h.spelled
+held_shows limit x items h none =
+    none (trees h.nodes) h.spelled
     (λ p b. let f = flawed_among p (trees h.nodes) b in sound_all (trees h.nodes) (values_of items) (all_mean h.nodes items h.meant) f.0 f.1 p NotUtf8 f.2)

@@ -12,7 +12,6 @@ use Rattle.cborn_lex.specs.declared.classes.Profile.{Profile}
 use Rattle.cborn_lex.proofs.WholeTexts.Weights.{utf8_bytes}
 use Rattle.cborn_edn.specs.declared.strings.StringKind.{StringKind}
 use Rattle.cborn_edn.specs.declared.strings.StringKind.TheVariants.{Bytes as OfBytes, Text as OfText}
-use Rattle.cborn_edn.specs.declared.slips.Slip.{Slip}
 use Rattle.cborn_edn.specs.declared.faults.EdnReason.{EdnReason}
 use Rattle.cborn_edn.specs.declared.faults.EdnReason.TheVariants.{MixedChunks, TextNotUtf8}
 use Rattle.cborn_edn.specs.Says.{unless, mark_slips, string_slips, chunk_slips, is_good, same_kind, is_endless, is_small, is_below, argument_of, integer, bignum, width, is_nil, number_node, string_node, chunked_node, said_string, chunk, Str}
@@ -65,16 +64,16 @@ string_good may_end s k e = go s.known k (nothing_in (mark_slips may_end s) _ e)
     go true k e = met (is_good s.kind s.bytes) s.place TextNotUtf8 e
     go false k e = absurd cc
 
-nil_known : (l : List Slip) → l ≡ [] → is_nil l ≡ true
+nil_known : {A : Type 0} (l : List A) → l ≡ [] → is_nil l ≡ true
 nil_known [] e = refl
 nil_known (x ∷ l) e = absurd cc
 
-piece_known : {p : Profile} {d : ℕ} {x : List Token} {s : Str} {l : List Slip} → IsPiece p d x s l → l ≡ [] → s.known ≡ true
+piece_known : {p : Profile} {d : ℕ} {x : List Token} {s : Str} {l : _} → IsPiece p d x s l → l ≡ [] → s.known ≡ true
 piece_known (text_piece a) e = refl
 piece_known (byte_piece a) e = refl
 piece_known {l = l} (embedded a b m h) e = nil_known l e
 
-pieces_known : {p : Profile} {d : ℕ} {x : List Token} {s : Str} {l : List Slip} → ArePieces p d x s l → l ≡ [] → s.known ≡ true
+pieces_known : {p : Profile} {d : ℕ} {x : List Token} {s : Str} {l : _} → ArePieces p d x s l → l ≡ [] → s.known ≡ true
 pieces_known (piece h) e = piece_known h e
 pieces_known (also {l = l} {r = r} h k) e =
     let f = nothing_in l _ e in
@@ -93,7 +92,7 @@ kind_same OfText OfText e f = refl
 kind_same OfText OfBytes e f = absurd cc
 kind_same OfBytes l e f = absurd cc
 
-chunks_texts : {p : Profile} {d : ℕ} {x : List Token} {k : StringKind} {cs : List Chunk} {l : List Slip} → AreChunks p d x k cs l → l ≡ [] → k ≡ OfText → AreTexts cs
+chunks_texts : {p : Profile} {d : ℕ} {x : List Token} {k : StringKind} {cs : List Chunk} {l : _} → AreChunks p d x k cs l → l ≡ [] → k ≡ OfText → AreTexts cs
 chunks_texts (first {s = s} {l = l} h) e t =
     let f = nothing_in l _ e in
     (text_good s.kind s.bytes t (string_good false s (pieces_known h f.0) f.1), tt)
@@ -110,7 +109,7 @@ chunked_shows OfText p cs h = h refl
 -- ---- items
 
 mutual
-  item_shows : {p : Profile} {d : ℕ} {x : List Token} {t : Tree} {l : List Slip} → IsItem p d x t l → l ≡ [] → IsShowable t
+  item_shows : {p : Profile} {d : ℕ} {x : List Token} {t : Tree} {l : _} → IsItem p d x t l → l ≡ [] → IsShowable t
   item_shows (number {v = v} {n = n} {m = m} a low) e = number_shows a.start n v m
   item_shows (word a) e = tt
   item_shows (simple a b c low) e = tt
@@ -120,34 +119,34 @@ mutual
   item_shows (string {s = s} {l = l} h) e = let f = nothing_in l _ e in said_shows s (string_good s.lone s (pieces_known h f.0) f.1)
   item_shows (chunked {k = k} {cs = cs} a b h) e = chunked_shows k a.start cs (chunks_texts h e)
 
-  items_show : {p : Profile} {d : ℕ} {x : List Token} {ts : Trees} {l : List Slip} → AreItems p d x ts l → l ≡ [] → EachShowable ts
+  items_show : {p : Profile} {d : ℕ} {x : List Token} {ts : Trees} {l : _} → AreItems p d x ts l → l ≡ [] → EachShowable ts
   items_show (last h) e = (item_shows h e, tt)
   items_show (before {l = l} a h k) e = let f = nothing_in l _ e in (item_shows h f.0, items_show k f.1)
 
-  content_shows : {p : Profile} {d : ℕ} {x : List Token} {ts : Trees} {l : List Slip} → IsContent p d x ts l → l ≡ [] → EachShowable ts
+  content_shows : {p : Profile} {d : ℕ} {x : List Token} {ts : Trees} {l : _} → IsContent p d x ts l → l ≡ [] → EachShowable ts
   content_shows empty e = tt
   content_shows (tight h) e = items_show h e
   content_shows (loose a q h) e = items_show h e
 
-  pairs_show : {p : Profile} {d : ℕ} {x : List Token} {es : Entries} {l : List Slip} → ArePairs p d x es l → l ≡ [] → ArePairsShowable es
+  pairs_show : {p : Profile} {d : ℕ} {x : List Token} {es : Entries} {l : _} → ArePairs p d x es l → l ≡ [] → ArePairsShowable es
   pairs_show (last_pair {l = l} a h k) e = let f = nothing_in l _ e in (item_shows h f.0, item_shows k f.1, tt)
   pairs_show (pair_before {l = l} {r = r} a c h k q) e =
       let f = nothing_in l _ e in
       let g = nothing_in r _ f.1 in
       (item_shows h f.0, item_shows k g.0, pairs_show q g.1)
 
-  fields_show : {p : Profile} {d : ℕ} {x : List Token} {es : Entries} {l : List Slip} → IsFields p d x es l → l ≡ [] → ArePairsShowable es
+  fields_show : {p : Profile} {d : ℕ} {x : List Token} {es : Entries} {l : _} → IsFields p d x es l → l ≡ [] → ArePairsShowable es
   fields_show no_fields e = tt
   fields_show (tight_fields h) e = pairs_show h e
   fields_show (loose_fields a q h) e = pairs_show h e
 
-text_shows : {p : Profile} {d : ℕ} {x : List Token} {ts : Trees} {l : List Slip} → IsText p d x ts l → l ≡ [] → EachShowable ts
+text_shows : {p : Profile} {d : ℕ} {x : List Token} {ts : Trees} {l : _} → IsText p d x ts l → l ≡ [] → EachShowable ts
 text_shows nothing e = tt
 text_shows (items h) e = items_show h e
 
 -- the bytes that a text notates have a notation
 pub spelled_shows : (p : Profile) (limit : ℕ) (text bytes : List ℕ) → length text ≤ most_bytes → IsUtf8 text → IsSpelling p limit text bytes → HasNoNotation limit bytes → ⊥
 unfolding HasNoNotation
-spelled_shows p limit text bytes within u s no =
+spelled_shows p limit text bytes within u s none =
     let f = notated_fits p limit text (trees s.nodes) (utf8_bytes text u) (omega (arith, within)) s.notated in
-    no (trees s.nodes) (record { spells = s.spells; fit = f.0; shallow = f.1 }) (are_showable (trees s.nodes) (text_shows s.notated.2 refl))
+    none (trees s.nodes) (record { spells = s.spells; fit = f.0; shallow = f.1 }) (are_showable (trees s.nodes) (text_shows s.notated.2 refl))

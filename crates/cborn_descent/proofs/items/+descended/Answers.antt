@@ -1,15 +1,15 @@
-use Rattle.std.proofs.Common.{rules, ◌≡◌, ◌≢◌, ◌+◌, ◌-◌, ◌<◌, ◌∷◌, ◌++◌, ℕ, List, [], length, drop, refl, sym, ap, ◌∙◌, subst, arith, inl, inr}
+use Rattle.std.proofs.Common.{◌≢◌, ◌+◌, ℕ, List, refl, sym, ap, ◌∙◌, subst, arith, inl, inr}
 use Rattle.std.proofs.lemmas.List.{take_rest}
 use Rattle.cborn_model.specs.declared.heads.Size.TheVariants.{Fixed, Endless}
 use Rattle.cborn_model.specs.Heads.{Given, Unbounded, WidthFits}
-use Rattle.cborn_model.specs.Tree.{Tree, Uint, Nint, Simple}
-use Rattle.cborn_wire.specs.Parts.{NodesRead, NodeRead}
+use Rattle.cborn_model.specs.Tree.{Uint, Nint, Simple}
+use Rattle.cborn_wire.specs.Parts.{NodesRead}
 use Rattle.cborn_wire.proofs.Parts.Heads.{read_from}
 use Rattle.cborn_wire.proofs.Parts.Nodes.{uint_read, nint_read, node_more, node_last, tagged_read, endless_array_read, simple_read}
 use Rattle.cborn_wire.specs.declared.heads.Argument.TheVariants as arguments
 use Rattle.cborn_descent.specs.Descending.{Only, Never, Descended}
 use Rattle.cborn_descent.proofs.Heads.{head_never, endless_never, by_nots, simple_head}
-use Rattle.cborn_descent.proofs.Onlies.{array_deep, array_short, endless_array_deep, tag_deep, always_only, refused, leaf, tag_descended, items_always, items_next, array_descended, endless_descended, array_closed, items_run, endless_all}
+use Rattle.cborn_descent.proofs.Onlies.{array_deep, array_short, endless_array_deep, tag_deep, always_only, leaf, tag_descended, items_always, items_next, array_descended, endless_descended, array_closed, items_run, endless_all}
 use Rattle.cborn_wire.proofs.Parts.Pairs.{pair_read, pair_more, endless_map_read}
 use Rattle.cborn_descent.proofs.Pairs.{map_deep, map_short, endless_map_deep}
 use Rattle.cborn_descent.proofs.Maps.{map_closed, map_descended, endless_map_descended, endless_map_all, pairs_always, pairs_next, pair_last, pair_always, key_stops, value_stops, none_ends, pair_some}

@@ -1,4 +1,4 @@
-use Rattle.std.proofs.Common.{◌≡◌, ℕ, ◌+◌, ◌*◌, ◌≤◌, List, [], length}
+use Rattle.std.proofs.Common.{◌+◌, ◌*◌, ◌≤◌, [], length}
 use Rattle.cborn_model.specs.Heads.{Argument}
 use Rattle.cborn_wire.specs.Parts.{NodesRead, PairsRead}
 use Rattle.cborn_descent.proofs.items.+descended.Given as goal

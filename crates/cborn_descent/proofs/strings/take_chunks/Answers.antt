@@ -1,6 +1,5 @@
-use Rattle.std.proofs.Common.{rules, ◌≡◌, ◌+◌, ◌∷◌, ◌++◌, ℕ, List, [], length, refl, arith, length-append}
+use Rattle.std.proofs.Common.{◌∷◌, [], arith, length-append}
 use Rattle.cborn_wire.proofs.Parts.Strings.{chunk_more}
-use Rattle.cborn_descent.specs.Descending.{Only}
 use Rattle.cborn_descent.proofs.Onlies.{always_only}
 use Rattle.cborn_descent.proofs.Chunks.{chunks_stop, chunk_last, chunk_some}
 use Rattle.cborn_descent.proofs.strings.take_chunks.Goals as goal

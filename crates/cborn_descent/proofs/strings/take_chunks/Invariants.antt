@@ -1,5 +1,4 @@
-use Rattle.std.proofs.Common.{◌≡◌, ℕ, ◌+◌, ◌≤◌, List, [], length}
-use Rattle.cborn_model.specs.declared.nodes.Chunk.{Chunk}
+use Rattle.std.proofs.Common.{◌≡◌, ◌+◌, ◌≤◌, [], length}
 use Rattle.cborn_wire.specs.Parts.{ChunksRead}
 use Rattle.cborn_descent.specs.Descending.{major_of}
 use Rattle.cborn_descent.proofs.strings.take_chunks.Given as goal

@@ -178,7 +178,7 @@ search_pairs-pairs-preserved t c =
     let first : IsEarliestTold joined.first val.flaw new.first = subst (λ (m : SearchedMap). IsEarliestTold m.first val.flaw new.first) c.deref_mut-in-pairs.ensures.value c.note.ensures.first in
     let next = pairs_more c.args.only_texts c.args.room c.args.total c.pairs.count c.args.bytes.now mid half rest new.first val.flaw val.is_string i.0 old joined c.requires.within so_far c.in_ok-middle.ensures v first marked in
     let kept : AreMarked c.args.total c.args.bytes.now (c.args.total - length rest) next.0 new.keys = subst (AreMarked c.args.total c.args.bytes.now (c.args.total - length rest) next.0) (sym c.note.ensures.keys) (subst (λ (m : SearchedMap). AreMarked c.args.total c.args.bytes.now (c.args.total - length rest) next.0 m.keys) (sym c.deref_mut-in-pairs.ensures.value) next.2) in
-    let more : c.pairs.count ≢ c.args.most = c.pairs-test.ensures in
+    let more : c.pairs.count ≢ c.args.most = c.pairs-test.ensures.0 in
     (next.0, next.1, kept, omega (arith, i.3), omega (arith, pairs_left next.1, c.requires.within))
 
 pub search_pairs-returns : goal.search_pairs-returns
