@@ -1,7 +1,10 @@
 //! That texts are read token by token: by their contracts these calls could answer want of memory
 //! each time. Which tokens they are is a clause.
 
-use cborn_lex::{Profile, token_from, tokens};
+use cborn_lex::{BareToken, Kind, LexFault, Mark, Profile, next_token, token_from, tokens};
+use cborn_model::Width;
+use std::alloc::Global;
+use std::process::Abort;
 use std::test::Fail;
 
 /// Each kind of token, with indicators and without; and how many they are.
@@ -32,5 +35,139 @@ fn reads_token_by_token(rt: HostRuntime) -> Result<(), Fail> {
         }
     }
     assert_eq!(rt; at, TEXT.len() as u64);
+    Ok(())
+}
+
+/// A byte string with a prefix and no indicator.
+const PREFIXED: Kind = Kind::Bytes {
+    quoted: false,
+    mark: Mark::Absent,
+};
+
+/// A byte string in single quotes.
+const QUOTED: Kind = Kind::Bytes {
+    quoted: true,
+    mark: Mark::Absent,
+};
+
+/// An integer with no minus and no indicator.
+const PLAIN: Kind = Kind::Number {
+    negative: false,
+    mark: Mark::Absent,
+};
+
+/// An integer with a minus and no indicator.
+const NEGATIVE: Kind = Kind::Number {
+    negative: true,
+    mark: Mark::Absent,
+};
+
+/// A text string with no indicator.
+const TEXT_STRING: Kind = Kind::Text(Mark::Absent);
+
+/// Tokens as a text has them: the kind of each, the number of an integer or a tag, and the bytes of
+/// a string. They are examples of RFC 8949, section 8 and appendix A, and of RFC 8610, appendix G.
+const EXAMPLES: [(&str, Kind, Option<u128>, &[u8]); 37] = [
+    ("h'12345678'", PREFIXED, None, b"\x12\x34\x56\x78"),
+    ("b64'EjRWeA'", PREFIXED, None, b"\x12\x34\x56\x78"),
+    (
+        "'hello world'",
+        QUOTED,
+        None,
+        b"\x68\x65\x6c\x6c\x6f\x20\x77\x6f\x72\x6c\x64",
+    ),
+    ("h'48 65 6c 6c 6f'", PREFIXED, None, b"\x48\x65\x6c\x6c\x6f"),
+    (
+        "h'68656c /doubled l!/ 6c6f /hello/'",
+        PREFIXED,
+        None,
+        b"hello",
+    ),
+    ("\"IETF\"", TEXT_STRING, None, b"\x49\x45\x54\x46"),
+    ("\"\"", TEXT_STRING, None, b""),
+    ("\"\\\"\\\\\"", TEXT_STRING, None, b"\x22\x5c"),
+    ("\"\\u00fc\"", TEXT_STRING, None, b"\xc3\xbc"),
+    ("\"\\u6c34\"", TEXT_STRING, None, b"\xe6\xb0\xb4"),
+    ("\"\\ud800\\udd51\"", TEXT_STRING, None, b"\xf0\x90\x85\x91"),
+    (
+        "\"http://www.example.com\"",
+        TEXT_STRING,
+        None,
+        b"\x68\x74\x74\x70\x3a\x2f\x2f\x77\x77\x77\x2e\x65\x78\x61\x6d\x70\x6c\x65\x2e\x63\x6f\x6d",
+    ),
+    ("0", PLAIN, Some(0), b""),
+    ("1000000000000", PLAIN, Some(1000000000000), b""),
+    (
+        "18446744073709551615",
+        PLAIN,
+        Some(0xffff_ffff_ffff_ffff),
+        b"",
+    ),
+    (
+        "18446744073709551616",
+        PLAIN,
+        Some(0x1_0000_0000_0000_0000),
+        b"",
+    ),
+    ("-100", NEGATIVE, Some(100), b""),
+    ("4711", PLAIN, Some(4711), b""),
+    ("0x1267", PLAIN, Some(4711), b""),
+    ("0o11147", PLAIN, Some(4711), b""),
+    ("0b1001001100111", PLAIN, Some(4711), b""),
+    ("32(", Kind::TagOpen(Mark::Absent), Some(32), b""),
+    ("false", Kind::Word(20), None, b""),
+    ("true", Kind::Word(21), None, b""),
+    ("null", Kind::Word(22), None, b""),
+    ("undefined", Kind::Word(23), None, b""),
+    ("simple(", Kind::SimpleOpen, None, b""),
+    ("[_", Kind::ArrayOpen(Mark::Endless), None, b""),
+    ("{_1", Kind::MapOpen(Mark::Wide(Width::Two)), None, b""),
+    ("(_", Kind::ChunkOpen, None, b""),
+    ("<<", Kind::EmbedOpen, None, b""),
+    (
+        ">>_3",
+        Kind::EmbedClose(Mark::Wide(Width::Eight)),
+        None,
+        b"",
+    ),
+    ("]", Kind::ArrayClose, None, b""),
+    ("}", Kind::MapClose, None, b""),
+    (")", Kind::ParenClose, None, b""),
+    (",", Kind::Comma, None, b""),
+    (":", Kind::Colon, None, b""),
+];
+
+/// Catches a token of another kind, span or number, and a string that isn't appended, or that is
+/// appended as something else.
+#[test]
+fn gives_tokens_in_two_parts(rt: HostRuntime) -> Result<(), Fail> {
+    for (token, kind, number, content) in EXAMPLES {
+        gives(&rt, rt.alloc(), token, kind, number, content)?;
+    }
+    Ok(())
+}
+
+/// The token stands in its text with this number and this content.
+fn gives(
+    rt: &impl Abort,
+    alloc: Global,
+    token: &str,
+    kind: Kind,
+    number: Option<u128>,
+    content: &[u8],
+) -> Result<(), LexFault> {
+    let mut found: u128 = 0;
+    let mut out = Vec::from_slice(alloc, b"before")?;
+    let read = next_token(alloc, Profile::One, token, 0, &mut found, &mut out)?;
+    let wanted = BareToken {
+        start: 0,
+        stop: token.len(),
+        kind,
+    };
+    assert_eq!(rt; read, Some(wanted), "{token}");
+    assert_eq!(rt; out.get(6..), Some(content), "{token}");
+    if let Some(number) = number {
+        assert_eq!(rt; found, number, "{token}");
+    }
     Ok(())
 }
