@@ -9,7 +9,7 @@ ghost use Rattle.cborn_det.specs.devices.Writing.{AppendsPair, BeginsWith, IsWri
 ghost use Rattle.cborn_det.specs.Det.{Det, DetSeq, DetPairs, Entry};
 
 use crate::entries::arrange;
-use crate::heads::push_shortest;
+use crate::heads::put_head;
 use crate::parts::{push_integer, push_simple, push_string};
 use cborn_model::{Item, KeyOrder, Major, Valid};
 use std::alloc::{AllocError, Global};
@@ -100,7 +100,7 @@ fn push_item<O: KeyOrder>(alloc: Global, item: &Item, out: &mut Vec<u8>) -> Resu
         Item::Text(text) => push_string(Major::TextString, text.as_bytes(), out),
         Item::Items(items) => {
             let items = items.as_slice();
-            push_shortest(Major::Array, items.len() as u64, out)?;
+            put_head(Major::Array, items.len() as u64, out)?;
             push_items::<O>(alloc, items, out)?;
             Ok(())
         }
@@ -109,7 +109,7 @@ fn push_item<O: KeyOrder>(alloc: Global, item: &Item, out: &mut Vec<u8>) -> Resu
             Ok(())
         }
         Item::Tagged(tag, content) => {
-            push_shortest(Major::Tag, *tag, out)?;
+            put_head(Major::Tag, *tag, out)?;
             push_item::<O>(alloc, content.get(), out)?;
             Ok(())
         }
@@ -144,7 +144,7 @@ fn push_map<O: KeyOrder>(
     requires new { HasNewKeys (pairs_of (map pair_value pairs.now)) }
     ensures { Writes result (Det O.order (dict (pairs_of (map pair_value pairs.now)))) out.old.items out.new.items }
 {
-    push_shortest(Major::Map, pairs.len() as u64, out)?;
+    put_head(Major::Map, pairs.len() as u64, out)?;
     let start = out.len();
     let lengths = push_pairs::<O>(alloc, pairs, out)?;
     arrange::<O>(alloc, &lengths, start, out)?;

@@ -1,28 +1,22 @@
 //! The shortest head, at the end of a buffer or in the place of a byte. The passes of the crates
 //! above write by these, whose every width is a branch of its own.
 
-ghost use Rattle.std.specs.Prelude.{◌≡◌, ◌<◌, ◌++◌, ◌∷◌, length, OnSome, OnOk, OnErr};
+ghost use Rattle.std.specs.Prelude.{◌≡◌, ◌<◌, ◌++◌, ◌∷◌, ℕ, List, length, take, OnOk, OnErr};
 ghost use Rattle.std.specs.Int.{w16, w32, w64, to_be_bytes};
 ghost use Rattle.cborn_model.specs.Heads.{code, IsLeastHead};
 ghost use Rattle.cborn_det.specs.Appending.{Appends, Replaces};
-ghost use Rattle.cborn_det.specs.devices.Writing.{Writes};
 
 use cborn_model::Major;
 use std::alloc::{AllocError, Global};
 
-/// Appends the shortest head of the major type with the argument `n` (RFC 8949 section 4.2.1). None
-/// where memory was refused.
+/// Appends the shortest head of the major type with the argument `n` (RFC 8949 section 4.2.1).
+///
+/// # Errors
+/// Where memory was refused; `out` is then as it was.
 #[inline]
-pub fn put_head(major: Major, n: u64, out: &mut Vec<u8>) -> Option<()>
-    ensures { OnSome result (Appends (IsLeastHead (code major) n) out.old.items out.new.items) }
-{
-    push_shortest(major, n, out).ok()
-}
-
-/// The same, with want of memory as an error; `out` then begins with what it was.
-#[inline]
-pub(crate) fn push_shortest(major: Major, n: u64, out: &mut Vec<u8>) -> Result<(), AllocError>
-    ensures { Writes result (IsLeastHead (code major) n) out.old.items out.new.items }
+pub fn put_head(major: Major, n: u64, out: &mut Vec<u8>) -> Result<(), AllocError>
+    ensures appended { OnOk result (Appends (IsLeastHead (code major) n) out.old.items out.new.items) }
+    ensures kept { OnErr result (out.new.items ≡ out.old.items) }
 {
     if n < 24 {
         out.push(major.initial_byte(n as u8))?;
@@ -48,7 +42,7 @@ fn push_two(first: u8, n: u16, out: &mut Vec<u8>) -> Result<(), AllocError>
     out.extend_from_slice(&[first, a, b])
 }
 
-/// The same of four bytes.
+/// Appends an initial byte and an argument of four bytes.
 #[inline]
 fn push_four(first: u8, n: u32, out: &mut Vec<u8>) -> Result<(), AllocError>
     ensures appended { OnOk result (out.new.items ≡ out.old.items ++ first ∷ to_be_bytes w32 n) }
@@ -58,7 +52,7 @@ fn push_four(first: u8, n: u32, out: &mut Vec<u8>) -> Result<(), AllocError>
     out.extend_from_slice(&[first, a, b, c, d])
 }
 
-/// The same of eight bytes.
+/// Appends an initial byte and an argument of eight bytes.
 #[inline]
 fn push_eight(first: u8, n: u64, out: &mut Vec<u8>) -> Result<(), AllocError>
     ensures appended { OnOk result (out.new.items ≡ out.old.items ++ first ∷ to_be_bytes w64 n) }
@@ -69,29 +63,44 @@ fn push_eight(first: u8, n: u64, out: &mut Vec<u8>) -> Result<(), AllocError>
 }
 
 /// Puts the shortest head of the major type with the argument `n` in the place of the byte at
-/// `start`. None where no byte stands there, or memory was refused.
+/// `start`.
+///
+/// # Errors
+/// Where memory was refused; `out` then begins with what stood before that byte.
 #[inline(always)]
-pub fn set_head(alloc: Global, major: Major, n: u64, start: usize, out: &mut Vec<u8>) -> Option<()>
-    ensures { OnSome result ((start < length out.old.items) × Replaces (IsLeastHead (code major) n) start out.old.items out.new.items) }
+pub fn set_head(
+    alloc: Global,
+    major: Major,
+    n: u64,
+    start: usize,
+    out: &mut Vec<u8>,
+) -> Result<(), AllocError>
+    requires { start < length out.old.items }
+    ensures replaced { OnOk result (Replaces (IsLeastHead (code major) n) start out.old.items out.new.items) }
+    ensures kept { OnErr result ((x : List ℕ) × (out.new.items ≡ take start out.old.items ++ x)) }
 {
-    if start >= out.len() {
-        return None;
-    }
     if n < 24 {
         out[start] = major.initial_byte(n as u8);
-        return Some(());
+        return Ok(());
     }
     widen_head(alloc, major, n, start, out)
 }
 
-/// The same, of a head that takes more than the byte.
+/// Puts a head that takes more than the byte in its place.
 #[inline(never)]
-fn widen_head(alloc: Global, major: Major, n: u64, start: usize, out: &mut Vec<u8>) -> Option<()>
+fn widen_head(
+    alloc: Global,
+    major: Major,
+    n: u64,
+    start: usize,
+    out: &mut Vec<u8>,
+) -> Result<(), AllocError>
     requires { start < length out.old.items }
-    ensures { OnSome result (Replaces (IsLeastHead (code major) n) start out.old.items out.new.items) }
+    ensures replaced { OnOk result (Replaces (IsLeastHead (code major) n) start out.old.items out.new.items) }
+    ensures kept { OnErr result ((x : List ℕ) × (out.new.items ≡ take start out.old.items ++ x)) }
 {
-    let content = Vec::from_slice(alloc, &out[start + 1..]).ok()?;
+    let content = Vec::from_slice(alloc, &out[start + 1..])?;
     out.truncate(start);
     put_head(major, n, out)?;
-    out.extend_from_slice(&content).ok()
+    out.extend_from_slice(&content)
 }

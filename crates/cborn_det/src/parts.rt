@@ -7,7 +7,7 @@ ghost use Rattle.cborn_model.specs.Value.{simple};
 ghost use Rattle.cborn_det.specs.devices.Writing.{Writes};
 ghost use Rattle.cborn_det.specs.Det.{Det, IsInteger, IsString};
 
-use crate::heads::push_shortest;
+use crate::heads::put_head;
 use crate::integers::integer_major;
 use cborn_model::{Magnitude, Major, Number};
 use std::alloc::AllocError;
@@ -16,7 +16,7 @@ use std::alloc::AllocError;
 pub(crate) fn push_string(major: Major, bytes: &[u8], out: &mut Vec<u8>) -> Result<(), AllocError>
     ensures { Writes result (IsString (code major) bytes.now) out.old.items out.new.items }
 {
-    push_shortest(major, bytes.len() as u64, out)?;
+    put_head(major, bytes.len() as u64, out)?;
     out.extend_from_slice(bytes)?;
     Ok(())
 }
@@ -31,12 +31,12 @@ pub(crate) fn push_integer(
 {
     match magnitude.number() {
         Number::Word(n) => {
-            push_shortest(integer_major(negative), n, out)?;
+            put_head(integer_major(negative), n, out)?;
             Ok(())
         }
         Number::Long(bytes) => {
             let tag = if negative { 3 } else { 2 };
-            push_shortest(Major::Tag, tag, out)?;
+            put_head(Major::Tag, tag, out)?;
             push_string(Major::ByteString, bytes, out)?;
             Ok(())
         }
@@ -48,6 +48,6 @@ pub(crate) fn push_simple(n: u8, out: &mut Vec<u8>) -> Result<(), AllocError>
     requires { IsTrue (is_simple_value n) }
     ensures { (order : List ℕ → List ℕ → Ordering) → Writes result (Det order (simple n)) out.old.items out.new.items }
 {
-    push_shortest(Major::Other, u64::from(n), out)?;
+    put_head(Major::Other, u64::from(n), out)?;
     Ok(())
 }

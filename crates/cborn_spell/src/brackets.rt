@@ -1,7 +1,7 @@
 //! What opens and closes arrays, maps, strings and embedded items.
 
 ghost use Rattle.std.specs.Prelude.{◌≡◌, ◌≤◌, ◌<◌, [], length, IfSome, OnSome, IsTrue, IsUtf8};
-ghost use Rattle.cborn_model.specs.Heads.{WidthFits, code};
+ghost use Rattle.cborn_model.specs.Heads.{WidthFits, code, least};
 ghost use Rattle.cborn_lex.specs.declared.classes.Class.{Class};
 ghost use Rattle.cborn_lex.specs.declared.classes.Class.TheVariants as classes;
 ghost use Rattle.cborn_lex.specs.Forms.{start_of, single};
@@ -44,7 +44,7 @@ pub(crate) fn close(
     ensures { OnSome result (Closes (code major) mark count start out.old.items out.new.items) }
 {
     match mark {
-        Mark::Absent => set_head(alloc, major, count, start, out),
+        Mark::Absent => set_shortest_head(alloc, major, count, start, out),
         Mark::Endless => out.push(BREAK).ok(),
         Mark::Wide(_) => close_fixed(alloc, major, mark, count, start, out),
     }
@@ -63,7 +63,7 @@ pub(crate) fn close_fixed(
     ensures { OnSome result (ClosesFixed (code major) mark n start out.old.items out.new.items) }
 {
     match mark {
-        Mark::Absent => set_head(alloc, major, n, start, out),
+        Mark::Absent => set_shortest_head(alloc, major, n, start, out),
         Mark::Endless => None,
         Mark::Wide(width) => {
             if !width.holds(n) {
@@ -72,6 +72,24 @@ pub(crate) fn close_fixed(
             set_wide_head(alloc, major, width, n, start, out)
         }
     }
+}
+
+/// Puts the shortest head of the major type with the argument `n` in the place of the byte at
+/// `start`. None where no byte stands there, or memory was refused.
+#[inline(always)]
+pub(crate) fn set_shortest_head(
+    alloc: Global,
+    major: Major,
+    n: u64,
+    start: usize,
+    out: &mut Vec<u8>,
+) -> Option<()>
+    ensures { OnSome result ((start < length out.old.items) × SetsHead (code major) (least n) n start out.old.items out.new.items) }
+{
+    if start >= out.len() {
+        return None;
+    }
+    set_head(alloc, major, n, start, out).ok()
 }
 
 /// Puts the head of the major type with the argument `n`, which fits the width, in the place of the

@@ -4,7 +4,7 @@ ghost use Rattle.std.specs.Prelude.{◌≤◌, ◌<◌, length, IfSome};
 ghost use Rattle.cborn_spell.specs.Descent.{ItemTaken};
 
 use crate::guesses::{is_chunkless, is_joined, is_tag, joins};
-use crate::leaves::put_simple;
+use crate::leaves::{put_head, put_simple};
 use crate::numerals::{below_zero, decimal};
 use crate::pieces::{put_chunked, put_pieces_item};
 use crate::rows::{put_array, put_map};
@@ -13,7 +13,6 @@ use crate::sources::Source;
 use crate::strings::{plain_len, put_plain};
 use crate::tokens::{put_leaf, put_tag_head};
 use crate::words::word;
-use cborn_det::put_head;
 use cborn_model::Major;
 
 /// Appends what the item from `at` on spells, which is no deeper than `room`, and answers where it

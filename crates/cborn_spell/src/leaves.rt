@@ -2,15 +2,23 @@
 
 ghost use Rattle.std.specs.Prelude.{◌≡◌, ◌⊎◌, ◌++◌, ◌∷◌, ◌+◌, ◌*◌, [], true, OnSome, IsTrue, IsUtf8};
 ghost use Rattle.cborn_model.specs.declared.heads.Major.TheVariants.{TextString};
-ghost use Rattle.cborn_model.specs.Heads.{code};
+ghost use Rattle.cborn_det.specs.Appending.{Appends};
+ghost use Rattle.cborn_model.specs.Heads.{code, IsLeastHead};
 ghost use Rattle.cborn_edn.specs.shared.Meaning.{is_absent};
 ghost use Rattle.cborn_spell.specs.Descent.{AddsMarked, AddsString, AddsEmpty, AddsSimple, suits};
 
-use cborn_det::put_head;
 use cborn_edn::StringKind;
 use cborn_lex::Mark;
 use cborn_model::{BREAK, Major, is_simple_value};
 use cborn_wire::push_head;
+
+/// Appends the shortest head of the major type with the argument `n`. None: memory was refused.
+#[inline(always)]
+pub(crate) fn put_head(major: Major, n: u64, out: &mut Vec<u8>) -> Option<()>
+    ensures { OnSome result (Appends (IsLeastHead (code major) n) out.old.items out.new.items) }
+{
+    cborn_det::put_head(major, n, out).ok()
+}
 
 /// Appends the head that the indicator asks for.
 pub(crate) fn put_marked(major: Major, mark: Mark, n: u64, out: &mut Vec<u8>) -> Option<()>

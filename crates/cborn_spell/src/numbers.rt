@@ -5,8 +5,9 @@ ghost use Rattle.std.specs.Int.Digits.{digits_of};
 ghost use Rattle.cborn_edn.specs.shared.Syntax as syntax;
 ghost use Rattle.cborn_spell.specs.Descent.{AddsNumber, AddsBignum, IsBignum};
 
+use crate::brackets::set_shortest_head;
 use crate::leaves::{is_bare, put_marked};
-use cborn_det::{integer_major, set_head};
+use cborn_det::integer_major;
 use cborn_lex::Mark;
 use cborn_model::Major;
 use std::alloc::Global;
@@ -69,7 +70,7 @@ fn put_bignum(alloc: Global, below: bool, n: u128, out: &mut Vec<u8>) -> Option<
         return None;
     }
     let len = out.len() - some;
-    set_head(alloc, Major::ByteString, len as u64, start, out)?;
+    set_shortest_head(alloc, Major::ByteString, len as u64, start, out)?;
     Some(())
 }
 

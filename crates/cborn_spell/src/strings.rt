@@ -6,10 +6,10 @@ ghost use Rattle.cborn_lex.specs.declared.classes.Profile.{Profile};
 ghost use Rattle.cborn_edn.specs.declared.strings.StringKind.TheVariants as kinds;
 ghost use Rattle.cborn_spell.specs.Descent.{IsPlainText, ItemTaken, PieceTaken};
 
+use crate::leaves::put_head;
 use crate::letters::{plain_run, put_letters};
 use crate::marks::indicator;
 use crate::scans::stands;
-use cborn_det::put_head;
 use cborn_lex::Mark;
 use cborn_model::Major;
 

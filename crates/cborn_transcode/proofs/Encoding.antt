@@ -34,6 +34,10 @@ head_put {start = start} old b st e h =
     let behind : drop (start + 1) _ ≡ b = ap (drop (start + 1)) e ∙ drop_at (old ++ 0 ∷ []) b (start + 1) (length-append old (0 ∷ []) ∙ ap (λ k. k + 1) (sym st)) in
     h.2 ∙ (λ i. (front i ++ h.0) ++ behind i)
 
+-- the place of that byte, once more was written
+pub head_place : (old one two x : List ℕ) {start : ℕ} → start ≡ length old → one ≡ old ++ 0 ∷ [] → two ≡ one ++ x → start < length two
+head_place old one two x st p q = omega (arith, st, ap length p, length-append old (0 ∷ []), ap length q, length-append one x)
+
 -- ---- heads and strings
 
 -- the shortest head of k, where k and j are n

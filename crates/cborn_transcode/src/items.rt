@@ -8,11 +8,12 @@ ghost use Rattle.cborn_transcode.specs.Transcoding.{ItemTranscoded, ItemLeaves, 
 
 use crate::arranging::arrange;
 use crate::entries::{Span, push_span};
-use crate::leaves::{put_bignum, put_long_string_leaving, put_simple, put_string_leaving};
+use crate::leaves::{
+    put_bignum, put_head, put_long_string_leaving, put_simple, put_string_leaving, set_head,
+};
 use crate::noting::Noting;
 use crate::places::{Great, put_great};
 use crate::runs::put_run;
-use cborn_det::{put_head, set_head};
 use cborn_model::{KeyOrder, Major};
 use cborn_wire::{Argument, HeadRead, behind_break, is_done, last, read_head};
 use std::alloc::Global;

@@ -4,16 +4,40 @@ ghost use Rattle.std.specs.Prelude.{◌≡◌, ◌<◌, ◌≤◌, ◌++◌, ◌
 ghost use Rattle.cborn_model.specs.declared.heads.Width.{Width as WidthSpec};
 ghost use Rattle.cborn_model.specs.declared.heads.Major.TheVariants.{ByteString};
 ghost use Rattle.cborn_model.specs.Bytes.{AreBytes, IsShortest, big_endian};
-ghost use Rattle.cborn_det.specs.Appending.{Appends};
+ghost use Rattle.cborn_det.specs.Appending.{Appends, Replaces};
 ghost use Rattle.cborn_det.specs.Det.{IsInteger, bignum_tag};
-ghost use Rattle.cborn_model.specs.Heads.{IsLeastHead, Given, Unbounded, head, WidthFits};
+ghost use Rattle.cborn_model.specs.Heads.{code, IsLeastHead, Given, Unbounded, head, WidthFits};
 ghost use Rattle.cborn_wire.specs.HeadReading.{ArgumentFits, seen_argument};
 ghost use Rattle.cborn_transcode.specs.Transcoding.{ContentTaken, StringTaken, ChunkTaken, ChunksTaken, LongStringTaken, BignumTaken, SimpleTaken};
 
-use cborn_det::{integer_major, number_of, put_head};
+use cborn_det::{integer_major, number_of};
 use cborn_model::{Major, Width, without_zeros};
 use cborn_wire::{Argument, HeadRead, behind_break, read_head};
 use std::alloc::Global;
+
+/// Appends the shortest head of the major type with the argument `n`. None: memory was refused.
+#[inline(always)]
+pub(crate) fn put_head(major: Major, n: u64, out: &mut Vec<u8>) -> Option<()>
+    ensures { OnSome result (Appends (IsLeastHead (code major) n) out.old.items out.new.items) }
+{
+    cborn_det::put_head(major, n, out).ok()
+}
+
+/// Puts the shortest head of the major type with the argument `n` in the place of the byte at
+/// `start`. None: memory was refused.
+#[inline(always)]
+pub(crate) fn set_head(
+    alloc: Global,
+    major: Major,
+    n: u64,
+    start: usize,
+    out: &mut Vec<u8>,
+) -> Option<()>
+    requires { start < length out.old.items }
+    ensures { OnSome result (Replaces (IsLeastHead (code major) n) start out.old.items out.new.items) }
+{
+    cborn_det::set_head(alloc, major, n, start, out).ok()
+}
 
 /// A string of the major type of `n` bytes.
 #[inline]

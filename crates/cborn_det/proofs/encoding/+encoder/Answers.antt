@@ -14,7 +14,7 @@ pub push_item-returns-in_ok-push_items-in-Items :
     goal.push_item-returns-in_ok-push_items-in-Items
 push_item-returns-in_ok-push_items-in-Items g t c =
     let items = c.as_slice-items.result.now in
-    let done : Appends (Det g.O.KeyOrder.order (array (values_of (map item_value items)))) c.args.out.now.items c.push_items.new.out.items = items_done g.O.KeyOrder.order (map item_value items) (length items) c.args.out.now.items c.push_shortest.new.out.items c.push_items.new.out.items (sym (length-map items item_value)) c.in_ok-push_shortest-in-Items.ensures c.in_ok-push_items-in-Items.ensures in
+    let done : Appends (Det g.O.KeyOrder.order (array (values_of (map item_value items)))) c.args.out.now.items c.push_items.new.out.items = items_done g.O.KeyOrder.order (map item_value items) (length items) c.args.out.now.items c.put_head.new.out.items c.push_items.new.out.items (sym (length-map items item_value)) c.in_ok-put_head-in-Items.ensures.appended c.in_ok-push_items-in-Items.ensures in
     let seen : array (values_of (map item_value items)) ≡ item_value c.args.item.now = search rules in
     subst (λ v. Appends (Det g.O.KeyOrder.order v) c.args.out.now.items c.push_items.new.out.items) seen done
 
@@ -31,16 +31,16 @@ push_items-loop-item-preserved g t c =
 pub push_map-arrange-requires : goal.push_map-arrange-requires
 push_map-arrange-requires g t c =
     let w = c.in_ok-lengths.ensures in
-    let l = laid w.0 c.in_ok-lengths.lengths.items c.deref.result.now c.len-start.result c.push_shortest.new.out.items c.push_pairs.new.out.items (search rules) c.deref.ensures.value w.2 in
+    let l = laid w.0 c.in_ok-lengths.lengths.items c.deref.result.now c.len-start.result c.put_head.new.out.items c.push_pairs.new.out.items (search rules) c.deref.ensures.value w.2 in
     record { inside = l.inside; written = (w.0, l.written, distinct_keys g.O.KeyOrder.order g.met.O.KeyOrder.laws (pairs_of (map pair_value c.args.pairs.now)) w.0 c.requires.proper c.requires.new w.1) }
 
 pub push_map-returns : goal.push_map-returns
 push_map-returns g t c =
     let w = c.in_ok-lengths.ensures in
     let pairs : List (Value × Value) = map pair_value c.args.pairs.now in
-    let l = laid w.0 c.in_ok-lengths.lengths.items c.deref.result.now c.len-start.result c.push_shortest.new.out.items c.push_pairs.new.out.items (search rules) c.deref.ensures.value w.2 in
+    let l = laid w.0 c.in_ok-lengths.lengths.items c.deref.result.now c.len-start.result c.put_head.new.out.items c.push_pairs.new.out.items (search rules) c.deref.ensures.value w.2 in
     let a = c.in_ok-arrange.ensures.arranged w.0 l.written in
-    map_done g.O.KeyOrder.order pairs w.0 a.0 (length c.args.pairs.now) c.args.out.now.items c.push_shortest.new.out.items c.arrange.new.out.items (sym (length-map c.args.pairs.now pair_value)) w.1 a.1 a.2 c.in_ok-push_shortest.ensures (a.3 ∙ ap (λ z. z ++ joined a.0) l.before)
+    map_done g.O.KeyOrder.order pairs w.0 a.0 (length c.args.pairs.now) c.args.out.now.items c.put_head.new.out.items c.arrange.new.out.items (sym (length-map c.args.pairs.now pair_value)) w.1 a.1 a.2 c.in_ok-put_head.ensures.appended (a.3 ∙ ap (λ z. z ++ joined a.0) l.before)
 
 pub push_pair-returns : goal.push_pair-returns
 push_pair-returns g t c =

@@ -12,4 +12,4 @@ returns c =
     let large : c.len.result ≡ length three = search rules in
     let size : c.len-2.result ≡ length three = search rules in
     let len = c.len-2.result - c.len-some.result in
-    bignum_done c.args.below c.args.n c.tag_head.result len c.len-start.result c.args.out.now.items c.push.new.self.items c.push-2.new.self.items three c.set_head.new.out.items c.tag_head.ensures tag start some c.in_ok-push_shortest.ensures (omega (arith, small, large, size, c.if-len-some.false)) c.in_ok-set_head.ensures.1
+    bignum_done c.args.below c.args.n c.tag_head.result len c.len-start.result c.args.out.now.items c.push.new.self.items c.push-2.new.self.items three c.set_shortest_head.new.out.items c.tag_head.ensures tag start some c.in_ok-push_shortest.ensures (omega (arith, small, large, size, c.if-len-some.false)) c.in_ok-set_shortest_head.ensures.1

@@ -6,7 +6,8 @@ use Rattle.cborn_wire.proofs.Parts.Nodes.{uint_read, nint_read, node_last}
 use Rattle.cborn_transcode.specs.declared.entries.Span.{Span}
 use Rattle.cborn_transcode.specs.Transcoding.{ItemTranscoded, ItemsTranscoded, PairsTranscoded, MapTranscoded}
 use Rattle.cborn_transcode.proofs.Closing.{bytes_done, text_done, byte_chunks_done, text_chunks_done, simple_done, bignum_done, tagged_done}
-use Rattle.cborn_transcode.proofs.Encoding.{uint_encoded, nint_encoded}
+use Rattle.cborn_det.specs.Det.{joined}
+use Rattle.cborn_transcode.proofs.Encoding.{uint_encoded, nint_encoded, head_place}
 use Rattle.cborn_transcode.proofs.Lists.{all_none, run_more, all_more, array_done, endless_array_done}
 use Rattle.cborn_transcode.proofs.Pairing.{pairs_none, pairs_more, map_done, endless_map_done, arranged_map}
 use Rattle.cborn_transcode.proofs.items.+transcoded.Goals.{put_items-else-items-test, put_items-then-items-test+in_ok-after+then-is_done}
@@ -93,6 +94,12 @@ put_fixed_array-returns g t c w h = (
       (subst (λ (k : ℕ). ItemsTranscoded g.O.KeyOrder.order (c.args.room - 1) k c.args.bytes.now c.in_ok-rest.rest.now c.put_head.new.out.items c.put_items.new.out.items) c.if-count-n.false c.in_ok-rest.ensures),
 )
 
+pub put_endless_array-set_head-requires : goal.put_endless_array-set_head-requires
+put_endless_array-set_head-requires g t c =
+    let pushed : c.push.new.self.items ≡ c.args.out.now.items ++ 0 ∷ [] = search rules in
+    let start : c.len-start.result ≡ length c.args.out.now.items = search rules in
+    head_place c.args.out.now.items c.push.new.self.items c.put_items.new.out.items c.in_ok-rest.ensures.holds.0 start pushed c.in_ok-rest.ensures.holds.2
+
 pub put_endless_array-returns : goal.put_endless_array-returns
 put_endless_array-returns g t c =
     let pushed : c.push.new.self.items ≡ c.args.out.now.items ++ 0 ∷ [] = search rules in
@@ -100,7 +107,7 @@ put_endless_array-returns g t c =
       c.in_ok-after.after.now,
       search rules,
       endless_array_done g.O.KeyOrder.order c.args.out.now.items (omega arith) start c.in_ok-after.ensures
-          (subst (λ (l : List ℕ). ItemsTranscoded g.O.KeyOrder.order (c.args.room - 1) c.in_ok-rest.count c.args.bytes.now c.in_ok-rest.rest.now l c.put_items.new.out.items) pushed c.in_ok-rest.ensures) c.in_ok-set_head.ensures.1,
+          (subst (λ (l : List ℕ). ItemsTranscoded g.O.KeyOrder.order (c.args.room - 1) c.in_ok-rest.count c.args.bytes.now c.in_ok-rest.rest.now l c.put_items.new.out.items) pushed c.in_ok-rest.ensures) c.in_ok-set_head.ensures,
     )
 
 pub put_fixed_map-returns : goal.put_fixed_map-returns
@@ -122,6 +129,15 @@ put_fixed_map-returns-in-Behind g t c w h =
     let found = c.in-Behind.ensures (c.args.room - 1) in
     (found.0, found.1, map_done g.O.KeyOrder.order g.met.O.KeyOrder.laws c.args.out.now.items w (omega arith) short h c.in_ok-put_head.ensures found.2)
 
+pub put_endless_map-set_head-requires : goal.put_endless_map-set_head-requires
+put_endless_map-set_head-requires g t c =
+    let pushed : c.push.new.self.items ≡ c.args.out.now.items ++ 0 ∷ [] = search rules in
+    let head_start : c.len-head_start.result ≡ length c.args.out.now.items = search rules in
+    let start : c.len-start.result ≡ length c.push.new.self.items = search rules in
+    let arranged : MapTranscoded g.O.KeyOrder.order (c.args.room - 1) c.in_ok-rest.count c.args.bytes.now c.in_ok-rest.rest.now c.push.new.self.items c.arrange.new.out.items =
+    arranged_map g.O.KeyOrder.order c.push.new.self.items start (c.in_ok-rest.ensures (search rules)) c.in_ok-arrange.ensures in
+    head_place c.args.out.now.items c.push.new.self.items c.arrange.new.out.items (joined arranged.holds.arranged) head_start pushed arranged.holds.written
+
 pub put_endless_map-returns : goal.put_endless_map-returns
 put_endless_map-returns g t c =
     let short : length c.args.bytes.now < 2 ^ 64 = omega arith in
@@ -134,7 +150,7 @@ put_endless_map-returns g t c =
       c.in_ok-after.after.now,
       search rules,
       endless_map_done g.O.KeyOrder.order g.met.O.KeyOrder.laws c.args.out.now.items (omega arith) short head_start c.in_ok-after.ensures
-          (subst (λ (l : List ℕ). MapTranscoded g.O.KeyOrder.order (c.args.room - 1) c.in_ok-rest.count c.args.bytes.now c.in_ok-rest.rest.now l c.arrange.new.out.items) pushed arranged) c.in_ok-set_head.ensures.1,
+          (subst (λ (l : List ℕ). MapTranscoded g.O.KeyOrder.order (c.args.room - 1) c.in_ok-rest.count c.args.bytes.now c.in_ok-rest.rest.now l c.arrange.new.out.items) pushed arranged) c.in_ok-set_head.ensures,
     )
 
 pub put_pairs-pairs-init : goal.put_pairs-pairs-init
