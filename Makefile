@@ -19,7 +19,8 @@ help:
 	@echo 'make test       the merge gate from nothing, then side by side make $(BEHIND), and which of it was left out'
 	@echo 'make check-quick   while you change something: proves what changed, then make layout, tables and believed'
 	@echo 'make try-tests  make try on its seven bytes, on files, on standard input and on a wrong option: one build, of a minute'
-	@echo 'make layout     whether each file of the crates is in the layout of rt fmt, and cites what it may, and docs/PROMISES.md is what the sources say'
+	@echo 'make layout     whether each file of the crates is in the layout of rt fmt, cites what it may, makes up no out of memory,'
+	@echo '                and docs/PROMISES.md is what the sources say'
 	@echo 'make tables     the built program on the tables of tests/ and at a terminal, the examples of the documents, completion-tests and release-tests'
 	@echo 'make vectors    the built program on each front of each worked input'
 	@echo 'make ample      the built program on some 17,000 inputs, bytes and texts, made and given: it never says out of memory'
@@ -74,7 +75,7 @@ build: kit
 
 # What stands behind the gate runs side by side over the program that was built once before, while the library is proved and
 # built; the longest first.
-BEHIND := layout library-tests dist-tests vectors ample cost counts explanations tables believed stack growths failures try-tests
+BEHIND := library-tests dist-tests vectors ample cost counts explanations tables believed layout stack growths failures try-tests
 
 test:
 	rt ci
@@ -92,6 +93,7 @@ layout:
 	@find crates -name out -prune -o \( -name '*.rt' -o -name '*.antt' \) -print0 | xargs -0 '$(dir $(shell rt doc))bin/rattle' fmt --check
 	python3 tests/citations.py
 	python3 tests/promises.py --check
+	python3 tests/made_up.py
 
 tables: build
 	python3 tests/run.py $(PROGRAM)
