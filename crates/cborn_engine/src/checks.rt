@@ -8,14 +8,13 @@ ghost use Rattle.cborn_engine.specs.Checking.{Checks, CheckAnswers};
 ghost use Rattle.cborn_engine.specs.Reading.{most_bytes};
 ghost use Rattle.cborn_engine.specs.devices.Counting.{read_failures};
 
+use crate::encodings::judge_bytes;
 use crate::faults::EngineFault;
 use crate::inputs::MOST;
-use cborn_judge::{Defect, Invalid};
+use cborn_judge::Defect;
 use cborn_model::{KeyOrder, Limit};
-use cborn_search::{Validity, first_flaw};
 use cborn_streams::{Source, read_bytes};
 use cborn_transcode::{Departure, first_departure};
-use cborn_wire::{WireFault, scan};
 use std::alloc::Global;
 
 /// The first defect of the bytes of an input, if they aren't the deterministic encodings of the
@@ -57,17 +56,9 @@ pub fn check_input<O: KeyOrder>(
     if let Departure::Deterministic = departure {
         return Ok(None);
     }
-    match first_flaw(alloc, limit, input) {
-        Validity::Flaw { place, reason } => {
-            Err(EngineFault::Invalid(Invalid::Refused { place, reason }))
-        }
-        Validity::Valid => match departure {
-            Departure::First(defect) => Ok(Some(defect)),
-            _ => Err(EngineFault::OutOfMemory),
-        },
-        Validity::Unknown => match scan(limit, input) {
-            Some((place, reason)) => Err(EngineFault::Wire(WireFault::Refused { place, reason })),
-            None => Err(EngineFault::OutOfMemory),
-        },
+    judge_bytes(alloc, limit, input)?;
+    match departure {
+        Departure::First(defect) => Ok(Some(defect)),
+        _ => Err(EngineFault::OutOfMemory),
     }
 }

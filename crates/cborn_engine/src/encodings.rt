@@ -1,12 +1,14 @@
 //! Reading a whole input, and encoding what it holds. Bytes go by a pass that keeps no tree; where
 //! it answers nothing, what is wrong with them is looked for, without a tree too. A text becomes
 //! bytes first, by such a pass.
-ghost use Rattle.std.specs.Prelude.{◌≡◌, ◌≤◌, ◌+◌, ℕ, length, IfSome, IsTrue};
+ghost use Rattle.std.specs.Prelude.{◌≡◌, ◌≤◌, ◌+◌, ℕ, None, length, take, IfSome, IfErr, OnOk};
+ghost use Rattle.cborn_search.specs.Searching.{IsFirstFlawOf};
 ghost use Rattle.cborn_transcode.specs.Transcoding.{IsTranscoded};
 ghost use Rattle.cborn_engine.specs.declared.kinds.Kind.TheVariants as kinds;
 ghost use Rattle.cborn_engine.specs.devices.Encoding.{EncodeAnswers, IsEncoded, kind_of};
 ghost use Rattle.cborn_engine.specs.devices.Reading.{Reads};
 ghost use Rattle.cborn_engine.specs.Reading.{most_bytes};
+ghost use Rattle.cborn_engine.specs.Refusing.{IsRefused};
 ghost use Rattle.cborn_engine.specs.devices.Counting.{read_failures};
 ghost use Rattle.cborn_engine.specs.Whole.{TellsFault};
 
@@ -20,7 +22,7 @@ use cborn_lex::Profile;
 use cborn_model::{KeyOrder, Limit};
 use cborn_search::{Validity, first_flaw};
 use cborn_streams::{Source, read_bytes};
-use cborn_transcode::{is_deterministic, transcode};
+use cborn_transcode::{deterministic_front, transcode_after};
 use cborn_wire::{WireFault, scan};
 use std::alloc::Global;
 
@@ -40,21 +42,30 @@ pub fn read_encoded<O: KeyOrder, R: Source>(
     ensures calls { R.asked reader.new ≤ R.asked reader.old + most_bytes + 1 }
 {
     let input = read_bytes(alloc, MOST, reader)?;
-    if is_own_encoding::<O>(limit, kind, &input) {
-        return Ok(input);
+    match front_to_copy::<O>(limit, kind, &input) {
+        None => Ok(input),
+        Some(front) => encode_input::<O>(alloc, limit, kind, front, &input),
     }
-    encode_input::<O>(alloc, limit, kind, &input)
 }
 
-/// Whether an input is bytes that are the deterministic encodings of what they hold. No promises
-/// nothing.
-pub fn is_own_encoding<O: KeyOrder>(limit: Limit, kind: Kind, input: &[u8]) -> bool
-    ensures { IsTrue result → IsEncoded O.order kind limit input.now input.now }
+/// How many bytes at the front of an input of bytes are the deterministic encodings of items, one
+/// after another; of a text 0. None: the whole input is those of what it holds.
+pub fn front_to_copy<O: KeyOrder>(limit: Limit, kind: Kind, input: &[u8]) -> Option<usize>
+    ensures whole { result ≡ None → IsEncoded O.order kind limit input.now input.now }
+    ensures front { IfSome result (λ n. (n ≤ length input.now) × IsTranscoded O.order limit (take n input.now) (take n input.now)) }
 {
-    kind == Kind::Wire && is_deterministic::<O>(limit, input)
+    if kind != Kind::Wire {
+        return Some(0);
+    }
+    let front = deterministic_front::<O>(limit, input);
+    if front == input.len() {
+        return None;
+    }
+    Some(front)
 }
 
-/// The deterministic encodings of what an input holds, one after another.
+/// The deterministic encodings of what an input holds, one after another. The first `front` bytes of
+/// bytes are these already.
 ///
 /// # Errors
 /// The fault of its content, or `OutOfMemory`.
@@ -62,39 +73,64 @@ pub fn encode_input<O: KeyOrder>(
     alloc: Global,
     limit: Limit,
     kind: Kind,
+    front: usize,
     input: &[u8],
 ) -> Result<Vec<u8>, EngineFault>
+    requires within { front ≤ length input.now }
+    requires own { IsTranscoded O.order limit (take front input.now) (take front input.now) }
     ensures answers { length input.now ≤ most_bytes → EncodeAnswers O.order kind limit most_bytes input.now result }
     ensures malformed { length input.now ≤ most_bytes → TellsFault kind limit input.now result }
     ensures failures { (n : ℕ) → read_failures result n ≡ n }
 {
     match profile_of(kind) {
-        None => encode_bytes::<O>(alloc, limit, input),
+        None => encode_bytes::<O>(alloc, limit, front, input),
         Some(profile) => encode_text::<O>(alloc, limit, profile, input),
     }
 }
 
-/// What `encode_input` answers of bytes. Where the pass answers nothing, nothing is wrong with them,
-/// and no flaw is found, memory was refused.
+/// What `encode_input` answers of bytes. Where the pass answers nothing, and nothing is wrong with
+/// them, memory was refused.
 fn encode_bytes<O: KeyOrder>(
     alloc: Global,
     limit: Limit,
+    front: usize,
     input: &[u8],
 ) -> Result<Vec<u8>, EngineFault>
+    requires within { front ≤ length input.now }
+    requires own { IsTranscoded O.order limit (take front input.now) (take front input.now) }
     ensures answers { length input.now ≤ most_bytes → EncodeAnswers O.order kinds.Wire limit most_bytes input.now result }
     ensures malformed { TellsFault kinds.Wire limit input.now result }
     ensures failures { (n : ℕ) → read_failures result n ≡ n }
 {
-    if let Some(bytes) = transcode::<O>(alloc, limit, input) {
+    if let Some(bytes) = transcode_after::<O>(alloc, limit, front, input) {
         return Ok(bytes);
     }
-    if let Some((place, reason)) = scan(limit, input) {
-        return Err(EngineFault::Wire(WireFault::Refused { place, reason }));
-    }
-    if let Validity::Flaw { place, reason } = first_flaw(alloc, limit, input) {
-        return Err(EngineFault::Invalid(Invalid::Refused { place, reason }));
-    }
+    judge_bytes(alloc, limit, input)?;
     Err(EngineFault::OutOfMemory)
+}
+
+/// Looks whether bytes hold items: first for a flaw, and for the fault of bytes that aren't
+/// well-formed only where they are none.
+///
+/// # Errors
+/// The first flaw of the first item that isn't valid, the fault of bytes that aren't well-formed, or
+/// `OutOfMemory`.
+pub fn judge_bytes(alloc: Global, limit: Limit, input: &[u8]) -> Result<(), EngineFault>
+    ensures valid { OnOk result (IsFirstFlawOf limit input.now None) }
+    ensures refused { IfErr result (λ why. length input.now ≤ most_bytes → IsRefused kinds.Wire limit most_bytes input.now why) }
+    ensures malformed { TellsFault kinds.Wire limit input.now result }
+    ensures failures { (n : ℕ) → read_failures result n ≡ n }
+{
+    match first_flaw(alloc, limit, input) {
+        Validity::Valid => Ok(()),
+        Validity::Flaw { place, reason } => {
+            Err(EngineFault::Invalid(Invalid::Refused { place, reason }))
+        }
+        Validity::Unknown => match scan(limit, input) {
+            Some((place, reason)) => Err(EngineFault::Wire(WireFault::Refused { place, reason })),
+            None => Err(EngineFault::OutOfMemory),
+        },
+    }
 }
 
 /// What `encode_input` answers of a text: it is spelled, and these bytes are encoded. Where that
@@ -111,10 +147,11 @@ fn encode_text<O: KeyOrder>(
     let Some(bytes) = bytes_of_text(alloc, limit, profile, input) else {
         return Err(fault_of_text(alloc, limit, profile, input));
     };
-    if is_deterministic::<O>(limit, &bytes) {
+    let front = deterministic_front::<O>(limit, &bytes);
+    if front == bytes.len() {
         return Ok(bytes);
     }
-    match transcode::<O>(alloc, limit, &bytes) {
+    match transcode_after::<O>(alloc, limit, front, &bytes) {
         Some(encodings) => Ok(encodings),
         None => Err(flaw_of_text(alloc, limit, profile, input, &bytes)),
     }

@@ -20,7 +20,7 @@ ghost use Rattle.cborn_engine.specs.Reading.{most_bytes};
 use crate::checks::check_input;
 use crate::conversions::fixed_text;
 use crate::differences::difference;
-use crate::encodings::{encode_input, is_own_encoding};
+use crate::encodings::{encode_input, front_to_copy};
 use crate::faults::{CompareFault, EngineFault};
 use crate::inputs::MOST;
 use crate::kinds::Kind;
@@ -175,10 +175,10 @@ fn encode_slice<'a, O: KeyOrder>(
     if is_too_long(input) {
         return Err(EngineFault::TooLong);
     }
-    if is_own_encoding::<O>(limit, kind, input) {
-        return Ok(CowSlice::Borrowed(input));
+    match front_to_copy::<O>(limit, kind, input) {
+        None => Ok(CowSlice::Borrowed(input)),
+        Some(front) => { Ok(CowSlice::Owned(encode_input::<O>(alloc, limit, kind, front, input)?)) }
     }
-    Ok(CowSlice::Owned(encode_input::<O>(alloc, limit, kind, input)?))
 }
 
 /// The deterministic encodings of what two inputs hold, those of each one after another.

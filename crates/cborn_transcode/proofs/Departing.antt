@@ -158,14 +158,14 @@ module _ (order : List ℕ → List ℕ → Ordering) where
           count = omega (arith, s.count, e);
         }
 
-    step : (ts us : Trees) (k left : ℕ) (mid after rest : List ℕ) → length mid ≤ total → k ≡ suc left → AllStand total k us mid rest → Decides order us ts → Remain order us ts → Clears order total mid after → (ws : Trees) × AllStand total left ws after rest × Decides order ws ts × Remain order ws ts
-    step ts no_item k left mid after rest l e s d m c = absurd (omega (arith, s.count, e))
-    step ts (more u us) k left mid after rest l e s d m c =
+    step : (ts us : Trees) (k left : ℕ) (mid after rest : List ℕ) → length mid ≤ total → k ≡ suc left → AllStand total k us mid rest → Decides order us ts → Clears order total mid after → (ws : Trees) × AllStand total left ws after rest × Decides order ws ts × Remain order ws us
+    step ts no_item k left mid after rest l e s d c = absurd (omega (arith, s.count, e))
+    step ts (more u us) k left mid after rest l e s d c =
         let clear = c u (spelled_all us ++ rest) (first_stands k u us mid rest s) in (
           us,
           others_stand k left u us mid after rest l e s (sym clear.0),
           λ o f. d o (alike (DefectInAll order us) (DefectInAll order (more u us)) o (λ p r. ((λ g. (g.0, inr g.1, g.2)), (λ g. elim g.1 [ inl j ↦ absurd (clear.1 p r (g.0, j, g.2)) | inr j ↦ (g.0, j, g.2) ]))) f),
-          (omega (arith, m.0), λ p r g. m.1 p r (g.0, inr g.1, g.2)),
+          (omega arith, λ p r g. (g.0, inr g.1, g.2)),
         )
 
     -- a defect stands no lower than the nodes
@@ -198,7 +198,10 @@ module _ (order : List ℕ → List ℕ → Ordering) where
   leads_first n input total ts rest l s = (ts, s, λ o f. f, (omega arith, λ p r d. d))
 
   pub leads_more : (n k left : ℕ) (input mid after : List ℕ) → length mid ≤ length input → k ≡ suc left → Leads order n k input mid → ((total : ℕ) → Clears order total mid after) → Leads order n left input after
-  leads_more n k left input mid after w e h c total ts rest l s = let r = h total ts rest l s in step total ts r.0 k left mid after rest (omega (arith, w, l)) e r.1 r.2 r.3 (c total)
+  leads_more n k left input mid after w e h c total ts rest l s =
+      let r = h total ts rest l s in
+      let t = step total ts r.0 k left mid after rest (omega (arith, w, l)) e r.1 r.2 (c total) in
+      (t.0, t.1, t.2, (omega (arith, t.3.0, r.3.0), λ p q g. r.3.1 p q (t.3.1 p q g)))
 
   pub leads_stop : (n k : ℕ) (input mid : List ℕ) (r : DefectReason) (left : ℕ) → length mid ≤ length input → 0 < k → Leads order n k input mid → Stops order mid r left → StopsAll n input r left
   leads_stop n k input mid r left w some h x = (omega (arith, w, x.0), λ total ts rest l s. let q = h total ts rest l s in stop total ts q.0 k left mid rest r (omega (arith, w, l)) some q.1 q.2 x)
@@ -210,14 +213,14 @@ module _ (order : List ℕ → List ℕ → Ordering) where
   none_there total (more u us) k mid some s = (count us, sym s.count)
 
   pub on_first : (input : List ℕ) → LeadsOn order input input
-  on_first input n ts s = (n, ts, s, λ o f. f, (omega arith, λ p r d. d))
+  on_first input n ts s = (n, ts, s, λ o f. f)
 
   pub on_more : (input mid after : List ℕ) → length mid ≤ length input → 0 < length mid → LeadsOn order input mid → ((total : ℕ) → Clears order total mid after) → LeadsOn order input after
   on_more input mid after l some h c n ts s =
       let r = h n ts s in
       let j = none_there (length input) r.1 r.0 mid some r.2 in
-      let t = step (length input) ts r.1 r.0 j.0 mid after [] l j.1 r.2 r.3 r.4 (c (length input)) in
-      (j.0, t.0, t.1, t.2, t.3)
+      let t = step (length input) ts r.1 r.0 j.0 mid after [] l j.1 r.2 r.3 (c (length input)) in
+      (j.0, t.0, t.1, t.2)
 
   on_stop : (input mid : List ℕ) (r : DefectReason) (left n : ℕ) (ts : Trees) → length mid ≤ length input → 0 < length mid → LeadsOn order input mid → Stops order mid r left → AllStand (length input) n ts input [] → FindsDefect (DefectInAll order ts) (Some (record { place = length input - left; reason = r }))
   on_stop input mid r left n ts l some h x s =

@@ -12,6 +12,7 @@ pub mod Departing
 pub mod Departed
 pub mod Telling
 pub mod Standing
+pub mod Fronting
 pub mod Straying
 pub mod Falling
 pub mod Settling

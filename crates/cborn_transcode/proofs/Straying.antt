@@ -41,6 +41,7 @@ use Rattle.cborn_transcode.specs.Transcoding.{ItemTranscoded, IsTranscoded}
 use Rattle.cborn_transcode.proofs.Lists.{all_mean}
 use Rattle.cborn_transcode.proofs.Placing.{placements, means-from}
 use Rattle.cborn_wire.proofs.Parts.Openings.{opening, contents, opened}
+use Rattle.cborn_transcode.proofs.Fronting.{own_walked}
 use Rattle.cborn_transcode.proofs.Tagging.{is_tag, string_under}
 use Rattle.cborn_transcode.proofs.Telling.{tell_none}
 
@@ -240,34 +241,4 @@ module _ (order : List ℕ → List ℕ → Ordering) where
         placed = placed-from i.node (total - length input);
         meant = means-from i.node (total - length input) i.holds.1.0 i.holds.1.1;
       } in
-      let own : spelled i.node ≡ i.holds.0 = append_cancel_right (spelled i.node) i.holds.0 rest (sym i.read ∙ e ∙ ap (λ l. l ++ rest) i.holds.2) in
-      let w : ItemWalked order room input rest = node_as i (i.holds.1.0, i.holds.1.1, subst (Det order i.holds.1.0) (sym own) i.holds.1.2) in
-      x total t rest (omega arith) s (subst (λ d. d ≤ room) (sym (depth-from i.node (total - length input))) i.shallow) (item_clears order laws total input rest short w t rest s).1
-
-  -- ---- a whole input
-
-  some_left : (limit : ℕ) (input mid : List ℕ) (ts us : Trees) (k : ℕ) → length mid ≤ length input → 0 < length mid → depth_all ts ≤ limit → AllStand (length input) k us mid [] → Remain order us ts → Strays order limit mid → ((p : ℕ) (r : DefectReason) → DefectInAll order ts p r → ⊥) → ⊥
-  some_left limit input mid ts no_item k w some d s m x c = absurd (omega (arith, some, ap length s.read))
-  some_left limit input mid ts (more u us) k w some d s m x c =
-      x (length input) u (spelled_all us ++ []) w (first_stands order (length input) k u us mid [] s) (omega (arith, m.0, d)) (λ p r g. c p r (m.1 p r (g.0, inl g.1, g.2)))
-
-  pub on_strays : IsKeyOrder order → (limit : ℕ) (input mid : List ℕ) → length input < 2 ^ 64 → length mid ≤ length input → 0 < length mid → LeadsOn order input mid → Strays order limit mid → IsTranscoded order limit input input → ⊥
-  on_strays laws limit input mid short w some leads x n =
-      let p = placements order limit input input n in
-      let ts : Trees = trees p.nodes in
-      let vs : Values = values_of n.items in
-      let z : length input - length input ≡ 0 = omega arith in
-      let meant : AllMean ts vs = all_mean p.nodes n.items p.meant in
-      let stand : AllStand (length input) (count ts) ts input [] = record {
-        items = vs;
-        read = sym p.read.spells ∙ sym (append-nil (spelled_all ts));
-        fits = p.read.fit;
-        placed = subst (λ q. PlacedAll q ts) (sym z) p.placed;
-        meant = meant;
-        count = refl;
-      } in
-      let proper : AreProper vs = all_valid ts vs p.read.fit (subst (λ (l : List ℕ). length l < 2 ^ 64) (sym p.read.spells) short) meant in
-      let own : DetValues order vs (spelled_all ts) = subst (DetValues order vs) (sym p.read.spells) (values_of_seq order n.items input n.encoded) in
-      let none : (q : ℕ) (r : DefectReason) → DefectInAll order ts q r → ⊥ = λ q r g. check_sequence_whole order laws ts vs p.read.fit proper meant own q r (vs, meant, g.0, g.1, g.2) in
-      let l = leads (count ts) ts stand in
-      some_left limit input mid ts l.1 l.0 w some p.read.shallow l.2 l.4 x none
+      x total t rest (omega arith) s (subst (λ d. d ≤ room) (sym (depth-from i.node (total - length input))) i.shallow) (item_clears order laws total input rest short (own_walked order room input front rest e i) t rest s).1

@@ -30,7 +30,8 @@
 //! [`first_departure`] walks over bytes up to where they first aren't deterministic: the same
 //! anatomy, with nothing written. `walks` has what holds other items, `walked_leaves` the rest, and
 //! `departures` what is told where it stops. Where it is asked only whether bytes depart, as
-//! [`is_deterministic`] and [`split_item`] ask, nothing is encoded to tell where.
+//! [`split_item`] asks, nothing is encoded to tell where. How far bytes are deterministic, item by
+//! item, [`deterministic_front`] tells; [`transcode_after`] copies that front and goes on from there.
 #![tactic(auto)]
 
 mod arranging;
@@ -51,5 +52,5 @@ mod walks;
 
 pub use departures::Departure;
 pub use open_keys::OpenKeys;
-pub use passes::{transcode, transcode_item};
-pub use walks::{first_departure, is_deterministic, split_item};
+pub use passes::{transcode, transcode_after, transcode_item};
+pub use walks::{deterministic_front, first_departure, split_item};

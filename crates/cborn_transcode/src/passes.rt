@@ -1,6 +1,6 @@
 //! A whole input.
 
-ghost use Rattle.std.specs.Prelude.{ℕ, ◌≤◌, [], IfSome};
+ghost use Rattle.std.specs.Prelude.{ℕ, ◌≤◌, [], length, take, IfSome, OnSome};
 ghost use Rattle.cborn_transcode.specs.Transcoding.{ItemTranscoded, ItemsTranscoded, IsTranscoded};
 
 use crate::items::put_item;
@@ -15,7 +15,26 @@ use std::alloc::Global;
 pub fn transcode<O: KeyOrder>(alloc: Global, limit: Limit, bytes: &[u8]) -> Option<Vec<u8>>
     ensures { IfSome result (λ out. IsTranscoded O.order limit bytes.now out.items) }
 {
-    put_all::<O>(alloc, limit.get(), bytes)
+    transcode_after::<O>(alloc, limit, 0, bytes)
+}
+
+/// The deterministic encodings of the items that the bytes hold, one after another, where the first
+/// `front` bytes are these already: they are copied. None promises nothing, as of `transcode`.
+pub fn transcode_after<O: KeyOrder>(
+    alloc: Global,
+    limit: Limit,
+    front: usize,
+    bytes: &[u8],
+) -> Option<Vec<u8>>
+    requires within { front ≤ length bytes.now }
+    requires own { IsTranscoded O.order limit (take front bytes.now) (take front bytes.now) }
+    ensures { IfSome result (λ out. IsTranscoded O.order limit bytes.now out.items) }
+{
+    let mut out = Vec::with_capacity(alloc, bytes.len()).ok()?;
+    let (own, rest) = bytes.split_at(front);
+    out.extend_from_slice(own).ok()?;
+    put_all::<O>(alloc, limit.get(), rest, &mut out)?;
+    Some(out)
 }
 
 /// Appends the deterministic encoding of the item at the front of the bytes, which is no deeper than
@@ -36,22 +55,21 @@ pub fn transcode_item<'a, O: KeyOrder>(
     put_item::<O, OpenKeys>(alloc, open, room, bytes, out)
 }
 
-/// The encodings of the items, none deeper than `room`, up to the end.
-fn put_all<O: KeyOrder>(alloc: Global, room: u64, bytes: &[u8]) -> Option<Vec<u8>>
+/// Appends the encodings of the items, none deeper than `room`, up to the end.
+fn put_all<O: KeyOrder>(alloc: Global, room: u64, bytes: &[u8], out: &mut Vec<u8>) -> Option<()>
     requires { room ≤ 1024 }
-    ensures { IfSome result (λ out. (n : ℕ) × ItemsTranscoded O.order room n bytes.now [] [] out.items) }
+    ensures { OnSome result ((n : ℕ) × ItemsTranscoded O.order room n bytes.now [] out.old.items out.new.items) }
 {
     let mut noting = Nothing;
-    let mut out = Vec::with_capacity(alloc, bytes.len()).ok()?;
     let mut rest = bytes;
     'items: for _ in 0..bytes.len() {
         if rest.is_empty() {
             break;
         }
-        rest = put_item::<O, Nothing>(alloc, &mut noting, room, rest, &mut out)?;
+        rest = put_item::<O, Nothing>(alloc, &mut noting, room, rest, out)?;
     }
     if !rest.is_empty() {
         return None;
     }
-    Some(out)
+    Some(())
 }

@@ -1,7 +1,7 @@
 //! A walk over bytes up to their first departure from the deterministic encoding: nothing is
 //! written, and nothing is kept but the key before.
 
-ghost use Rattle.std.specs.Prelude.{◌≡◌, ◌≢◌, ◌≤◌, ◌++◌, ◌↔◌, ℕ, List, [], length, IsTrue, IfSome};
+ghost use Rattle.std.specs.Prelude.{◌≡◌, ◌≤◌, ◌++◌, ℕ, List, [], length, take, IfSome};
 ghost use Rattle.cborn_model.specs.declared.heads.Major.TheVariants.{Array, Map, Tag};
 ghost use Rattle.cborn_transcode.specs.Departing.{IsFirstDeparture};
 ghost use Rattle.cborn_transcode.specs.Transcoding.{ItemTranscoded, IsTranscoded};
@@ -15,15 +15,21 @@ use crate::walked_leaves::{last, read_least, rises_above, split_before, walk_big
 use cborn_model::{KeyOrder, Limit, Major};
 use std::alloc::Global;
 
-/// Whether the bytes are the deterministic encodings of the items that they hold, one after
-/// another, none deeper than `limit`, the keys of maps in the order `O` (RFC 8949 section 4.2).
+/// How many bytes at the front are the deterministic encodings of items, one after another, none
+/// deeper than `limit`, the keys of maps in the order `O` (RFC 8949 section 4.2). It is the longest
+/// such front, so it is all of the bytes exactly if they are those encodings of what they hold.
 ///
-/// The bytes are walked over once, in place, up to where they aren't. No memory is taken.
-pub fn is_deterministic<O: KeyOrder>(limit: Limit, bytes: &[u8]) -> bool
-    ensures { IsTrue result ↔ IsTranscoded O.order limit bytes.now bytes.now }
+/// The bytes are walked over once, in place, up to the first item that isn't. No memory is taken.
+pub fn deterministic_front<O: KeyOrder>(limit: Limit, bytes: &[u8]) -> usize
+    ensures front { (result ≤ length bytes.now) × IsTranscoded O.order limit (take result bytes.now) (take result bytes.now) }
+    ensures longest { (n : ℕ) → n ≤ length bytes.now → IsTranscoded O.order limit (take n bytes.now) (take n bytes.now) → n ≤ result }
 {
-    let found = departure::<O>(&mut Asked::whether(), limit, bytes);
-    matches!(found, Departure::Deterministic)
+    let room = limit.get();
+    let mut rest = bytes;
+    'items: while let Some((_, after)) = split_item::<O>(room, rest) {
+        rest = after;
+    }
+    bytes.len() - rest.len()
 }
 
 /// Where the bytes first depart from the deterministic encodings of the items that they hold, one
@@ -40,10 +46,9 @@ pub fn first_departure<O: KeyOrder>(alloc: Global, limit: Limit, bytes: &[u8]) -
     departure::<O>(&mut Asked::place(alloc), limit, bytes)
 }
 
-/// What both ask.
+/// The first departure of what the bytes hold, if there is one.
 fn departure<'a, O: KeyOrder>(asked: &mut Asked<'a, O>, limit: Limit, bytes: &'a [u8]) -> Departure
-    ensures first { IsFirstDeparture O.order limit bytes.now result }
-    ensures strays { result ≢ Departure.Deterministic → IsTranscoded O.order limit bytes.now bytes.now → ⊥ }
+    ensures { IsFirstDeparture O.order limit bytes.now result }
 {
     let room = limit.get();
     let mut rest = bytes;

@@ -130,7 +130,7 @@ module _ (order : List ℕ → List ℕ → Ordering) where
 
   -- the same of all nodes up to the end of the input
   abbrev pub LeadsOn : List ℕ → List ℕ → Type 0
-  LeadsOn input mid = (n : ℕ) (ts : Trees) → AllStand (length input) n ts input [] → (left : ℕ) × (us : Trees) × AllStand (length input) left us mid [] × Decides us ts × Remain us ts
+  LeadsOn input mid = (n : ℕ) (ts : Trees) → AllStand (length input) n ts input [] → (left : ℕ) × (us : Trees) × AllStand (length input) left us mid [] × Decides us ts
 
   -- the key before, if there is one, is not below the encoding of what l means
   abbrev pub IsBelowKey : Option (Bor (List ℕ)) → Tree → Type 0

@@ -1,26 +1,40 @@
-use Rattle.std.proofs.Common.{ℕ, List, subst}
+use Rattle.std.proofs.Common.{rules, ◌≡◌, ◌≤◌, ◌∙◌, ℕ, List, length, take, subst, sym}
 use Rattle.cborn_transcode.specs.Transcoding.{IsTranscoded}
+use Rattle.cborn_transcode.proofs.Fronting.{whole_front}
 use Rattle.cborn_engine.proofs.Answers.Noted.{encoded}
 use Rattle.cborn_engine.proofs.encodings.encode_text.Goals as goal
 
 pub returns-in_default-clause-answers : goal.returns-in_default-clause-answers
 returns-in_default-clause-answers g c within = (c.fault_of_text.ensures.refused _ within).0
 
-pub returns-then-is_deterministic-clause-answers : goal.returns-then-is_deterministic-clause-answers
-returns-then-is_deterministic-clause-answers g c within =
-    let order = g.O.KeyOrder.order in
-    let read = c.in-Some in (
-      within,
-      encoded c.args.profile c.args.limit c.args.input.now read.bytes.items read.ensures.0 read.ensures.1 order read.bytes.items
-          (subst (λ (x : List ℕ). IsTranscoded order c.args.limit x x) c.deref.ensures.value (c.is_deterministic.ensures.0 c.if-is_deterministic.true)) within,
-    )
-
-pub returns-in-Some-transcode-clause-answers : goal.returns-in-Some-transcode-clause-answers
-returns-in-Some-transcode-clause-answers g c within =
+pub returns-then-front-len-clause-answers : goal.returns-then-front-len-clause-answers
+returns-then-front-len-clause-answers g c within =
     let order = g.O.KeyOrder.order in
     let read = c.in-Some in
-    let answer = c.in-Some-transcode.encodings.items in (
+    let front = c.deterministic_front-front in
+    let all : front.result ≡ length c.deref.result.now = search rules in (
+      within,
+      encoded c.args.profile c.args.limit c.args.input.now read.bytes.items read.ensures.0 read.ensures.1 order read.bytes.items
+          (subst (λ (x : List ℕ). IsTranscoded order c.args.limit x x) c.deref.ensures.value (whole_front order c.args.limit front.result c.deref.result.now all front.ensures.front.1)) within,
+    )
+
+pub transcode_after-requires-clause-within : goal.transcode_after-requires-clause-within
+transcode_after-requires-clause-within g c =
+    let same : c.deref.result.now ≡ c.deref-2.result.now = c.deref.ensures.value ∙ sym c.deref-2.ensures.value in
+    subst (λ (x : List ℕ). c.deterministic_front-front.result ≤ length x) same c.deterministic_front-front.ensures.front.0
+
+pub transcode_after-requires-clause-own : goal.transcode_after-requires-clause-own
+transcode_after-requires-clause-own g c =
+    let n = c.deterministic_front-front.result in
+    let same : c.deref.result.now ≡ c.deref-2.result.now = c.deref.ensures.value ∙ sym c.deref-2.ensures.value in
+    subst (λ (x : List ℕ). IsTranscoded g.O.KeyOrder.order c.args.limit (take n x) (take n x)) same c.deterministic_front-front.ensures.front.1
+
+pub returns-in-Some-transcode_after-clause-answers : goal.returns-in-Some-transcode_after-clause-answers
+returns-in-Some-transcode_after-clause-answers g c within =
+    let order = g.O.KeyOrder.order in
+    let read = c.in-Some in
+    let answer = c.in-Some-transcode_after.encodings.items in (
       within,
       encoded c.args.profile c.args.limit c.args.input.now read.bytes.items read.ensures.0 read.ensures.1 order answer
-          (subst (λ (x : List ℕ). IsTranscoded order c.args.limit x answer) c.deref-2.ensures.value c.in-Some-transcode.ensures) within,
+          (subst (λ (x : List ℕ). IsTranscoded order c.args.limit x answer) c.deref-2.ensures.value c.in-Some-transcode_after.ensures) within,
     )
