@@ -59,7 +59,7 @@ enum {
     CBORN_BAD_ARGUMENT = 2,  /* an invalid format, order, depth or number; *told and *place are unchanged */
     CBORN_OUT_OF_MEMORY = 3, /* malloc or realloc refused */
     CBORN_TOO_LONG = 4,      /* an input has more than 2^30 bytes */
-    CBORN_DIFFERENT = 5      /* cborn_compare, cborn_same: the items differ; of cborn_compare, *place says where */
+    CBORN_DIFFERENT = 5      /* cborn_compare, cborn_same, cborn_compare_one: the items differ; of cborn_compare, *place says where */
 };
 
 /* The faults of an input: the class in the high byte, the reason in the low one.
@@ -109,7 +109,10 @@ enum {
     CBORN_DEFECT_INDEFINITE_LENGTH = 0x602,        /* indefinite length */
     CBORN_DEFECT_LOOSE_BIGNUM = 0x603,             /* loose bignum */
     CBORN_DEFECT_KEY_ORDER = 0x604,                /* key order */
-    /* cborn_compare and cborn_same: added to a fault of the second input */
+    /* of the calls .._one alone: the input has no other fault, but isn't one item */
+    CBORN_NO_ITEM = 0x701,                         /* no item */
+    CBORN_MORE_ITEMS = 0x702,                      /* more than one item */
+    /* cborn_compare, cborn_same and cborn_compare_one: added to a fault of the second input */
     CBORN_OF_SECOND = 0x10000
 };
 
@@ -166,6 +169,31 @@ uint32_t cborn_compare(uint32_t from_a, uint32_t from_b, uint64_t depth,
 uint32_t cborn_same(uint32_t from_a, uint32_t from_b, uint64_t depth,
                     const uint8_t *first, size_t first_len,
                     const uint8_t *second, size_t second_len, uint64_t *place);
+
+/* The calls for inputs that have to hold exactly one item, such as what is signed or
+ * hashed: an empty input is a sequence of no items, and valid for the calls above.
+ * They do what the calls of the same name do, and return the same. Of an input that
+ * has no other fault they return CBORN_NO_ITEM if it holds no item, with its length
+ * as the place, and CBORN_MORE_ITEMS if it holds more than one, with the offset of
+ * the second item as the place; out is unchanged then. cborn_check_one returns them
+ * even if the input has a defect. */
+uint32_t cborn_normalise_one(uint32_t from, uint32_t to, uint32_t order, uint64_t depth,
+                             const uint8_t *input, size_t input_len,
+                             uint8_t *out, size_t out_len, cborn_told *told);
+
+uint32_t cborn_show_one(uint32_t from, uint32_t to, uint64_t depth,
+                        const uint8_t *input, size_t input_len,
+                        uint8_t *out, size_t out_len, cborn_told *told);
+
+uint32_t cborn_check_one(uint32_t order, uint64_t depth,
+                         const uint8_t *input, size_t input_len, uint64_t *place);
+
+/* Returns CBORN_OK if both inputs hold the same item, and CBORN_DIFFERENT if they
+ * don't, with *place 0. Faults are those of cborn_normalise_one, told as
+ * cborn_compare tells them: those of the first input before those of the second. */
+uint32_t cborn_compare_one(uint32_t from_a, uint32_t from_b, uint64_t depth,
+                           const uint8_t *first, size_t first_len,
+                           const uint8_t *second, size_t second_len, uint64_t *place);
 
 /* Writes the words of a fault or a defect, which are those that the program prints,
  * to the start of out, with a zero at their end: "duplicate key". number is what

@@ -37,6 +37,7 @@ WANTED = {
     "A call": ((bytes.fromhex("82014161"), b"", 0), (b"", FAULT, 2)),
     "Notation": ((b"[_0 1_0, h'61'_0]\n", b"", 0), (b"{1: 0, 2(h'01'): 0}\n", b"", 0)),
     "The same items": ((b"same\n", b"", 0), (b"", b"first: " + FAULT, 2)),
+    "Exactly one item": ((b"", b"offset 7: more than one item\n", 2), (b"", FAULT, 2)),
     "Explanations": ((LONG_HEAD, b"", 1), (KEY_TWICE, b"", 1)),
 }
 

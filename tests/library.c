@@ -8,6 +8,8 @@
        explain FROM DEPTH NUMBER PLACE FILE
        words NUMBER
 
+   and normalise-one, show-one, check-one and compare-one as the call without -one.
+
    Each gets a line 'CODE PLACE LENGTH', and then LENGTH bytes. What is tested: inputs and buffers end where memory
    ends, so that one byte too far ends the program; a buffer one byte too small, and NULL with length 0, are told the
    length and written nothing; a longer buffer is as it was behind the answer; memory that was taken is given back;
@@ -35,6 +37,7 @@ typedef struct {
 
 typedef struct {
     char name[16];
+    bool one;
     unsigned from, to, order, number;
     unsigned long depth, place;
     input first, second;
@@ -128,15 +131,15 @@ static answer answered(const call *asked, uint8_t *out, size_t room)
     answer it = {0, {99, 99}};
     const input a = asked->first, b = asked->second;
     if (is_called(asked, "normalise"))
-        it.code = cborn_normalise(asked->from, asked->to, asked->order, asked->depth, a.bytes, a.length, out, room, &it.told);
+        it.code = (asked->one ? cborn_normalise_one : cborn_normalise)(asked->from, asked->to, asked->order, asked->depth, a.bytes, a.length, out, room, &it.told);
     else if (is_called(asked, "show"))
-        it.code = cborn_show(asked->from, asked->to, asked->depth, a.bytes, a.length, out, room, &it.told);
+        it.code = (asked->one ? cborn_show_one : cborn_show)(asked->from, asked->to, asked->depth, a.bytes, a.length, out, room, &it.told);
     else if (is_called(asked, "explain"))
         it.code = cborn_explain(asked->from, asked->depth, a.bytes, a.length, asked->number, asked->place, (char *)out, room, &it.told);
     else if (is_called(asked, "check"))
-        it.code = cborn_check(asked->order, asked->depth, a.bytes, a.length, &it.told.place);
+        it.code = (asked->one ? cborn_check_one : cborn_check)(asked->order, asked->depth, a.bytes, a.length, &it.told.place);
     else if (is_called(asked, "compare"))
-        it.code = cborn_compare(asked->from, asked->to, asked->depth, a.bytes, a.length, b.bytes, b.length, &it.told.place);
+        it.code = (asked->one ? cborn_compare_one : cborn_compare)(asked->from, asked->to, asked->depth, a.bytes, a.length, b.bytes, b.length, &it.told.place);
     else
         it.code = cborn_same(asked->from, asked->to, asked->depth, a.bytes, a.length, b.bytes, b.length, &it.told.place);
     if (it.code == CBORN_BAD_ARGUMENT && it.told.place != 99)
@@ -364,6 +367,10 @@ static bool parsed(const char *line, call *asked, char *first, char *second)
     memset(asked, 0, sizeof *asked);
     *first = *second = 0;
     sscanf(line, "%15s", asked->name);
+    char *suffix = strstr(asked->name, "-one");
+    asked->one = suffix != NULL;
+    if (asked->one)
+        *suffix = 0;
     if (is_called(asked, "normalise"))
         return sscanf(line, "%*s %u %u %u %lu %4095s", &asked->from, &asked->to, &asked->order, &asked->depth, first) == 5;
     if (is_called(asked, "show"))

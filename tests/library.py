@@ -71,6 +71,7 @@ def parser():
     words.add_argument("--to", choices=("wire", "notation"))
     words.add_argument("--order", choices=ORDERS, default="bytewise")
     words.add_argument("--depth", type=int, default=128)
+    words.add_argument("--one", action="store_true")
     words.add_argument("--explain", action="store_true")
     words.add_argument("files", nargs="*")
     return words
@@ -105,7 +106,8 @@ def line_of(asked, command=None):
         "check": lambda: (ORDERS[asked.order],),
         "compare": lambda: (KINDS[asked.from_a], KINDS[asked.from_b]),
     }
-    return " ".join(map(str, (command or asked.command, *kinds[asked.command](), asked.depth, *asked.files)))
+    name = f"{asked.command}-one" if asked.one else command or asked.command
+    return " ".join(map(str, (name, *kinds[asked.command](), asked.depth, *asked.files)))
 
 
 def mapped(path):
@@ -142,7 +144,7 @@ class InC:
         return self.line(line_of(asked))
 
     def same(self, asked):
-        """What cborn_same answers where cborn_compare is asked for."""
+        """What cborn_same answers where cborn_compare is asked for, or cborn_compare_one once more."""
         return self.line(line_of(asked, "same"))
 
     def in_second_notation(self, asked):
@@ -186,29 +188,29 @@ class InPython:
     def called(self, asked, inputs):
         cborn, source, order = self.cborn, KINDS[asked.source], ORDERS[asked.order]
         if asked.command == "normalise":
-            return cborn.normalise(inputs[0], source, KINDS[asked.to or "wire"], order, asked.depth)
+            return cborn.normalise(inputs[0], source, KINDS[asked.to or "wire"], order, asked.depth, asked.one)
         if asked.command == "show":
             if asked.to == "wire":
-                return cborn.spell(inputs[0], source, asked.depth)
-            return cborn.show(inputs[0], source, asked.depth).encode()
+                return cborn.spell(inputs[0], source, asked.depth, asked.one)
+            return cborn.show(inputs[0], source, asked.depth, asked.one).encode()
         if asked.command == "check":
-            return cborn.check(inputs[0], order, asked.depth)
-        return cborn.compare(*inputs, KINDS[asked.from_a], KINDS[asked.from_b], asked.depth)
+            return cborn.check(inputs[0], order, asked.depth, asked.one)
+        return cborn.compare(*inputs, KINDS[asked.from_a], KINDS[asked.from_b], asked.depth, asked.one)
 
     def shortly(self, asked, inputs):
         """What is answered by the call that only says whether."""
         cborn = self.cborn
         if asked.command == "check":
-            return cborn.is_deterministic(inputs[0], ORDERS[asked.order], asked.depth)
-        return cborn.same(*inputs, KINDS[asked.from_a], KINDS[asked.from_b], asked.depth)
+            return cborn.is_deterministic(inputs[0], ORDERS[asked.order], asked.depth, asked.one)
+        return cborn.same(*inputs, KINDS[asked.from_a], KINDS[asked.from_b], asked.depth, asked.one)
 
     def explained(self, asked, _):
-        """What the error or the defect says of itself."""
+        """What the error or the defect says of itself, of options where `explain` names arguments."""
         inputs = [mapped(path) for path in asked.files]
         try:
-            return self.called(asked, inputs).explain(inputs[0], asked.depth).encode()
+            return self.called(asked, inputs)._lines(inputs[0], asked.depth).encode()
         except self.cborn.CbornError as why:
-            return why.explain(inputs[why.input]).encode()
+            return why._lines(inputs[why.input]).encode()
 
     def refused(self, call, asked, inputs):
         """What a call returns, and what it raises in the form of an answer, or None."""

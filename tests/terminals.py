@@ -3,8 +3,8 @@
 
     terminals.py PROGRAM
 
-Where nothing is refused, and bytes were read that are all printable ASCII and white space with a line end last, the terminal
-gets a hint. Each run is made a second time with a pipe in the place of the terminal, which must get none of it, and all else
+Where bytes were read that are all printable ASCII and white space, and are refused or have a line end last, the terminal gets a
+hint. Each run is made a second time with a pipe in the place of the terminal, which must get none of it, and all else
 must be the same. So this would see a hint that a script gets, or that a person doesn't.
 """
 import os
@@ -20,6 +20,7 @@ FILES = {
     "digits": b"8301\n",
     "text": b"1\n",
     "item": bytes.fromhex("8201"),
+    "cut": b'{"a": 1}',
     "items": bytes.fromhex("820102"),
     # 'a' times 38 behind the head 78 26, which is 'x&': a text string, and all of it printable
     "string": b"x&" + b"a" * 38 + b"\n",
@@ -70,9 +71,19 @@ CASES = (
     ("show --from notation", b"8301\n", [], [], 0),
     ("normalise --from notation-2 text", b"", [], [], 0),
     ("compare --from-a notation --from-b notation text text", b"", [], [], 0),
-    # a refusal is told by itself
-    ("show", b"[\n", ["cborn: offset 2: truncated"], [], 2),
-    ("compare text item", b"", ["cborn: second: offset 2: truncated"], [], 2),
+    # of a text that is refused, whether its last line is ended or not
+    ("show", b"[\n", ["cborn: offset 2: truncated"], [NOTATION], 2),
+    ("normalise", b'{"a": 1}', ["cborn: offset 8: truncated"], [NOTATION], 2),
+    ("check", b"7f01", ["cborn: offset 4: truncated"], [HEXADECIMAL], 2),
+    ("check --one", b"8301\n", ["cborn: offset 2: more than one item"], [HEXADECIMAL], 2),
+    ("check --one", b"", ["cborn: offset 0: no item"], [], 2),
+    ("normalise", b"[\x00", ["cborn: offset 2: truncated"], [], 2),
+    ("normalise --from notation", b"[\n", ["cborn: offset 2: unexpected end"], [], 2),
+    ("compare cut item", b"", ["cborn: first: offset 8: truncated"], ["first: " + NOTATION], 2),
+    ("compare text item", b"", ["cborn: second: offset 2: truncated"], ["first: " + NOTATION], 2),
+    ("compare items cut", b"", ["cborn: second: offset 8: truncated"], ["second: " + NOTATION], 2),
+    ("compare text cut", b"", ["cborn: second: offset 8: truncated"], ["first: " + NOTATION, "second: " + NOTATION], 2),
+    # a file that isn't there is no refusal
     ("compare text none", b"", ["cborn: second: cannot read none"], [], 4),
     # the explanation has the hint whoever reads it
     ("check --explain", b"8301\n", ["  hint  " + HEXADECIMAL.removeprefix("hint: ")], [], 0),

@@ -31,7 +31,7 @@ CASES = (
     (("normalise", "--to", "notation"), SEVEN, "[1, h'61']\n", 0),
     (("check", "--none"), b"", "", 3),
 )
-BUILDING, BUILT = b"not proved: this is being built", b"not proved: this was built"
+BUILDING, BUILT = b"not proved, and not optimised: this is being built", b"not proved, and not optimised: this was built"
 
 
 def loaded():

@@ -244,6 +244,50 @@ class Errors(unittest.TestCase):
                 call(b"[1, 007]", TWICE, source_a=cborn.Kind.NOTATION)
             self.assertEqual(caught.exception.explain(b"[1, 007]").splitlines()[0], "  path  item 0 [1]")
 
+    def test_an_explanation_names_arguments_and_no_options(self):
+        with self.assertRaises(cborn.CbornError) as caught:
+            cborn.normalise(b"{\"a\": 1}")
+        hint = "  hint  the input is a text, and was read as CBOR bytes: source=Kind.NOTATION reads diagnostic notation, of compare and same source_a and source_b\n"
+        self.assertTrue(caught.exception.explain(b"{\"a\": 1}").endswith(hint))
+        with self.assertRaises(cborn.CbornError) as caught:
+            cborn.normalise(b"\x81\x80", depth=1)
+        self.assertTrue(caught.exception.explain(b"\x81\x80").endswith(": depth=N raises the limit, up to 1024\n"))
+        # what is quoted of an input stays as it is
+        text = b"'xxd -r -p makes bytes of it"
+        with self.assertRaises(cborn.CbornError) as caught:
+            cborn.normalise(text, cborn.Kind.NOTATION)
+        self.assertIn("xxd -r -p makes bytes of it", caught.exception.explain(text))
+
+    def test_one_wants_exactly_one_item(self):
+        self.assertEqual(cborn.normalise(LOOSE, one=True), TIGHT)
+        self.assertTrue(cborn.is_deterministic(b""))
+        for call in (cborn.normalise, cborn.show, cborn.check, cborn.is_deterministic):
+            for data, told in ((b"", (0, "no item", 0x701)), (b"\x18\x01\x02", (2, "more than one item", 0x702))):
+                with self.assertRaises(cborn.CbornError) as caught:
+                    call(data, one=True)
+                why = caught.exception
+                self.assertEqual((why.place, why.reason, why.number), told)
+        with self.assertRaises(cborn.CbornError) as caught:
+            cborn.spell(b"1, 2", one=True)
+        self.assertEqual((caught.exception.place, caught.exception.source), (3, cborn.Kind.NOTATION))
+        self.assertTrue(cborn.same(LOOSE, TIGHT, one=True))
+        self.assertIsNone(cborn.compare(LOOSE, TIGHT, one=True))
+        self.assertEqual(cborn.compare(b"\x01", b"\x02", one=True), 0)
+        for call in (cborn.compare, cborn.same):
+            with self.assertRaises(cborn.CbornError) as caught:
+                call(b"\x01", b"", one=True)
+            self.assertEqual((caught.exception.input, caught.exception.reason), (1, cborn.Reason.NO_ITEM))
+        self.assertRaises(TypeError, cborn.check, b"\x01", one=1)
+
+    def test_an_error_is_represented_by_names(self):
+        with self.assertRaises(cborn.CbornError) as caught:
+            cborn.normalise(TWICE)
+        wanted = "CbornError(reason=Reason.INVALID_DUPLICATE_KEY, place=3, input=0, source=Kind.WIRE, depth=128)"
+        self.assertEqual(repr(caught.exception), wanted)
+
+    def test_the_module_lists_its_public_names(self):
+        self.assertEqual(dir(cborn), sorted(cborn.__all__))
+
     def test_a_defect_explains_itself(self):
         data = b"\x81\x18\x01"
         lines = cborn.check(data).explain(data).splitlines()

@@ -13,8 +13,8 @@
     Traceback (most recent call last):
     cborn.CbornError: offset 3: duplicate key
 
-An input is any number of data items, one after another, in any object with the buffer protocol (bytes, bytearray,
-memoryview, mmap, array, NumPy arrays). It is read without a copy. A str isn't taken: encode notation first. Floats are
+An input is any number of data items, one after another; with `one=True` it has to be exactly one. It is any object with the
+buffer protocol (bytes, bytearray, memoryview, mmap, array, NumPy arrays). It is read without a copy. A str isn't taken: encode notation first. Floats are
 left out: an input with one is refused. Calls may run in several threads at once, and release the interpreter's lock
 while they work on 4,096 bytes or more. Nothing may write to an input meanwhile.
 
@@ -142,6 +142,9 @@ class Reason(str, enum.Enum):
     DEFECT_INDEFINITE_LENGTH = 0x602
     DEFECT_LOOSE_BIGNUM = 0x603
     DEFECT_KEY_ORDER = 0x604
+    # not one item, where `one` wants exactly one
+    NO_ITEM = 0x701
+    MORE_ITEMS = 0x702
 
     def __new__(cls, number: int) -> Reason:
         reason = str.__new__(cls, _cborn.words(number))
@@ -195,6 +198,10 @@ class CbornError(ValueError):
         self.source = source
         self.depth = depth
 
+    def __repr__(self) -> str:
+        told = f"reason={self.reason!r}, place={self.place}, input={self.input}, source={type(self.source).__name__}.{self.source.name}, depth={self.depth}"
+        return f"{type(self).__name__}({told})"
+
     def __str__(self) -> str:
         side = "second: " if self.input else ""
         where = "" if self.place is None else f"offset {self.place}: "
@@ -204,8 +211,8 @@ class CbornError(ValueError):
         """Return lines that say where in `data` the fault is, what stands there, and why.
 
         `data` is the input that was refused: of `compare` and `same` the one that `input` means. The lines are those
-        that the program writes with --explain after its first line; docs/FORMATS.md says what is in them. There are
-        none where the input is too long.
+        that the program writes with --explain after its first line, with arguments named for options; docs/FORMATS.md
+        says what is in them. There are none where the input is too long.
 
             >>> import cborn
             >>> data = bytes.fromhex("8201f93c00")
@@ -222,6 +229,10 @@ class CbornError(ValueError):
         Raises TypeError where `data` is no buffer, ValueError where no input of the format `source` is refused for this
         reason, and MemoryError.
         """
+        return _with_arguments(self._lines(data))
+
+    def _lines(self, data: ReadableBuffer) -> str:
+        """The program's lines."""
         return "" if self.place is None else _cborn.explain(data, self.number, self.place, self.source, self.depth)
 
 
@@ -242,7 +253,30 @@ class Defect(typing.NamedTuple):
             >>> print(cborn.check(b"\\x18\\x01").explain(b"\\x18\\x01").splitlines()[1])
               bytes >18< 01
         """
+        return _with_arguments(self._lines(data, depth))
+
+    def _lines(self, data: ReadableBuffer, depth: int) -> str:
+        """The program's lines."""
         return _cborn.explain(data, self.reason.number, self.place, Kind.WIRE, depth)
+
+
+# what the program says of its options, and what is said of the arguments here
+_ARGUMENTS = {
+    ": --depth N raises the limit, up to 1024": ": depth=N raises the limit, up to 1024",
+    "normalise and show read diagnostic notation by --from notation, compare by --from-a and --from-b":
+        "source=Kind.NOTATION reads diagnostic notation, of compare and same source_a and source_b",
+    "xxd -r -p makes bytes of it": "bytes.fromhex(text) makes bytes of it",
+}
+
+
+def _with_arguments(lines: str) -> str:
+    """The lines of an explanation, which speak of arguments in place of options. What is quoted of an input stays."""
+    told = lines.splitlines(keepends=True)
+    for i, line in enumerate(told):
+        if line.startswith(("  why   the nesting limit is ", "  hint  ")):
+            for option, argument in _ARGUMENTS.items():
+                told[i] = told[i].replace(option, argument)
+    return "".join(told)
 
 
 _OF_SECOND = 0x10000
@@ -278,3 +312,7 @@ def version() -> str:
 
 
 __version__: typing.Final[str] = version()
+
+
+def __dir__() -> list[str]:
+    return sorted(__all__)

@@ -96,6 +96,8 @@ def with_options(parser: argparse.ArgumentParser, kinds: typing.Sequence[str], t
                             "shortest first (4.2.3) [default: bytewise]")
     parser.add_argument("--depth", metavar="N", type=depth_of, default=128, action=Once,
                         help="the maximum nesting depth of arrays, maps and tags, 1 to 1024 [default: 128]")
+    parser.add_argument("--one", nargs=0, default=False, action=Once,
+                        help="refuse an input that holds no item, or more than one")
     parser.add_argument("--explain", nargs=0, default=False, action=Once,
                         help="say on standard error where in the input, and why, after a refusal or a defect")
 
@@ -120,12 +122,24 @@ def parser() -> Parser:
     return program
 
 
+# what has no width, ends a line, turns its direction or is a control
+ESCAPED = re.compile(
+    "[\x00-\x1f\x7f-\x9f\xad\u034f\u061c\u115f\u1160\u17b4\u17b5\u180b-\u180f\u200b-\u200f\u2028-\u202f"
+    "\u205f-\u206f\u3164\ufe00-\ufe0f\ufeff\uffa0\ufff0-\ufffb\ue000-\uf8ff\U000e0000-\U0010ffff]"
+)
+
+
+def escaped(name: str) -> str:
+    """A name of a file, so that it changes nothing but the line that it stands in."""
+    return ESCAPED.sub(lambda c: f"\\u{ord(c[0]):04x}", name)
+
+
 def read(name: str | None, side: str = "") -> bytearray:
     """The bytes of a file or of standard input: one more than the most at most, so that too long an input is known."""
     try:
         file = 0 if name is None else os.open(name, os.O_RDONLY | os.O_CLOEXEC)
     except OSError:
-        raise Trouble(f"cborn: {side}cannot read {name}\n", FAILED) from None
+        raise Trouble(f"cborn: {side}cannot read {escaped(name or '')}\n", FAILED) from None
     data = bytearray()
     try:
         while len(data) <= MOST:
@@ -172,9 +186,9 @@ def compared(asked: argparse.Namespace, inputs: list[bytearray]) -> tuple[bytes,
     try:
         inputs.append(read(asked.FILE_B, "second: "))
     except Trouble:
-        cborn.same(inputs[0], b"", *kinds, asked.depth)
+        cborn.normalise(inputs[0], kinds[0], depth=asked.depth, one=asked.one)
         raise
-    index = cborn.compare(inputs[0], inputs[1], *kinds, asked.depth)
+    index = cborn.compare(inputs[0], inputs[1], *kinds, asked.depth, asked.one)
     return told("same", DONE) if index is None else told(f"different at item {index}", DIFFERENT)
 
 
@@ -191,14 +205,14 @@ def answered(asked: argparse.Namespace, inputs: list[bytearray]) -> tuple[bytes,
     inputs.append(data := read(asked.FILE))
     source, _ = kinds_of(asked)
     if asked.command == "check":
-        defect = cborn.check(data, ORDERS[asked.order], asked.depth)
+        defect = cborn.check(data, ORDERS[asked.order], asked.depth, asked.one)
         line, status = ("deterministic", DONE) if defect is None else (f"offset {defect.place}: {defect.reason}", DIFFERENT)
         return *told(line, status), defect
     if asked.command == "normalise":
-        return cborn.normalise(data, source, KINDS[asked.to], ORDERS[asked.order], asked.depth), DONE, None
+        return cborn.normalise(data, source, KINDS[asked.to], ORDERS[asked.order], asked.depth, asked.one), DONE, None
     if asked.to == "wire":
-        return cborn.spell(data, source, asked.depth), DONE, None
-    return cborn.show(data, source, asked.depth).encode(), DONE, None
+        return cborn.spell(data, source, asked.depth, asked.one), DONE, None
+    return cborn.show(data, source, asked.depth, asked.one).encode(), DONE, None
 
 
 def hint(data: bytearray, source: cborn.Kind) -> str:
@@ -208,7 +222,7 @@ def hint(data: bytearray, source: cborn.Kind) -> str:
     """
     if source is not cborn.Kind.WIRE:
         return ""
-    lines = cborn.CbornError(cborn.Reason.TRUNCATED.number, 0).explain(data).splitlines(keepends=True)
+    lines = cborn.CbornError(cborn.Reason.TRUNCATED.number, 0)._lines(data).splitlines(keepends=True)
     return lines[-1] if lines[-1].startswith("  hint ") else ""
 
 
@@ -233,7 +247,7 @@ def done(words: typing.Sequence[str]) -> int:
         output, status, defect = answered(asked, inputs)
     except cborn.CbornError as why:
         side = "first: " if asked.command == "compare" and not why.input else ""
-        lines = explained(functools.partial(why.explain, inputs[why.input])) if asked.explain else ""
+        lines = explained(functools.partial(why._lines, inputs[why.input])) if asked.explain else ""
         raise Trouble(f"cborn: {side}{why}\n{lines}", REFUSED) from None
     write(output)
     if asked.explain:
@@ -244,7 +258,7 @@ def done(words: typing.Sequence[str]) -> int:
 def said_after(asked: argparse.Namespace, inputs: list[bytearray], defect: cborn.Defect | None) -> str:
     """What is said after an answer."""
     if defect is not None:
-        return explained(functools.partial(defect.explain, inputs[0], asked.depth))
+        return explained(functools.partial(defect._lines, inputs[0], asked.depth))
     return explained(lambda: "".join(map(hint, inputs, kinds_of(asked))))
 
 

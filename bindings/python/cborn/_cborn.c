@@ -34,7 +34,7 @@ extern void PyBuffer_Release(lent_buffer *lent);
 enum {
     MUCH = 4096,  /* bytes of input from which on the lock is released */
     SMALL = 1024, /* bytes of output that are kept on the stack */
-    MOST_ARGUMENTS = 5
+    MOST_ARGUMENTS = 6
 };
 
 /* What __init__.py handed in: two classes, and what makes an exception and a Defect of a number and a place. */
@@ -62,9 +62,10 @@ typedef struct {
     uint64_t depth;
     uint32_t number;
     uint64_t place;
+    int one; /* an input has to hold exactly one item */
 } options;
 
-static const options usual = {CBORN_WIRE, CBORN_WIRE, CBORN_BYTEWISE, CBORN_USUAL_DEPTH, 0, 0};
+static const options usual = {CBORN_WIRE, CBORN_WIRE, CBORN_BYTEWISE, CBORN_USUAL_DEPTH, 0, 0, 0};
 
 static int place_of_argument(const signature *of, PyObject *name)
 {
@@ -184,6 +185,18 @@ static int is_depth(PyObject *value, uint64_t *depth)
     return 1;
 }
 
+static int is_flag(PyObject *value, int *one)
+{
+    if (value == NULL)
+        return 1;
+    if (!PyBool_Check(value)) {
+        PyErr_Format(PyExc_TypeError, "one must be True or False, not %R", value);
+        return 0;
+    }
+    *one = value == Py_True;
+    return 1;
+}
+
 static PyObject *not_begun(void)
 {
     PyErr_SetString(PyExc_SystemError, "begin() was not called");
@@ -218,12 +231,13 @@ typedef uint32_t writer(const options *how, const input *from, uint8_t *out, siz
 
 static uint32_t normalise_into(const options *how, const input *from, uint8_t *out, size_t room, cborn_told *told)
 {
-    return cborn_normalise(how->from, how->to, how->order, how->depth, from->bytes, from->length, out, room, told);
+    return (how->one ? cborn_normalise_one : cborn_normalise)(how->from, how->to, how->order, how->depth, from->bytes, from->length, out,
+                                                              room, told);
 }
 
 static uint32_t show_into(const options *how, const input *from, uint8_t *out, size_t room, cborn_told *told)
 {
-    return cborn_show(how->from, how->to, how->depth, from->bytes, from->length, out, room, told);
+    return (how->one ? cborn_show_one : cborn_show)(how->from, how->to, how->depth, from->bytes, from->length, out, room, told);
 }
 
 static uint32_t written(writer *call, const options *how, const input *from, uint8_t *out, size_t room, cborn_told *told)
@@ -289,10 +303,10 @@ static PyObject *answered(PyObject *module, writer *call, const options *how, co
 
 #define DOCUMENTED(name, arguments, text) static const char name##_doc[] = #name arguments "\n--\n\n" text
 
-DOCUMENTED(normalise, "($module, data, source=Kind.WIRE, to=Kind.WIRE, order=Order.BYTEWISE, depth=128)",
+DOCUMENTED(normalise, "($module, data, source=Kind.WIRE, to=Kind.WIRE, order=Order.BYTEWISE, depth=128, one=False)",
            "Return the canonical form of the items in `data`: their deterministic encodings, or these in notation (UTF-8).\n\n"
-           "Raises CbornError if `data` is refused, and MemoryError.");
-static const signature of_normalise = {"normalise", 1, 5, {"data", "source", "to", "order", "depth"}};
+           "With `one`, `data` has to hold exactly one item, here and in the other functions. Raises CbornError if `data` is refused, and MemoryError.");
+static const signature of_normalise = {"normalise", 1, 6, {"data", "source", "to", "order", "depth", "one"}};
 
 static PyObject *normalise(PyObject *module, PyObject *const *given, Py_ssize_t count, PyObject *keywords)
 {
@@ -301,7 +315,7 @@ static PyObject *normalise(PyObject *module, PyObject *const *given, Py_ssize_t 
     input from;
     if (!are_bound(&of_normalise, given, count, keywords, of) || !is_kind(module, of[1], "source", &how.from) ||
         !is_kind(module, of[2], "to", &how.to) || !is_order(module, of[3], &how.order) || !is_depth(of[4], &how.depth) ||
-        !is_lent(of[0], "data", &from))
+        !is_flag(of[5], &how.one) || !is_lent(of[0], "data", &from))
         return NULL;
     PyObject *out = answered(module, normalise_into, &how, &from, 0, room_for(&how, &from));
     give_back(&from);
@@ -314,17 +328,17 @@ static PyObject *shown(PyObject *module, const signature *called, options how, P
     PyObject *of[MOST_ARGUMENTS];
     input from;
     if (!are_bound(called, given, count, keywords, of) || !is_kind(module, of[1], "source", &how.from) ||
-        !is_depth(of[2], &how.depth) || !is_lent(of[0], "data", &from))
+        !is_depth(of[2], &how.depth) || !is_flag(of[3], &how.one) || !is_lent(of[0], "data", &from))
         return NULL;
     PyObject *out = answered(module, show_into, &how, &from, how.to == CBORN_NOTATION, room_for(&how, &from));
     give_back(&from);
     return out;
 }
 
-DOCUMENTED(show, "($module, data, source=Kind.WIRE, depth=128)",
+DOCUMENTED(show, "($module, data, source=Kind.WIRE, depth=128, one=False)",
            "Return the items in `data` as they are encoded, in diagnostic notation.\n\n"
            "Raises what `normalise` raises, but accepts validity errors other than a text string that isn't UTF-8.");
-static const signature of_show = {"show", 1, 3, {"data", "source", "depth"}};
+static const signature of_show = {"show", 1, 4, {"data", "source", "depth", "one"}};
 
 static PyObject *show(PyObject *module, PyObject *const *given, Py_ssize_t count, PyObject *keywords)
 {
@@ -333,10 +347,10 @@ static PyObject *show(PyObject *module, PyObject *const *given, Py_ssize_t count
     return shown(module, &of_show, how, given, count, keywords);
 }
 
-DOCUMENTED(spell, "($module, data, source=Kind.NOTATION, depth=128)",
+DOCUMENTED(spell, "($module, data, source=Kind.NOTATION, depth=128, one=False)",
            "Return the bytes that the notation in `data` stands for: the inverse of `show`.\n\n"
            "Raises what `normalise` raises, but accepts validity errors.");
-static const signature of_spell = {"spell", 1, 3, {"data", "source", "depth"}};
+static const signature of_spell = {"spell", 1, 4, {"data", "source", "depth", "one"}};
 
 static PyObject *spell(PyObject *module, PyObject *const *given, Py_ssize_t count, PyObject *keywords)
 {
@@ -353,13 +367,13 @@ static int is_checked(PyObject *module, const signature *called, PyObject *const
     options how = usual;
     input from;
     if (!are_bound(called, given, count, keywords, of) || !is_order(module, of[1], &how.order) ||
-        !is_depth(of[2], &how.depth) || !is_lent(of[0], "data", &from))
+        !is_depth(of[2], &how.depth) || !is_flag(of[3], &how.one) || !is_lent(of[0], "data", &from))
         return 0;
     if (from.length < MUCH) {
-        *code = cborn_check(how.order, how.depth, from.bytes, from.length, place);
+        *code = (how.one ? cborn_check_one : cborn_check)(how.order, how.depth, from.bytes, from.length, place);
     } else {
         Py_BEGIN_ALLOW_THREADS
-        *code = cborn_check(how.order, how.depth, from.bytes, from.length, place);
+        *code = (how.one ? cborn_check_one : cborn_check)(how.order, how.depth, from.bytes, from.length, place);
         Py_END_ALLOW_THREADS
     }
     give_back(&from);
@@ -369,11 +383,11 @@ static int is_checked(PyObject *module, const signature *called, PyObject *const
     return 0;
 }
 
-DOCUMENTED(check, "($module, data, order=Order.BYTEWISE, depth=128)",
+DOCUMENTED(check, "($module, data, order=Order.BYTEWISE, depth=128, one=False)",
            "Return None if `data` is deterministic, else its first defect. Raises what `normalise` raises.\n\n"
            "None means that `normalise` would return the same bytes. The contents of byte strings aren't checked.\n"
            "`is_deterministic` says only whether.");
-static const signature of_check = {"check", 1, 3, {"data", "order", "depth"}};
+static const signature of_check = {"check", 1, 4, {"data", "order", "depth", "one"}};
 
 static PyObject *check(PyObject *module, PyObject *const *given, Py_ssize_t count, PyObject *keywords)
 {
@@ -389,10 +403,10 @@ static PyObject *check(PyObject *module, PyObject *const *given, Py_ssize_t coun
     return PyObject_CallFunction(known->defect, "IK", code, (unsigned long long)place);
 }
 
-DOCUMENTED(is_deterministic, "($module, data, order=Order.BYTEWISE, depth=128)",
+DOCUMENTED(is_deterministic, "($module, data, order=Order.BYTEWISE, depth=128, one=False)",
            "Return whether `data` is deterministic: whether `normalise` would return the same bytes.\n\n"
            "Raises what `normalise` raises: input that is refused is neither.");
-static const signature of_is_deterministic = {"is_deterministic", 1, 3, {"data", "order", "depth"}};
+static const signature of_is_deterministic = {"is_deterministic", 1, 4, {"data", "order", "depth", "one"}};
 
 static PyObject *is_deterministic(PyObject *module, PyObject *const *given, Py_ssize_t count, PyObject *keywords)
 {
@@ -403,7 +417,7 @@ static PyObject *is_deterministic(PyObject *module, PyObject *const *given, Py_s
     return PyBool_FromLong(code == CBORN_OK);
 }
 
-/* A call over two inputs: cborn_compare or cborn_same. */
+/* A call over two inputs: cborn_compare, cborn_same or cborn_compare_one. */
 typedef uint32_t comparer(uint32_t from_a, uint32_t from_b, uint64_t depth, const uint8_t *first, size_t first_len,
                           const uint8_t *second, size_t second_len, uint64_t *place);
 
@@ -427,13 +441,14 @@ static int are_compared(PyObject *module, const signature *called, comparer *cal
     options how = usual;
     input a, b;
     if (!are_bound(called, given, count, keywords, of) || !is_kind(module, of[2], "source_a", &how.from) ||
-        !is_kind(module, of[3], "source_b", &how.to) || !is_depth(of[4], &how.depth) || !is_lent(of[0], "first", &a))
+        !is_kind(module, of[3], "source_b", &how.to) || !is_depth(of[4], &how.depth) || !is_flag(of[5], &how.one) ||
+        !is_lent(of[0], "first", &a))
         return 0;
     if (!is_lent(of[1], "second", &b)) {
         give_back(&a);
         return 0;
     }
-    *code = compared(call, &how, &a, &b, place);
+    *code = compared(how.one ? cborn_compare_one : call, &how, &a, &b, place);
     give_back(&b);
     give_back(&a);
     if (*code == CBORN_OK || *code == CBORN_DIFFERENT)
@@ -442,11 +457,11 @@ static int are_compared(PyObject *module, const signature *called, comparer *cal
     return 0;
 }
 
-DOCUMENTED(compare, "($module, first, second, source_a=Kind.WIRE, source_b=Kind.WIRE, depth=128)",
+DOCUMENTED(compare, "($module, first, second, source_a=Kind.WIRE, source_b=Kind.WIRE, depth=128, one=False)",
            "Return None if both hold the same items, else the index, from 0, of the first item that differs.\n\n"
            "So an answer that is false doesn't mean that they differ: `same` says whether they do. Raises what `normalise`\n"
            "raises; the `input` of a CbornError says which of them is refused.");
-static const signature of_compare = {"compare", 2, 5, {"first", "second", "source_a", "source_b", "depth"}};
+static const signature of_compare = {"compare", 2, 6, {"first", "second", "source_a", "source_b", "depth", "one"}};
 
 static PyObject *compare(PyObject *module, PyObject *const *given, Py_ssize_t count, PyObject *keywords)
 {
@@ -459,10 +474,10 @@ static PyObject *compare(PyObject *module, PyObject *const *given, Py_ssize_t co
     return PyLong_FromUnsignedLongLong(place);
 }
 
-DOCUMENTED(same, "($module, first, second, source_a=Kind.WIRE, source_b=Kind.WIRE, depth=128)",
+DOCUMENTED(same, "($module, first, second, source_a=Kind.WIRE, source_b=Kind.WIRE, depth=128, one=False)",
            "Return whether both hold the same items: whether their canonical forms are equal.\n\n"
            "Raises what `compare` raises.");
-static const signature of_same = {"same", 2, 5, {"first", "second", "source_a", "source_b", "depth"}};
+static const signature of_same = {"same", 2, 6, {"first", "second", "source_a", "source_b", "depth", "one"}};
 
 static PyObject *same(PyObject *module, PyObject *const *given, Py_ssize_t count, PyObject *keywords)
 {

@@ -39,6 +39,19 @@ extern "C" {
         from_a: u32, from_b: u32, depth: u64, first: *const u8, first_len: usize,
         second: *const u8, second_len: usize, place: *mut u64,
     ) -> u32;
+    pub fn cborn_normalise_one(
+        from: u32, to: u32, order: u32, depth: u64, input: *const u8, input_len: usize,
+        out: *mut u8, out_len: usize, told: *mut Told,
+    ) -> u32;
+    pub fn cborn_show_one(
+        from: u32, to: u32, depth: u64, input: *const u8, input_len: usize,
+        out: *mut u8, out_len: usize, told: *mut Told,
+    ) -> u32;
+    pub fn cborn_check_one(order: u32, depth: u64, input: *const u8, input_len: usize, place: *mut u64) -> u32;
+    pub fn cborn_compare_one(
+        from_a: u32, from_b: u32, depth: u64, first: *const u8, first_len: usize,
+        second: *const u8, second_len: usize, place: *mut u64,
+    ) -> u32;
 }
 
 /// `CBORN_STACK`.

@@ -126,13 +126,17 @@ impl Options {
 /// bytes.
 pub fn normalise(input: &[u8], options: Options) -> Result<Vec<u8>, Fault> {
     let Options { from, to, order, depth } = options;
-    let room = if to == Kind::Wire { input.len() + input.len() / 3 } else { 3 * input.len() + 64 };
-    filled(room, |out, room, told| unsafe {
+    filled(room_for(input, to), |out, room, told| unsafe {
         // SAFETY: as in `calls`
         calls::cborn_normalise(
             from as u32, to as u32, order as u32, depth.0, input.as_ptr(), input.len(), out, room, told,
         )
     })
+}
+
+/// A guess at the length of a canonical form, which for bytes is never too small.
+fn room_for(input: &[u8], to: Kind) -> usize {
+    if to == Kind::Wire { input.len() + input.len() / 3 } else { 3 * input.len() + 64 }
 }
 
 /// The items in the input as they are encoded, each head in its own width: as bytes or in notation.
@@ -157,6 +161,11 @@ pub fn check(input: &[u8], order: Order, depth: Depth) -> Result<Option<Defect>,
     let mut place = 0;
     // SAFETY: as in `calls`
     let code = unsafe { calls::cborn_check(order as u32, depth.0, input.as_ptr(), input.len(), &mut place) };
+    checked(code, place)
+}
+
+/// What a check answered.
+fn checked(code: u32, place: u64) -> Result<Option<Defect>, Fault> {
     match code {
         0 => Ok(None),
         0x601..=0x6ff => Ok(Some(Defect { place, reason: Reason::new(code) })),
@@ -210,11 +219,84 @@ pub fn same(
             first.as_ptr(), first.len(), second.as_ptr(), second.len(), &mut place,
         )
     };
+    matched(code, place)
+}
+
+/// What a comparison answered that tells no place.
+fn matched(code: u32, place: u64) -> Result<bool, CompareFault> {
     match code {
         0 => Ok(true),
         5 => Ok(false),
         code => Err(CompareFault::new(code, place)),
     }
+}
+
+/// The canonical form of the one item that the input has to hold.
+///
+/// ```
+/// use cborn::{normalise, normalise_one, Options};
+/// let options = Options::default();
+/// assert_eq!(normalise(b"", options).unwrap(), b"");
+/// assert_eq!(normalise_one(b"", options).unwrap_err().to_string(), "offset 0: no item");
+/// ```
+///
+/// # Errors
+/// Those of [`normalise`]. If there is none of these, [`Reason::NoItem`] at the input's length where the input holds no
+/// item, and [`Reason::MoreItems`] where the second item starts if it holds more than one.
+pub fn normalise_one(input: &[u8], options: Options) -> Result<Vec<u8>, Fault> {
+    let Options { from, to, order, depth } = options;
+    filled(room_for(input, to), |out, room, told| unsafe {
+        // SAFETY: as in `calls`
+        calls::cborn_normalise_one(
+            from as u32, to as u32, order as u32, depth.0, input.as_ptr(), input.len(), out, room, told,
+        )
+    })
+}
+
+/// The one item that the input has to hold, as it is encoded.
+///
+/// # Errors
+/// Those of [`show`], and those that [`normalise_one`] adds to [`normalise`].
+pub fn show_one(input: &[u8], from: Kind, to: Kind, depth: Depth) -> Result<Vec<u8>, Fault> {
+    let room = if to == Kind::Wire { input.len() + 8 } else { 3 * input.len() + 64 };
+    filled(room, |out, room, told| unsafe {
+        // SAFETY: as in `calls`
+        calls::cborn_show_one(from as u32, to as u32, depth.0, input.as_ptr(), input.len(), out, room, told)
+    })
+}
+
+/// None if the input is one item and deterministic, else its first defect. An input that isn't one item is refused, also
+/// if it has a defect.
+///
+/// # Errors
+/// Those of [`normalise_one`].
+pub fn check_one(input: &[u8], order: Order, depth: Depth) -> Result<Option<Defect>, Fault> {
+    let mut place = 0;
+    // SAFETY: as in `calls`
+    let code = unsafe { calls::cborn_check_one(order as u32, depth.0, input.as_ptr(), input.len(), &mut place) };
+    checked(code, place)
+}
+
+/// Whether both inputs hold the same item, each of which has to hold exactly one.
+///
+/// # Errors
+/// The fault of an input, as [`normalise_one`] tells it, and which input has it. If both have one, that of the first.
+pub fn compare_one(
+    first: &[u8],
+    from_first: Kind,
+    second: &[u8],
+    from_second: Kind,
+    depth: Depth,
+) -> Result<bool, CompareFault> {
+    let mut place = 0;
+    // SAFETY: as in `calls`
+    let code = unsafe {
+        calls::cborn_compare_one(
+            from_first as u32, from_second as u32, depth.0,
+            first.as_ptr(), first.len(), second.as_ptr(), second.len(), &mut place,
+        )
+    };
+    matched(code, place)
 }
 
 /// The version of the library: major, minor, patch.

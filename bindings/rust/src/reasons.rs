@@ -24,7 +24,7 @@ macro_rules! reasons {
             }
 
             /// The number in `cborn.h`: the class in the high byte (1 malformed bytes, 2 tokens of notation, 3 its grammar
-            /// or meaning, 4 not UTF-8, 5 a validity error, 6 a defect), the reason in the low one.
+            /// or meaning, 4 not UTF-8, 5 a validity error, 6 a defect, 7 not one item), the reason in the low one.
             pub fn number(self) -> u32 {
                 match self {
                     $(Reason::$name => $number,)*
@@ -132,4 +132,9 @@ reasons! {
     DefectLooseBignum = 0x603, "loose bignum";
     /// A key sorts before the key in front of it (section 4.2.1).
     DefectKeyOrder = 0x604, "key order";
+    // inputs that aren't one item
+    /// The input holds no item, and exactly one is wanted.
+    NoItem = 0x701, "no item";
+    /// The input holds more than one item, and exactly one is wanted.
+    MoreItems = 0x702, "more than one item";
 }

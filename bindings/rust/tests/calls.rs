@@ -1,7 +1,8 @@
 //! What the tables of cborn's tests don't reach of this crate. Expected values come from RFC 8949 and docs/FORMATS.md.
 
 use cborn::{
-    check, compare, normalise, same, show, version, CompareFault, Depth, Fault, Kind, Options, Order, Reason,
+    check, check_one, compare, compare_one, normalise, normalise_one, same, show, show_one, version, CompareFault, Depth,
+    Fault, Kind, Options, Order, Reason,
 };
 
 const LOOSE: [u8; 7] = [0x98, 2, 0x18, 1, 0x58, 1, 0x61];
@@ -130,4 +131,25 @@ fn threads_with_the_stack_that_is_asked_for_answer_alike() {
         })
         .collect();
     assert!(threads.into_iter().all(|thread| thread.join().unwrap()));
+}
+
+#[test]
+fn wants_exactly_one_item() {
+    let none = Fault::Refused { reason: Reason::NoItem, place: 0 };
+    let more = Fault::Refused { reason: Reason::MoreItems, place: 2 };
+    let depth = Depth::default();
+    assert_eq!(normalise_one(&LOOSE, Options::default()).unwrap(), TIGHT);
+    assert_eq!(normalise_one(&[], Options::default()), Err(none));
+    assert_eq!(normalise_one(&[0x18, 1, 2], Options::default()), Err(more));
+    assert_eq!(show_one(&LOOSE, Kind::Wire, Kind::Notation, depth).unwrap(), b"[_0 1_0, h'61'_0]\n");
+    assert_eq!(show_one(&[], Kind::Wire, Kind::Wire, depth), Err(none));
+    let text = Fault::Refused { reason: Reason::MoreItems, place: 3 };
+    assert_eq!(show_one(b"1, 2", Kind::Notation, Kind::Wire, depth), Err(text));
+    assert_eq!(check_one(&TIGHT, Order::Bytewise, depth), Ok(None));
+    assert_eq!(check_one(&[], Order::Bytewise, depth), Err(none));
+    assert_eq!(check_one(&[0x18, 1, 2], Order::Bytewise, depth), Err(more));
+    assert_eq!(compare_one(&LOOSE, Kind::Wire, b"[1, 'a']", Kind::Notation, depth), Ok(true));
+    assert_eq!(compare_one(&[1], Kind::Wire, &[2], Kind::Wire, depth), Ok(false));
+    assert_eq!(compare_one(&[], Kind::Wire, &[], Kind::Wire, depth), Err(CompareFault::First(none)));
+    assert_eq!(compare_one(&[1], Kind::Wire, &[], Kind::Wire, depth), Err(CompareFault::Second(none)));
 }

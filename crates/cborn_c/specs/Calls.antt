@@ -12,12 +12,16 @@ use Rattle.cborn_causes.specs.declared.reasons.TextReason.{TextReason}
 use Rattle.cborn_engine.specs.declared.faults.CompareFault.{CompareFault}
 use Rattle.cborn_engine.specs.declared.faults.CompareFault.TheVariants as compared
 use Rattle.cborn_engine.specs.declared.faults.EngineFault.{EngineFault}
+use Rattle.cborn_engine.specs.declared.one_faults.CompareOneFault.{CompareOneFault}
+use Rattle.cborn_engine.specs.declared.one_faults.CompareOneFault.TheVariants as compared_one
+use Rattle.cborn_engine.specs.declared.one_faults.OneFault.{OneFault}
+use Rattle.cborn_engine.specs.declared.one_faults.OneFault.TheVariants as one
 use Rattle.cborn_engine.specs.declared.kinds.Kind.{Kind}
 use Rattle.cborn_engine.specs.declared.kinds.Kind.TheVariants as kind
 use Rattle.cborn_c.specs.declared.numbers.KeyOrdering.{KeyOrdering}
 use Rattle.cborn_c.specs.declared.answers.CbornTold.{CbornTold}
-use Rattle.cborn_c.specs.Numbers.{order_of, fault_number, fault_place, defect_number, TellsOfBytes, text_number}
-use Rattle.cborn_c.specs.Answers.{Normalised, Shown, Checked, Compared, Matched}
+use Rattle.cborn_c.specs.Numbers.{order_of, fault_number, fault_place, one_number, one_place, defect_number, TellsOfBytes, text_number}
+use Rattle.cborn_c.specs.Answers.{Normalised, Shown, Checked, Compared, Matched, NormalisedOne, ShownOne, CheckedOne, MatchedOne}
 
 -- the buffer begins with the answer, and is as it was behind that; or it is too small for the answer, and is as it was
 abbrev pub IsPut : List ℕ → List ℕ → List ℕ → ℕ → Type 0
@@ -121,9 +125,71 @@ SameCall (Some k) (Some l) limit x y unplaced place code = (IsDepth limit → Ma
 SameCall (Some k) None limit x y unplaced place code = IsBadPlaced unplaced place code
 SameCall None l limit x y unplaced place code = IsBadPlaced unplaced place code
 
+-- ---- where exactly one item is wanted
+
+abbrev pub ToldOne : Result (List ℕ) OneFault → List ℕ → List ℕ → CbornTold → ℕ → Type 0
+ToldOne (Ok answer) before after told code = IsPut answer before after code × (told.length ≡ length answer) × (told.place ≡ 0)
+ToldOne (Err why) before after told code = (code ≡ one_number why) × (told.place ≡ one_place why) × (told.length ≡ 0) × (after ≡ before)
+
+pub record NormalisesOneInto (order : List ℕ → List ℕ → Ordering) (k out : Kind) (limit : ℕ) (x before after : List ℕ) (told : CbornTold) (code : ℕ) : Type 0 where
+  pub answer : Result (List ℕ) OneFault
+  pub normalised : NormalisedOne order k out limit x answer
+  pub put : ToldOne answer before after told code
+
+abbrev pub NormaliseOneCall : Option Kind → Option Kind → Option KeyOrdering → ℕ → List ℕ → List ℕ → List ℕ → CbornTold → CbornTold → ℕ → Type 0
+NormaliseOneCall (Some k) (Some out) (Some order) limit x before after untold told code =
+    (IsDepth limit → NormalisesOneInto (order_of order) k out limit x before after told code) × ((IsDepth limit → ⊥) → IsBad before after untold told code)
+NormaliseOneCall (Some k) (Some out) None limit x before after untold told code = IsBad before after untold told code
+NormaliseOneCall (Some k) None order limit x before after untold told code = IsBad before after untold told code
+NormaliseOneCall None out order limit x before after untold told code = IsBad before after untold told code
+
+pub record ShowsOneInto (k out : Kind) (limit : ℕ) (x before after : List ℕ) (told : CbornTold) (code : ℕ) : Type 0 where
+  pub answer : Result (List ℕ) OneFault
+  pub shown : ShownOne k out limit x answer
+  pub put : ToldOne answer before after told code
+
+abbrev pub ShowOneCall : Option Kind → Option Kind → ℕ → List ℕ → List ℕ → List ℕ → CbornTold → CbornTold → ℕ → Type 0
+ShowOneCall (Some k) (Some out) limit x before after untold told code =
+    (IsDepth limit → ShowsOneInto k out limit x before after told code) × ((IsDepth limit → ⊥) → IsBad before after untold told code)
+ShowOneCall (Some k) None limit x before after untold told code = IsBad before after untold told code
+ShowOneCall None out limit x before after untold told code = IsBad before after untold told code
+
+abbrev pub CheckOneTold : Result (Option Defect) OneFault → ℕ → ℕ → Type 0
+CheckOneTold (Ok defect) place code = DefectTold defect place code
+CheckOneTold (Err why) place code = (code ≡ one_number why) × (place ≡ one_place why)
+
+pub record ChecksOneInto (order : List ℕ → List ℕ → Ordering) (limit : ℕ) (x : List ℕ) (place code : ℕ) : Type 0 where
+  pub answer : Result (Option Defect) OneFault
+  pub checked : CheckedOne order limit x answer
+  pub told : CheckOneTold answer place code
+
+abbrev pub CheckOneCall : Option KeyOrdering → ℕ → List ℕ → ℕ → ℕ → ℕ → Type 0
+CheckOneCall (Some order) limit x unplaced place code = (IsDepth limit → ChecksOneInto (order_of order) limit x place code) × ((IsDepth limit → ⊥) → IsBadPlaced unplaced place code)
+CheckOneCall None limit x unplaced place code = IsBadPlaced unplaced place code
+
+-- the same item, or different ones
+abbrev pub SameOneTold : Result Bool CompareOneFault → ℕ → ℕ → Type 0
+SameOneTold (Ok true) place code = (code ≡ 0) × (place ≡ 0)
+SameOneTold (Ok false) place code = (code ≡ 5) × (place ≡ 0)
+SameOneTold (Err (compared_one.First why)) place code = (code ≡ one_number why) × (place ≡ one_place why)
+SameOneTold (Err (compared_one.Second why)) place code = (code ≡ one_number why + 65536) × (place ≡ one_place why)
+SameOneTold (Err compared_one.OutOfMemory) place code = (code ≡ 3) × (place ≡ 0)
+
+pub record MatchesOneInto (k l : Kind) (limit : ℕ) (x y : List ℕ) (place code : ℕ) : Type 0 where
+  pub answer : Result Bool CompareOneFault
+  pub matched : MatchedOne k l limit x y answer
+  pub told : SameOneTold answer place code
+
+abbrev pub CompareOneCall : Option Kind → Option Kind → ℕ → List ℕ → List ℕ → ℕ → ℕ → ℕ → Type 0
+CompareOneCall (Some k) (Some l) limit x y unplaced place code = (IsDepth limit → MatchesOneInto k l limit x y place code) × ((IsDepth limit → ⊥) → IsBadPlaced unplaced place code)
+CompareOneCall (Some k) None limit x y unplaced place code = IsBadPlaced unplaced place code
+CompareOneCall None l limit x y unplaced place code = IsBadPlaced unplaced place code
+
+-- ---- words and explanations
+
 -- the number of a fault, or of that of a second input, or of a defect
 abbrev pub HasWords : ℕ → Type 0
-HasWords number = ((why : EngineFault) × (fault_number why ≡ number)) ⊎ ((why : EngineFault) × (fault_number why + 65536 ≡ number)) ⊎ ((reason : DefectReason) × (defect_number reason ≡ number))
+HasWords number = ((why : OneFault) × (one_number why ≡ number)) ⊎ ((why : OneFault) × (one_number why + 65536 ≡ number)) ⊎ ((reason : DefectReason) × (defect_number reason ≡ number))
 
 -- some words and a zero behind them, put into the buffer. No clause says which words.
 pub record WordsPut (before after : List ℕ) (code : ℕ) : Type 0 where

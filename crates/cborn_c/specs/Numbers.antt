@@ -1,4 +1,4 @@
--- The numbers by which C names a kind, an order and a fault. That of a fault is 256 times its class, and its reason: classes are 1 bytes, 2 tokens, 3 notation, 4 texts that aren't UTF-8, 5 items that aren't valid, 6 defects.
+-- The numbers by which C names a kind, an order and a fault. That of a fault is 256 times its class, and its reason: classes are 1 bytes, 2 tokens, 3 notation, 4 texts that aren't UTF-8, 5 items that aren't valid, 6 defects, 7 inputs that aren't one item.
 use Rattle.std.specs.Prelude.{◌≡◌, ◌⊎◌, ℕ, zero, suc, List, Option, None, Some}
 use Rattle.std.specs.declared.cmp.Ordering.{Ordering}
 use Rattle.cborn_model.specs.Orders.{bytewise, length_first}
@@ -17,12 +17,16 @@ use Rattle.cborn_judge.specs.declared.faults.InvalidReason.TheVariants as invali
 use Rattle.cborn_judge.specs.declared.faults.Invalid.TheVariants as invalid_fault
 use Rattle.cborn_judge.specs.declared.defects.DefectReason.{DefectReason}
 use Rattle.cborn_judge.specs.declared.defects.DefectReason.TheVariants as defect
+use Rattle.cborn_causes.specs.declared.reasons.CountReason.{CountReason}
+use Rattle.cborn_causes.specs.declared.reasons.CountReason.TheVariants as counts
 use Rattle.cborn_causes.specs.declared.reasons.BytesReason.{BytesReason}
 use Rattle.cborn_causes.specs.declared.reasons.BytesReason.TheVariants as bytes
 use Rattle.cborn_causes.specs.declared.reasons.TextReason.{TextReason}
 use Rattle.cborn_causes.specs.declared.reasons.TextReason.TheVariants as text
 use Rattle.cborn_engine.specs.declared.faults.EngineFault.{EngineFault}
 use Rattle.cborn_engine.specs.declared.faults.EngineFault.TheVariants as fault
+use Rattle.cborn_engine.specs.declared.one_faults.OneFault.{OneFault}
+use Rattle.cborn_engine.specs.declared.one_faults.OneFault.TheVariants as one
 use Rattle.cborn_engine.specs.declared.kinds.Kind.{Kind}
 use Rattle.cborn_engine.specs.declared.kinds.Kind.TheVariants as kind
 use Rattle.cborn_c.specs.declared.numbers.KeyOrdering.{KeyOrdering}
@@ -89,6 +93,10 @@ defect_number defect.EndlessLength = 1538
 defect_number defect.LooseBignum = 1539
 defect_number defect.KeyOrder = 1540
 
+abbrev pub count_number : CountReason → ℕ
+count_number counts.NoItem = 1793
+count_number counts.MoreItems = 1794
+
 -- A fault of bytes, and its number; a text string that can't be shown has one of its own. A defect is no fault.
 abbrev pub TellsOfBytes : BytesReason → ℕ → Type 0
 TellsOfBytes (bytes.Malformed r) number = wire_number r ≡ number
@@ -96,6 +104,7 @@ TellsOfBytes (bytes.Invalid invalid.NotUtf8) number = (number ≡ 1281) ⊎ (num
 TellsOfBytes (bytes.Invalid invalid.BadBignum) number = number ≡ 1282
 TellsOfBytes (bytes.Invalid invalid.DuplicateKey) number = number ≡ 1283
 TellsOfBytes (bytes.Defect r) number = ⊥
+TellsOfBytes (bytes.Count r) number = count_number r ≡ number
 
 -- of a text
 abbrev pub text_number : TextReason → ℕ
@@ -103,6 +112,7 @@ text_number text.NotUtf8 = 1025
 text_number (text.Token r) = lex_number r
 text_number (text.Notation r) = edn_number r
 text_number (text.Invalid r) = invalid_number r
+text_number (text.Count r) = count_number r
 
 -- 3: memory was refused. Of an input that is at hand no read fails, and nothing goes to a writer, so that 3 stands there too.
 abbrev pub fault_number : EngineFault → ℕ
@@ -138,3 +148,14 @@ fault_place fault.TooLong = 0
 fault_place fault.ReadFault = 0
 fault_place fault.WriteFault = 0
 fault_place fault.OutOfMemory = 0
+
+-- where exactly one item is wanted
+abbrev pub one_number : OneFault → ℕ
+one_number (one.Engine why) = fault_number why
+one_number (one.NoItem p) = count_number counts.NoItem
+one_number (one.MoreItems p) = count_number counts.MoreItems
+
+abbrev pub one_place : OneFault → ℕ
+one_place (one.Engine why) = fault_place why
+one_place (one.NoItem p) = p
+one_place (one.MoreItems p) = p

@@ -1,12 +1,13 @@
 //! How an answer is told to C.
 ghost use Rattle.std.specs.Prelude.{◌≡◌};
-ghost use Rattle.cborn_c.specs.Answers.{listed};
-ghost use Rattle.cborn_c.specs.Calls.{Told, CheckTold, CompareFaultTold, CompareTold, SameTold};
+ghost use Rattle.cborn_c.specs.Answers.{listed, listed_one};
+ghost use Rattle.cborn_c.specs.Calls.{Told, CheckTold, CompareFaultTold, CompareTold, SameTold, ToldOne, CheckOneTold, SameOneTold};
 
 use crate::numbers::{
-    DIFFERENT, OF_SECOND, OK, OUT_OF_MEMORY, TOO_SMALL, number_defect, number_fault, place_of,
+    DIFFERENT, OF_SECOND, OK, OUT_OF_MEMORY, TOO_SMALL, number_defect, number_fault, number_one,
+    place_of, place_of_one,
 };
-use cborn_engine::{CompareFault, EngineFault};
+use cborn_engine::{CompareFault, CompareOneFault, EngineFault, OneFault};
 use cborn_judge::Defect;
 use std::alloc::Global;
 use std::borrow::CowSlice;
@@ -117,6 +118,61 @@ fn compare_fault_told(why: CompareFault, place: &mut u64) -> u32
             number_fault(why) + OF_SECOND
         }
         CompareFault::OutOfMemory => {
+            *place = 0;
+            OUT_OF_MEMORY
+        }
+    }
+}
+
+/// Puts an answer to the front of `out`, or tells why there is none where exactly one item is
+/// wanted. Where `out` is too small, it is as it was.
+pub fn put_one(
+    answer: Result<CowSlice<'_, u8, Global>, OneFault>,
+    out: &mut [u8],
+    told: &mut CbornTold,
+) -> u32
+    ensures { ToldOne (listed_one answer.entry) out.old out.new told.new result }
+{
+    match answer {
+        Ok(bytes) => put(Ok(bytes), out, told),
+        Err(why) => {
+            *told = CbornTold {
+                place: place_of_one(why),
+                length: 0,
+            };
+            number_one(why)
+        }
+    }
+}
+
+/// Tells a defect, or why none was looked for where exactly one item is wanted.
+pub fn defect_of_one_told(answer: Result<Option<Defect>, OneFault>, place: &mut u64) -> u32
+    ensures { CheckOneTold answer place.new result }
+{
+    match answer {
+        Ok(defect) => defect_told(Ok(defect), place),
+        Err(why) => {
+            *place = place_of_one(why);
+            number_one(why)
+        }
+    }
+}
+
+/// Tells whether two items are the same, or why they weren't compared.
+pub fn same_one_told(answer: Result<bool, CompareOneFault>, place: &mut u64) -> u32
+    ensures { SameOneTold answer place.new result }
+{
+    match answer {
+        Ok(same) => same_told(Ok(same), place),
+        Err(CompareOneFault::First(why)) => {
+            *place = place_of_one(why);
+            number_one(why)
+        }
+        Err(CompareOneFault::Second(why)) => {
+            *place = place_of_one(why);
+            number_one(why) + OF_SECOND
+        }
+        Err(CompareOneFault::OutOfMemory) => {
             *place = 0;
             OUT_OF_MEMORY
         }

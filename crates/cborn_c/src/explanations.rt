@@ -6,7 +6,7 @@ ghost use Rattle.cborn_c.specs.Calls.{IsExplained, TextTold};
 ghost use Rattle.cborn_c.specs.Numbers.{TellsOfBytes, text_number};
 
 use crate::answers::{CbornTold, put};
-use crate::words::{defect_at, edn_at, invalid_at, lex_at, of_first, wire_at};
+use crate::words::{count_at, defect_at, edn_at, invalid_at, lex_at, of_first, wire_at};
 use cborn_engine::{EngineFault, Kind};
 use cborn_explain::{BytesReason, TextReason, explain_bytes, explain_text};
 use cborn_judge::InvalidReason;
@@ -25,6 +25,9 @@ fn bytes_fault_at(number: u32) -> Option<BytesReason>
     }
     if let Some(reason) = invalid_at(number) {
         return Some(BytesReason::Invalid(reason));
+    }
+    if let Some(reason) = count_at(number) {
+        return Some(BytesReason::Count(reason));
     }
     match number {
         0x402 => Some(BytesReason::Invalid(InvalidReason::NotUtf8)),
@@ -45,6 +48,9 @@ fn text_fault_at(number: u32) -> Option<TextReason>
     }
     if let Some(reason) = invalid_at(number) {
         return Some(TextReason::Invalid(reason));
+    }
+    if let Some(reason) = count_at(number) {
+        return Some(TextReason::Count(reason));
     }
     match number {
         0x401 => Some(TextReason::NotUtf8),

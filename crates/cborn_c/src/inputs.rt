@@ -2,10 +2,11 @@
 ghost use Rattle.std.specs.Prelude.{◌≡◌, ◌≤◌, ◌*◌, length, IfOk};
 ghost use Rattle.std.specs.Cow.{cow_slice_items};
 ghost use Rattle.cborn_engine.specs.declared.kinds.Kind.TheVariants as kinds;
-ghost use Rattle.cborn_c.specs.Answers.{Normalised, Shown, Checked, Compared, Matched, listed};
+ghost use Rattle.cborn_c.specs.Answers.{Normalised, Shown, Checked, Compared, Matched, NormalisedOne, ShownOne, CheckedOne, MatchedOne, listed, listed_one};
 
 use cborn_engine::{
-    CompareFault, EngineFault, Kind, check_slice, compare_slices, normalise_slice, same_items,
+    CompareFault, CompareOneFault, EngineFault, Kind, OneFault, check_one_slice, check_slice,
+    compare_slices, normalise_one_slice, normalise_slice, same_item, same_items, show_one_slice,
     show_slice,
 };
 use cborn_judge::Defect;
@@ -93,4 +94,69 @@ pub fn matched(
     ensures { Matched kind_a kind_b limit first.now second.now result }
 {
     same_items::<Bytewise>(alloc, limit, kind_a, first, kind_b, second)
+}
+
+/// What `normalised` answers of an input that has to hold exactly one item.
+///
+/// # Errors
+/// Those of the engine's call over slices.
+pub fn normalised_one<'a, O: KeyOrder>(
+    alloc: Global,
+    limit: Limit,
+    from: Kind,
+    to: Kind,
+    input: &'a [u8],
+) -> Result<CowSlice<'a, u8, Global>, OneFault>
+    ensures normalised { NormalisedOne O.order from to limit input.now (listed_one result) }
+    ensures room { IfOk result (λ output. from ≡ kinds.Wire → to ≡ kinds.Wire → 3 * length (cow_slice_items output) ≤ 4 * length input.now) }
+{
+    normalise_one_slice::<O>(alloc, limit, from, to, input)
+}
+
+/// What `shown` answers of an input that has to hold exactly one item.
+///
+/// # Errors
+/// Those of the engine's call over slices.
+pub fn shown_one<'a>(
+    alloc: Global,
+    limit: Limit,
+    from: Kind,
+    to: Kind,
+    input: &'a [u8],
+) -> Result<CowSlice<'a, u8, Global>, OneFault>
+    ensures { ShownOne from to limit input.now (listed_one result) }
+{
+    show_one_slice(alloc, limit, from, to, input)
+}
+
+/// What `checked` answers of bytes that have to hold exactly one item.
+///
+/// # Errors
+/// Those of the engine's call over slices.
+pub fn checked_one<O: KeyOrder>(
+    alloc: Global,
+    limit: Limit,
+    input: &[u8],
+) -> Result<Option<Defect>, OneFault>
+    ensures { CheckedOne O.order limit input.now result }
+{
+    check_one_slice::<O>(alloc, limit, input)
+}
+
+/// Whether two inputs hold the same item, each of which has to hold exactly one. The answer doesn't
+/// depend on the order of keys.
+///
+/// # Errors
+/// Those of the engine's call over slices.
+pub fn matched_one(
+    alloc: Global,
+    limit: Limit,
+    kind_a: Kind,
+    first: &[u8],
+    kind_b: Kind,
+    second: &[u8],
+) -> Result<bool, CompareOneFault>
+    ensures { MatchedOne kind_a kind_b limit first.now second.now result }
+{
+    same_item::<Bytewise>(alloc, limit, kind_a, first, kind_b, second)
 }

@@ -15,15 +15,21 @@ mod words;
 
 ghost use Rattle.std.specs.Prelude.{◌≡◌, ◌≢◌, ◌≤◌, ◌+◌, ◌/◌, length};
 ghost use Rattle.cborn_c.specs.Numbers.{numbered_kind, numbered_order};
-ghost use Rattle.cborn_c.specs.Calls.{NormaliseCall, ShowCall, CheckCall, CompareCall, SameCall, WordsCall, ExplainCall};
+ghost use Rattle.cborn_c.specs.Calls.{NormaliseCall, ShowCall, CheckCall, CompareCall, SameCall, NormaliseOneCall, ShowOneCall, CheckOneCall, CompareOneCall, WordsCall, ExplainCall};
 
-use answers::{CbornTold, defect_told, difference_told, put, same_told};
+use answers::{
+    CbornTold, defect_of_one_told, defect_told, difference_told, put, put_one, same_one_told,
+    same_told,
+};
 use cborn_model::{Bytewise, LengthFirst, Limit};
 use explanations::{explained, put_text};
-use inputs::{checked, compared, matched, normalised, shown};
+use inputs::{
+    checked, checked_one, compared, matched, matched_one, normalised, normalised_one, shown,
+    shown_one,
+};
 use numbers::{BAD_ARGUMENT, KeyOrdering, kind_at, order_at};
 use std::alloc::Global;
-use words::{defect_at, fault_at, of_first, put_words};
+use words::{defect_at, of_first, one_fault_at, put_words};
 
 /// Writes the canonical form of the items that `input` holds to the front of `out`: their
 /// deterministic encodings (RFC 8949 section 4.2), or the fixed notation of these. `depth` is how
@@ -186,6 +192,137 @@ pub extern "C" fn cborn_same(
     same_told(matched(alloc, limit, from_a, first, from_b, second), place)
 }
 
+/// What `cborn_normalise` does with an input that has to hold exactly one item.
+///
+/// # Errors
+/// Those of `cborn_normalise`. Of an input for which it has none, `NO_ITEM` where the input holds
+/// no item, at its length, and `MORE_ITEMS` where it holds more than one, at the offset of the
+/// second; at both `out` is as it was.
+#[unsafe(no_mangle)]
+pub extern "C" fn cborn_normalise_one(
+    alloc: Global,
+    from: u32,
+    to: u32,
+    order: u32,
+    depth: u64,
+    input: &[u8],
+    out: &mut [u8],
+    told: &mut CbornTold,
+) -> u32
+    ensures call { NormaliseOneCall (numbered_kind from) (numbered_kind to) (numbered_order order) depth input.now out.old out.new told.old told.new result }
+    ensures room { from ≡ 0 → to ≡ 0 → length input.now + length input.now / 3 ≤ length out.old → result ≢ 1 }
+{
+    let Some(from) = kind_at(from) else {
+        return BAD_ARGUMENT;
+    };
+    let Some(to) = kind_at(to) else {
+        return BAD_ARGUMENT;
+    };
+    let Some(order) = order_at(order) else {
+        return BAD_ARGUMENT;
+    };
+    let Some(limit) = Limit::new(depth) else {
+        return BAD_ARGUMENT;
+    };
+    let answer = match order {
+        KeyOrdering::Bytewise => normalised_one::<Bytewise>(alloc, limit, from, to, input),
+        KeyOrdering::LengthFirst => normalised_one::<LengthFirst>(alloc, limit, from, to, input),
+    };
+    put_one(answer, out, told)
+}
+
+/// What `cborn_show` does with an input that has to hold exactly one item, valid or not.
+///
+/// # Errors
+/// Those of `cborn_show`. Of an input for which it has none, `NO_ITEM` and `MORE_ITEMS`, as
+/// `cborn_normalise_one` tells them.
+#[unsafe(no_mangle)]
+pub extern "C" fn cborn_show_one(
+    alloc: Global,
+    from: u32,
+    to: u32,
+    depth: u64,
+    input: &[u8],
+    out: &mut [u8],
+    told: &mut CbornTold,
+) -> u32
+    ensures { ShowOneCall (numbered_kind from) (numbered_kind to) depth input.now out.old out.new told.old told.new result }
+{
+    let Some(from) = kind_at(from) else {
+        return BAD_ARGUMENT;
+    };
+    let Some(to) = kind_at(to) else {
+        return BAD_ARGUMENT;
+    };
+    let Some(limit) = Limit::new(depth) else {
+        return BAD_ARGUMENT;
+    };
+    put_one(shown_one(alloc, limit, from, to, input), out, told)
+}
+
+/// What `cborn_check` tells of bytes that have to hold exactly one item. Bytes that don't are
+/// refused, also where they have a defect.
+///
+/// # Errors
+/// Those of `cborn_check`. Of bytes for which it has none, `NO_ITEM` and `MORE_ITEMS`, as
+/// `cborn_normalise_one` tells them.
+#[unsafe(no_mangle)]
+pub extern "C" fn cborn_check_one(
+    alloc: Global,
+    order: u32,
+    depth: u64,
+    input: &[u8],
+    place: &mut u64,
+) -> u32
+    ensures { CheckOneCall (numbered_order order) depth input.now place.old place.new result }
+{
+    let Some(order) = order_at(order) else {
+        return BAD_ARGUMENT;
+    };
+    let Some(limit) = Limit::new(depth) else {
+        return BAD_ARGUMENT;
+    };
+    let answer = match order {
+        KeyOrdering::Bytewise => checked_one::<Bytewise>(alloc, limit, input),
+        KeyOrdering::LengthFirst => checked_one::<LengthFirst>(alloc, limit, input),
+    };
+    defect_of_one_told(answer, place)
+}
+
+/// Tells whether two inputs, each of which has to hold exactly one item, hold the same one (RFC
+/// 8949 section 2), else `DIFFERENT`. `place` gets 0 then.
+///
+/// # Errors
+/// `BAD_ARGUMENT` where a number stands for nothing; then `place` is as it was. Else the number of
+/// the fault of `first`, or that of the fault of `second` and `OF_SECOND` more, as
+/// `cborn_normalise_one` tells it of that input, and `place` gets its offset there.
+#[unsafe(no_mangle)]
+pub extern "C" fn cborn_compare_one(
+    alloc: Global,
+    from_a: u32,
+    from_b: u32,
+    depth: u64,
+    first: &[u8],
+    second: &[u8],
+    place: &mut u64,
+) -> u32
+    ensures { CompareOneCall (numbered_kind from_a) (numbered_kind from_b) depth first.now second.now place.old place.new result }
+{
+    let Some(from_a) = kind_at(from_a) else {
+        return BAD_ARGUMENT;
+    };
+    let Some(from_b) = kind_at(from_b) else {
+        return BAD_ARGUMENT;
+    };
+    let Some(limit) = Limit::new(depth) else {
+        return BAD_ARGUMENT;
+    };
+    same_one_told(
+        matched_one(alloc, limit, from_a, first, from_b, second),
+        place,
+    )
+}
+
 /// Writes the words of a fault or a defect to the front of `out`, as the program prints them, and a
 /// zero byte behind them. `number` is what another call answered: that of a fault, also of a second
 /// input's, which has the same words, or of a defect. 64 bytes are always enough.
@@ -201,7 +338,7 @@ pub extern "C" fn cborn_words(number: u32, out: &mut [u8]) -> u32
     if let Some(reason) = defect_at(number) {
         return put_words(&reason, out);
     }
-    match fault_at(of_first(number)) {
+    match one_fault_at(of_first(number)) {
         Some(why) => put_words(&why, out),
         None => BAD_ARGUMENT,
     }

@@ -1,10 +1,10 @@
 //! The numbers by which C names a kind, an order and a fault. That of a fault has its class in the
 //! high byte and its reason in the low one; no number ever changes what it stands for.
 ghost use Rattle.std.specs.Prelude.{◌≡◌, ◌<◌};
-ghost use Rattle.cborn_c.specs.Numbers.{numbered_kind, numbered_order, wire_number, lex_number, edn_number, invalid_number, defect_number, fault_number, fault_place};
+ghost use Rattle.cborn_c.specs.Numbers.{numbered_kind, numbered_order, wire_number, lex_number, edn_number, invalid_number, defect_number, fault_number, fault_place, one_number, one_place};
 
 use cborn_edn::{EdnFault, EdnReason, ShowFault};
-use cborn_engine::{EngineFault, Kind};
+use cborn_engine::{EngineFault, Kind, OneFault};
 use cborn_judge::{DefectReason, Invalid, InvalidReason};
 use cborn_lex::{LexFault, LexReason};
 use cborn_wire::{WireFault, WireReason};
@@ -180,5 +180,27 @@ pub fn place_of(why: EngineFault) -> u64
         EngineFault::ReadFault => 0,
         EngineFault::WriteFault => 0,
         EngineFault::OutOfMemory => 0,
+    }
+}
+
+/// Why there is no answer where exactly one item is wanted.
+pub fn number_one(why: OneFault) -> u32
+    ensures number { result ≡ one_number why }
+    ensures small { result < 65536 }
+{
+    match why {
+        OneFault::Engine(why) => number_fault(why),
+        OneFault::NoItem(_) => 0x701,
+        OneFault::MoreItems(_) => 0x702,
+    }
+}
+
+/// Where a fault is where exactly one item is wanted, in bytes from the start of the input.
+pub fn place_of_one(why: OneFault) -> u64
+    ensures { result ≡ one_place why }
+{
+    match why {
+        OneFault::Engine(why) => place_of(why),
+        OneFault::NoItem(place) | OneFault::MoreItems(place) => place,
     }
 }

@@ -1,13 +1,15 @@
 //! The words of a number, which are those that the program prints.
 ghost use Rattle.std.specs.Prelude.{◌≡◌, ◌≢◌, ◌<◌, ◌≤◌, ◌+◌, ◌⊎◌, ◌∷◌, ◌++◌, [], IfSome, IfNone};
 ghost use Rattle.cborn_engine.specs.declared.faults.EngineFault.{EngineFault};
+ghost use Rattle.cborn_engine.specs.declared.one_faults.OneFault.{OneFault};
 ghost use Rattle.cborn_c.specs.Calls.{IsPut, WordsPut};
-ghost use Rattle.cborn_c.specs.Numbers.{wire_number, lex_number, edn_number, invalid_number, defect_number, fault_number};
+ghost use Rattle.cborn_c.specs.Numbers.{wire_number, lex_number, edn_number, invalid_number, count_number, defect_number, fault_number, one_number};
 
 use crate::numbers::{OF_SECOND, OK, OUT_OF_MEMORY, TOO_LONG, TOO_SMALL};
 use arrayvec::ArrayString;
 use cborn_edn::{EdnFault, EdnReason, ShowFault};
-use cborn_engine::EngineFault;
+use cborn_engine::{EngineFault, OneFault};
+use cborn_explain::CountReason;
 use cborn_judge::{DefectReason, Invalid, InvalidReason};
 use cborn_lex::{LexFault, LexReason};
 use cborn_wire::{WireFault, WireReason};
@@ -88,6 +90,18 @@ pub fn invalid_at(number: u32) -> Option<InvalidReason>
     }
 }
 
+/// Why an input isn't one item, where a number stands for that.
+pub fn count_at(number: u32) -> Option<CountReason>
+    ensures numbered { IfSome result (λ reason. count_number reason ≡ number) }
+    ensures every { IfNone result ((number < 1793) ⊎ (1794 < number)) }
+{
+    match number {
+        0x701 => Some(CountReason::NoItem),
+        0x702 => Some(CountReason::MoreItems),
+        _ => None,
+    }
+}
+
 /// The number of a fault without what is added to one of a second input.
 pub fn of_first(number: u32) -> u32
     ensures first { number ≤ 65536 → result ≡ number }
@@ -139,6 +153,21 @@ pub fn fault_at(number: u32) -> Option<EngineFault>
         0x401 => Some(EngineFault::TextInput(place)),
         0x402 => Some(EngineFault::Show(ShowFault::NotUtf8 { place })),
         _ => None,
+    }
+}
+
+/// The fault that a number stands for, at the start of an input, where exactly one item is wanted.
+pub fn one_fault_at(number: u32) -> Option<OneFault>
+    ensures numbered { IfSome result (λ why. one_number why ≡ number) }
+    ensures every { IfNone result ((why : OneFault) → one_number why ≢ number) }
+{
+    match count_at(number) {
+        Some(CountReason::NoItem) => Some(OneFault::NoItem(0)),
+        Some(CountReason::MoreItems) => Some(OneFault::MoreItems(0)),
+        None => match fault_at(number) {
+            Some(why) => Some(OneFault::Engine(why)),
+            None => None,
+        },
     }
 }
 

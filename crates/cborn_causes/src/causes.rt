@@ -7,10 +7,11 @@ use crate::quotes::{push_hex, push_item, slice_of, valid_front};
 use crate::reasons::BytesReason;
 use cborn_det::encode;
 use cborn_judge::{DefectReason, InvalidReason};
-use cborn_model::{Bytewise, Limit, Major, same, shortest};
+use cborn_model::{Bytewise, KeyOrder, LengthFirst, Limit, Major, Valid, same, shortest};
 use cborn_paths::{Level, Nesting, Walk, behind, content_len, whole_head};
 use cborn_wire::{Argument, Head, HeadRead, WireReason, head_bytes, read_head};
 use std::alloc::{AllocError, Global};
+use std::cmp::Ordering;
 
 /// How many bytes of an encoding are written.
 const ENCODING: usize = 16;
@@ -30,6 +31,7 @@ pub fn push_cause(
         BytesReason::Malformed(reason) => push_malformed(limit, out, bytes, walk, reason),
         BytesReason::Invalid(reason) => push_invalid(alloc, limit, out, bytes, walk, reason),
         BytesReason::Defect(reason) => push_defect(alloc, limit, out, bytes, walk, reason),
+        BytesReason::Count(reason) => out.push_str(reason.sentence()),
     }
 }
 
@@ -83,21 +85,21 @@ fn push_malformed(
                 "behind f8 stands {second:02x}, the simple value {second}: below 32 none has two bytes"
             )?;
         }
-        WireReason::TooDeep => return push_too_deep(limit, out),
+        WireReason::TooDeep => return push_too_deep(limit, out, "arrays, maps and tags"),
         WireReason::Truncated => return push_truncated(out, bytes, walk),
     }
     Ok(())
 }
 
-/// Why a nesting is too deep.
-pub(crate) fn push_too_deep(limit: Limit, out: &mut String) -> Result<(), AllocError> {
+/// Why a nesting is too deep, of which so much is open.
+pub(crate) fn push_too_deep(limit: Limit, out: &mut String, open: &str) -> Result<(), AllocError> {
     let most = limit.get();
     write!(
         out,
-        "the nesting limit is {most}, and this stands in as many arrays, maps and tags: "
+        "the nesting limit is {most}, and this stands in as many {open}: "
     )?;
     out.push_str(if most < 1024 {
-        "--depth N lifts it, up to 1024"
+        "--depth N raises the limit, up to 1024"
     } else {
         "no limit is greater"
     })
@@ -224,6 +226,19 @@ fn kind_of(major: Major) -> &'static str {
     }
 }
 
+/// The same of an item that wasn't named before.
+fn a_kind_of(major: Major) -> &'static str {
+    match major {
+        Major::Unsigned | Major::Negative => "an integer",
+        Major::ByteString => "a byte string",
+        Major::TextString => "a text string",
+        Major::Array => "an array",
+        Major::Map => "a map",
+        Major::Tag => "a tag",
+        Major::Other => "a simple value",
+    }
+}
+
 /// Why an item is not valid.
 fn push_invalid(
     alloc: Global,
@@ -270,7 +285,7 @@ fn push_bad_bignum(out: &mut String, bytes: &[u8], place: usize) -> Result<(), A
         None => (2, rest),
     };
     let kind = match content.first() {
-        Some(first) => kind_of(Major::of_initial_byte(*first)),
+        Some(first) => a_kind_of(Major::of_initial_byte(*first)),
         None => "nothing",
     };
     write!(
@@ -425,5 +440,39 @@ fn push_order(
     out.push_str(" has to stand before the key ")?;
     let (from, to) = walk.top.key;
     push_item(alloc, limit, out, slice_of(bytes, from, to))?;
-    write!(out, " at offset {from}, whose encoding is the greater")
+    write!(out, " at offset {from}")?;
+    let here = valid_at(alloc, limit, bytes, walk.at)?;
+    let before = valid_at(alloc, limit, bytes, from.min(bytes.len()))?;
+    match (here, before) {
+        (Some(here), Some(before)) => push_rule(alloc, out, &here, &before),
+        _ => Ok(()),
+    }
+}
+
+/// Writes why a key has to stand before another, and under which order: where the two orders put
+/// them differently, it is the one that has the key first.
+fn push_rule(
+    alloc: Global,
+    out: &mut String,
+    key: &Valid,
+    before: &Valid,
+) -> Result<(), AllocError> {
+    let bytewise = is_first::<Bytewise>(alloc, key, before)?;
+    let length_first = is_first::<LengthFirst>(alloc, key, before)?;
+    out.push_str(match (bytewise, length_first) {
+        (true, false) => {
+            ": in the bytewise order its encoding is the lesser; the length-first order has these two as they stand, since it is the longer"
+        }
+        (false, true) => {
+            ": in the length-first order its encoding is the shorter; the bytewise order has these two as they stand"
+        }
+        _ => ": its encoding is the lesser, in the bytewise order and in the length-first order",
+    })
+}
+
+/// Whether a key stands before another in this order.
+fn is_first<O: KeyOrder>(alloc: Global, key: &Valid, other: &Valid) -> Result<bool, AllocError> {
+    let ours = encode::<O>(alloc, key)?;
+    let theirs = encode::<O>(alloc, other)?;
+    Ok(matches!(O::compare(&ours, &theirs), Ordering::Less))
 }

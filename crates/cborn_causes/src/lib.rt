@@ -21,9 +21,10 @@ mod text_walks;
 
 pub use causes::push_cause;
 pub use quotes::{
-    line_and_column, push_bytes_around, push_hex, push_item, push_line_around, push_text, slice_of,
+    Escaped, line_and_column, push_bytes_around, push_hex, push_item, push_line_around, push_text,
+    slice_of,
 };
-pub use reasons::{BytesReason, TextReason};
+pub use reasons::{BytesReason, CountReason, TextReason};
 pub use text_causes::Refused;
 pub use text_spots::spot_of;
 pub use text_walks::{Before, Bracket, OpenBracket, TextWalk, walk_text};

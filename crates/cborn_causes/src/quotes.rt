@@ -8,6 +8,8 @@ use cborn_model::{Limit, Major};
 use cborn_paths::{content_len, whole_head};
 use simdutf8::compat::from_utf8;
 use std::alloc::{AllocError, Global};
+use std::fmt;
+use std::fmt::{Display, Formatter};
 
 /// How many bytes are written before and behind a place.
 const BYTES_BEFORE: usize = 8;
@@ -34,7 +36,11 @@ pub(crate) fn push_char(out: &mut String, c: char) -> Result<usize, AllocError>
     }
     let code = c as u32;
     write!(out, "\\u{code:04x}")?;
-    if code < 0x10000 { Ok(6) } else { Ok(7) }
+    match code {
+        0..=0xffff => Ok(6),
+        0x10000..=0xfffff => Ok(7),
+        _ => Ok(8),
+    }
 }
 
 /// A character that a terminal writes as itself: no control, and none that has no width, ends a
@@ -62,6 +68,27 @@ fn is_plain(c: char) -> bool {
             | 0xd800..=0xf8ff
             | 0xe0000..=0x10ffff
     )
+}
+
+/// A text, escaped as pieces of an input are, so that it changes nothing but the line that it stands
+/// in.
+#[derive(Clone, Copy)]
+pub struct Escaped<'a> {
+    pub text: &'a str,
+}
+
+impl Display for Escaped<'_> {
+    fn fmt<W: fmt::Write>(&self, f: &mut Formatter<W>) -> fmt::Result {
+        for c in self.text.chars() {
+            if is_plain(c) {
+                write!(f, "{c}")?;
+            } else {
+                let code = c as u32;
+                write!(f, "\\u{code:04x}")?;
+            }
+        }
+        Ok(())
+    }
 }
 
 /// The slice from an offset to another; nothing where there is none.

@@ -14,6 +14,8 @@ pub enum BytesReason {
     Invalid(InvalidReason),
     /// An item isn't in the deterministic encoding.
     Defect(DefectReason),
+    /// They are no single item.
+    Count(CountReason),
 }
 
 /// Why a text is refused.
@@ -27,4 +29,26 @@ pub enum TextReason {
     Notation(EdnReason),
     /// An item isn't valid.
     Invalid(InvalidReason),
+    /// It notates no single item.
+    Count(CountReason),
+}
+
+/// Why an input is refused that has to hold exactly one item.
+#[derive(Clone, Copy, PartialEq, Eq, Debug)]
+pub enum CountReason {
+    /// It holds none.
+    NoItem,
+    /// It holds more.
+    MoreItems,
+}
+
+impl CountReason {
+    /// What is said of it.
+    pub(crate) fn sentence(self) -> &'static str {
+        match self {
+            CountReason::NoItem =>
+                "exactly one item is wanted, and the input ends here without one",
+            CountReason::MoreItems => "exactly one item is wanted, and a second begins here",
+        }
+    }
 }

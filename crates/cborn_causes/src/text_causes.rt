@@ -4,10 +4,11 @@ use crate::causes::push_too_deep;
 use crate::quotes::{line_and_column, push_char, push_text, valid_front};
 use crate::reasons::TextReason;
 use crate::text_keys::{earlier_key, key_at};
+use crate::text_spots::indicator_at;
 use crate::text_walks::{Before, Bracket, TextWalk};
 use cborn_edn::EdnReason;
 use cborn_judge::InvalidReason;
-use cborn_lex::{LexReason, Profile};
+use cborn_lex::{LexReason, Profile, are_hex, hex_code, is_low};
 use cborn_model::Limit;
 use std::alloc::{AllocError, Global};
 
@@ -49,6 +50,7 @@ impl Refused<'_> {
             TextReason::Invalid(InvalidReason::NotUtf8) => {
                 out.push_str("a text string is UTF-8, and this one isn't")
             }
+            TextReason::Count(reason) => out.push_str(reason.sentence()),
         }
     }
 
@@ -110,6 +112,15 @@ impl Refused<'_> {
         out.push('\'')
     }
 
+    /// The number at the place, without its indicator.
+    fn push_number(&self, out: &mut String) -> Result<(), AllocError> {
+        let word = self.word_at(self.place);
+        let len = word.iter().position(|b| *b == b'_').unwrap_or(word.len());
+        out.push('\'')?;
+        push_text(out, word.get(..len).unwrap_or(word), WORD)?;
+        out.push('\'')
+    }
+
     /// Why a token is bad.
     fn push_token(&self, out: &mut String, reason: LexReason) -> Result<(), AllocError> {
         match reason {
@@ -120,11 +131,7 @@ impl Refused<'_> {
             LexReason::UnclosedComment => {
                 out.push_str("the comment that begins here has no slash that ends it")
             }
-            LexReason::BadEscape => self.push_at_spot(
-                out,
-                "",
-                " begins no escape of JSON, or is a control character, which has to be escaped",
-            ),
+            LexReason::BadEscape => self.push_bad_escape(out),
             LexReason::BadHex if self.is_quote() => self.push_at_spot(
                 out,
                 "the quote at ",
@@ -166,6 +173,32 @@ impl Refused<'_> {
         }
     }
 
+    /// What is wrong with an escape, or with a character that isn't one.
+    fn push_bad_escape(&self, out: &mut String) -> Result<(), AllocError> {
+        match self.text.get(self.spot..).unwrap_or(&[]) {
+            [b'\\', b'u', a, b, c, d, ..] if are_hex(*a, *b, *c, *d) => {
+                out.push_str(if is_low(hex_code(*a, *b, *c, *d)) {
+                    "the escape at "
+                } else {
+                    "behind the escape at "
+                })?;
+                self.push_place(out, self.spot)?;
+                out.push_str(if is_low(hex_code(*a, *b, *c, *d)) {
+                    " is the second half of a pair of surrogates, and no first half stands before it"
+                } else {
+                    ", the first half of a pair of surrogates, the second has to follow"
+                })
+            }
+            [b'\\', b'u', ..] => self.push_at_spot(
+                out,
+                "behind \\u at ",
+                " stand no four hexadecimal digits",
+            ),
+            [b'\\', ..] => self.push_at_spot(out, "", " begins no escape of JSON"),
+            _ => self.push_at_spot(out, "", " is a control character, which has to be escaped"),
+        }
+    }
+
     fn push_unexpected_character(&self, out: &mut String) -> Result<(), AllocError> {
         match self.text.get(self.place) {
             Some(b'#') if self.profile == Profile::One => {
@@ -185,7 +218,7 @@ impl Refused<'_> {
     }
 
     fn push_bad_number(&self, out: &mut String) -> Result<(), AllocError> {
-        self.push_word(out, self.place)?;
+        self.push_number(out)?;
         if self.spot > self.place {
             out.push_str(" is no number: ")?;
             return self.push_at_spot(out, "", " is no digit of it");
@@ -206,17 +239,13 @@ impl Refused<'_> {
                 self.push_allowed(out, walk)
             }
             EdnReason::UnexpectedEnd => self.push_unexpected_end(out, walk),
-            EdnReason::TooDeep => push_too_deep(self.limit, out),
+            EdnReason::TooDeep => self.push_deep(out),
             EdnReason::IndicatorTooNarrow => {
                 out.push_str(
                     "the number, the length or the count doesn't fit the width that the indicator asks for: _0 has 1 byte, _1 has 2, _2 has 4 and _3 has 8",
                 )
             }
-            EdnReason::IndicatorNotAllowed => {
-                out.push_str(
-                    "no indicator may stand here: of a string its last piece alone has one, and only [, { and an empty string have _",
-                )
-            }
+            EdnReason::IndicatorNotAllowed => out.push_str(self.unwanted_indicator(walk)),
             EdnReason::MixedString => {
                 out.push_str(
                     "pieces behind a byte string are bytes too, and this one is a text in double quotes",
@@ -236,6 +265,54 @@ impl Refused<'_> {
             EdnReason::TagTooLarge => {
                 out.push_str("the number of a tag is at most 18446744073709551615")
             }
+        }
+    }
+
+    /// Why a nesting is too deep. An integer beyond 64 bits is a tag over a byte string.
+    fn push_deep(&self, out: &mut String) -> Result<(), AllocError> {
+        push_too_deep(self.limit, out, "arrays, maps, tags and <<..>>")?;
+        if self.is_at_number() {
+            out.push_str("; an integer beyond 64 bits counts as one of them")?;
+        }
+        Ok(())
+    }
+
+    fn is_at_number(&self) -> bool {
+        matches!(self.text.get(self.place), Some(b'-' | b'0'..=b'9'))
+    }
+
+    /// Why no encoding indicator may stand at the token at the place.
+    fn unwanted_indicator(&self, walk: &TextWalk) -> &'static str {
+        let bracket = walk.open.last().map(|open| open.bracket);
+        if self.is_at_number() {
+            return match bracket {
+                Some(Bracket::Simple) => "the number of a simple value has no encoding indicator",
+                _ => {
+                    "an integer beyond 64 bits is encoded as a bignum, and has no encoding indicator"
+                }
+            };
+        }
+        if !self.is_indefinite() {
+            return "of pieces side by side the last alone has an encoding indicator, for the whole string";
+        }
+        match bracket {
+            Some(Bracket::Chunks) => "a chunk has a definite length, so that no _ stands behind it",
+            _ => {
+                "only [, {, (, '' and \"\" have _, which is an indefinite length: a string with a prefix, with bytes or in pieces has none"
+            }
+        }
+    }
+
+    /// The indicator of the string that begins at the place, or of the `>>` there, is `_` alone.
+    fn is_indefinite(&self) -> bool {
+        let token = self.text.get(self.place..).unwrap_or(&[]);
+        let at = match token {
+            [b'>', b'>', ..] => 2,
+            _ => indicator_at(token),
+        };
+        match token.get(at..).unwrap_or(&[]) {
+            [b'_', behind, ..] => !behind.is_ascii_digit(),
+            _ => true,
         }
     }
 

@@ -14,7 +14,7 @@ pub fn spot_of(text: &[u8], place: usize, reason: TextReason) -> usize {
         TextReason::Token(LexReason::BadHex) => bad_hex(token),
         TextReason::Token(LexReason::BadBase64) => bad_base64(token),
         TextReason::Token(LexReason::BadNumber) => bad_digit(token),
-        TextReason::Token(LexReason::BadIndicator) => bad_indicator(token),
+        TextReason::Token(LexReason::BadIndicator) => indicator_at(token),
         _ => 0,
     };
     place.saturating_add(within)
@@ -155,7 +155,7 @@ fn is_body(byte: u8) -> bool {
 }
 
 /// The underscore of a token's indicator: the last of its characters that begins one.
-fn bad_indicator(token: &[u8]) -> usize {
+pub(crate) fn indicator_at(token: &[u8]) -> usize {
     let quote = match token {
         [b'"', ..] => b'"',
         [b'\'', ..] | [b'h', b'\'', ..] | [b'b', b'6', b'4', b'\'', ..] => b'\'',

@@ -3,6 +3,9 @@ use Rattle.std.specs.Prelude.{ℕ, ◌≡◌}
 use Rattle.cborn_engine.specs.declared.EngineFault.{EngineFault}
 use Rattle.cborn_engine.specs.declared.EngineFault.TheVariants as fault
 use Rattle.cborn_engine.specs.declared.CompareFault.TheVariants as compared
+use Rattle.cborn_engine.specs.declared.OneFault.{OneFault}
+use Rattle.cborn_engine.specs.declared.OneFault.TheVariants as one
+use Rattle.cborn_engine.specs.declared.CompareOneFault.TheVariants as compared_one
 use Rattle.cborn_commands.specs.declared.lines.Answer.{Answer}
 use Rattle.cborn_commands.specs.declared.lines.Answer.TheVariants as answer
 use Rattle.cborn_commands.specs.declared.lines.Trouble.{Trouble}
@@ -22,11 +25,19 @@ status_of_fault fault.WriteFault = 4
 status_of_fault fault.OutOfMemory = 4
 status_of_fault _ = 2
 
+-- the same where exactly one item is wanted; 2 too: the input holds none, or more
+abbrev pub status_of_one : OneFault → ℕ
+status_of_one (one.Engine why) = status_of_fault why
+status_of_one _ = 2
+
 -- the same of what keeps a task from being done; 4 too: a file can't be opened
 abbrev pub status_of_trouble : Trouble → ℕ
 status_of_trouble (trouble.Engine why) = status_of_fault why
 status_of_trouble (trouble.Compare (compared.First why)) = status_of_fault why
 status_of_trouble (trouble.Compare (compared.Second why)) = status_of_fault why
+status_of_trouble (trouble.One why) = status_of_one why
+status_of_trouble (trouble.CompareOne (compared_one.First why)) = status_of_one why
+status_of_trouble (trouble.CompareOne (compared_one.Second why)) = status_of_one why
 status_of_trouble _ = 4
 
 -- an input is refused

@@ -1,9 +1,9 @@
 //! The lines behind a refusal, a defect or a difference, which `--explain` asks for.
 
 use cborn_edn::{EdnFault, ShowFault};
-use cborn_engine::{EngineFault, Kind, normalise_slice};
+use cborn_engine::{EngineFault, Kind, OneFault, normalise_slice};
 use cborn_explain::{
-    BytesReason, TextReason, explain_bytes, explain_difference, explain_text, hint_of,
+    BytesReason, CountReason, TextReason, explain_bytes, explain_difference, explain_text, hint_of,
 };
 use cborn_judge::{Defect, Invalid, InvalidReason};
 use cborn_lex::{LexFault, Profile};
@@ -18,7 +18,7 @@ pub fn explain_fault(
     limit: Limit,
     kind: Kind,
     input: Option<&[u8]>,
-    fault: EngineFault,
+    fault: OneFault,
     lines: &mut String,
 ) {
     if let Some(reason) = reason_of(kind, fault) {
@@ -73,8 +73,23 @@ enum Reason {
     Text(Profile, TextReason, u64),
 }
 
-/// What a fault of the content of an input tells.
-fn reason_of(kind: Kind, fault: EngineFault) -> Option<Reason> {
+/// What a fault of an input tells, where it is of its content.
+fn reason_of(kind: Kind, fault: OneFault) -> Option<Reason> {
+    match fault {
+        OneFault::Engine(fault) => reason_of_content(kind, fault),
+        OneFault::NoItem(place) => Some(of_count(kind, CountReason::NoItem, place)),
+        OneFault::MoreItems(place) => Some(of_count(kind, CountReason::MoreItems, place)),
+    }
+}
+
+fn of_count(kind: Kind, reason: CountReason, place: u64) -> Reason {
+    match kind {
+        Kind::Wire => Reason::Bytes(BytesReason::Count(reason), place),
+        _ => of_text(kind, TextReason::Count(reason), place),
+    }
+}
+
+fn reason_of_content(kind: Kind, fault: EngineFault) -> Option<Reason> {
     match fault {
         EngineFault::Wire(WireFault::Refused { place, reason }) => {
             Some(Reason::Bytes(BytesReason::Malformed(reason), place))

@@ -1,11 +1,12 @@
 //! The lines that the program prints.
 ghost use Rattle.std.specs.Prelude.{◌≡◌, ◌≤◌, IfOk, IfErr, OnOk};
-ghost use Rattle.cborn_commands.specs.Statuses.{status_of_answer, status_of_trouble};
+ghost use Rattle.cborn_commands.specs.Statuses.{status_of_answer, status_of_fault, status_of_one, status_of_trouble};
 ghost use Rattle.cborn_engine.specs.declared.EngineFault.TheVariants as fault;
 ghost use Rattle.cborn_commands.specs.declared.lines.Trouble.TheVariants as trouble;
 
 use crate::statuses::{DIFFERENT, DONE, FAILED, REFUSED};
-use cborn_engine::{CompareFault, Counted, EngineFault};
+use cborn_engine::{CompareFault, CompareOneFault, Counted, EngineFault, OneFault};
+use cborn_explain::Escaped;
 use cborn_judge::Defect;
 use std::fmt::{Display, Formatter};
 use std::io::Write;
@@ -24,6 +25,10 @@ pub enum Trouble<'a> {
     Engine(EngineFault),
     /// The engine gave no answer for one of two inputs.
     Compare(CompareFault),
+    /// It gave none for an input that has to hold exactly one item.
+    One(OneFault),
+    /// It gave none for one of two such inputs.
+    CompareOne(CompareOneFault),
 }
 
 impl From<EngineFault> for Trouble<'_> {
@@ -31,6 +36,14 @@ impl From<EngineFault> for Trouble<'_> {
 
     fn from(fault: EngineFault) -> Self {
         Trouble::Engine(fault)
+    }
+}
+
+impl From<OneFault> for Trouble<'_> {
+    ghost from_gives = { λ why gave. gave ≡ trouble.One why };
+
+    fn from(fault: OneFault) -> Self {
+        Trouble::One(fault)
     }
 }
 
@@ -126,10 +139,14 @@ fn print_trouble<E: Write>(err: &mut E, trouble: Trouble<'_>) -> io::Result<()> 
         Trouble::CannotReadSecond(name) => print_after(err, "cborn: second: cannot read ", name),
         Trouble::Engine(fault) => writeln!(err, "cborn: {fault}"),
         Trouble::Compare(fault) => writeln!(err, "cborn: {fault}"),
+        Trouble::One(fault) => writeln!(err, "cborn: {fault}"),
+        Trouble::CompareOne(fault) => writeln!(err, "cborn: {fault}"),
     }
 }
 
+/// Prints a line that ends with the name of a file, which may hold any character.
 fn print_after<E: Write>(err: &mut E, start: &str, name: &str) -> io::Result<()> {
+    let name = Escaped { text: name };
     writeln!(err, "{start}{name}")
 }
 
@@ -140,10 +157,31 @@ fn status_of_trouble(trouble: Trouble<'_>) -> u8
     match trouble {
         Trouble::Engine(fault)
         | Trouble::Compare(CompareFault::First(fault))
-        | Trouble::Compare(CompareFault::Second(fault)) => match fault {
-            EngineFault::ReadFault | EngineFault::WriteFault | EngineFault::OutOfMemory => FAILED,
-            _ => REFUSED,
-        },
+        | Trouble::Compare(CompareFault::Second(fault)) => status_of_fault(fault),
+        Trouble::One(fault)
+        | Trouble::CompareOne(CompareOneFault::First(fault))
+        | Trouble::CompareOne(CompareOneFault::Second(fault)) => status_of_one(fault),
         _ => FAILED,
+    }
+}
+
+fn status_of_fault(fault: EngineFault) -> u8
+    ensures status { result ≡ status_of_fault fault }
+    ensures undone { 2 ≤ result }
+{
+    match fault {
+        EngineFault::ReadFault | EngineFault::WriteFault | EngineFault::OutOfMemory => FAILED,
+        _ => REFUSED,
+    }
+}
+
+/// The status of a fault of an input, which may have to hold exactly one item.
+pub fn status_of_one(fault: OneFault) -> u8
+    ensures status { result ≡ status_of_one fault }
+    ensures undone { 2 ≤ result }
+{
+    match fault {
+        OneFault::Engine(fault) => status_of_fault(fault),
+        OneFault::NoItem(_) | OneFault::MoreItems(_) => REFUSED,
     }
 }

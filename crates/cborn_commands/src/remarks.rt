@@ -4,9 +4,9 @@
 
 use crate::explanations::{explain_defect, explain_fault, explain_index, explain_kind};
 use crate::inputs::{Kept, Notes};
-use crate::lines::{Answer, Trouble};
-use crate::statuses::DONE;
-use cborn_engine::{CompareFault, EngineFault, Kind};
+use crate::lines::{Answer, Trouble, status_of_one};
+use crate::statuses::{DONE, REFUSED};
+use cborn_engine::{CompareFault, CompareOneFault, Kind, OneFault};
 use cborn_explain::{Hint, Look};
 use cborn_model::{KeyOrder, Limit};
 use std::alloc::{AllocError, Global};
@@ -60,9 +60,12 @@ impl Remarks {
         notes: &Notes,
         trouble: Trouble<'_>,
     ) {
-        if let Trouble::Engine(fault) = trouble {
-            self.on_fault(alloc, limit, kind, notes, fault);
-        }
+        let fault = match trouble {
+            Trouble::Engine(fault) => OneFault::Engine(fault),
+            Trouble::One(fault) => fault,
+            _ => return,
+        };
+        self.on_fault(alloc, limit, "", kind, notes, fault);
     }
 
     /// Says of an input why it isn't deterministic, where that was answered, or else what it looks
@@ -101,25 +104,69 @@ impl Remarks {
                 self.on_kind(alloc, "second: ", kinds.1, notes.1);
             }
             Err(Trouble::Compare(CompareFault::First(fault))) => {
-                self.on_fault(alloc, limit, kinds.0, notes.0, fault);
+                self.on_first(alloc, limit, kinds, notes, OneFault::Engine(fault));
             }
             Err(Trouble::Compare(CompareFault::Second(fault))) => {
-                self.on_fault(alloc, limit, kinds.1, notes.1, fault);
+                self.on_second(alloc, limit, kinds, notes, OneFault::Engine(fault));
+            }
+            Err(Trouble::CompareOne(CompareOneFault::First(fault))) => {
+                self.on_first(alloc, limit, kinds, notes, fault);
+            }
+            Err(Trouble::CompareOne(CompareOneFault::Second(fault))) => {
+                self.on_second(alloc, limit, kinds, notes, fault);
             }
             Err(_) => {}
         }
     }
 
+    /// Says of the first of two inputs why it was refused.
+    fn on_first(
+        &mut self,
+        alloc: Global,
+        limit: Limit,
+        kinds: (Kind, Kind),
+        notes: (&Notes, &Notes),
+        fault: OneFault,
+    ) {
+        self.on_fault(alloc, limit, "first: ", kinds.0, notes.0, fault);
+    }
+
+    /// Says of the second why it was refused, and of the first what it looks like.
+    fn on_second(
+        &mut self,
+        alloc: Global,
+        limit: Limit,
+        kinds: (Kind, Kind),
+        notes: (&Notes, &Notes),
+        fault: OneFault,
+    ) {
+        if let Notes::Look(look) = notes.0 {
+            self.hint_at_line_end(alloc, "first: ", *look);
+        }
+        self.on_fault(alloc, limit, "second: ", kinds.1, notes.1, fault);
+    }
+
+    /// Says of an input why it was refused, or what it looks like. `which` tells one of two inputs
+    /// from the other.
     fn on_fault(
         &mut self,
         alloc: Global,
         limit: Limit,
+        which: &str,
         kind: Kind,
         notes: &Notes,
-        fault: EngineFault,
+        fault: OneFault,
     ) {
-        if let Notes::Whole(kept) = notes {
-            explain_fault(alloc, limit, kind, kept.bytes(), fault, &mut self.lines);
+        match notes {
+            Notes::Nothing => {}
+            Notes::Look(look) => {
+                if status_of_one(fault) == REFUSED {
+                    self.hint(alloc, which, *look);
+                }
+            }
+            Notes::Whole(kept) => {
+                explain_fault(alloc, limit, kind, kept.bytes(), fault, &mut self.lines);
+            }
         }
     }
 
@@ -140,17 +187,21 @@ impl Remarks {
     fn on_kind(&mut self, alloc: Global, which: &str, kind: Kind, notes: &Notes) {
         match notes {
             Notes::Nothing => {}
-            Notes::Look(look) => self.hint(alloc, which, *look),
+            Notes::Look(look) => self.hint_at_line_end(alloc, which, *look),
             Notes::Whole(kept) => explain_kind(alloc, kind, kept.bytes(), &mut self.lines),
         }
     }
 
-    /// Adds the hint on an input that ends a line, if there is one. A hint for which memory is refused
-    /// isn't given.
-    fn hint(&mut self, alloc: Global, which: &str, look: Look) {
-        if !look.ends_line() {
-            return;
+    /// Adds the hint on an input that isn't refused, if it ends a line. Other bytes may be a text by
+    /// chance.
+    fn hint_at_line_end(&mut self, alloc: Global, which: &str, look: Look) {
+        if look.ends_line() {
+            self.hint(alloc, which, look);
         }
+    }
+
+    /// Adds the hint on an input, if there is one. A hint for which memory is refused isn't given.
+    fn hint(&mut self, alloc: Global, which: &str, look: Look) {
         if let Some(hint) = look.hint() {
             if let Ok(line) = hint_line(alloc, which, hint) {
                 let _ = self.lines.push_str(line.as_str());

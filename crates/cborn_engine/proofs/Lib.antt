@@ -3,3 +3,4 @@ pub mod Canonical
 pub mod Streams
 pub mod Answers
 pub mod Comparison
+pub mod OneItem

@@ -9,4 +9,5 @@ pub mod Showing
 pub mod Comparing
 pub mod Checking
 pub mod Whole
+pub mod OneItem
 pub mod devices

@@ -1,3 +1,4 @@
 pub mod Counting
 pub mod Encoding
 pub mod Reading
+pub mod OneItem

@@ -15,6 +15,9 @@
 //! (`cborn_transcode`, `cborn_spell`, `cborn_show`); `refusals` tells why a text is refused.
 //! `conversions` and `comparisons` are the calls over readers, `slices` those over inputs that are
 //! held whole.
+//!
+//! `one_streams` and `one_slices` have the same calls for inputs that have to hold exactly one item,
+//! by `ones`; `specs/OneItem.antt` says what they answer.
 #![tactic(auto)]
 
 mod checks;
@@ -27,6 +30,10 @@ mod inputs;
 mod kinds;
 pub mod laws;
 mod nodes;
+mod one_faults;
+mod one_slices;
+mod one_streams;
+mod ones;
 mod refusals;
 mod showings;
 mod slices;
@@ -39,4 +46,7 @@ pub use conversions::{normalise, show_all};
 pub use faults::{CompareFault, EngineFault};
 pub use inputs::{load, load_within};
 pub use kinds::Kind;
+pub use one_faults::{CompareOneFault, OneFault};
+pub use one_slices::{check_one_slice, normalise_one_slice, same_item, show_one_slice};
+pub use one_streams::{check_one, compare_one, normalise_one, show_one};
 pub use slices::{check_slice, compare_slices, normalise_slice, same_items, show_slice};

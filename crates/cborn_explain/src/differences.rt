@@ -4,12 +4,15 @@ ghost use Rattle.std.specs.Prelude.{◌≡◌, [], IfOk};
 ghost use Rattle.std.specs.String.{string_bytes};
 
 use crate::notes::push_path;
-use cborn_causes::{push_item, slice_of};
+use cborn_causes::{push_hex, push_item, slice_of};
 use cborn_model::{KeyOrder, Limit, Major};
 use cborn_paths::{behind, walk_to_difference, whole_head};
 use cborn_wire::Argument;
 use std::alloc::{AllocError, Global};
 use std::cmp::Ordering;
+
+/// How many bytes are written of what two sides don't share that are written the same.
+const REST: usize = 8;
 
 /// Lines that say where two deterministic encodings first differ, the keys of maps in the order
 /// `O`: the path to that place, which is the same in both, and what stands there in each, or that
@@ -38,10 +41,25 @@ pub fn explain_difference<O: KeyOrder>(
     } else {
         None
     };
+    let mut left = String::new(alloc);
+    push_item(alloc, limit, &mut left, ours)?;
+    let mut right = String::new(alloc);
+    push_item(alloc, limit, &mut right, theirs)?;
+    let shared = if left.as_str() == right.as_str() {
+        Some(common_len(ours, theirs))
+    } else {
+        None
+    };
     out.push_str("\n  first  ")?;
-    push_side(alloc, limit, &mut out, ours, order)?;
+    push_side(&mut out, ours, left.as_str(), order, shared)?;
     out.push_str("\n  second ")?;
-    push_side(alloc, limit, &mut out, theirs, order.map(Ordering::reverse))?;
+    push_side(
+        &mut out,
+        theirs,
+        right.as_str(),
+        order.map(Ordering::reverse),
+        shared,
+    )?;
     push_lone_key::<O>(alloc, limit, &mut out, ours, theirs)?;
     out.push('\n')?;
     Ok(out)
@@ -53,36 +71,53 @@ fn part_at(alloc: Global, bytes: &[u8], at: usize) -> Result<&[u8], AllocError> 
     Ok(slice_of(bytes, at, end))
 }
 
-/// Writes what stands on one side. `order`: where it is a key, how it compares with the key on the
-/// other side; the lesser key is one that the other map lacks.
+/// How many bytes two items begin with that are the same.
+fn common_len(ours: &[u8], theirs: &[u8]) -> usize {
+    let mut len: usize = 0;
+    for (a, b) in ours.iter().zip(theirs.iter()) {
+        if a != b {
+            break;
+        }
+        len = len.saturating_add(1);
+    }
+    len
+}
+
+/// Writes what stands on one side, in its notation. `order`: where it is a key, how it compares
+/// with the key on the other side; the lesser key is one that the other map lacks. `shared`: where
+/// both sides are written the same, how many bytes they have in common.
 fn push_side(
-    alloc: Global,
-    limit: Limit,
     out: &mut String,
     item: &[u8],
+    notation: &str,
     order: Option<Ordering>,
+    shared: Option<usize>,
 ) -> Result<(), AllocError> {
     let Some((head, _)) = whole_head(item) else {
         return out.push_str("nothing: the items end here");
     };
-    if let Some(order) = order {
+    if order.is_some() {
         out.push_str("the key ")?;
-        push_item(alloc, limit, out, item)?;
-        return match order {
-            Ordering::Less => out.push_str(", which the other map lacks"),
-            _ => Ok(()),
-        };
-    }
-    match (head.major_type(), head.argument) {
-        (Major::Array, Argument::Given(_, count)) => {
-            write!(out, "an array of {count}: ")?;
+    } else {
+        match (head.major_type(), head.argument) {
+            (Major::Array, Argument::Given(_, count)) => {
+                write!(out, "an array of {count}: ")?;
+            }
+            (Major::Map, Argument::Given(_, count)) => {
+                write!(out, "a map of {count}: ")?;
+            }
+            _ => {}
         }
-        (Major::Map, Argument::Given(_, count)) => {
-            write!(out, "a map of {count}: ")?;
-        }
-        _ => {}
     }
-    push_item(alloc, limit, out, item)
+    out.push_str(notation)?;
+    if let Some(len) = shared {
+        write!(out, ", its encoding from byte {len} on: ")?;
+        push_hex(out, slice_of(item, len, item.len()), REST)?;
+    }
+    match order {
+        Some(Ordering::Less) => out.push_str(", which the other map lacks"),
+        _ => Ok(()),
+    }
 }
 
 /// Of two maps that differ in their number of pairs, writes the first key that one of them has

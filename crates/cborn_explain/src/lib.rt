@@ -24,7 +24,7 @@ mod hints;
 mod notes;
 mod path_lines;
 
-pub use cborn_causes::{BytesReason, TextReason};
+pub use cborn_causes::{BytesReason, CountReason, Escaped, TextReason};
 pub use cborn_paths::{Difference, Path, Step, find_difference, path_to};
 pub use differences::explain_difference;
 pub use hints::{Digits, Hint, Look, hint_of};

@@ -52,7 +52,7 @@ pub const SHOW: Form = Form {
     whole_name: "cborn show",
     about: help::SHOW,
     notes: help::SHOW_NOTES,
-    arguments: &[FILE, FROM, TO_NOTATION, DEPTH, EXPLAIN],
+    arguments: &[FILE, FROM, TO_NOTATION, DEPTH, ONE, EXPLAIN],
 };
 
 pub const NORMALISE: Form = Form {
@@ -60,7 +60,7 @@ pub const NORMALISE: Form = Form {
     whole_name: "cborn normalise",
     about: help::NORMALISE,
     notes: help::NORMALISE_NOTES,
-    arguments: &[FILE, FROM, TO_WIRE, ORDER, DEPTH, EXPLAIN],
+    arguments: &[FILE, FROM, TO_WIRE, ORDER, DEPTH, ONE, EXPLAIN],
 };
 
 pub const COMPARE: Form = Form {
@@ -68,7 +68,7 @@ pub const COMPARE: Form = Form {
     whole_name: "cborn compare",
     about: help::COMPARE,
     notes: help::COMPARE_NOTES,
-    arguments: &[FILE_A, FILE_B, FROM_A, FROM_B, ORDER, DEPTH, EXPLAIN],
+    arguments: &[FILE_A, FILE_B, FROM_A, FROM_B, ORDER, DEPTH, ONE, EXPLAIN],
 };
 
 pub const CHECK: Form = Form {
@@ -76,7 +76,7 @@ pub const CHECK: Form = Form {
     whole_name: "cborn check",
     about: help::CHECK,
     notes: help::CHECK_NOTES,
-    arguments: &[FILE, ORDER, DEPTH, EXPLAIN],
+    arguments: &[FILE, ORDER, DEPTH, ONE, EXPLAIN],
 };
 
 const FILE: Argument = Argument {
@@ -159,6 +159,12 @@ const DEPTH: Argument = Argument {
         parser: ValueParser::Unsigned(1, 1024),
         default: "128",
     }),
+};
+
+const ONE: Argument = Argument {
+    name: "one",
+    help: help::ONE,
+    takes: Takes::Nothing,
 };
 
 const EXPLAIN: Argument = Argument {

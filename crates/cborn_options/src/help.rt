@@ -173,5 +173,7 @@ The maximum nesting depth of arrays, maps and tags, 1 to
 1024; in notation <<..>> and integers beyond 64 bits
 count too";
 
+pub const ONE: &str = "Refuse an input that holds no item, or more than one";
+
 pub const EXPLAIN: &str =
     "Say on standard error where in the input, and why,\nafter a refusal, a defect or a difference";

@@ -15,4 +15,4 @@ mod options;
 mod tasks;
 
 pub use options::read_task;
-pub use tasks::{Action, Format, Order, Purpose, Task};
+pub use tasks::{Action, Format, Items, Order, Purpose, Task};

@@ -3,7 +3,7 @@
 use crate::forms::{Argument, COMMANDS, Form, Takes, Value};
 use crate::help;
 use crate::misplaced::{Advice, advice_on};
-use crate::tasks::{Action, Format, Order, Purpose, Task};
+use crate::tasks::{Action, Format, Items, Order, Purpose, Task};
 use cborn_model::Limit;
 use clap::error::ErrorKind;
 use clap::{Arg, ArgAction, ArgMatches, Command, Error};
@@ -70,12 +70,21 @@ fn task_of<'a>(matches: &ArgMatches<'a>) -> Option<Task<'a>> {
         action: action_of(name, found)?,
         order: order_of(found),
         limit: limit_of(found)?,
+        items: items_of(found),
         explain: found.get_flag("explain"),
     })
 }
 
 fn limit_of(found: &ArgMatches<'_>) -> Option<Limit> {
     Limit::new(found.get_one::<u64>("depth")?)
+}
+
+fn items_of(found: &ArgMatches<'_>) -> Items {
+    if found.get_flag("one") {
+        Items::One
+    } else {
+        Items::Any
+    }
 }
 
 fn action_of<'a>(name: &str, found: &ArgMatches<'a>) -> Option<Action<'a>> {

@@ -8,6 +8,7 @@ pub struct Task<'a> {
     pub action: Action<'a>,
     pub order: Order,
     pub limit: Limit,
+    pub items: Items,
     /// Lines that say where and why are wanted behind a refusal or a difference.
     pub explain: bool,
 }
@@ -50,6 +51,15 @@ impl Purpose {
 pub enum Order {
     Bytewise,
     LengthFirst,
+}
+
+/// How many items an input may hold.
+#[derive(Clone, Copy)]
+pub enum Items {
+    /// Any number, none included.
+    Any,
+    /// Exactly one, and each of two inputs.
+    One,
 }
 
 /// What an input is read as, or an output written as.

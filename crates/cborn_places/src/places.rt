@@ -3,7 +3,8 @@
 ghost use Rattle.std.specs.Prelude.{◌≡◌, ◌<◌, ◌^◌, ℕ, IfSome, List, length};
 ghost use Rattle.cborn_model.specs.Placed.{PlacedAll};
 ghost use Rattle.cborn_model.specs.Spelled.{Wellformed, spelled_all};
-ghost use Rattle.cborn_model.specs.Tree.{Tree, trees};
+ghost use Rattle.std.specs.List.{AllZip};
+ghost use Rattle.cborn_model.specs.Tree.{Tree, trees, place as place_of};
 ghost use Rattle.cborn_edn.specs.Grammar.{Notates};
 ghost use Rattle.cborn_judge.specs.declared.faults.Invalid.TheVariants.{Refused};
 ghost use Rattle.cborn_judge.specs.declared.faults.InvalidReason.{InvalidReason};
@@ -16,7 +17,8 @@ use std::alloc::Global;
 
 /// Where in `text`, under that profile of the notation, the first flaw stands that was found at
 /// `place` in the `bytes` that the text spells (RFC 8949 sections 3.1, 3.4.3 and 5.6). Both places
-/// are offsets in bytes from the start.
+/// are offsets in bytes from the start. An item that starts at `place` in the bytes starts at the
+/// answer in the text.
 ///
 /// Goes through the bytes up to `place` and then through the text up to the answer. `None` where
 /// nothing starts at `place`, and where memory was refused. Of a text of 2^56 bytes or more nothing
@@ -28,7 +30,8 @@ pub fn place_in_text(
     bytes: &[u8],
     place: u64,
 ) -> Option<u64>
-    ensures { IfSome result (λ there. length text.now < 2 ^ 56 → (limit : ℕ) (nodes others : List Tree) (r : InvalidReason) → Notates profile limit text.now (trees nodes) → spelled_all (trees nodes) ≡ bytes.now → Wellformed limit (trees others) bytes.now → PlacedAll 0 (trees others) → IsRefusalOfAll others (Refused place r) → IsRefusalOfAll nodes (Refused there r)) }
+    ensures flaw { IfSome result (λ there. length text.now < 2 ^ 56 → (limit : ℕ) (nodes others : List Tree) (r : InvalidReason) → Notates profile limit text.now (trees nodes) → spelled_all (trees nodes) ≡ bytes.now → Wellformed limit (trees others) bytes.now → PlacedAll 0 (trees others) → IsRefusalOfAll others (Refused place r) → IsRefusalOfAll nodes (Refused there r)) }
+    ensures nodes { IfSome result (λ there. length text.now < 2 ^ 56 → (limit : ℕ) (nodes others : List Tree) → Notates profile limit text.now (trees nodes) → spelled_all (trees nodes) ≡ bytes.now → Wellformed limit (trees others) bytes.now → PlacedAll 0 (trees others) → AllZip (λ t u. place_of u ≡ place → place_of t ≡ there) nodes others) }
 {
     let index = index_at(bytes, place)?;
     start_at(alloc, profile, text, index)

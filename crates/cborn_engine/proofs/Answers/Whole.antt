@@ -28,7 +28,7 @@ use Rattle.cborn_search.specs.Searching.{IsFirstFlawOf}
 use Rattle.cborn_transcode.specs.Departing.{IsFirstDefectOfItems}
 use Rattle.cborn_engine.proofs.Answers.Checked.{with_defect}
 
-ended : (A : Type 0) (why : EngineFault) (rest : Option (List ℕ)) → IsAtEnd rest → IsRead {A = A} (Err why) rest
+pub ended : (A : Type 0) (why : EngineFault) (rest : Option (List ℕ)) → IsAtEnd rest → IsRead {A = A} (Err why) rest
 ended A fault.TooLong rest h = tt
 ended A fault.ReadFault rest h = tt
 ended A fault.OutOfMemory rest h = tt

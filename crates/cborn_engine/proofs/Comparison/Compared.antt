@@ -16,7 +16,7 @@ use Rattle.cborn_engine.proofs.Canonical.Canonicity.{own_bytes}
 use Rattle.cborn_engine.proofs.Canonical.Headline.{alike}
 use Rattle.cborn_engine.proofs.Held.Meant.{holds_once}
 
-from_decides : (b : Bool) (P : Type 0) → Decides b P → IsTrue b ↔ P
+pub from_decides : (b : Bool) (P : Type 0) → Decides b P → IsTrue b ↔ P
 from_decides true P d = (λ _. d.0 refl, λ _. refl)
 from_decides false P d = (λ h. d.0 h, λ p. d.1 p)
 

@@ -5,7 +5,8 @@ use Rattle.std.proofs.lemmas.List.{map-append}
 use Rattle.std.proofs.lemmas.Option.{slice_get-map, same_Some}
 use Rattle.cborn_model.specs.Bytes.{AreBytes}
 use Rattle.cborn_model.specs.First.{NoLater}
-use Rattle.cborn_model.specs.Tree.{Tree, Trees, trees}
+use Rattle.std.specs.List.{AllZip}
+use Rattle.cborn_model.specs.Tree.{Tree, Trees, trees, place as place_of}
 use Rattle.cborn_model.specs.Spelled.{FitsAll, spelled_all, Wellformed}
 use Rattle.cborn_model.specs.Placed.{PlacedAll}
 use Rattle.cborn_model.proofs.Listed.Trees.{trees-injective}
@@ -21,7 +22,7 @@ use Rattle.cborn_judge.specs.Flaws.{flaw_rank, Flaw, IsFirstFlaw, IsRefusalOfAll
 use Rattle.cborn_judge.specs.declared.faults.Invalid.TheVariants.{Refused}
 use Rattle.cborn_judge.specs.declared.faults.InvalidReason.{InvalidReason}
 use Rattle.cborn_places.proofs.Carrying.Rising.{rising_halves, rising_part, in_order, map_to}
-use Rattle.cborn_places.proofs.Carrying.Moved.{moved, moved_all, moved-trees, spots_all-moved}
+use Rattle.cborn_places.proofs.Carrying.Moved.{moved, moved_all, moved-trees, place-moved, spots_all-moved}
 use Rattle.cborn_places.proofs.Carrying.Matching.{starts_all-from, all_back}
 use Rattle.cborn_places.proofs.Carrying.FlawsMoved.{means_moved, flaw_moved, flaw_back}
 use Rattle.cborn_places.proofs.Carrying.Spots.{starts_rise, spots_all_part, flaw_spot}
@@ -49,9 +50,10 @@ module _ (f : ℕ → ℕ) where
         | inr k ↦ inr ((k.0.0, means_moved f t k.0.0 k.0.1), refusal_moved ts p r here.1 there.1 k.1)
       ]
 
-pub flaw_carried : (limit : ℕ) (bytes : List ℕ) (nodes others : List Tree) → FitsAll (trees nodes) → spelled_all (trees nodes) ≡ bytes → Wellformed limit (trees others) bytes → PlacedAll 0 (trees others) → IsRising (spots_all (trees nodes))
-    → (i off place : ℕ) (r : InvalidReason) → slice_get (starts_all (trees others)) i ≡ Some off → slice_get (starts_all (trees nodes)) i ≡ Some place → IsRefusalOfAll others (Refused off r) → IsRefusalOfAll nodes (Refused place r)
-flaw_carried limit bytes nodes others fit spells whole placed rise i off place r at there h =
+-- The nodes are those that the bytes spell in place, moved by a map that takes a start there to the same start here.
+moves_to : (limit : ℕ) (bytes : List ℕ) (nodes others : List Tree) → FitsAll (trees nodes) → spelled_all (trees nodes) ≡ bytes → Wellformed limit (trees others) bytes → PlacedAll 0 (trees others)
+    → (i off place : ℕ) → slice_get (starts_all (trees others)) i ≡ Some off → slice_get (starts_all (trees nodes)) i ≡ Some place → (f : ℕ → ℕ) × (map (moved f) others ≡ nodes) × (moved_all f (trees others) ≡ trees nodes) × (f off ≡ place)
+moves_to limit bytes nodes others fit spells whole placed i off place at there =
     let ns = trees nodes in
     let us = trees others in
     let same : all_from 0 ns ≡ us = one_spelling ns us fit whole.fit (spells ∙ sym whole.spells) 0 ∙ same_all-from us 0 placed in
@@ -60,11 +62,21 @@ flaw_carried limit bytes nodes others fit spells whole placed rise i off place r
     let m = map_to (starts_all us) (starts_all ns) rises long in
     let f = m.0 in
     let gone : moved_all f us ≡ ns = ap (moved_all f) (sym same) ∙ all_back f ns 0 (ap (λ (ts : Trees). map f (starts_all ts)) same ∙ m.1) in
-    let moves : map (moved f) others ≡ nodes = trees-injective (map (moved f) others) nodes (moved-trees f others ∙ gone) in
     let told : Some (f off) ≡ Some place = ap (option_map f) (sym at) ∙ sym (slice_get-map f (starts_all us) i) ∙ ap (λ (xs : List ℕ). slice_get xs i) m.1 ∙ there in
+    (f, trees-injective (map (moved f) others) nodes (moved-trees f others ∙ gone), gone, same_Some (f off) place told)
+
+pub flaw_carried : (limit : ℕ) (bytes : List ℕ) (nodes others : List Tree) → FitsAll (trees nodes) → spelled_all (trees nodes) ≡ bytes → Wellformed limit (trees others) bytes → PlacedAll 0 (trees others) → IsRising (spots_all (trees nodes))
+    → (i off place : ℕ) (r : InvalidReason) → slice_get (starts_all (trees others)) i ≡ Some off → slice_get (starts_all (trees nodes)) i ≡ Some place → IsRefusalOfAll others (Refused off r) → IsRefusalOfAll nodes (Refused place r)
+flaw_carried limit bytes nodes others fit spells whole placed rise i off place r at there h =
+    let us = trees others in
+    let (f, moves, gone, told) = moves_to limit bytes nodes others fit spells whole placed i off place at there in
     let risen = subst IsRising (ap spots_all (sym gone) ∙ spots_all-moved f us) rise in
-    let moved_there = refusal_moved f others off r (rising_part (spots_all us) (starts_all us) (spots_all_part us) rises) risen h in
-    subst (λ (ts : List Tree). IsRefusalOfAll ts (Refused place r)) moves (subst (λ (q : ℕ). IsRefusalOfAll (map (moved f) others) (Refused q r)) (same_Some (f off) place told) moved_there)
+    let moved_there = refusal_moved f others off r (rising_part (spots_all us) (starts_all us) (spots_all_part us) (starts_rise us 0 placed)) risen h in
+    subst (λ (ts : List Tree). IsRefusalOfAll ts (Refused place r)) moves (subst (λ (q : ℕ). IsRefusalOfAll (map (moved f) others) (Refused q r)) told moved_there)
+
+places_moved : (f : ℕ → ℕ) (off place : ℕ) (us : List Tree) → f off ≡ place → AllZip (λ t u. place_of u ≡ off → place_of t ≡ place) (map (moved f) us) us
+places_moved f off place [] e = tt
+places_moved f off place (u ∷ us) e = (λ here. place-moved f u ∙ ap f here ∙ e, places_moved f off place us e)
 
 -- The same of a text, where both starts were told by their number.
 pub flaw_told : (profile : Profile) (text bytes : List ℕ) (index offset place : ℕ) → AreBytes text → length text < 2 ^ 56
@@ -75,3 +87,13 @@ flaw_told profile text bytes index offset place are_bytes short at there limit n
     let fit = (notated_fits profile limit text (trees nodes) are_bytes short notated).0 in
     let rise = spots_rise profile limit text (trees nodes) notated in
     flaw_carried limit bytes nodes others fit spells whole placed rise index offset place r (at limit (trees others) whole placed) (there limit (trees nodes) notated)
+
+-- And nodes that stand at the one start stand at the other.
+pub place_told : (profile : Profile) (text bytes : List ℕ) (index offset place : ℕ) → AreBytes text → length text < 2 ^ 56
+    → ((limit : ℕ) (nodes : Trees) → Wellformed limit nodes bytes → PlacedAll 0 nodes → slice_get (starts_all nodes) index ≡ Some offset)
+    → ((limit : ℕ) (nodes : Trees) → Notates profile limit text nodes → slice_get (starts_all nodes) index ≡ Some place)
+    → (limit : ℕ) (nodes others : List Tree) → Notates profile limit text (trees nodes) → spelled_all (trees nodes) ≡ bytes → Wellformed limit (trees others) bytes → PlacedAll 0 (trees others) → AllZip (λ t u. place_of u ≡ offset → place_of t ≡ place) nodes others
+place_told profile text bytes index offset place are_bytes short at there limit nodes others notated spells whole placed =
+    let fit = (notated_fits profile limit text (trees nodes) are_bytes short notated).0 in
+    let (f, moves, gone, told) = moves_to limit bytes nodes others fit spells whole placed index offset place (at limit (trees others) whole placed) (there limit (trees nodes) notated) in
+    subst (λ (ts : List Tree). AllZip (λ t u. place_of u ≡ offset → place_of t ≡ place) ts others) moves (places_moved f offset place others told)

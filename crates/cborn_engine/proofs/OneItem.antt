@@ -1,0 +1,4 @@
+-- What is answered for an input that has to hold exactly one item.
+pub mod Second
+pub mod Answered
+pub mod Compared

@@ -1,0 +1,177 @@
+-- Where the second item of an input starts: where the first ends.
+use Rattle.std.proofs.Common.{◌≡◌, ◌≢◌, refl, sym, ap, ◌∙◌, subst, ℕ, suc, ◌+◌, ◌<◌, ◌≤◌, List, [], ◌∷◌, ◌++◌, length, take, drop, arith, append-nil, length-append}
+use Rattle.std.proofs.lemmas.List.{take-append-drop, length-take-le}
+use Rattle.std.specs.Prelude.{IsUtf8}
+use Rattle.std.specs.List.{AllZip}
+use Rattle.cborn_model.specs.Tree.{Tree, Uint, Nint, Bytes, Text, ByteChunks, TextChunks, Items, Pairs, Tagged, Simple, Trees, no_item, more, trees, place}
+use Rattle.cborn_model.specs.Placed.{Placed, PlacedAll}
+use Rattle.cborn_model.specs.Spelled.{spelled, spelled_all, Fits, FitsAll, Wellformed}
+use Rattle.cborn_wire.specs.Places.{all_from}
+use Rattle.cborn_wire.specs.Slots.{Begun, beginnings}
+use Rattle.cborn_wire.proofs.Spelled.AsPlaced.{spelled_all-from, depth_all-from, fits_all-from, placed_all-from}
+use Rattle.cborn_wire.proofs.Spelled.TreeLists.{tree_list, trees-tree_list}
+use Rattle.cborn_judge.proofs.Meaning.Meanings.{some_bytes}
+use Rattle.cborn_transcode.proofs.Opening.{one_front}
+use Rattle.cborn_lex.specs.declared.classes.Profile.{Profile}
+use Rattle.cborn_lex.specs.declared.classes.Profile.TheVariants as profile
+use Rattle.cborn_edn.specs.Grammar.{Notates}
+use Rattle.cborn_spell.specs.Descent.{IsSpelling}
+use Rattle.cborn_paths.specs.declared.paths.Step.{Step}
+use Rattle.cborn_paths.specs.declared.paths.Step.TheVariants.{Item}
+use Rattle.cborn_paths.specs.Paths.{EndsAt, steps, step_in}
+use Rattle.cborn_engine.specs.declared.kinds.Kind.TheVariants as kind
+use Rattle.cborn_engine.specs.devices.Encoding.{kind_of}
+use Rattle.cborn_engine.specs.Holding.{IsNotation, Spells, SpellsInPlace}
+use Rattle.cborn_engine.specs.OneItem.{SpellsOne, SecondStarts}
+use Rattle.cborn_engine.specs.Reading.{most_bytes}
+use Rattle.cborn_engine.proofs.Held.Notated.{fits}
+
+-- ---- bytes
+
+some_steps : (ts : Trees) (os : List Begun) → 1 ≤ length (steps ts os)
+some_steps ts [] = omega arith
+some_steps ts (o ∷ os) = omega (arith, length-append (steps ts os) (step_in o ∷ []))
+
+same_index : (n m : ℕ) → Item n ∷ [] ≡ Item m ∷ [] → n ≡ m
+same_index n m e = cc
+
+-- the node that a front spells which ends behind one
+front_node : (x : List ℕ) → EndsAt x (Item 1 ∷ []) → (u : Tree) × Fits u × (spelled u ≡ x)
+front_node x (us, os, fit, deep, begun, is, path) = go us os fit is path
+  where
+    go : (us : Trees) (os : List Begun) → FitsAll us → x ≡ spelled_all us ++ beginnings os → Item 1 ∷ [] ≡ steps us os → (u : Tree) × Fits u × (spelled u ≡ x)
+    go us (o ∷ os) fit is path = absurd (omega (arith, ap length path, length-append (steps us os) (step_in o ∷ []), some_steps us os))
+    go no_item [] fit is path = absurd (let n = same_index 1 0 path in omega (arith, n))
+    go (more u no_item) [] fit is path = (u, fit.0, sym (is ∙ append-nil (spelled u ++ []) ∙ append-nil (spelled u)))
+    go (more u (more v vs)) [] fit is path = absurd (let n = same_index 1 _ path in omega (arith, n))
+
+-- it is the first
+record Begins (limit : ℕ) (x : List ℕ) (ns : List Tree) (end : ℕ) : Type 0 where
+  first : Tree
+  others : List Tree
+  are : ns ≡ first ∷ others
+  long : length (spelled first) ≡ end
+  rest : length (spelled_all (trees others)) + end ≡ length x
+
+begins : (limit : ℕ) (x : List ℕ) (ns : List Tree) (end : ℕ) → Wellformed limit (trees ns) x → end ≤ length x → EndsAt (take end x) (Item 1 ∷ []) → Begins limit x ns end
+begins limit x [] end w l e =
+    let f = front_node (take end x) e in
+    absurd (omega (arith, some_bytes f.0, ap length f.2, length-take-le end x l, ap length w.spells, l))
+begins limit x (n ∷ ns) end w l e =
+    let f = front_node (take end x) e in
+    let whole : spelled n ++ spelled_all (trees ns) ≡ spelled f.0 ++ drop end x = w.spells ∙ sym (take-append-drop end x) ∙ ap (λ (y : List ℕ). y ++ drop end x) (sym f.2) in
+    let same = one_front n f.0 (spelled_all (trees ns)) (drop end x) w.fit.0 f.1 whole in
+    let long : length (spelled n) ≡ end = ap length same.0 ∙ ap length f.2 ∙ length-take-le end x l in
+    record { first = n; others = ns; are = refl; long = long; rest = omega (arith, ap length w.spells, length-append (spelled n) (spelled_all (trees ns)), long) }
+
+no_more : (ns : List Tree) → length (spelled_all (trees ns)) ≡ 0 → ns ≡ []
+no_more [] e = refl
+no_more (n ∷ ns) e = absurd (omega (arith, e, some_bytes n, length-append (spelled n) (spelled_all (trees ns))))
+
+-- ..and the only one, where it ends at the end
+pub alone : (limit : ℕ) (x : List ℕ) (ns : List Tree) (end : ℕ) → Wellformed limit (trees ns) x → end ≤ length x → EndsAt (take end x) (Item 1 ∷ []) → end ≡ length x → (t : Tree) × (ns ≡ t ∷ [])
+alone limit x ns end w l e at =
+    let b = begins limit x ns end w l e in
+    (b.first, b.are ∙ ap (λ (ts : List Tree). b.first ∷ ts) (no_more b.others (omega (arith, b.rest, at))))
+
+record Follows (ns : List Tree) (end : ℕ) : Type 0 where
+  first : Tree
+  second : Tree
+  others : List Tree
+  are : ns ≡ first ∷ second ∷ others
+  long : length (spelled first) ≡ end
+
+-- else another follows
+follows : (limit : ℕ) (x : List ℕ) (ns : List Tree) (end : ℕ) → Wellformed limit (trees ns) x → end ≤ length x → EndsAt (take end x) (Item 1 ∷ []) → end ≢ length x → Follows ns end
+follows limit x ns end w l e at = let b = begins limit x ns end w l e in go b.first b.others b.are b.long b.rest
+  where
+    go : (t : Tree) (ts : List Tree) → ns ≡ t ∷ ts → length (spelled t) ≡ end → length (spelled_all (trees ts)) + end ≡ length x → Follows ns end
+    go t [] are long rest = absurd (at (omega (arith, rest)))
+    go t (u ∷ us) are long rest = record { first = t; second = u; others = us; are = are; long = long }
+
+placed_there : (t : Tree) (p : ℕ) → Placed p t → place t ≡ p
+placed_there (Uint q w n) p h = h
+placed_there (Nint q w n) p h = h
+placed_there (Bytes q w b) p h = h
+placed_there (Text q w b) p h = h
+placed_there (ByteChunks q cs) p h = h.0
+placed_there (TextChunks q cs) p h = h.0
+placed_there (Items q s ts) p h = h.0
+placed_there (Pairs q s es) p h = h.0
+placed_there (Tagged q w n t) p h = h.0
+placed_there (Simple q n) p h = h
+
+-- nodes in their places
+pub in_places : (limit : ℕ) (ns : List Tree) (x : List ℕ) → Wellformed limit (trees ns) x → (ms : List Tree) × SpellsInPlace kind.Wire limit x ms
+in_places limit ns x w =
+    let ts = all_from 0 (trees ns) in
+    let same : trees (tree_list ts) ≡ ts = trees-tree_list ts in
+    let there : Wellformed limit ts x = record {
+      spells = spelled_all-from (trees ns) 0 ∙ w.spells;
+      fit = fits_all-from (trees ns) 0 w.fit;
+      shallow = omega (arith, depth_all-from (trees ns) 0, w.shallow);
+    } in
+    (tree_list ts, (subst (λ (us : Trees). Wellformed limit us x) (sym same) there, subst (PlacedAll 0) (sym same) (placed_all-from (trees ns) 0)))
+
+pub second_in_bytes : (limit : ℕ) (x : List ℕ) (ns : List Tree) (end : ℕ) → Wellformed limit (trees ns) x → end ≤ length x → EndsAt (take end x) (Item 1 ∷ []) → end ≢ length x → SecondStarts kind.Wire limit x end
+second_in_bytes limit x ns end w l e at =
+    let m = in_places limit ns x w in
+    let f = follows limit x m.0 end m.1.0 l e at in
+    let spelled : SpellsInPlace kind.Wire limit x (f.first ∷ f.second ∷ f.others) = subst (SpellsInPlace kind.Wire limit x) f.are m.1 in
+    record { first = f.first; second = f.second; rest = f.others; spelled = spelled; here = omega (arith, placed_there f.second _ spelled.1.1.0, f.long) }
+
+no_nodes : (ns : List Tree) → trees ns ≡ no_item → ns ≡ []
+no_nodes [] e = refl
+no_nodes (n ∷ ns) e = cc
+
+pub none_in_bytes : (limit : ℕ) (x : List ℕ) (ns : List Tree) → Wellformed limit (trees ns) x → trees ns ≡ no_item → Spells kind.Wire limit x [] × (length x ≡ 0)
+none_in_bytes limit x ns w e =
+    let none : Wellformed limit no_item x = subst (λ (ts : Trees). Wellformed limit ts x) e w in
+    (none, sym (ap length none.spells))
+
+pub one_in_bytes : (limit : ℕ) (x : List ℕ) (ns : List Tree) (end : ℕ) → Wellformed limit (trees ns) x → end ≤ length x → EndsAt (take end x) (Item 1 ∷ []) → end ≡ length x → SpellsOne kind.Wire limit x
+one_in_bytes limit x ns end w l e at = let a = alone limit x ns end w l e at in (a.0, subst (Spells kind.Wire limit x) a.1 w)
+
+-- ---- a text, and the bytes that it spells
+
+pub notated : (p : Profile) (limit : ℕ) (x : List ℕ) (ns : List Tree) → IsNotation p limit x ns → Spells (kind_of p) limit x ns
+notated profile.One limit x ns h = h
+notated profile.Two limit x ns h = h
+
+notated_there : (p : Profile) (limit : ℕ) (x : List ℕ) (ns : List Tree) → IsNotation p limit x ns → SpellsInPlace (kind_of p) limit x ns
+notated_there profile.One limit x ns h = h
+notated_there profile.Two limit x ns h = h
+
+module _ (p : Profile) (limit : ℕ) (text bytes : List ℕ) (short : length text ≤ most_bytes) (utf8 : IsUtf8 text) (s : IsSpelling p limit text bytes) where
+  is_notation : IsNotation p limit text s.nodes
+  is_notation = (utf8, s.notated)
+
+  pub spelled_well : Wellformed limit (trees s.nodes) bytes
+  spelled_well = let f = fits p limit text s.nodes is_notation short in record { spells = s.spells; fit = f.0; shallow = f.1 }
+
+  pub none_in_text : trees s.nodes ≡ no_item → Spells (kind_of p) limit text []
+  none_in_text e = subst (Spells (kind_of p) limit text) (no_nodes s.nodes e) (notated p limit text s.nodes is_notation)
+
+  pub one_in_text : (end : ℕ) → end ≤ length bytes → EndsAt (take end bytes) (Item 1 ∷ []) → end ≡ length bytes → SpellsOne (kind_of p) limit text
+  one_in_text end l e at = let a = alone limit bytes s.nodes end spelled_well l e at in (a.0, subst (Spells (kind_of p) limit text) a.1 (notated p limit text s.nodes is_notation))
+
+  pub second_in_text : (end there : ℕ) → end ≤ length bytes → EndsAt (take end bytes) (Item 1 ∷ []) → end ≢ length bytes
+      → ((limit : ℕ) (nodes others : List Tree) → Notates p limit text (trees nodes) → spelled_all (trees nodes) ≡ bytes → Wellformed limit (trees others) bytes → PlacedAll 0 (trees others) → AllZip (λ t u. place u ≡ end → place t ≡ there) nodes others)
+      → SecondStarts (kind_of p) limit text there
+  second_in_text end there l e at zip =
+      let m = in_places limit s.nodes bytes spelled_well in
+      let ours = follows limit bytes s.nodes end spelled_well l e at in
+      let theirs = follows limit bytes m.0 end m.1.0 l e at in
+      let placed : PlacedAll 0 (trees (theirs.first ∷ theirs.second ∷ theirs.others)) = subst (λ (ts : List Tree). PlacedAll 0 (trees ts)) theirs.are m.1.1 in
+      let at_end : place theirs.second ≡ end = omega (arith, placed_there theirs.second _ placed.1.0, theirs.long) in
+      let both = zip limit s.nodes m.0 s.notated s.spells m.1.0 m.1.1 in
+      let zipped : AllZip (λ t u. place u ≡ end → place t ≡ there) (ours.first ∷ ours.second ∷ ours.others) (theirs.first ∷ theirs.second ∷ theirs.others)
+      = subst (λ (us : List Tree). AllZip (λ t u. place u ≡ end → place t ≡ there) us (theirs.first ∷ theirs.second ∷ theirs.others)) ours.are
+      (subst (λ (us : List Tree). AllZip (λ t u. place u ≡ end → place t ≡ there) s.nodes us) theirs.are both) in
+      record {
+        first = ours.first;
+        second = ours.second;
+        rest = ours.others;
+        spelled = subst (SpellsInPlace (kind_of p) limit text) ours.are (notated_there p limit text s.nodes is_notation);
+        here = zipped.1.0 at_end;
+      }
