@@ -11,7 +11,7 @@ use Rattle.cborn_wire.specs.Slots.{Begun, beginnings}
 use Rattle.cborn_wire.proofs.Spelled.AsPlaced.{spelled_all-from, depth_all-from, fits_all-from, placed_all-from}
 use Rattle.cborn_wire.proofs.Spelled.TreeLists.{tree_list, trees-tree_list}
 use Rattle.cborn_judge.proofs.Meaning.Meanings.{some_bytes}
-use Rattle.cborn_transcode.proofs.Opening.{one_front}
+use Rattle.cborn_wire.proofs.Parts.Openings.{one_front}
 use Rattle.cborn_lex.specs.declared.classes.Profile.{Profile}
 use Rattle.cborn_lex.specs.declared.classes.Profile.TheVariants as profile
 use Rattle.cborn_edn.specs.Grammar.{Notates}
