@@ -1,22 +1,11 @@
 -- Where a node stands, and one that spells the same put there.
-use Rattle.std.proofs.Common.{◌≡◌, ℕ, ◌+◌, ◌*◌, ◌<◌, ◌⊎◌, inl, inr, List, [], ◌∷◌, ◌++◌, length, refl, sym, ap, ◌∙◌, subst, arith, append_assoc, append-nil, get_or}
-use Rattle.std.specs.List.{flat_map}
-use Rattle.cborn_model.specs.declared.heads.Major.{Major}
-use Rattle.cborn_model.specs.declared.heads.Major.TheVariants.{Unsigned, Negative, ByteString, TextString, Array, Map, Tag, Other}
-use Rattle.cborn_model.specs.declared.heads.Size.TheVariants.{Fixed, Endless}
-use Rattle.cborn_model.specs.declared.heads.Width.{Width}
-use Rattle.cborn_model.specs.declared.heads.Width.TheVariants.{Direct, One, Two, Four, Eight}
-use Rattle.cborn_model.specs.Heads.{Argument, Given, Unbounded, head, argument, code, major_at, information, least, WidthFits}
+use Rattle.std.proofs.Common.{◌≡◌, ℕ, [], ◌++◌, sym, ap, ◌∙◌}
 use Rattle.cborn_model.specs.Placed.{Placed}
-use Rattle.cborn_model.specs.Spelled.{spelled, spelled_all, spelled_entries, Fits, chunk_bytes, ending}
-use Rattle.cborn_model.specs.Tree.{Tree, Uint, Nint, Bytes, Text, ByteChunks, TextChunks, Items, Pairs, Tagged, Simple, Trees, no_item, more, count, count_entries, place}
-use Rattle.cborn_model.proofs.Numbers.Majors.{major_at-code}
-use Rattle.cborn_model.proofs.Numbers.OneHead.{append_same, one_head}
-use Rattle.cborn_model.proofs.Numbers.Simples.{simple_fits}
-use Rattle.cborn_wire.specs.HeadReading.{ArgumentFits}
+use Rattle.cborn_model.specs.Spelled.{spelled, Fits}
+use Rattle.cborn_model.specs.Tree.{Tree, Uint, Nint, Bytes, Text, ByteChunks, TextChunks, Items, Pairs, Tagged, Simple, Trees, no_item, more, place}
 use Rattle.cborn_wire.specs.Places.{placed_from, all_from}
 use Rattle.cborn_wire.proofs.Spelled.AsPlaced.{same_all-from}
-use Rattle.cborn_wire.proofs.Spelled.OneReading.{no_item_begins, one_spelling}
+use Rattle.cborn_wire.proofs.Spelled.OneReading.{one_spelling}
 
 -- where a node stands
 pub stands : (p : ℕ) (t : Tree) → Placed p t → place t ≡ p

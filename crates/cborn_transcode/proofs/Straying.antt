@@ -1,21 +1,14 @@
 -- A walk that finds neither what follows an item nor its departure: whatever item stands there has a defect, or is too deep.
-use Rattle.std.proofs.Common.{append-nil, ◌≡◌, ◌⊎◌, ◌^◌, ℕ, suc, ◌-◌, ◌<◌, ◌≤◌, inl, inr, List, [], ◌∷◌, ◌++◌, length, take, refl, sym, ap, ◌∙◌, subst, arith, length-append, Option, None, Bor, Ordering, take_at}
+use Rattle.std.proofs.Common.{◌≡◌, ◌⊎◌, ◌^◌, ℕ, suc, ◌-◌, ◌<◌, ◌≤◌, inl, inr, List, [], ◌∷◌, ◌++◌, length, take, refl, sym, ap, ◌∙◌, subst, arith, length-append, Option, None, Bor, Ordering, take_at}
 use Rattle.std.specs.Prelude.{IsTrue, IsUtf8}
 use Rattle.cborn_model.specs.declared.heads.Major.{Major}
 use Rattle.cborn_model.specs.declared.heads.Major.TheVariants.{Unsigned, Negative, ByteString, TextString, Array, Map, Tag, Other}
 use Rattle.cborn_model.specs.declared.heads.Width.{Width}
 use Rattle.cborn_model.specs.Heads.{Argument, Given, head, WidthFits, least, is_simple_value}
-use Rattle.cborn_model.specs.Meaning.{IsByteString, AllMean}
+use Rattle.cborn_model.specs.Meaning.{IsByteString}
 use Rattle.cborn_model.specs.Orders.{IsKeyOrder}
-use Rattle.cborn_model.specs.Placed.{PlacedAll}
 use Rattle.cborn_model.specs.Spelled.{spelled_all, spelled_entries, spelled}
-use Rattle.cborn_model.specs.Tree.{Tree, Bytes, Text, ByteChunks, TextChunks, Tagged, Simple, Trees, no_item, more, Entries, no_entry, entry, trees, count, depth, depth_all, depth_entries}
-use Rattle.cborn_model.specs.Valid.{AreProper}
-use Rattle.cborn_model.specs.Value.{Values, values_of}
-use Rattle.cborn_det.specs.Det.{Det, DetValues}
-use Rattle.cborn_det.proofs.Steps.{values_of_seq}
-use Rattle.cborn_judge.proofs.Encoded.Checking.{check_sequence_whole}
-use Rattle.cborn_judge.proofs.Meaning.Meanings.{all_valid}
+use Rattle.cborn_model.specs.Tree.{Tree, Bytes, Text, ByteChunks, TextChunks, Tagged, Simple, Trees, no_item, more, Entries, no_entry, entry, depth, depth_all, depth_entries}
 use Rattle.cborn_det.specs.shared.KeyBefore.{Below}
 use Rattle.cborn_judge.specs.Defects.{IsLong, IsLoose}
 use Rattle.cborn_judge.specs.Departures.{FindsDefect}
@@ -27,19 +20,16 @@ use Rattle.cborn_wire.specs.declared.heads.Head.{Head}
 use Rattle.cborn_wire.specs.HeadReading.{major_at, seen_argument, IsHeadOf, ArgumentFits}
 use Rattle.cborn_wire.specs.Parts.{Leaves}
 use Rattle.cborn_wire.specs.Places.{placed_from}
-use Rattle.cborn_wire.proofs.Parts.Nodes.{node_as}
 use Rattle.cborn_wire.proofs.Spelled.AsPlaced.{spelled-from, fits-from, placed-from, depth-from}
-use Rattle.std.proofs.lemmas.List.{append_cancel_right}
 use Rattle.cborn_transcode.specs.declared.departures.Walked.{Walked}
 use Rattle.cborn_transcode.specs.declared.departures.Walked.TheVariants.{Behind}
-use Rattle.cborn_transcode.specs.devices.Departing.{Stands, AllStand, PairsStand, NoneStands, NoContent, Stops, Strays, StraysBehind, Walks, Remain, RemainAmong, Leads, LeadsOn, LeadsPairs}
+use Rattle.cborn_transcode.specs.devices.Departing.{Stands, AllStand, PairsStand, NoneStands, NoContent, Stops, Strays, StraysBehind, Walks, Remain, RemainAmong, Leads, LeadsPairs}
 use Rattle.cborn_transcode.specs.shared.Walking.{ItemWalked, LeastHeadRead}
 use Rattle.cborn_transcode.proofs.Departing.{number_of, width_of, is_array, first_stands, item_clears}
 use Rattle.cborn_transcode.proofs.Departed.{long_stops}
 use Rattle.cborn_transcode.proofs.Falling.{is_map, key_stands, value_stands}
-use Rattle.cborn_transcode.specs.Transcoding.{ItemTranscoded, IsTranscoded}
-use Rattle.cborn_transcode.proofs.Lists.{all_mean}
-use Rattle.cborn_transcode.proofs.Placing.{placements, means-from}
+use Rattle.cborn_transcode.specs.Transcoding.{ItemTranscoded}
+use Rattle.cborn_transcode.proofs.Placing.{means-from}
 use Rattle.cborn_wire.proofs.Parts.Openings.{opening, contents, opened}
 use Rattle.cborn_transcode.proofs.Fronting.{own_walked}
 use Rattle.cborn_transcode.proofs.Tagging.{is_tag, string_under}

@@ -1,4 +1,4 @@
-use Rattle.std.proofs.Common.{◌+◌, ℕ}
+use Rattle.std.proofs.Common.{◌+◌}
 use Rattle.cborn_transcode.proofs.Lists.{all_none, all_more}
 use Rattle.cborn_transcode.proofs.passes.put_all.Goals as goal
 
