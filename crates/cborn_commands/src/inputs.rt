@@ -14,17 +14,17 @@ use std::{fs, io};
 /// A file that is opened at its first read. An opening that fails counts as a failed read, and each
 /// later read fails as well.
 #[derive(Drop)]
-pub struct LateFile<'a, F: Files> {
-    rt: &'a F,
-    path: &'a str,
+pub struct LateFile<'r, 'p, F: Files> {
+    rt: &'r F,
+    path: &'p str,
     file: Option<F::File>,
     is_missing: bool,
     failed: u64,
 }
 
-impl<'a, F: Files> LateFile<'a, F> {
+impl<'r, 'p, F: Files> LateFile<'r, 'p, F> {
     /// The file at `path`, not yet opened.
-    pub fn new(rt: &'a F, path: &'a str) -> Self {
+    pub fn new(rt: &'r F, path: &'p str) -> Self {
         LateFile {
             rt,
             path,
@@ -54,7 +54,7 @@ impl<'a, F: Files> LateFile<'a, F> {
     }
 }
 
-impl<F: Files> Source for LateFile<'_, F> {
+impl<F: Files> Source for LateFile<'_, '_, F> {
     ghost remaining = { λ _. None };
 
     ghost failed = { λ l. l.failed };

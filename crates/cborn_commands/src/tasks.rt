@@ -217,6 +217,7 @@ fn compare_files<'a, O: KeyOrder, F: Files, W: Write>(
     ensures untouched { IfErr result (λ why. IsRefusal why → out.new ≡ out.old) }
     ensures flushed { OnOk result (out.new.unflushed ≡ 0) }
 {
+    let Wanted { limit, items } = wanted;
     let file = match fs::open(rt, files.0) {
         Ok(file) => file,
         Err(_) => return Err(Trouble::CannotReadFirst(files.0)),
@@ -229,37 +230,38 @@ fn compare_files<'a, O: KeyOrder, F: Files, W: Write>(
         inner: LateFile::new(rt, files.1),
         notes: remarks.notes(alloc, kinds.1),
     };
-    let compared = compare_readers::<O, _, _>(alloc, wanted, kinds, &mut reader, &mut late);
+    let compared = compare_readers::<O, _, _>(alloc, limit, items, kinds, &mut reader, &mut late);
     let missing = late.inner.is_missing().then_some(files.1);
     let told = tell_comparison(out, compared, missing);
-    remarks.on_comparison::<O>(
-        alloc,
-        wanted.limit,
-        kinds,
-        (&reader.notes, &late.notes),
-        told,
-    );
+    remarks.on_comparison::<O>(alloc, limit, kinds, (&reader.notes, &late.notes), told);
     told
 }
 
+/// Why two inputs weren't compared.
+#[derive(Clone, Copy)]
+enum Uncompared {
+    Items(CompareFault),
+    One(CompareOneFault),
+}
+
 /// The index of the first difference of two inputs, if there is one. Of two items it is 0.
-fn compare_readers<'a, O: KeyOrder, R: Source, Q: Source>(
+fn compare_readers<O: KeyOrder, R: Source, Q: Source>(
     alloc: Global,
-    wanted: Wanted,
+    limit: Limit,
+    items: Items,
     kinds: (Kind, Kind),
     first: &mut R,
     second: &mut Q,
-) -> Result<Option<u64>, Trouble<'a>> {
-    let Wanted { limit, items } = wanted;
+) -> Result<Option<u64>, Uncompared> {
     match items {
         Items::Any => match compare::<O, _, _>(alloc, limit, kinds.0, first, kinds.1, second) {
             Ok(index) => Ok(index),
-            Err(why) => Err(Trouble::Compare(why)),
+            Err(why) => Err(Uncompared::Items(why)),
         },
         Items::One => match compare_one::<O, _, _>(alloc, limit, kinds.0, first, kinds.1, second) {
             Ok(true) => Ok(None),
             Ok(false) => Ok(Some(0)),
-            Err(why) => Err(Trouble::CompareOne(why)),
+            Err(why) => Err(Uncompared::One(why)),
         },
     }
 }
@@ -268,7 +270,7 @@ fn compare_readers<'a, O: KeyOrder, R: Source, Q: Source>(
 /// opened.
 fn tell_comparison<'a, W: Write>(
     out: &mut Counted<W>,
-    compared: Result<Option<u64>, Trouble<'a>>,
+    compared: Result<Option<u64>, Uncompared>,
     missing: Option<&'a str>,
 ) -> Result<u8, Trouble<'a>>
     ensures status { IfOk result (λ status. status ≤ 1) }
@@ -277,15 +279,13 @@ fn tell_comparison<'a, W: Write>(
 {
     match (compared, missing) {
         (Ok(index), _) => tell_answer(out, difference(index)),
-        (Err(why), Some(name)) if is_of_second(why) => Err(Trouble::CannotReadSecond(name)),
-        (Err(why), _) => Err(why),
+        (Err(Uncompared::Items(CompareFault::Second(_))), Some(name)) => {
+            Err(Trouble::CannotReadSecond(name))
+        }
+        (Err(Uncompared::One(CompareOneFault::Second(_))), Some(name)) => {
+            Err(Trouble::CannotReadSecond(name))
+        }
+        (Err(Uncompared::Items(why)), _) => Err(Trouble::Compare(why)),
+        (Err(Uncompared::One(why)), _) => Err(Trouble::CompareOne(why)),
     }
-}
-
-/// The second of two inputs gave no answer.
-fn is_of_second(trouble: Trouble<'_>) -> bool {
-    matches!(
-        trouble,
-        Trouble::Compare(CompareFault::Second(_)) | Trouble::CompareOne(CompareOneFault::Second(_))
-    )
 }
