@@ -88,7 +88,7 @@ class Calls(unittest.TestCase):
     def test_signatures(self):
         self.assertEqual(
             str(inspect.signature(cborn.normalise)).replace("<", "").replace(">", ""),
-            "(data, source=Kind.WIRE: 0, to=Kind.WIRE: 0, order=Order.BYTEWISE: 0, depth=128)",
+            "(data, source=Kind.WIRE: 0, to=Kind.WIRE: 0, order=Order.BYTEWISE: 0, depth=128, one=False)",
         )
         self.assertEqual(inspect.signature(cborn.spell).parameters["source"].default, cborn.Kind.NOTATION)
 

@@ -1,4 +1,4 @@
-use Rattle.cborn_engine.specs.OneItem.{OneAnswer, NormalisedWhole, ShownWhole, CheckedWhole}
+use Rattle.cborn_engine.specs.OneItem.{OneAnswer, CheckedWhole}
 use Rattle.cborn_engine.specs.declared.kinds.Kind.TheVariants as kind
 use Rattle.cborn_engine.proofs.Answers.Told.{told}
 use Rattle.cborn_engine.proofs.OneItem.Answered.{kept_one}

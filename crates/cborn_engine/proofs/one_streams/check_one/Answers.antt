@@ -1,8 +1,7 @@
-use Rattle.std.proofs.Common.{refl}
 use Rattle.cborn_streams.specs.Failures.{CountsFault}
 use Rattle.cborn_engine.specs.declared.faults.EngineFault.TheVariants as fault
 use Rattle.cborn_engine.specs.declared.one_faults.OneFault.TheVariants as one
-use Rattle.cborn_engine.specs.OneItem.{ChecksOne, CheckedWhole}
+use Rattle.cborn_engine.specs.OneItem.{ChecksOne}
 use Rattle.cborn_engine.specs.Reading.{most_bytes}
 use Rattle.cborn_engine.proofs.Answers.Told.{told}
 use Rattle.cborn_engine.proofs.OneItem.Answered.{unread_checked, read_checked, input_counted, checked_counted}

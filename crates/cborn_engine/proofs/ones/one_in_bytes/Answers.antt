@@ -1,4 +1,4 @@
-use Rattle.std.proofs.Common.{◌≤◌, inl, inr, refl, arith}
+use Rattle.std.proofs.Common.{◌≤◌, inr, refl, arith}
 use Rattle.cborn_model.specs.Tree.{trees}
 use Rattle.cborn_engine.proofs.OneItem.Second.{none_in_bytes, one_in_bytes, second_in_bytes}
 use Rattle.cborn_engine.proofs.ones.one_in_bytes.Goals as goal

@@ -5,6 +5,7 @@ use Rattle.cborn_engine.proofs.Answers.Malformed.{handed, answered}
 use Rattle.cborn_engine.proofs.Answers.Told.{told}
 use Rattle.cborn_engine.proofs.Canonical.Canonicity.{canon_of}
 use Rattle.cborn_engine.proofs.Canonical.OfBytes.{encoded_bytes}
+use Rattle.cborn_engine.proofs.Canonical.NormalForm.{normal_form}
 use Rattle.cborn_engine.proofs.slices.normalise_slice.Goals as goal
 
 pub written_as-requires : goal.written_as-requires
@@ -35,3 +36,8 @@ returns-clause-canonical g c =
     let e = c.in_ok-bytes.ensures.encoded in
     let written = canon_of g.O.KeyOrder.order c.args.out_kind e.1.items (cow_slice_items c.in_ok-bytes.bytes) (cow_slice_items c.in_ok-written_as.field-0) e.1.encoded c.in_ok-written_as.ensures in
     (e.0, record { items = e.1.items; held = e.1.held; written = written })
+
+pub returns-clause-headline : goal.returns-clause-headline
+returns-clause-headline g c =
+    let canonical = returns-clause-canonical g c in
+    normal_form g.O.KeyOrder.order g.met.O.KeyOrder.laws c.args.in_kind c.args.out_kind c.args.limit c.args.input.now _ canonical.0 canonical.1

@@ -5,6 +5,7 @@ use Rattle.cborn_engine.proofs.Answers.AtHand.{short, not_shown}
 use Rattle.cborn_engine.proofs.Answers.Told.{told}
 use Rattle.cborn_engine.specs.Whole.{TellsFault}
 use Rattle.cborn_engine.proofs.Answers.Malformed.{handed, answered, spelled}
+use Rattle.cborn_engine.proofs.Held.SameBytes.{same_bytes}
 use Rattle.cborn_engine.proofs.slices.show_slice.Goals as goal
 
 pub returns-in_err-show_input-clause-refused : goal.returns-in_err-show_input-clause-refused
@@ -32,3 +33,13 @@ returns-clause-shown c = c.in_ok-show_input.ensures.answers (short most_bytes c.
 
 pub returns-clause-malformed : goal.returns-clause-malformed
 returns-clause-malformed c l = answered c.args.in_kind c.args.limit c.args.input.now c.in_ok-show_input.field-0 _ (c.in_ok-show_input.ensures.malformed l)
+
+pub returns-then-is_own_spelling-clause-same_bytes : goal.returns-then-is_own_spelling-clause-same_bytes
+returns-then-is_own_spelling-clause-same_bytes c =
+    let l = short most_bytes c.args.input.now c.is_too_long.result c.is_too_long.ensures c.if-is_too_long.false in
+    same_bytes c.args.in_kind c.args.out_kind c.args.limit c.args.input.now c.args.input.now l (c.is_own_spelling.ensures.own c.if-is_own_spelling.true)
+
+pub returns-clause-same_bytes : goal.returns-clause-same_bytes
+returns-clause-same_bytes c =
+    let shown = returns-clause-shown c in
+    same_bytes c.args.in_kind c.args.out_kind c.args.limit c.args.input.now _ shown.0 shown.1
