@@ -41,13 +41,13 @@ def is_copied(words):
 
 
 def files_of(words):
-    """The files that a command line names, in their order: each option but --explain is one word with its value, or two."""
+    """The files that a command line names, in their order: each option but --explain and --one is one word with its value, or two."""
     rest, names = iter(words[1:]), []
     for word in rest:
         if word == "--":
             return names + list(rest)
         if word.startswith("--"):
-            if "=" not in word and word != "--explain":
+            if "=" not in word and word not in ("--explain", "--one"):
                 next(rest, None)
         else:
             names.append(word)
@@ -63,9 +63,11 @@ def wanted(words, ample, trouble, kind):
     """What a run with trouble has to answer, where without it the answer is `ample`."""
     is_error = kind == "fail" or (kind == "interrupt" and trouble.call == "read")
     if trouble.call == "open" and is_error:
-        which = which_input(words, trouble.opened)
-        name = files_of(words)[trouble.opened]
-        return Outcome(b"", os.fsencode(f"cborn: {which}cannot read {name}\n"), 4)
+        told = f"cborn: {which_input(words, trouble.opened)}cannot read "
+        # a file that can't be opened in any case, whose name may be escaped
+        if ample.stderr.startswith(told.encode()):
+            return ample
+        return Outcome(b"", os.fsencode(f"{told}{files_of(words)[trouble.opened]}\n"), 4)
     if trouble.call == "read" and is_error:
         which = which_input(words, trouble.opened - 1)
         return Outcome(b"", f"cborn: {which}read failed\n".encode(), 4)
