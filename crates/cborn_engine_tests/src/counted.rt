@@ -10,28 +10,28 @@ use std::test::Fail;
 
 /// Is interrupted at its first call, and works from then on.
 #[derive(Drop)]
-struct Interrupted {
-    calls: u64,
+struct Interrupted<'a> {
+    calls: &'a mut u64,
 }
 
-impl Interrupted {
+impl<'a> Interrupted<'a> {
     fn begin(&mut self) -> io::Result<()> {
-        self.calls = self.calls.saturating_add(1);
-        if self.calls == 1 {
+        *self.calls = self.calls.saturating_add(1);
+        if *self.calls == 1 {
             return Err(io::Error::from(ErrorKind::Interrupted));
         }
         Ok(())
     }
 }
 
-impl Read for Interrupted {
+impl<'a> Read for Interrupted<'a> {
     fn read(&mut self, _buf: &mut [u8]) -> io::Result<usize> {
         self.begin()?;
         Ok(0)
     }
 }
 
-impl Write for Interrupted {
+impl<'a> Write for Interrupted<'a> {
     fn write(&mut self, piece: &[u8]) -> io::Result<usize> {
         self.begin()?;
         Ok(piece.len())
@@ -44,13 +44,13 @@ impl Write for Interrupted {
 
 /// Takes all bytes, and fails to flush them.
 #[derive(Drop)]
-struct Unflushed {
-    taken: usize,
+struct Unflushed<'a> {
+    taken: &'a mut usize,
 }
 
-impl Write for Unflushed {
+impl<'a> Write for Unflushed<'a> {
     fn write(&mut self, piece: &[u8]) -> io::Result<usize> {
-        self.taken = self.taken.saturating_add(piece.len());
+        *self.taken = self.taken.saturating_add(piece.len());
         Ok(piece.len())
     }
 
@@ -68,16 +68,22 @@ fn normalised<W: Sink>(alloc: Global, input: &[u8], out: &mut W) -> Result<(), E
 /// Catches a read or a write that is tried again.
 #[test]
 fn interrupted_calls(rt: HostRuntime) -> Result<(), Fail> {
-    let mut reader = Counted::new(Interrupted { calls: 0 });
-    let result = load(rt.alloc(), Limit::USUAL, Kind::Wire, &mut reader);
-    assert_eq!(rt; result.err(), Some(EngineFault::ReadFault));
-    assert_eq!(rt; Source::failures(&reader), 1);
-    assert_eq!(rt; reader.inner.calls, 1);
-    let mut writer = Counted::new(Interrupted { calls: 0 });
-    let result = normalised(rt.alloc(), b"\x00", &mut writer);
-    assert_eq!(rt; result, Err(EngineFault::WriteFault));
-    assert_eq!(rt; Sink::failures(&writer), 1);
-    assert_eq!(rt; writer.inner.calls, 1);
+    let mut calls = 0;
+    {
+        let mut reader = Counted::new(Interrupted { calls: &mut calls });
+        let result = load(rt.alloc(), Limit::USUAL, Kind::Wire, &mut reader);
+        assert_eq!(rt; result.err(), Some(EngineFault::ReadFault));
+        assert_eq!(rt; Source::failures(&reader), 1);
+    }
+    assert_eq!(rt; calls, 1);
+    calls = 0;
+    {
+        let mut writer = Counted::new(Interrupted { calls: &mut calls });
+        let result = normalised(rt.alloc(), b"\x00", &mut writer);
+        assert_eq!(rt; result, Err(EngineFault::WriteFault));
+        assert_eq!(rt; Sink::failures(&writer), 1);
+    }
+    assert_eq!(rt; calls, 1);
     Ok(())
 }
 
@@ -85,11 +91,14 @@ fn interrupted_calls(rt: HostRuntime) -> Result<(), Fail> {
 #[test]
 fn failed_flushes(rt: HostRuntime) -> Result<(), Fail> {
     for input in [b"".as_slice(), b"\x18\x01".as_slice()] {
-        let mut writer = Counted::new(Unflushed { taken: 0 });
-        let result = normalised(rt.alloc(), input, &mut writer);
-        assert_eq!(rt; result, Err(EngineFault::WriteFault), "{input:?}");
-        assert_eq!(rt; Sink::failures(&writer), 1, "{input:?}");
-        assert_eq!(rt; writer.inner.taken, input.len() / 2, "{input:?}");
+        let mut taken = 0;
+        {
+            let mut writer = Counted::new(Unflushed { taken: &mut taken });
+            let result = normalised(rt.alloc(), input, &mut writer);
+            assert_eq!(rt; result, Err(EngineFault::WriteFault), "{input:?}");
+            assert_eq!(rt; Sink::failures(&writer), 1, "{input:?}");
+        }
+        assert_eq!(rt; taken, input.len() / 2, "{input:?}");
     }
     Ok(())
 }
@@ -97,8 +106,11 @@ fn failed_flushes(rt: HostRuntime) -> Result<(), Fail> {
 /// Catches a flush by std's name that is counted, but not handed on: that keeps every clause.
 #[test]
 fn hands_on_what_is_printed(rt: HostRuntime) {
-    let mut unflushed = Counted::new(Unflushed { taken: 0 });
-    assert!(rt; unflushed.write(b"abc").is_ok());
-    assert_eq!(rt; unflushed.inner.taken, 3);
-    assert!(rt; unflushed.flush().is_err());
+    let mut taken = 0;
+    {
+        let mut unflushed = Counted::new(Unflushed { taken: &mut taken });
+        assert!(rt; unflushed.write(b"abc").is_ok());
+        assert!(rt; unflushed.flush().is_err());
+    }
+    assert_eq!(rt; taken, 3);
 }
