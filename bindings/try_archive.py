@@ -19,13 +19,6 @@ import textwrap
 
 LOOSE, TIGHT = bytes([0x98, 2, 0x18, 1, 0x58, 1, 0x61]), bytes([0x82, 1, 0x41, 0x61])
 JNA = "/usr/share/java/jna.jar"
-MAIN = """fn main() -> Result<(), cborn::Fault> {
-    let input = [0x98, 2, 0x18, 1, 0x58, 1, 0x61];
-EXAMPLE
-    println!("{:02x?}", bytes);
-    Ok(())
-}
-"""
 
 
 class Archive:
@@ -93,12 +86,10 @@ def in_python_from_sources(archive):
 def in_rust(archive):
     call = archive.work / "call"
     (call / "src").mkdir(parents=True)
-    text = "    " + archive.example("Rust").strip()
-    (call / "src/main.rs").write_text(MAIN.replace("EXAMPLE", text))
+    (call / "src/main.rs").write_text(archive.example("Rust"))
     package = '[package]\nname = "call"\nversion = "0.0.0"\nedition = "2021"\n'
     (call / "Cargo.toml").write_text(f'{package}[dependencies]\ncborn = {{ path = "{archive.top}/rust" }}\n')
-    told = archive.run("cargo run --offline --quiet --manifest-path call/Cargo.toml")
-    return told == b"[82, 01, 41, 61]\n"
+    return archive.run("cargo run --offline --quiet --manifest-path call/Cargo.toml", input=LOOSE) == TIGHT
 
 
 def in_go(archive):
