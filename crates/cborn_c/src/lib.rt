@@ -192,7 +192,8 @@ pub extern "C" fn cborn_same(
     same_told(matched(alloc, limit, from_a, first, from_b, second), place)
 }
 
-/// What `cborn_normalise` does with an input that has to hold exactly one item.
+/// Writes the deterministic encoding of the one item that `input` has to hold to the front of `out`
+/// (RFC 8949 section 4.2), or the fixed notation of it.
 ///
 /// # Errors
 /// Those of `cborn_normalise`. Of an input for which it has none, `NO_ITEM` where the input holds
@@ -231,7 +232,8 @@ pub extern "C" fn cborn_normalise_one(
     put_one(answer, out, told)
 }
 
-/// What `cborn_show` does with an input that has to hold exactly one item, valid or not.
+/// Writes the one item that `input` has to hold as it is spelled, valid or not, to the front of
+/// `out`: as bytes (RFC 8949 section 3), or in the fixed notation (section 8).
 ///
 /// # Errors
 /// Those of `cborn_show`. Of an input for which it has none, `NO_ITEM` and `MORE_ITEMS`, as

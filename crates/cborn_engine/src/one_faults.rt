@@ -77,7 +77,7 @@ impl From<OutputFault> for OneFault {
 }
 
 impl CompareOneFault {
-    /// Why two inputs aren't compared of which the first gave no item for this.
+    /// Why two inputs aren't compared, where the first gave no item for this reason.
     pub fn of_first(why: OneFault) -> Self
         ensures { result ≡ of_first_one why }
     {
@@ -87,7 +87,7 @@ impl CompareOneFault {
         }
     }
 
-    /// Likewise of the second.
+    /// Why two inputs aren't compared, where the second gave no item for this reason.
     pub fn of_second(why: OneFault) -> Self
         ensures { result ≡ of_second_one why }
     {

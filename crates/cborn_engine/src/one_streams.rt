@@ -20,7 +20,8 @@ use cborn_model::{KeyOrder, Limit};
 use cborn_streams::{Sink, Source, read_bytes, write_answer};
 use std::alloc::Global;
 
-/// What `normalise` does with an input that has to hold exactly one item.
+/// Writes the deterministic encoding of the one item that the input has to hold, the keys of maps in
+/// the order `O` (RFC 8949 section 4.2), or the fixed notation of it.
 ///
 /// # Errors
 /// `Engine`, with what `normalise` tells. Of an input for which it tells nothing, `NoItem` or
@@ -45,7 +46,8 @@ pub fn normalise_one<O: KeyOrder, R: Source, W: Sink>(
     Ok(write_answer(writer, &answer)?)
 }
 
-/// What `show_all` does with an input that has to hold exactly one item, valid or not.
+/// Writes the one item that the input has to hold as it is spelled, valid or not: as bytes (RFC 8949
+/// section 3), or in the fixed notation (section 8).
 ///
 /// # Errors
 /// `Engine`, with what `show_all` tells. Of an input for which it tells nothing, `NoItem` or
