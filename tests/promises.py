@@ -1,9 +1,9 @@
 #!/usr/bin/env python3
-"""Makes the tables of docs/PROMISES.md from the sources: each public function of each library, the first sentence of its docstring, its file, and its clauses by name.
+"""Makes the lists of docs/PROMISES.md from the sources: each public function of each library, its clauses by name, and the front of the first sentence of its docstring. Of a law the sentence is the theorem, and stands whole.
 
-A function is public if its module is, or if the crate's root file names it, or the type or trait that it belongs to, in a `pub use`. A single clause has no name, and is told as `one`.
+A function is public if its module is, or if the crate's root file names it, or the type or trait that it belongs to, in a `pub use`. A single clause has no name, and nothing is told of it; where there is none, that is told. A sentence of at most two words says what the name says, and is left out.
 
-    python3 tests/promises.py           writes the tables behind the page's introduction
+    python3 tests/promises.py           writes the lists after the page's introduction
     python3 tests/promises.py --check   fails if the page isn't what the sources say
 """
 import re
@@ -19,6 +19,9 @@ PUBLIC = re.compile(r"pub use (?!cborn_)\w+::(?:\{([^}]*)\}|(\w+));")
 FUNCTION = re.compile(r'^( *)(pub )?(?:pub\(crate\) )?(?:const )?(?:unsafe )?(?:extern "C" )?fn (\w+)')
 OWNER = re.compile(r"^(?:pub )?(impl|trait)(?:<[^{]*?>)? (?:([\w<>&]+) for )?(\w+)")
 CLAUSE = re.compile(r"^ +ensures(?: (\w+))? \{")
+# what stands between two commas, and the comma that begins no list of words
+INSERTED = re.compile(r", (?:each|or|under) [^,]*,(?= hold| that| the first)")
+COMMA = re.compile(r", (?!\w+ and )")
 
 
 def exported(root_file):
@@ -67,18 +70,26 @@ def functions(file, modules, names):
     return all_of
 
 
+def line(name, sentence, clauses, is_law):
+    """What is said of one function."""
+    told = ", ".join(f"`{clause}`" for clause in clauses if clause)
+    front = sentence if is_law or INSERTED.search(sentence) else COMMA.split(sentence)[0]
+    said = f": {front}" if len(front.split()) > 2 else ""
+    return f"- `{name}`" + (f" ({told})" if told else "" if clauses else " (none)") + said
+
+
 def chapter(crate):
-    """The chapter of one crate: a table of its functions."""
+    """The chapter of one crate: a list of its functions, its laws last."""
     source = ROOT / "crates" / f"cborn_{crate}" / "src"
     if not source.exists():
         return ""
     modules, names = exported(source / "lib.rt")
-    rows = []
-    for file in sorted(source.glob("*.rt"), key=lambda file: (file.stem == "laws", file.stem)):
+    lists = {"Functions": [], "Laws": []}
+    for file in sorted(source.glob("*.rt")):
         for name, sentence, clauses in functions(file, modules, names):
-            told = ", ".join(f"`{clause}`" if clause else "one" for clause in clauses) or "none"
-            rows.append(f"| `{name}` | {sentence} | {told} |")
-    return f"## `cborn_{crate}`\n\n| Function | What it does, or the law | Clauses |\n|---|---|---|\n" + "\n".join(rows) + "\n"
+            lists["Laws" if file.stem == "laws" else "Functions"].append(line(name, sentence, clauses, file.stem == "laws"))
+    parts = [f"{title}:\n\n" + "\n".join(lines) + "\n" for title, lines in lists.items() if lines]
+    return f"## `cborn_{crate}`\n\n" + "\n".join(parts)
 
 
 def main():
@@ -89,7 +100,7 @@ def main():
         if page != made:
             print("docs/PROMISES.md isn't what the sources say: python3 tests/promises.py makes it anew")
             return 1
-        print(f"docs/PROMISES.md: {made.count('| `')} functions, as the sources have them")
+        print(f"docs/PROMISES.md: {len(re.findall('^- `', made, re.M))} functions, as the sources have them")
         return 0
     PAGE.write_text(made)
     return 0
