@@ -1,7 +1,7 @@
 #!/usr/bin/env python3
 """Run each line '$ COMMAND' of the README, the guide and the man page, and compare what it prints with the lines below it.
 Then see whether each link of the documents leads somewhere, whether each target that they give to make is one, whether the
-formats and the man page have the words of each fault, and whether all that tells a version tells that of
+man page has the words of each fault of the formats, and whether all that tells a version tells that of
 bindings/library.mk.
 
     documents.py PROGRAM
@@ -9,7 +9,6 @@ bindings/library.mk.
 The commands run in dash (in sh where there is none) and once more in bash, with the program's folder in front of PATH; those
 of one document run in one folder.
 """
-import collections
 import itertools
 import os
 import pathlib
@@ -75,13 +74,6 @@ def lost(root):
         yield from (f"{page.relative_to(root)}: no target {name}" for name in {"".join(it) for it in named} - targets)
 
 
-def words_of_rows(text):
-    """The words of faults in the tables of the formats: in a row behind its number, or in its first cell, up to what explains
-    them. The chapter of explanations has them once more, and doesn't count."""
-    tables = text.partition("\n## Explanations\n")[0]
-    return re.findall(r"^\| (?:\d+ \| )?([^|:,]+?)(?:[:,][^|]*)? \|", tables, re.MULTILINE)
-
-
 def words_of_page(text):
     """Those in a man page, which are in italics in the chapters of faults and defects."""
     chapters = re.findall(r"^\.SH (?:FAULTS|DEFECTS)\n(.*?)^(?=\.SH )", text.replace("\\-", "-"), re.MULTILINE | re.DOTALL)
@@ -90,19 +82,12 @@ def words_of_page(text):
 
 
 def untold(root):
-    """The words of faults, as docs/LIBRARY.md numbers them, that the formats or the man page lack. The formats have a row for
-    each number, but one for all numbers of what isn't UTF-8."""
-    page = (root / "docs/LIBRARY.md").read_text()
-    words = re.findall(r"^\| `0x[0-9a-f]{3}` \|.*\| ([^|]*) \|$", page, re.MULTILINE)
+    """The words of faults, as docs/FORMATS.md numbers them, that the man page lacks."""
+    words = re.findall(r"^\| `0x[0-9a-f]{3}` \| ([^|:,]+?)(?:[:,][^|]*)? \|", (root / "docs/FORMATS.md").read_text(), re.MULTILINE)
     if not words:
-        yield "docs/LIBRARY.md numbers no fault"
-    rows = collections.Counter({it: 1 if it == "not UTF-8" else words.count(it) for it in words})
-    missing = {
-        "docs/FORMATS.md": rows - collections.Counter(words_of_rows((root / "docs/FORMATS.md").read_text())),
-        "man/cborn.1": {*words}.difference(words_of_page((root / "man/cborn.1").read_text())),
-    }
-    for name, lacking_words in missing.items():
-        yield from (f"{name}: there is no {it}" for it in sorted(lacking_words))
+        yield "docs/FORMATS.md numbers no fault"
+    for it in sorted({*words}.difference(words_of_page((root / "man/cborn.1").read_text()))):
+        yield f"man/cborn.1: there is no {it}"
 
 
 def other_versions(root):

@@ -5,7 +5,7 @@
 
 FOLDER has libcborn.a and python/cborn, the package. What the library answers is written as the program would print it, and compared
 with what the table says and with what the program prints. Which number a fault has is held against the program's
-words, through those of include/cborn.h, docs/LIBRARY.md and the bindings; each number has to occur. Nests of arrays,
+words, through those of include/cborn.h, docs/FORMATS.md and the bindings; each number has to occur. Nests of arrays,
 maps and tags under the least, the usual and the largest limit are put through besides. `python -m cborn` does the
 command lines of the tables as the program does, but says nothing of where two inputs differ. Of each input that is refused or isn't
 deterministic the explanation is what the program writes with --explain behind its first line. library.c, which is compiled by $CC or cc, says what else is tested. Command lines that are no call (of files that fail, or of help) are counted.
@@ -42,9 +42,9 @@ def words_of_header():
 
 
 def words_of_page():
-    """Those in the documents: | `0x101` | .. | words |."""
-    text = (TOP / "docs/LIBRARY.md").read_text()
-    return {int(n, 16): words for n, words in re.findall(r"^\| `(0x[0-9a-f]{3})` \|.*\| ([^|]*) \|$", text, re.MULTILINE)}
+    """Those in the documents: | `0x101` | words |, up to what explains them."""
+    text = (TOP / "docs/FORMATS.md").read_text()
+    return {int(n, 16): words for n, words in re.findall(r"^\| `(0x[0-9a-f]{3})` \| ([^|:,]+?)(?:[:,][^|]*)? \|", text, re.MULTILINE)}
 
 
 def words_of_rust():
