@@ -1,11 +1,12 @@
 #!/usr/bin/env python3
-"""Makes the lists of docs/PROMISES.md from the sources: each public function of each library, its clauses by name, and the front of the first sentence of its docstring. Of a law the sentence is the theorem, and stands whole.
+"""Makes the lists of docs/PROMISES.md from the sources: each public function of each library, and its clauses by name. Of a function that is no method it has the front of the docstring's first sentence; of a law that sentence is the theorem, and stands whole.
 
-A function is public if its module is, or if the crate's root file names it, or the type or trait that it belongs to, in a `pub use`. A single clause has no name, and nothing is told of it; where there is none, that is told. A sentence of at most two words says what the name says, and is left out.
+A function is public if its module is, or if the crate's root file names it, or the type or trait that it belongs to, in a `pub use`. A single clause has no name, and nothing is told of it; where there is none, that is told.
 
     python3 tests/promises.py           writes the lists after the page's introduction
     python3 tests/promises.py --check   fails if the page isn't what the sources say
 """
+import itertools
 import re
 import sys
 from pathlib import Path
@@ -70,37 +71,50 @@ def functions(file, modules, names):
     return all_of
 
 
-def line(name, sentence, clauses, is_law):
-    """What is said of one function."""
-    told = ", ".join(f"`{clause}`" for clause in clauses if clause)
-    front = sentence if is_law or INSERTED.search(sentence) else COMMA.split(sentence)[0]
-    said = f": {front}" if len(front.split()) > 2 else ""
-    return f"- `{name}`" + (f" ({told})" if told else "" if clauses else " (none)") + said
+def told(name, clauses):
+    """A function, and its clauses by name."""
+    named = ", ".join(f"`{clause}`" for clause in clauses if clause)
+    return f"`{name}`" + (f" ({named})" if named else "" if clauses else " (none)")
 
 
-def chapter(crate):
-    """The chapter of one crate: a list of its functions, its laws last."""
+def public(crate):
+    """The public functions of a crate, each with the module in which it stands."""
     source = ROOT / "crates" / f"cborn_{crate}" / "src"
-    if not source.exists():
-        return ""
     modules, names = exported(source / "lib.rt")
-    lists = {"Functions": [], "Laws": []}
-    for file in sorted(source.glob("*.rt")):
-        for name, sentence, clauses in functions(file, modules, names):
-            lists["Laws" if file.stem == "laws" else "Functions"].append(line(name, sentence, clauses, file.stem == "laws"))
-    parts = [f"{title}:\n\n" + "\n".join(lines) + "\n" for title, lines in lists.items() if lines]
+    return [(file.stem, *it) for file in sorted(source.glob("*.rt")) for it in functions(file, modules, names)]
+
+
+def chapter(crate, listed):
+    """The chapter of one crate: its functions, its types with their methods, its laws."""
+    free, methods, laws = [], {}, []
+    for module, name, sentence, clauses in listed:
+        owner, _, method = name.rpartition("::")
+        if owner:
+            methods.setdefault(owner, []).append(told(method, clauses))
+        elif module == "laws":
+            laws.append(f"- {told(name, clauses)}: {sentence}")
+        else:
+            front = sentence if INSERTED.search(sentence) else COMMA.split(sentence)[0]
+            free.append(f"- {told(name, clauses)}: {front}")
+    lines = [*free, *(f"- `{owner}`: {', '.join(of_it)}" for owner, of_it in methods.items())]
+    parts = ["\n".join(lines) + "\n"] * bool(lines) + ["Laws:\n\n" + "\n".join(laws) + "\n"] * bool(laws)
     return f"## `cborn_{crate}`\n\n" + "\n".join(parts)
 
 
 def main():
     page = PAGE.read_text()
     introduction = page.partition(MADE)[0]
-    made = introduction + MADE + "\n" + "\n".join(filter(None, map(chapter, CRATES)))
+    libraries = {file.parents[1].name.removeprefix("cborn_") for file in ROOT.glob("crates/cborn_*/src/lib.rt") if not file.parents[1].name.endswith("_tests")}
+    if libraries != set(CRATES):
+        print(f"CRATES of tests/promises.py isn't what crates/ has: {sorted(libraries ^ set(CRATES))}")
+        return 1
+    found = {crate: public(crate) for crate in CRATES}
+    made = introduction + MADE + "\n" + "\n".join(itertools.starmap(chapter, found.items()))
     if "--check" in sys.argv[1:]:
         if page != made:
             print("docs/PROMISES.md isn't what the sources say: python3 tests/promises.py makes it anew")
             return 1
-        print(f"docs/PROMISES.md: {len(re.findall('^- `', made, re.M))} functions, as the sources have them")
+        print(f"docs/PROMISES.md: {sum(map(len, found.values()))} functions, as the sources have them")
         return 0
     PAGE.write_text(made)
     return 0
