@@ -52,7 +52,7 @@ def table(name):
 
 
 def two(cell):
-    found = re.fullmatch(r"~?([\d.,]+) / ([\d.,]+)", cell)
+    found = re.fullmatch(r"~?([\d.,]+)/([\d.,]+)", cell)
     return found.groups() if found else None
 
 
@@ -76,17 +76,17 @@ def mark(names):
     return "drawn from tables " + hashlib.sha256(text.encode()).hexdigest()
 
 
-def bars(axes, columns, rows, at, unit, title):
-    """Groups of bars, one for each column, on a logarithmic axis. `at` is 0 for the first number of a cell and 1 for the second."""
+def dots(axes, columns, rows, at, unit, title):
+    """A dot for each cell, side by side in a group for each column, on a logarithmic axis. `at` is 0 for the first number of a cell and 1 for the second."""
     wide = 0.84 / len(rows)
     for index, (name, cells) in enumerate(rows.items()):
-        places = [place + (index - (len(rows) - 1) / 2) * wide for place in range(len(columns))]
-        written = [cell[at] if cell else "" for cell in cells]
-        heights = [number(it) if it else 0 for it in written]
-        drawn = axes.bar(places, heights, wide * 0.92, label=label(name), color=look(name)[1])
-        axes.bar_label(drawn, written, fontsize=6, rotation=90, padding=2)
+        marker, colour = look(name)
+        found = [(place + (index - (len(rows) - 1) / 2) * wide, cell[at]) for place, cell in enumerate(cells) if cell]
+        axes.scatter([place for place, _ in found], [number(it) for _, it in found], s=22, marker=marker, color=colour, label=label(name))
+        for place, it in found:
+            axes.annotate(it, (place, number(it)), textcoords="offset points", xytext=(0, 5), ha="center", fontsize=6)
     axes.set_yscale("log")
-    axes.set_ylim(top=axes.get_ylim()[1] * 4)
+    axes.set_ylim(top=axes.get_ylim()[1] * 1.5)
     axes.set_xticks(range(len(columns)), columns)
     axes.set_ylabel(unit)
     axes.set_title(title, fontsize=10, loc="left")
@@ -105,19 +105,9 @@ def beside_peers(pyplot, command):
     orders = {label(name): name for name in reversed(rows) if "`" not in name}
     rows = chosen(rows, [next(iter(rows)), *reversed(orders.values())])
     figure, (upper, lower) = pyplot.subplots(2, 1, figsize=(8, 7.2))
-    bars(upper, columns, rows, 0, "MB of input a second", f"{command}: speed, logarithmic axis (more is better)")
-    bars(lower, columns, rows, 1, "MB, peak of the process", f"{command}: memory, logarithmic axis (less is better)")
+    dots(upper, columns, rows, 0, "MB of input a second", f"{command}: speed, logarithmic axis (more is better)")
+    dots(lower, columns, rows, 1, "MB, peak of the process", f"{command}: memory, logarithmic axis (less is better)")
     upper.legend(fontsize=8, ncols=3, loc="lower center", bbox_to_anchor=(0.5, 1.1), frameon=False)
-    return figure
-
-
-def in_short(pyplot):
-    """Speed of normalise, for the README."""
-    columns, rows = table("normalise")
-    wanted = ["`cborn normalise`", "ciborium-ll, a loop, bytewise", "serde_cbor, bytewise", "fxamacker/cbor, bytewise", "cbor2, length-first"]
-    figure, axes = pyplot.subplots(figsize=(8, 3.4))
-    bars(axes, columns, chosen(rows, wanted), 0, "MB of input a second", "normalise: speed on six files, logarithmic axis (more is better)")
-    axes.legend(fontsize=8, ncols=5, loc="lower center", bbox_to_anchor=(0.5, -0.28), frameon=False, columnspacing=1)
     return figure
 
 
@@ -156,7 +146,6 @@ DRAWN = {
     "normalise.svg": (["normalise"], lambda pyplot: beside_peers(pyplot, "normalise")),
     "check.svg": (["check"], lambda pyplot: beside_peers(pyplot, "check")),
     "growth.svg": (["growth"], growth),
-    "speed.svg": (["normalise"], in_short),
 }
 
 

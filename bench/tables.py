@@ -79,7 +79,7 @@ class Bench:
         if run.status != 0:
             return failed(run)
         mark = "~" if expected is not None and run.digest != expected else ""
-        return f"{mark}{rate(size, run.seconds(self.given.cpu))} / {megabytes(run)}"
+        return f"{mark}{rate(size, run.seconds(self.given.cpu))}/{megabytes(run)}"
 
     def heads(self, files):
         return [f"{file.stem} {file.stat().st_size / 1e6:.0f} MB" for file in files]
@@ -206,7 +206,7 @@ def of_small(bench):
         cells = []
         for file in files:
             times = measuring.many(call, file, 30 if "cbor2" in name else 200, peers.ENVIRONMENT)
-            cells.append(f"{1000 * times[bench.given.cpu]:.2f} / {megabytes(bench.run(call, file), '.1f')}")
+            cells.append(f"{1000 * times[bench.given.cpu]:.2f}/{megabytes(bench.run(call, file), '.1f')}")
         rows.append((name, cells))
     return table("ms of a process / MB", [f"{size:,} bytes" for size in corpus.SMALL], rows)
 
@@ -236,7 +236,7 @@ def growth_at(bench, kind, size, quick):
             cells[f"{kind}: {name}"] = ""
             continue
         run = bench.run(words, source, sink, memory=int(bench.given.memory * 1e9), limit=600)
-        took = f"{run.seconds(bench.given.cpu):.2f} / {megabytes(run)}"
+        took = f"{run.seconds(bench.given.cpu):.2f}/{megabytes(run)}"
         cells[f"{kind}: {name}"] = took if run.status == 0 else f"more than {bench.given.memory:g} GB"
         print("growth", kind, size, name, cells[f"{kind}: {name}"], file=sys.stderr)
     for made in (file, bench.again, bench.sink):

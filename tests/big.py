@@ -62,7 +62,7 @@ def refusals(program, source):
 
 
 def cell(run):
-    return f"{run.wall:.1f} / {tables.megabytes(run)}"
+    return f"{run.wall:.1f}/{tables.megabytes(run)}"
 
 
 def main():
