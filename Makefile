@@ -20,7 +20,7 @@ help:
 	@echo 'make check-quick   while you change something: proves what changed, then make layout, tables and believed'
 	@echo 'make try-tests  make try on its seven bytes, on files, on standard input and on a wrong option: one build, of a minute'
 	@echo 'make layout     whether each file of the crates is in the layout of rt fmt, cites what it may, makes up no out of memory,'
-	@echo '                and docs/PROMISES.md is what the sources say'
+	@echo '                docs/PROMISES.md is what the sources say, and the documents are short and their links lead somewhere'
 	@echo 'make tables     the built program on the tables of tests/ and at a terminal, the examples of the documents, completion-tests and release-tests'
 	@echo 'make vectors    the built program on each front of each worked input'
 	@echo 'make ample      the built program on some 17,000 inputs, bytes and texts, made and given: it never says out of memory'
@@ -94,6 +94,7 @@ layout:
 	python3 tests/citations.py
 	python3 tests/promises.py --check
 	python3 tests/made_up.py
+	python3 tests/words.py
 
 tables: build
 	python3 tests/run.py $(PROGRAM)

@@ -1,8 +1,7 @@
 #!/usr/bin/env python3
 """Run each line '$ COMMAND' of the README, the guide and the man page, and compare what it prints with the lines below it.
-Then see whether each link of the documents leads somewhere, whether each target that they give to make is one, whether the
-man page has the words of each fault of the formats, and whether all that tells a version tells that of
-bindings/library.mk.
+Then see whether the man page has the words of each fault of the formats, and whether all that tells a version tells that
+of bindings/library.mk.
 
     documents.py PROGRAM
 
@@ -44,34 +43,6 @@ def examples(path):
             command, printed = line[6:], []
         elif is_code and command is not None:
             printed.append(line[4:] + "\n")
-
-
-def slug(heading):
-    """What a link to a heading ends with."""
-    return re.sub(r"[^\w -]", "", heading.lower()).strip().replace(" ", "-")
-
-
-def dead_links(page):
-    """The links of a page, within the repository, that lead nowhere."""
-    for link in re.findall(r"\]\(([^)\s]+)\)", page.read_text()):
-        path, _, anchor = link.partition("#")
-        if "://" in link:
-            continue
-        target = page.parent / path if path else page
-        if not target.exists():
-            yield link
-        elif anchor and anchor not in map(slug, re.findall(r"^#+ (.*)", target.read_text(), re.MULTILINE)):
-            yield link
-
-
-def lost(root):
-    """The links of all documents that lead nowhere, and the targets for make that there are none of."""
-    rules = (root / "Makefile").read_text() + (root / "bindings/library.mk").read_text() + (root / "bindings/release.mk").read_text()
-    targets = set(re.findall(r"^([a-z-]+):", rules, re.MULTILINE))
-    for page in (*root.glob("*.md"), *root.glob("docs/*.md")):
-        yield from (f"{page.relative_to(root)}: {link} leads nowhere" for link in dead_links(page))
-        named = re.findall(r"`make ([a-z-]+)|^    make ([a-z-]+)", page.read_text(), re.MULTILINE)
-        yield from (f"{page.relative_to(root)}: no target {name}" for name in {"".join(it) for it in named} - targets)
 
 
 def words_of_page(text):
@@ -135,9 +106,6 @@ def main():
                 passed, failed = passed + is_same, failed + (not is_same)
                 if not is_same:
                     print(f"{name}, in {shell}: {command}: {done.stdout!r}, not {printed!r}")
-    for line in lost(root):
-        failed += 1
-        print(line)
     for line in (*untold(root), *other_versions(root)):
         failed += 1
         print(line)
