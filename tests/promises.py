@@ -1,5 +1,5 @@
 #!/usr/bin/env python3
-"""Makes the lists of docs/PROMISES.md from the sources: each public function of each library, and its clauses by name. Of a function that is no method it has the front of the docstring's first sentence; of a law that sentence is the theorem, and stands whole.
+"""Makes the lists of docs/PROMISES.md from the sources: each public function of each library, and its clauses by name. Of a function that a user calls it has the first sentence of the docstring; of a law that sentence is the theorem.
 
 A function is public if its module is, or if the crate's root file names it, or the type or trait that it belongs to, in a `pub use`. A single clause has no name, and nothing is told of it; where there is none, that is told.
 
@@ -15,14 +15,13 @@ ROOT = Path(__file__).resolve().parent.parent
 PAGE = ROOT / "docs/PROMISES.md"
 # the order of the chapters: from the calls that a user makes down to what they stand on
 CRATES = "engine c commands options streams model wire det judge lex edn transcode search show descent spell places paths causes explain".split()
+# those of which it is said what each function does; what stands below them is told by module
+CALLED = {"engine", "c", "commands", "options"}
 MADE = "<!-- from here on made by tests/promises.py -->\n"
 PUBLIC = re.compile(r"pub use (?!cborn_)\w+::(?:\{([^}]*)\}|(\w+));")
 FUNCTION = re.compile(r'^( *)(pub )?(?:pub\(crate\) )?(?:const )?(?:unsafe )?(?:extern "C" )?fn (\w+)')
 OWNER = re.compile(r"^(?:pub )?(impl|trait)(?:<[^{]*?>)? (?:([\w<>&]+) for )?(\w+)")
 CLAUSE = re.compile(r"^ +ensures(?: (\w+))? \{")
-# what stands between two commas, and the comma that begins no list of words
-INSERTED = re.compile(r", (?:each|or|under) [^,]*,(?= hold| that| the first)")
-COMMA = re.compile(r", (?!\w+ and )")
 
 
 def exported(root_file):
@@ -85,18 +84,17 @@ def public(crate):
 
 
 def chapter(crate, listed):
-    """The chapter of one crate: its functions, its types with their methods, its laws."""
-    free, methods, laws = [], {}, []
+    """The chapter of one crate: its functions, its types and modules with theirs, its laws."""
+    free, by_place, laws = [], {}, []
     for module, name, sentence, clauses in listed:
         owner, _, method = name.rpartition("::")
-        if owner:
-            methods.setdefault(owner, []).append(told(method, clauses))
-        elif module == "laws":
+        if module == "laws":
             laws.append(f"- {told(name, clauses)}: {sentence}")
+        elif owner or crate not in CALLED:
+            by_place.setdefault(owner or f"{module}.rt", []).append(told(method, clauses))
         else:
-            front = sentence if INSERTED.search(sentence) else COMMA.split(sentence)[0]
-            free.append(f"- {told(name, clauses)}: {front}")
-    lines = [*free, *(f"- `{owner}`: {', '.join(of_it)}" for owner, of_it in methods.items())]
+            free.append(f"- {told(name, clauses)}: {sentence}")
+    lines = [*free, *(f"- `{place}`: {', '.join(of_it)}" for place, of_it in by_place.items())]
     parts = ["\n".join(lines) + "\n"] * bool(lines) + ["Laws:\n\n" + "\n".join(laws) + "\n"] * bool(laws)
     return f"## `cborn_{crate}`\n\n" + "\n".join(parts)
 
