@@ -14,7 +14,7 @@ COST ?= 8
 .PHONY: help try build test check-quick layout tables vectors ample explanations growths failures counts cost left-out believed stack big library-growths bench install clean
 
 help:
-	@echo 'make try        build the program from its source, before any proof, and run it: ARGS="check FILE", or seven bytes as an example'
+	@echo 'make try        build the program from its source, before any proof and not optimised, and run it: ARGS="check FILE", or seven bytes'
 	@echo 'make build      prove every crate and build the program, $(PROGRAM)'
 	@echo 'make test       the merge gate from nothing, then side by side make $(BEHIND), and which of it was left out'
 	@echo 'make check-quick   while you change something: proves what changed, then make layout, tables and believed'

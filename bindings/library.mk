@@ -1,5 +1,7 @@
 # The library for programs in C and other languages, from the archive that the proved crate cborn_c gives.
-VERSION := 0.4.0
+# a release's version, or what follows a release: the next one's with -dev, which Python writes with .dev0
+VERSION := 0.5.0-dev
+PYTHON_VERSION := $(VERSION:-dev=.dev0)
 SONAME := libcborn.so.0
 # the kit's folder, which has the three functions by which a library takes memory
 KIT = $(dir $(shell rt doc))
@@ -86,14 +88,16 @@ dist: build library python
 	install -D $(PROGRAM) build/$(DIST)/bin/cborn
 	install -D -m 644 man/cborn.1 build/$(DIST)/share/man/man1/cborn.1
 	$(MAKE) put-completions put-library DESTDIR=build/$(DIST) PREFIX=
-	mkdir -p build/$(DIST)/docs/pictures build/$(DIST)/examples build/$(DIST)/python build/$(DIST)/rust/lib
+	mkdir -p build/$(DIST)/docs/pictures build/$(DIST)/examples build/$(DIST)/python build/$(DIST)/rust/lib build/$(DIST)/tests/forms
 	cp README.md CHANGELOG.md CONTRIBUTING.md build/$(DIST)
 	cp docs/*.md build/$(DIST)/docs
 	cp docs/pictures/*.svg build/$(DIST)/docs/pictures
 	cp examples/*.py build/$(DIST)/examples
+	cp tests/run.py tests/*.table build/$(DIST)/tests
+	cp tests/forms/*.table build/$(DIST)/tests/forms
 	cp -r $(addprefix bindings/rust/,Cargo.toml Cargo.lock README.md build.rs src tests) build/$(DIST)/rust
 	cp build/libcborn.a build/$(DIST)/rust/lib
-	python3 bindings/python/make_wheel.py $(VERSION) build build/$(DIST)/python
+	python3 bindings/python/make_wheel.py $(PYTHON_VERSION) build build/$(DIST)/python
 	rt version > build/$(DIST)/PROVED-WITH
 	cd build && tar --sort=name --format=ustar --owner=0 --group=0 --numeric-owner --mode=u=rwX,go=rX --mtime=@0 -cf - $(DIST) | gzip -9n > $(DIST).tar.gz
 	rm -rf build/$(DIST)

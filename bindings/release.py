@@ -4,7 +4,9 @@
     release.py make             make the archive from a clean clone of HEAD, and put it into release/
     release.py same             make it anew from the commit that it tells, and compare byte for byte
     release.py test [PROGRAM]   its checksum, its version, what it says of itself, and the first run of its program; with
-                                PROGRAM also that this is the version of that program
+                                PROGRAM also that this is of the version in bindings/library.mk
+
+A version that ends with -dev is none of a release: the archive is then that of the release before, and no other is made.
 
 release/ holds one archive, SHA256SUMS and MADE-FROM, which tells the version, the commit and the line of `rt version`.
 Where it holds no archive, `test` says so and passes.
@@ -34,7 +36,14 @@ def git(*words):
 
 def version():
     """The version that the rules tell."""
-    return re.search(r"^VERSION := ([\d.]+)$", (ROOT / "bindings/library.mk").read_text(), re.MULTILINE)[1]
+    return re.search(r"^VERSION := ([\d.]+(?:-dev)?)$", (ROOT / "bindings/library.mk").read_text(), re.MULTILINE)[1]
+
+
+def released():
+    """The version of the archive: what follows a release, and says so by -dev, has that of the last chapter of the CHANGELOG."""
+    if not version().endswith("-dev"):
+        return version()
+    return re.search(r"^## ([\d.]+) \(", (ROOT / "CHANGELOG.md").read_text(), re.MULTILINE)[1]
 
 
 def archives():
@@ -65,6 +74,9 @@ def sum_of(path):
 def make():
     if git("status", "--porcelain", "--", ".", ":!release"):
         print("there are changes that aren't committed: the archive is made from a commit", file=sys.stderr)
+        return 1
+    if version().endswith("-dev"):
+        print(f"the version {version()} is that of no release", file=sys.stderr)
         return 1
     commit, kit = git("rev-parse", "HEAD"), out_of("rt", "version")
     with built(commit) as made:
@@ -135,22 +147,22 @@ def wrong_runs(archive, program):
         if subprocess.run([ours, "normalise"], input=SEVEN, stdout=subprocess.PIPE, check=False).stdout != FOUR:
             yield "its program doesn't normalise seven bytes to four"
         told = out_of(ours, "--version")
-        if told != f"cborn {version()}":
-            yield f"its program is {told!r}, and the version is {version()}"
-        if program and told != out_of(program, "--version"):
-            yield f"its program is {told!r}, and {program} is another"
+        if told != f"cborn {released()}":
+            yield f"its program is {told!r}, and the version is {released()}"
+        if program and out_of(program, "--version") != f"cborn {version()}":
+            yield f"{program} is {out_of(program, '--version')!r}, and the version is {version()}"
         if top.joinpath("PROVED-WITH").read_text().strip() != made_from()["kit"]:
             yield "MADE-FROM tells another kit than the archive"
 
 
 def wrong(archive, program):
     told = made_from()
-    if archive.name != f"cborn-{version()}-linux-x86_64.tar.gz":
-        yield f"its name isn't that of version {version()}"
+    if archive.name != f"cborn-{released()}-linux-x86_64.tar.gz":
+        yield f"its name isn't that of version {released()}"
     if (RELEASE / "SHA256SUMS").read_text() != f"{sum_of(archive)}  {archive.name}\n":
         yield "SHA256SUMS tells another checksum"
         return
-    if told["version"] != version():
+    if told["version"] != released():
         yield f"MADE-FROM tells version {told['version']}"
     if is_known(told["commit"]) is False:
         yield f"the commit {told['commit']} isn't in the history"

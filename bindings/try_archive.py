@@ -10,6 +10,7 @@ import importlib.util
 import itertools
 import os
 import pathlib
+import re
 import shutil
 import subprocess
 import sys
@@ -56,7 +57,9 @@ class Archive:
 
 
 def in_program(archive):
-    return archive.run(f"{archive.top}/bin/cborn", "normalise", input=LOOSE) == TIGHT
+    """The seven bytes, and the command lines of one table, as the README has them run."""
+    tables = archive.run("python3", str(archive.top / "tests/run.py"), f"{archive.top}/bin/cborn", str(archive.top / "tests/check.table"))
+    return archive.run(f"{archive.top}/bin/cborn", "normalise", input=LOOSE) == TIGHT and tables.endswith(b" 0 failed\n")
 
 
 def in_c(archive):
@@ -72,10 +75,15 @@ def in_python(archive):
     (archive.work / "page.txt").write_text(page)
     told = archive.run("PYTHONPATH=modules python3 -m doctest -v page.txt")
     program = archive.run("PYTHONPATH=modules python3 -m cborn normalise", input=LOOSE)
+    readme = (archive.top / "README.md").read_text().partition("**From Python:**\n\n")[2]
+    lines = textwrap.dedent("".join(itertools.takewhile(lambda line: line.startswith("    "), readme.splitlines(keepends=True))))
+    names = "".join(f"{name}\n" for name in sorted(set(re.findall(r"cborn\.\w+", lines))))
+    (archive.work / "readme.py").write_text(f"data = left = right = bytes.fromhex('{LOOSE.hex()}')\n{lines}{names}print(signed.hex())\n")
+    shown = archive.run("PYTHONPATH=modules python3 readme.py")
     # it ends with the status 1: not deterministic
     explained = archive.run("PYTHONPATH=modules python3 -m cborn check --explain 2>&1 || test $? = 1", input=LOOSE)
     is_explained = explained.startswith(b"offset 0: long head\n  path  item 0\n  bytes >98< 02 18 01 58 01 61\n  why   ")
-    return b"Test passed." in told and f"\n{page.count('>>> ')} passed".encode() in told and program == TIGHT and is_explained
+    return b"Test passed." in told and f"\n{page.count('>>> ')} passed".encode() in told and program == TIGHT and is_explained and shown == f"{TIGHT.hex()}\n".encode()
 
 
 def in_python_from_sources(archive):

@@ -35,8 +35,9 @@
 extern "C" {
 #endif
 
-/* The version of this header: 65536 for each major one, 256 for each minor one, and the patch. */
-#define CBORN_VERSION 0x000400
+/* The version of this header: 65536 for each major one, 256 for each minor one, and the patch.
+ * What follows a release has the number of the next one; this is 0.5.0-dev. */
+#define CBORN_VERSION 0x000500
 
 /* The format of an input or an output. As output both notations are the same. */
 enum {

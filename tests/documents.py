@@ -64,12 +64,16 @@ def untold(root):
 def other_versions(root):
     """What tells a version other than that of bindings/library.mk, or none."""
     rules = (root / "bindings/library.mk").read_text()
-    version = re.search(r"^VERSION := ([\d.]+)$", rules, re.MULTILINE).group(1)
-    number = "0x" + "".join(f"{int(part):02x}" for part in version.split("."))
+    version, base = re.search(r"^VERSION := (([\d.]+)(?:-dev)?)$", rules, re.MULTILINE).groups()
+    number = "0x" + "".join(f"{int(part):02x}" for part in base.split("."))
+    is_released = version == base
+    python = version.replace("-dev", ".dev0")
+    # the archive that the documents name is that of the last release
+    last = re.search(r"^## ([\d.]+) \(", (root / "CHANGELOG.md").read_text(), re.MULTILINE).group(1)
     told = {
-        "CHANGELOG.md": f"## {version} (",
-        "README.md": f"cborn-{version}-linux",
-        "docs/LIBRARY.md": f"cborn-{version}-linux",
+        "CHANGELOG.md": f"## {version} (" if is_released else "## Unreleased\n",
+        "README.md": f"cborn-{last}-linux",
+        "docs/LIBRARY.md": f"cborn-{last}-linux",
         "crates/cborn_options/src/options.rt": f'.version("{version}")',
         "crates/cborn_c/src/lib.rt": f"    {number}\n",
         "include/cborn.h": f"#define CBORN_VERSION {number}\n",
@@ -77,8 +81,9 @@ def other_versions(root):
         "tests/help.table": f"stdout text cborn {version}\\n",
         "bindings/rust/Cargo.toml": f'version = "{version}"',
         "bindings/rust/Cargo.lock": f'version = "{version}"',
-        "bindings/python/pyproject.toml": f'version = "{version}"',
-        "bindings/python/test_cborn.py": f'cborn.version(), "{version}"',
+        "bindings/python/pyproject.toml": f'version = "{python}"',
+        "bindings/python/cborn/__init__.py": f'__version__: typing.Final[str] = "{python}"',
+        "bindings/python/test_cborn.py": f'cborn.version(), "{base}"',
     }
     for name, text in told.items():
         if text not in (root / name).read_text():

@@ -306,12 +306,12 @@ def stack(depth: int = 128) -> int:
 
 
 def version() -> str:
-    """Return the version of the library."""
+    """Return the version of the library: of one that follows a release, that of the next."""
     number = _cborn.version()
     return f"{number >> 16}.{number >> 8 & 255}.{number & 255}"
 
 
-__version__: typing.Final[str] = version()
+__version__: typing.Final[str] = "0.5.0.dev0"
 
 
 def __dir__() -> list[str]:

@@ -299,7 +299,7 @@ pub fn compare_one(
     matched(code, place)
 }
 
-/// The version of the library: major, minor, patch.
+/// The version of the library: major, minor, patch; of one that follows a release, those of the next.
 pub fn version() -> (u32, u32, u32) {
     // SAFETY: it takes nothing
     let number = unsafe { calls::cborn_version() };

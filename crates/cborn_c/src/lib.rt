@@ -382,10 +382,10 @@ pub extern "C" fn cborn_explain(
 }
 
 /// The version of the library, 65,536 for each major one, 256 for each minor one, and the patch:
-/// 0.4.0.
+/// 0.5.0. What follows a release has the number of the next one.
 #[unsafe(no_mangle)]
 pub extern "C" fn cborn_version() -> u32
-    ensures { result ≡ 1024 }
+    ensures { result ≡ 1280 }
 {
-    0x000400
+    0x000500
 }
