@@ -19,17 +19,17 @@ ALL = 24_000
 PARAGRAPH = 90
 LIMITS = {
     "README.md": 1_100,
-    "CHANGELOG.md": 1_200,
+    "CHANGELOG.md": 1_100,
     "CONTRIBUTING.md": 1_000,
-    "docs/ARCHITECTURE.md": 1_600,
-    "docs/DECISIONS.md": 2_300,
-    "docs/DEFINITIONS.md": 3_000,
-    "docs/FORMATS.md": 3_700,
-    "docs/GUIDE.md": 3_500,
-    "docs/LIBRARY.md": 2_700,
-    "docs/PERFORMANCE.md": 2_100,
-    "docs/PROMISES.md": 3_600,
-    "docs/PROVED.md": 1_300,
+    "docs/ARCHITECTURE.md": 1_550,
+    "docs/DECISIONS.md": 2_100,
+    "docs/DEFINITIONS.md": 2_500,
+    "docs/FORMATS.md": 3_600,
+    "docs/GUIDE.md": 3_400,
+    "docs/LIBRARY.md": 2_600,
+    "docs/PERFORMANCE.md": 2_000,
+    "docs/PROMISES.md": 3_000,
+    "docs/PROVED.md": 1_200,
 }
 ROOT = pathlib.Path(__file__).resolve().parent.parent
 ITEM = re.compile(r"\s*(?:-|\d+\.) ")
