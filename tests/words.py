@@ -22,7 +22,7 @@ LIMITS = {
     "CHANGELOG.md": 1_100,
     "CONTRIBUTING.md": 1_000,
     "docs/ARCHITECTURE.md": 1_550,
-    "docs/DECISIONS.md": 2_100,
+    "docs/DECISIONS.md": 2_300,
     "docs/DEFINITIONS.md": 2_500,
     "docs/FORMATS.md": 3_600,
     "docs/GUIDE.md": 3_400,
