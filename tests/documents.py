@@ -85,7 +85,8 @@ def other_versions(root):
         "bindings/python/cborn/__init__.py": f'__version__: typing.Final[str] = "{python}"',
         "bindings/python/test_cborn.py": f'cborn.version(), "{base}"',
     }
-    for name, text in told.items():
+    between = {} if is_released else {"README.md": f"calls itself {version}", "include/cborn.h": f"this is {version}."}
+    for name, text in (*told.items(), *between.items()):
         if text not in (root / name).read_text():
             yield f"{name} doesn't say {text.strip()}"
 
