@@ -11,7 +11,7 @@ STACK ?= 256
 # The size in MB of the inputs whose cost in memory is tested.
 COST ?= 8
 
-.PHONY: help try build test check-quick layout tables vectors ample explanations growths failures counts cost left-out believed stack big library-growths bench install clean
+.PHONY: help try build test check-quick layout tables vectors ample explanations growths failures counts cost instructions left-out believed stack big library-growths bench install clean
 
 help:
 	@echo 'make try        build the program from its source, before any proof and not optimised, and run it: ARGS="check FILE", or seven bytes'
@@ -29,6 +29,8 @@ help:
 	@echo 'make failures   the built program on those tables, with trouble at each opening, read and write in turn'
 	@echo 'make counts     how often and for how much the built program asks for memory on inputs of 1 MB: no more than its bounds'
 	@echo 'make cost       the bounds of make bench-cost on memory, on inputs of COST MB (COST is $(COST)), without the times'
+	@echo 'make instructions   how many instructions the built program takes on small inputs of each kind: no more than tests/instructions.txt'
+	@echo '                allows; it needs valgrind'
 	@echo 'make left-out   what make test leaves out here, for want of its tools'
 	@echo 'make believed   the lines of definitions that a reader has to believe, and that the documents say so'
 	@echo 'make stack      the least stack that each command needs at 1,024 levels: no more than STACK KB (STACK is $(STACK))'
@@ -75,7 +77,7 @@ build: kit
 
 # What stands behind the gate runs side by side over the program that was built once before, while the library is proved and
 # built; the longest first.
-BEHIND := library-tests dist-tests vectors ample cost counts explanations tables believed layout stack growths failures try-tests
+BEHIND := library-tests dist-tests vectors ample cost instructions counts explanations tables believed layout stack growths failures try-tests
 
 test:
 	rt ci
@@ -114,6 +116,9 @@ counts: build
 
 cost: build
 	python3 bench/cost.py $(PROGRAM) --mb $(COST) --memory
+
+instructions: build
+	python3 tests/instructions.py $(PROGRAM)
 
 left-out:
 	@python3 tests/tools.py

@@ -21,6 +21,7 @@ NEEDED = {
 }
 OPTIONAL = {
     "the cost of memory": (("time",), ("time",)),
+    "the instructions": (("valgrind",), ("valgrind",)),
     "the completions of zsh": (("zsh",), ("zsh",)),
     "the completions of fish": (("fish",), ("fish",)),
     "the Rust crate": (("cargo", "rustc"), ("cargo", "rustc")),
