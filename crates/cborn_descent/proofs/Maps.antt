@@ -1,21 +1,65 @@
 -- What became of a descent over maps, from what became of their pairs.
-use Rattle.std.proofs.Common.{◌≡◌, ℕ, ◌-◌, ◌<◌, ◌≤◌, List, ◌∷◌, ◌++◌, length, refl, sym, ap, subst, arith, Bool, true, false, ◌≢◌, ◌⊎◌, inl, inr, length-append}
+use Rattle.std.proofs.Common.{◌≡◌, ℕ, suc, ◌-◌, ◌^◌, ◌<◌, ◌≤◌, List, [], ◌∷◌, ◌++◌, length, refl, sym, ap, ◌∙◌, subst, arith, Bool, true, false, ◌≢◌, ◌⊎◌, inl, inr, length-append}
+use Rattle.std.proofs.lemmas.List.{append_cancel_right}
 use Rattle.cborn_model.specs.declared.heads.Width.{Width}
 use Rattle.cborn_model.specs.declared.heads.Size.TheVariants.{Fixed}
 use Rattle.cborn_model.specs.declared.heads.Major.TheVariants.{Map}
 use Rattle.cborn_model.specs.Heads.{Given, Unbounded, head, WidthFits}
 use Rattle.cborn_model.specs.Tree.{Tree, Pairs, entries}
-use Rattle.cborn_model.specs.Spelled.{spelled, spelled_entries}
+use Rattle.cborn_model.specs.Spelled.{spelled, spelled_entries, FitsEntries}
 use Rattle.cborn_wire.specs.Parts.{Pair, NodeRead, PairRead, PairsRead, Leaves}
 use Rattle.cborn_wire.proofs.HeadReading.HeadFronts.{no_head}
 use Rattle.cborn_wire.proofs.Parts.Pairs.{pairs_as, map_read}
 use Rattle.cborn_descent.specs.declared.descents.Descent.{Descent}
 use Rattle.cborn_descent.specs.declared.descents.Descent.TheVariants.{Taken, Malformed, Stopped}
-use Rattle.cborn_descent.specs.Descending.{Only, Never, Rises, Always, Fails, PairFails, PairsFail, PairEnds, PairDescended, Descended}
+use Rattle.cborn_descent.specs.Descending.{Only, Never, Rises, Always, Fails, PairFails, PairsFail, PairEnds, PairDescended, Descended, AreSpellable, BlamesMap}
 use Rattle.cborn_descent.proofs.Heads.{short_never}
-use Rattle.cborn_descent.proofs.Inside.{some_byte}
+use Rattle.cborn_descent.proofs.Inside.{some_byte, no_break}
 use Rattle.cborn_descent.proofs.Onlies.{never_rises, always_only}
-use Rattle.cborn_descent.proofs.Pairs.{map_fails, endless_map_fails, key_fails, value_fails, pairs_bytes}
+use Rattle.cborn_descent.proofs.Pairs.{map_fails, endless_map_fails, key_fails, value_fails, pairs_bytes, apart, tails, map_in, endless_map_in}
+
+pub spellable : {P : List Pair → Type 0} (room n : ℕ) (input rest : List ℕ) → length input < 2 ^ 64 → (s : PairsRead P room n input rest) → AreSpellable s.nodes
+spellable room n input rest short s = (s.fits, omega (arith, short, ap length s.read, length-append (spelled_entries (entries s.nodes)) rest))
+
+-- ---- two lists of pairs at the front of the same bytes
+
+same_rest : (us ts : List Pair) (x y : List ℕ) → FitsEntries (entries us) → FitsEntries (entries ts) → length us ≡ length ts → spelled_entries (entries us) ++ x ≡ spelled_entries (entries ts) ++ y → x ≡ y
+same_rest [] [] x y f g l e = e
+same_rest [] (t ∷ ts) x y f g l e = absurd (omega (arith, l))
+same_rest (u ∷ us) [] x y f g l e = absurd (omega (arith, l))
+same_rest (u ∷ us) (t ∷ ts) x y f g l e = same_rest us ts x y f.2 g.2 (omega (arith, l)) (tails u t us ts x y (f.0, f.1) (g.0, g.1) e)
+
+same_count : (us ts : List Pair) (x y : List ℕ) → FitsEntries (entries us) → FitsEntries (entries ts) → spelled_entries (entries us) ++ (255 ∷ x) ≡ spelled_entries (entries ts) ++ (255 ∷ y) → length us ≡ length ts
+same_count [] [] x y f g e = refl
+same_count [] (t ∷ ts) x y f g e = absurd (no_break t.0 (spelled t.1 ++ (spelled_entries (entries ts) ++ (255 ∷ y))) x g.0 (sym (apart (spelled t.0) (spelled t.1) (spelled_entries (entries ts)) (255 ∷ y)) ∙ sym e))
+same_count (u ∷ us) [] x y f g e = absurd (no_break u.0 (spelled u.1 ++ (spelled_entries (entries us) ++ (255 ∷ x))) y f.0 (sym (apart (spelled u.0) (spelled u.1) (spelled_entries (entries us)) (255 ∷ x)) ∙ e))
+same_count (u ∷ us) (t ∷ ts) x y f g e = ap suc (same_count us ts x y f.2 g.2 (tails u t us ts (255 ∷ x) (255 ∷ y) (f.0, f.1) (g.0, g.1) e))
+
+same_spelled : (us ts : List Pair) (x y : List ℕ) → FitsEntries (entries us) → FitsEntries (entries ts) → length us ≡ length ts → spelled_entries (entries us) ++ x ≡ spelled_entries (entries ts) ++ y → spelled_entries (entries ts) ≡ spelled_entries (entries us)
+same_spelled us ts x y f g l e =
+    let rest : x ≡ y = same_rest us ts x y f g l e in
+    append_cancel_right (spelled_entries (entries ts)) (spelled_entries (entries us)) y (sym e ∙ ap (λ z. spelled_entries (entries us) ++ z) rest)
+
+-- what is blamed of a map whose pairs were all read
+pub map_blamed : {P : List Pair → Type 0} {X : Type 0} (B : Tree → Type 0) (room : ℕ) (w : Width) (n count : ℕ) (input mid : List ℕ) → WidthFits w n → (s : PairsRead P (room - 1) count input mid) → (count ≡ n) ⊎ (false ≡ true) × X → (count ≡ n → BlamesMap B s.nodes) → Only B room (head Map (Given w n) ++ input)
+unfolding Only BlamesMap
+map_blamed B room w n count input mid f s (inr p) b = absurd cc
+map_blamed B room w n count input mid f s (inl e) b = λ rest x.
+    let i = (map_in w n input rest x f).1 in
+    let l : length s.nodes ≡ length i.read.nodes = s.count ∙ e ∙ sym i.read.count in
+    let same = same_spelled s.nodes i.read.nodes mid rest s.fits i.read.fits l (sym s.read ∙ i.read.read) in
+    subst B (sym i.is) (b e i.place i.size i.read.nodes i.read.fits (sym l) same)
+
+pub endless_map_blamed : {P : List Pair → Type 0} (B : Tree → Type 0) (room count : ℕ) (input mid after : List ℕ) → (s : PairsRead P (room - 1) count input mid) → mid ≡ 255 ∷ after → BlamesMap B s.nodes → Only B room (head Map Unbounded ++ input)
+unfolding Only BlamesMap
+endless_map_blamed B room count input mid after s end b rest x =
+    let i = (endless_map_in input rest x).1.1 in
+    let e : spelled_entries (entries s.nodes) ++ (255 ∷ after) ≡ spelled_entries (entries i.read.nodes) ++ (255 ∷ rest) = ap (λ z. spelled_entries (entries s.nodes) ++ z) (sym end) ∙ sym s.read ∙ i.read.read in
+    let l : length s.nodes ≡ length i.read.nodes = same_count s.nodes i.read.nodes after rest s.fits i.read.fits e in
+    let same = same_spelled s.nodes i.read.nodes (255 ∷ after) (255 ∷ rest) s.fits i.read.fits l e in
+    subst B (sym i.is) (b i.place i.size i.read.nodes i.read.fits (sym l) same)
+
+-- ---- what became of them
 
 pub pairs_always : (B : Tree → Type 0) (room most : ℕ) (e : Bool) (x : List ℕ) → Always B → PairsFail B room most e x
 unfolding PairsFail Always
@@ -45,12 +89,17 @@ endless_map_descended Q B room most input (Taken left) r s = absurd s
 endless_map_descended Q B room most input Malformed r s = endless_only Never room most input never_rises s
 endless_map_descended Q B room most input Stopped r s = endless_only B room most input r s
 
-pub map_closed : {P : List Pair → Type 0} {Q : Tree → Type 0} {X : Type 0} (room : ℕ) (w : Width) (n count : ℕ) (input rest : List ℕ) → 1 ≤ room → WidthFits w n → (s : PairsRead P (room - 1) count input rest) → (count ≡ n) ⊎ (false ≡ true) × X → ((ts : List Pair) → P ts → length ts ≡ count → count ≡ n → Q (Pairs 0 (Fixed w) (entries ts))) → NodeRead Q room (head Map (Given w n) ++ input) rest
-map_closed room w n count input rest r f s (inr p) close = absurd cc
-map_closed {P} {Q} room w n count input rest r f s (inl e) close =
-    let q = close s.nodes s.holds s.count e in
+pub map_closed : {P : List Pair → Type 0} {Q : Tree → Type 0} {X : Type 0} (room : ℕ) (w : Width) (n count : ℕ) (input rest : List ℕ) → 1 ≤ room → WidthFits w n → length input < 2 ^ 64 → (s : PairsRead P (room - 1) count input rest) → (count ≡ n) ⊎ (false ≡ true) × X → ((ts : List Pair) → P ts → length ts ≡ count → AreSpellable ts → count ≡ n → Q (Pairs 0 (Fixed w) (entries ts))) → NodeRead Q room (head Map (Given w n) ++ input) rest
+map_closed room w n count input rest r f short s (inr p) close = absurd cc
+map_closed {P} {Q} room w n count input rest r f short s (inl e) close =
+    let q = close s.nodes s.holds s.count (spellable (room - 1) count input rest short s) e in
     let s2 : PairsRead (λ ts. (ts ≡ s.nodes)) (room - 1) n input rest = subst (λ (k : ℕ). PairsRead (λ ts. (ts ≡ s.nodes)) (room - 1) k input rest) e (pairs_as s refl) in
     map_read 0 w r f s2 (subst (λ (ts : List Pair). Q (Pairs 0 (Fixed w) (entries ts))) (sym s2.holds) q)
+
+-- a count that no break ends is met
+pub met : {X : Type 0} (count n : ℕ) → (count ≡ n) ⊎ (false ≡ true) × X → count ≡ n
+met count n (inl e) = e
+met count n (inr p) = absurd cc
 
 pub endless_map_all : {P : List Pair → Type 0} (room k : ℕ) (input mid : List ℕ) → PairsRead P (room - 1) k input mid → k ≡ length input → Only Never room (head Map Unbounded ++ input)
 endless_map_all room k input mid s e =

@@ -126,10 +126,10 @@ first_pair room t ts mid rest f d e = record {
 one_more : {room : ℕ} {ts : List Pair} {mid : List ℕ} (t : Pair) → NextPair room ts mid → NextPair room (t ∷ ts) mid
 one_more t n = record { front = t ∷ n.front; pair = n.pair; back = n.back; is = ap (λ l. t ∷ l) n.is; rest = n.rest; read = n.read; fits = n.fits; shallow = n.shallow }
 
-apart : (a b c d : List ℕ) → ((a ++ b) ++ c) ++ d ≡ a ++ (b ++ (c ++ d))
+pub apart : (a b c d : List ℕ) → ((a ++ b) ++ c) ++ d ≡ a ++ (b ++ (c ++ d))
 apart a b c d = append_assoc (a ++ b) c d ∙ append_assoc a b (c ++ d)
 
-tails : (u t : Pair) (us ts : List Pair) (mid rest : List ℕ) → Fits u.0 × Fits u.1 → Fits t.0 × Fits t.1 → spelled_entries (entries (u ∷ us)) ++ mid ≡ spelled_entries (entries (t ∷ ts)) ++ rest → spelled_entries (entries us) ++ mid ≡ spelled_entries (entries ts) ++ rest
+pub tails : (u t : Pair) (us ts : List Pair) (mid rest : List ℕ) → Fits u.0 × Fits u.1 → Fits t.0 × Fits t.1 → spelled_entries (entries (u ∷ us)) ++ mid ≡ spelled_entries (entries (t ∷ ts)) ++ rest → spelled_entries (entries us) ++ mid ≡ spelled_entries (entries ts) ++ rest
 tails u t us ts mid rest f g e =
     let x : List ℕ = spelled_entries (entries us) ++ mid in
     let y : List ℕ = spelled_entries (entries ts) ++ rest in

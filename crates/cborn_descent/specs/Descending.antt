@@ -1,11 +1,13 @@
 -- What a descent says of the front of its input (RFC 8949 section 3): a node stands there, which the sink took; or none does; or the sink stopped at it.
 -- Start with Descended. It is of any sink: P is what holds of a node that the sink took, and B what holds of one at which it stopped.
-use Rattle.std.specs.Prelude.{◌≡◌, ℕ, ◌<◌, ◌≤◌, ◌⊎◌, List, ◌∷◌, ◌++◌, Bool, true, false}
+use Rattle.std.specs.Prelude.{◌≡◌, ℕ, ◌^◌, ◌<◌, ◌≤◌, ◌⊎◌, List, ◌∷◌, ◌++◌, length, Bool, true, false}
 use Rattle.cborn_model.specs.declared.nodes.Chunk.{Chunk}
 use Rattle.cborn_model.specs.declared.heads.Width.{Width}
 use Rattle.cborn_model.specs.declared.heads.Size.{Size}
+use Rattle.cborn_model.specs.declared.heads.Size.TheVariants.{Fixed, Endless}
 use Rattle.cborn_model.specs.declared.heads.Major.{Major}
 use Rattle.cborn_model.specs.declared.heads.Major.TheVariants.{ByteString, TextString}
+use Rattle.cborn_model.specs.Spelled.{spelled_entries, FitsEntries}
 use Rattle.cborn_model.specs.Tree.{Tree, Uint, Nint, Bytes, Text, ByteChunks, TextChunks, Items, Pairs, Tagged, trees, entries}
 use Rattle.cborn_wire.specs.Parts.{Pair, NodeRead, NodesRead, PairRead, PairsRead, ChunkRead, Leaves}
 use Rattle.cborn_descent.specs.declared.descents.Descent.{Descent}
@@ -28,6 +30,11 @@ string_node true p w x = Text p w x
 abbrev pub chunks_node : Bool → ℕ → List Chunk → Tree
 chunks_node false p cs = ByteChunks p cs
 chunks_node true p cs = TextChunks p cs
+
+-- of a size without a count
+abbrev pub is_endless : Size → Bool
+is_endless (Fixed w) = false
+is_endless Endless = true
 
 -- B holds of each node
 unfoldable pub Always : (Tree → Type 0) → Type 0
@@ -84,6 +91,20 @@ abbrev pub PairDescended : (Pair → Type 0) → (Tree → Type 0) → ℕ → L
 PairDescended P B room x (Taken left) = Leaves (PairRead P room x) left
 PairDescended P B room x Malformed = PairFails Never room x
 PairDescended P B room x Stopped = PairFails B room x
+
+-- ---- maps
+
+-- pairs that can be spelled, in fewer bytes than a machine has
+abbrev pub AreSpellable : List Pair → Type 0
+AreSpellable ps = FitsEntries (entries ps) × (length (spelled_entries (entries ps)) < 2 ^ 64)
+
+-- B holds of each map whose pairs are spelled as these
+unfoldable pub BlamesMap : (Tree → Type 0) → List Pair → Type 0
+BlamesMap B ps = (p : ℕ) (s : Size) (qs : List Pair) → FitsEntries (entries qs) → length qs ≡ length ps → spelled_entries (entries qs) ≡ spelled_entries (entries ps) → B (Pairs p s (entries qs))
+
+-- a key, of which P holds, was taken from the front, and so many bytes follow it
+abbrev pub KeyTaken : (Tree → Type 0) → List ℕ → ℕ → Type 0
+KeyTaken P x left = (room : ℕ) × (room ≤ 1024) × Leaves (NodeRead P room x) left
 
 -- ---- chunks
 

@@ -229,7 +229,8 @@ fn take_pairs<'a, S: Sink>(
     may_end: bool,
     bytes: &'a [u8],
 ) -> Result<(&'a [u8], u64), Descent>
-    requires { room ≤ 1024 }
+    requires room { room ≤ 1024 }
+    requires begun { (a : S) × (g : HeadArgument) × S.in_map a sink.old begun.old g [] }
     ensures { (a : S) (g : HeadArgument) → S.in_map a sink.old begun.old g [] → MatchResult result (λ r. PairsRead (λ ps. S.in_map a sink.new begun.new g ps) room r.1 bytes.now r.0.now × ((r.1 ≡ most) ⊎ (may_end ≡ true) × ((rest : List ℕ) × (r.0.now ≡ 255 ∷ rest)))) (λ d. Fails (λ B. PairsFail B room most may_end bytes.now) (S.blames sink.new) d) }
 {
     let mut rest = bytes;
@@ -259,7 +260,8 @@ fn take_pairs<'a, S: Sink>(
 #[cycle(descended)]
 #[inline(always)]
 fn take_pair<S: Sink>(sink: &mut S, begun: &mut S::Map, room: u64, bytes: &[u8]) -> Descent
-    requires { room ≤ 1024 }
+    requires room { room ≤ 1024 }
+    requires begun { (a : S) × (g : HeadArgument) × (ps : List Pair) × S.at_key a sink.old begun.old g ps }
     ensures read { PairEnds room bytes.now result }
     ensures taken { (a : S) (g : HeadArgument) (ps : List Pair) → S.at_key a sink.old begun.old g ps → PairDescended (λ p. S.in_map a sink.new begun.new g (ps ++ p ∷ [])) (S.blames sink.new) room bytes.now result }
 {

@@ -9,7 +9,7 @@ ghost use Rattle.cborn_model.specs.declared.nodes.Chunk.{Chunk};
 ghost use Rattle.cborn_model.specs.Heads.{Argument, Given, Unbounded, WidthFits, SizeFits, head, argument, is_simple_value};
 ghost use Rattle.cborn_model.specs.Tree.{Tree, Simple, Items, Pairs, Tagged, trees, entries};
 ghost use Rattle.cborn_wire.specs.Parts.{Pair, NodesRead};
-ghost use Rattle.cborn_descent.specs.Descending.{integer_node, string_node, chunks_node, Descended, Opened, Rises, Always, BlamesString, BlamesChunk};
+ghost use Rattle.cborn_descent.specs.Descending.{integer_node, string_node, chunks_node, Descended, Opened, Rises, Always, BlamesString, BlamesChunk, BlamesMap, AreSpellable, KeyTaken, is_endless};
 
 use crate::descents::Descent;
 use cborn_model::Width;
@@ -109,6 +109,7 @@ pub trait Sink {
 
     /// Ends a string of indefinite length, which has `count` chunks.
     fn close_chunks(&mut self, begun: Self::Chunks, text: bool, count: u64) -> Option<()>
+        requires { (a : Self) × (cs : List Chunk) × (length cs ≡ count) × in_chunks a self.old begun text cs }
         ensures taken { OnSome result ((a : Self) (cs : List Chunk) → length cs ≡ count → in_chunks a self.old begun text cs → took a self.new (chunks_node text 0 cs)) }
         ensures stopped { result ≡ None → Always (blames self.new) };
 
@@ -156,7 +157,8 @@ pub trait Sink {
 
     /// Ends an array, which has `count` items.
     fn close_array(&mut self, begun: Self::Array, endless: bool, count: u64) -> Option<()>
-        ensures taken { OnSome result ((a : Self) (s : Size) (ts : List Tree) → length ts ≡ count → SizeFits s count → in_array a self.old begun (argument s count) ts → took a self.new (Items 0 s (trees ts))) }
+        requires { (a : Self) × (s : Size) × (ts : List Tree) × (is_endless s ≡ endless) × (length ts ≡ count) × in_array a self.old begun (argument s count) ts }
+        ensures taken { OnSome result ((a : Self) (s : Size) (ts : List Tree) → is_endless s ≡ endless → length ts ≡ count → SizeFits s count → in_array a self.old begun (argument s count) ts → took a self.new (Items 0 s (trees ts))) }
         ensures stopped { result ≡ None → Always (blames self.new) };
 
     /// Begins a map of `n` pairs, which stand at the front of `rest`.
@@ -183,18 +185,21 @@ pub trait Sink {
     /// Says that a key was taken from the front of `bytes`, that `left` bytes follow it, and that its
     /// value comes next.
     fn before_value(&mut self, begun: &mut Self::Map, bytes: &[u8], left: usize) -> Option<()>
+        requires { (a m : Self) × (g : Argument) × (ps : List Pair) × at_key a m begun.old g ps × KeyTaken (took m self.old) bytes.now left }
         ensures taken { OnSome result ((a m : Self) (g : Argument) (ps : List Pair) (k : Tree) → at_key a m begun.old g ps → took m self.old k → at_value a self.new begun.new g ps k) }
         ensures stopped { result ≡ None → Always (blames self.new) };
 
     /// Says that the value of a key was taken.
     fn after_value(&mut self, begun: &mut Self::Map) -> Option<()>
+        requires { (a m : Self) × (g : Argument) × (ps : List Pair) × (k v : Tree) × at_value a m begun.old g ps k × took m self.old v }
         ensures taken { OnSome result ((a m : Self) (g : Argument) (ps : List Pair) (k v : Tree) → at_value a m begun.old g ps k → took m self.old v → in_map a self.new begun.new g (ps ++ (k, v) ∷ [])) }
         ensures stopped { result ≡ None → Always (blames self.new) };
 
     /// Ends a map, which has `count` pairs.
     fn close_map(&mut self, begun: Self::Map, endless: bool, count: u64) -> Option<()>
-        ensures taken { OnSome result ((a : Self) (s : Size) (ps : List Pair) → length ps ≡ count → SizeFits s count → in_map a self.old begun (argument s count) ps → took a self.new (Pairs 0 s (entries ps))) }
-        ensures stopped { result ≡ None → Always (blames self.new) };
+        requires { (a : Self) × (s : Size) × (ps : List Pair) × (is_endless s ≡ endless) × (length ps ≡ count) × in_map a self.old begun (argument s count) ps }
+        ensures taken { OnSome result ((a : Self) (s : Size) (ps : List Pair) → is_endless s ≡ endless → length ps ≡ count → SizeFits s count → AreSpellable ps → in_map a self.old begun (argument s count) ps → took a self.new (Pairs 0 s (entries ps))) }
+        ensures stopped { result ≡ None → (a : Self) (s : Size) (ps : List Pair) → length ps ≡ count → AreSpellable ps → in_map a self.old begun (argument s count) ps → BlamesMap (blames self.new) ps };
 
     /// Begins the tag `n`, whose content stands at the front of `rest`.
     fn open_tag(&mut self, width: Width, n: u64, rest: &[u8]) -> Opening<()>

@@ -88,8 +88,8 @@ pub fn encode_input<O: KeyOrder>(
     }
 }
 
-/// What `encode_input` answers of bytes. Where the pass answers nothing, and nothing is wrong with
-/// them, memory was refused.
+/// What `encode_input` answers of bytes. Where the pass answers nothing, they hold no items, so that
+/// a reason is found. Where it was refused memory, the bytes are told to be at fault if they are.
 fn encode_bytes<O: KeyOrder>(
     alloc: Global,
     limit: Limit,
@@ -102,11 +102,17 @@ fn encode_bytes<O: KeyOrder>(
     ensures malformed { TellsFault kinds.Wire limit input.now result }
     ensures failures { (n : ℕ) → read_failures result n ≡ n }
 {
-    if let Some(bytes) = transcode_after::<O>(alloc, limit, front, input) {
-        return Ok(bytes);
+    match transcode_after::<O>(alloc, limit, front, input) {
+        Ok(Some(bytes)) => Ok(bytes),
+        Ok(None) => {
+            judge_bytes(alloc, limit, input)?;
+            unreachable!()
+        }
+        Err(refused) => {
+            judge_bytes(alloc, limit, input)?;
+            Err(EngineFault::from(refused))
+        }
     }
-    judge_bytes(alloc, limit, input)?;
-    Err(EngineFault::OutOfMemory)
 }
 
 /// Looks whether bytes hold items: first for a flaw, and for the fault of bytes that aren't
@@ -151,7 +157,7 @@ fn encode_text<O: KeyOrder>(
     if front == bytes.len() {
         return Ok(bytes);
     }
-    match transcode_after::<O>(alloc, limit, front, &bytes) {
+    match transcode_after::<O>(alloc, limit, front, &bytes)? {
         Some(encodings) => Ok(encodings),
         None => Err(flaw_of_text(alloc, limit, profile, input, &bytes)),
     }

@@ -42,11 +42,12 @@ const MAPS: [(&[u8], Option<&[u8]>); 5] = [
 
 /// Catches pairs that are left as the hints put them.
 #[test]
-fn arranges_small_maps(rt: HostRuntime) {
+fn arranges_small_maps(rt: HostRuntime) -> Result<(), Fail> {
     for (bytes, want) in MAPS {
-        let answer = transcode::<Backwards>(rt.alloc(), Limit::USUAL, bytes);
+        let answer = transcode::<Backwards>(rt.alloc(), Limit::USUAL, bytes)?;
         assert_eq!(rt; answer.as_deref(), want, "{bytes:?}");
     }
+    Ok(())
 }
 
 /// A map of the keys 1000 to 2999, from either end, and of 0, whose value is `last`.
@@ -69,7 +70,7 @@ fn arranges_great_maps(rt: HostRuntime) -> Result<(), Fail> {
     for last in [b"\x00".as_slice(), b"\x81\x00".as_slice()] {
         let bytes = thousands(rt.alloc(), true, last)?;
         let want = thousands(rt.alloc(), false, last)?;
-        let answer = transcode::<Backwards>(rt.alloc(), Limit::USUAL, &bytes);
+        let answer = transcode::<Backwards>(rt.alloc(), Limit::USUAL, &bytes)?;
         assert!(rt; answer.as_deref() == Some(want.as_slice()), "{last:?}");
     }
     Ok(())
@@ -98,7 +99,7 @@ fn arranges_long_maps(rt: HostRuntime) -> Result<(), Fail> {
     for (len, middle) in [(2000, 2000), (500, 50_000)] {
         let bytes = long_pairs(rt.alloc(), true, len, middle)?;
         let want = long_pairs(rt.alloc(), false, len, middle)?;
-        let answer = transcode::<Backwards>(rt.alloc(), Limit::USUAL, &bytes);
+        let answer = transcode::<Backwards>(rt.alloc(), Limit::USUAL, &bytes)?;
         assert!(rt;
             answer.as_deref() == Some(want.as_slice()),
             "{len} {middle}"

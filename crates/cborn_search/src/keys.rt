@@ -101,8 +101,10 @@ impl Keys {
         let Some(_) = make_room(bytes.len(), encoding) else {
             return Taken::Unknown;
         };
-        let Some(rest) = transcode_item::<Bytewise>(alloc, open, room, bytes, encoding) else {
-            return Taken::Not;
+        let rest = match transcode_item::<Bytewise>(alloc, open, room, bytes, encoding) {
+            Ok(Some(rest)) => rest,
+            Ok(None) => return Taken::Not,
+            Err(_) => return Taken::Unknown,
         };
         match self.write(total - bytes.len() as u64, pairs, encoding) {
             Some(_) => Taken::Behind(rest.len()),

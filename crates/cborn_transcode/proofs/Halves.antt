@@ -1,20 +1,26 @@
 -- The pairs of a map that are arranged half by half.
-use Rattle.std.proofs.Common.{◌≡◌, ℕ, ◌+◌, ◌-◌, ◌<◌, ◌≤◌, List, [], ◌∷◌, ◌++◌, length, take, drop, get_or, refl, sym, ap, ◌∙◌, subst, arith, take_at, drop_at, length-append, length-drop, append-nil, Ordering, IsPermutation}
+use Rattle.std.proofs.Common.{◌≡◌, ℕ, ◌+◌, ◌-◌, ◌^◌, ◌<◌, ◌≤◌, List, [], ◌∷◌, ◌++◌, length, take, drop, get_or, refl, sym, ap, ◌∙◌, subst, arith, take_at, drop_at, length-append, length-drop, append-nil, Ordering, IsPermutation}
 use borrow.Rule.Slice.PartMut.{post_of}
 use Rattle.std.proofs.Math.ListN.{set}
 use Rattle.std.proofs.Math.Seq.{take-add, paste}
-use Rattle.std.specs.List.{copy_within}
+use Rattle.std.specs.List.{AllByRecursion, copy_within}
 use Rattle.std.proofs.lemmas.List.{take_all, take_more_set, drop_more, drop-set-lt, drop-drop, map-append, append_assoc, take-append-drop, length-take-le}
 use Rattle.std.proofs.lemmas.List.Concat.{length-flat_map}
 use Rattle.std.proofs.lemmas.List.Edits.{take-paste, drop-paste, length-paste}
-use Rattle.std.proofs.lemmas.List.Sorted.{IsPermutation-refl, IsPermutation-trans, IsPermutation-map, sum_by-IsPermutation}
+use Rattle.std.proofs.lemmas.List.Sorted.{IsPermutation-refl, IsPermutation-trans, IsPermutation-map, length_permutation, sum_by-IsPermutation}
 use Rattle.std.proofs.lemmas.Grind.{flat_map-append}
 use Rattle.cborn_model.specs.Orders.{IsKeyOrder, Rising}
+use Rattle.cborn_model.proofs.SameItems.Rearranging.{All_moved}
 use Rattle.cborn_det.specs.Det.{Entry, keys, joined}
+use Rattle.cborn_det.specs.devices.Writing.{HasDistinctKeys}
 use Rattle.cborn_det.proofs.Rising.{one_arrangement}
 use Rattle.cborn_transcode.specs.declared.entries.Span.{Span}
 use Rattle.cborn_transcode.specs.Transcoding.{spanned, all_spanned, AreSpans}
-use Rattle.cborn_transcode.proofs.Keying.{spanned_behind, spanned_more, spans_more, joined_more}
+use Rattle.cborn_transcode.specs.devices.Laying.{end_of, Follow}
+use Rattle.cborn_transcode.proofs.Laying.{ends_within, follow_below}
+use Rattle.cborn_transcode.proofs.Pairing.{distinct_moved}
+use Rattle.cborn_transcode.proofs.Repeating.{distinct_kept}
+use Rattle.cborn_transcode.proofs.Keying.{spanned_behind, spanned_between, rising_front, spanned_more, spans_more, joined_more}
 
 -- ---- pairs that are moved together, one by one
 
@@ -86,12 +92,37 @@ moved_all start b all now i at after out new m l n e =
       e ∙ m.front ∙ ap (λ z. take start b ++ joined (all_spanned b z)) everything,
     )
 
--- ---- the halves
+-- ---- the next pair to be moved, where each follows the one before it
 
-rising_front : (order : List ℕ → List ℕ → Ordering) (es fs : List Entry) → Rising order (keys (es ++ fs)) → Rising order (keys es)
-rising_front order [] fs r = tt
-rising_front order (e ∷ []) fs r = tt
-rising_front order (e ∷ f ∷ es) fs r = (r.0, rising_front order (f ∷ es) fs r.1)
+pub moved_start : (start : ℕ) (b : List ℕ) (all : List Span) → Follow start (length b) all → (after : ℕ) × MovedUpTo start b all all 0 start after b × Follow after (length b) (drop 0 all)
+moved_start start b all f = (start, moved_none start b all (follow_below start (length b) all f), f)
+
+-- where it lies
+pub record NextLies (at after : ℕ) (s : Span) (out b : List ℕ) (rest : List Span) : Type 0 where
+  pub low : at ≤ after
+  pub behind : after ≤ s.start
+  pub inside : end_of s ≤ length out
+  pub small : s.key_len + s.value_len < 2 ^ 64
+  pub follow : Follow (end_of s) (length b) rest
+
+pub next_lies : (start : ℕ) (b : List ℕ) (all now : List Span) (i at after : ℕ) (out : List ℕ) (d : Span) → MovedUpTo start b all now i at after out → Follow after (length b) (drop i all) → length b < 2 ^ 64 → i < length all → length now ≡ length all → NextLies at after (get_or now i d) out b (drop (i + 1) all)
+next_lies start b all now i at after out d m f short l n =
+    let below : i < length now = omega arith in
+    let both : get_or now i d ∷ drop (i + 1) now ≡ get_or all i d ∷ drop (i + 1) all = sym (drop_more now i d below) ∙ m.left ∙ drop_more all i d l in
+    let here : get_or now i d ≡ get_or all i d = cc in
+    let next : Follow after (length b) (get_or now i d ∷ drop (i + 1) all) = subst (Follow after (length b)) (drop_more all i d l ∙ ap (λ s. s ∷ drop (i + 1) all) (sym here)) f in
+    let ends : end_of (get_or now i d) ≤ length b = follow_below (end_of (get_or now i d)) (length b) (drop (i + 1) all) next.1 in
+    record { low = m.low; behind = next.0; inside = omega (arith, m.same); small = omega arith; follow = next.1 }
+
+pub moved_next : (start : ℕ) (b : List ℕ) (all now : List Span) (i at after : ℕ) (out : List ℕ) (d : Span) (len : ℕ) (new : List ℕ) → let s : Span = get_or now i d in MovedUpTo start b all now i at after out → NextLies at after s out b (drop (i + 1) all) → start ≤ length b → i < length all → length now ≡ length all
+    → len ≡ s.key_len + s.value_len → new ≡ copy_within out s.start (s.start + len) at
+    → (after : ℕ) × MovedUpTo start b all (set now i (record s { start = at })) (i + 1) (at + len) after new × Follow after (length b) (drop (i + 1) all)
+moved_next start b all now i at after out d len new m n inside l same sum copied =
+    let s : Span = get_or now i d in
+    let ends : s.start + len ≡ end_of s = omega arith in
+    (s.start + len, moved_more start b all now i at after out d at len (s.start + len) new m inside l same sum refl n.behind (omega (arith, n.inside)) refl copied, subst (λ k. Follow k (length b) (drop (i + 1) all)) (sym ends) n.follow)
+
+-- ---- the halves
 
 -- pairs behind the start, once their spans are rearranged
 pub rearranged : (start : ℕ) (b : List ℕ) (es : List Entry) (ss now : List Span) → start ≤ length b → AreSpans start es ss → drop start b ≡ joined es → IsPermutation ss now → IsPermutation es (all_spanned b now)
@@ -145,3 +176,39 @@ others_put b moved others copy start middle from key value len at sum room fits 
 pub first_joined : (b : List ℕ) (all others : List Span) (last : Span) (copy : List ℕ) → all ≡ others ++ last ∷ [] → copy ≡ joined (all_spanned b others) → copy ++ ((spanned b last).0 ++ (spanned b last).1) ≡ joined (all_spanned b all)
 first_joined b all others last copy e c =
     ap (λ z. z ++ ((spanned b last).0 ++ (spanned b last).1)) c ∙ sym (joined_more (all_spanned b others) (spanned b last)) ∙ ap joined (sym (map-append (spanned b) others (last ∷ [])) ∙ ap (all_spanned b) (sym e))
+
+-- pairs from the start on, before a tail
+pub spanned_before : (start : ℕ) (b tail : List ℕ) (es : List Entry) (ss : List Span) → start ≤ length b → AreSpans start es ss → drop start b ≡ joined es ++ tail → all_spanned b ss ≡ es
+spanned_before start b tail es ss l a e =
+    ap (λ z. all_spanned z ss) (sym (take-append-drop start b) ∙ ap (λ z. take start b ++ z) e) ∙ spanned_between (take start b) tail es ss start (sym (length-take-le start b l)) a
+
+all_last : {X : Type 0} (P : X → Type 0) (xs : List X) (x : X) → AllByRecursion P (xs ++ x ∷ []) → P x
+all_last P [] x h = h.0
+all_last P (y ∷ xs) x h = all_last P xs x h.1
+
+-- the room for the last of the pairs behind the others
+pub last_fits : (start : ℕ) (b tail copy : List ℕ) (es : List Entry) (old now others : List Span) (last : Span) → start ≤ length b → AreSpans start es old → drop start b ≡ joined es ++ tail → IsPermutation old now → now ≡ others ++ last ∷ [] → copy ≡ joined (all_spanned b others)
+    → (last.start + (last.key_len + last.value_len) ≤ length b) × (start + length copy + (last.key_len + last.value_len) ≤ length b)
+last_fits start b tail copy es old now others last l a e m parts is =
+    let pair : List ℕ = (spanned b last).0 ++ (spanned b last).1 in
+    let size : start + length (joined es) ≤ length b = omega (arith, l, ap length e, length-drop start b, length-append (joined es) tail) in
+    let ends : end_of last ≤ length b = all_last (λ (s : Span). end_of s ≤ length b) others last (subst (AllByRecursion (λ (s : Span). end_of s ≤ length b)) parts (All_moved (λ (s : Span). end_of s ≤ length b) old now m (ends_within start (length b) es old a size))) in
+    let moved : IsPermutation es (all_spanned b now) = subst (λ (z : List Entry). IsPermutation z (all_spanned b now)) (spanned_before start b tail es old l a e) (IsPermutation-map (spanned b) old now m) in
+    let whole : length (copy ++ pair) ≡ length (joined es) = ap length (first_joined b now others last copy parts is) ∙ length_moved es (all_spanned b now) moved in
+    let key : length (spanned b last).0 ≡ last.key_len = pair_length b last.start last.key_len last.value_len ends in
+    let value : length (spanned b last).1 ≡ last.value_len = value_length b last.start last.key_len last.value_len ends in
+    (ends, omega (arith, whole, length-append copy pair, length-append (spanned b last).0 (spanned b last).1))
+
+-- no pairs, and so none in another order
+pub none_moved : (es fs : List Entry) → IsPermutation es fs → length fs ≡ 0 → joined fs ≡ joined es
+none_moved [] [] m l = refl
+none_moved [] (f ∷ fs) m l = absurd (omega (arith, l))
+none_moved (e ∷ es) fs m l = absurd (omega (arith, length_permutation (e ∷ es) fs m))
+
+-- the first of pairs whose keys rise have distinct keys, in whatever order
+pub first_distinct : (order : List ℕ → List ℕ → Ordering) → IsKeyOrder order → (b : List ℕ) (ss : List Span) (k : ℕ) (gs : List Entry) → Rising order (keys (all_spanned b ss)) → IsPermutation (all_spanned b (take k ss)) gs → HasDistinctKeys gs
+first_distinct order laws b ss k gs up m =
+    let first : List Entry = all_spanned b (take k ss) in
+    let halves : all_spanned b ss ≡ first ++ all_spanned b (drop k ss) = ap (all_spanned b) (sym (take-append-drop k ss)) ∙ map-append (spanned b) (take k ss) (drop k ss) in
+    let front : Rising order (keys first) = rising_front order first (all_spanned b (drop k ss)) (subst (λ (z : List Entry). Rising order (keys z)) halves up) in
+    distinct_kept order laws first gs (distinct_moved order laws first first (IsPermutation-refl first) front) m

@@ -1,14 +1,19 @@
 -- Pairs that lie in a buffer, whose keys are compared one by one.
-use Rattle.std.proofs.Common.{◌≡◌, ℕ, ◌+◌, ◌<◌, ◌≤◌, List, [], ◌∷◌, ◌++◌, length, take, drop, reverse, get_or, refl, sym, ap, ◌∙◌, subst, arith, take_at, drop_at, length-append, append-nil, Bor, Option, None, Some, Ordering, IsPermutation}
-use Rattle.std.proofs.lemmas.List.{take_more, map-append, append_assoc, take-append-drop, length-take-le, reverse-append}
+use Rattle.std.proofs.Common.{◌≡◌, ℕ, ◌+◌, ◌-◌, ◌^◌, ◌<◌, ◌≤◌, inl, inr, List, [], ◌∷◌, ◌++◌, length, take, drop, reverse, get_or, refl, sym, ap, ◌∙◌, subst, arith, take_at, drop_at, length-append, append-nil, Bor, Option, None, Some, Ordering, Less, IsPermutation}
+use Rattle.std.proofs.Math.Seq.{take-add}
+use Rattle.std.proofs.lemmas.Bool.{cases_lt}
+use Rattle.std.proofs.lemmas.List.{take_all, take_more, map-append, append_assoc, take-append-drop, length-take-le, reverse-append}
 use Rattle.cborn_model.specs.Orders.{Rising}
+use Rattle.std.specs.List.{AllByRecursion}
 use Rattle.cborn_det.specs.Det.{Entry, keys, joined}
+use Rattle.cborn_det.specs.devices.Writing.{HasDistinctKeys}
 use Rattle.cborn_det.proofs.Cutting.{rise_more}
 use Rattle.cborn_det.specs.shared.KeyBefore.{EndsIn, Below}
 use Rattle.cborn_transcode.specs.declared.entries.Span.{Span}
 use Rattle.std.proofs.lemmas.List.Sorted.{IsPermutation-map, IsPermutation-reverse, IsPermutation-trans}
 use Rattle.cborn_transcode.specs.declared.places.PairPlace.{PairPlace}
 use Rattle.cborn_transcode.specs.Transcoding.{spanned, all_spanned, AreSpans}
+use Rattle.cborn_transcode.specs.devices.Departing.{IsFallen}
 use Rattle.cborn_transcode.specs.shared.Walking.{span_of, spans_of}
 
 pub spanned_more : (b : List ℕ) (ss : List Span) (i : ℕ) (d : Span) → i < length ss → all_spanned b (take (i + 1) ss) ≡ all_spanned b (take i ss) ++ spanned b (get_or ss i d) ∷ []
@@ -23,6 +28,35 @@ rise_on order b ss i d before key l k r e h =
       subst (λ z. Rising order (keys z)) (sym (spanned_more b ss i d l)) (rise_more order before (all_spanned b (take i ss)) (spanned b (get_or ss i d)) r e (subst (Below order before) k h)),
       (keys (all_spanned b (take i ss)), ap keys (spanned_more b ss i d l) ∙ map-append (λ (z : Entry). z.0) (all_spanned b (take i ss)) (spanned b (get_or ss i d) ∷ []) ∙ ap (λ z. keys (all_spanned b (take i ss)) ++ z ∷ []) (sym k)),
     )
+
+rising_last : (order : List ℕ → List ℕ → Ordering) (js : List (List ℕ)) (k l : List ℕ) → Rising order (js ++ k ∷ l ∷ []) → order k l ≡ Less
+rising_last order [] k l r = r.0
+rising_last order (i ∷ []) k l r = r.1.0
+rising_last order (i ∷ j ∷ js) k l r = rising_last order (j ∷ js) k l r.1
+
+pub rising_front : (order : List ℕ → List ℕ → Ordering) (es fs : List Entry) → Rising order (keys (es ++ fs)) → Rising order (keys es)
+rising_front order [] fs r = tt
+rising_front order (e ∷ []) fs r = tt
+rising_front order (e ∷ f ∷ es) fs r = (r.0, rising_front order (f ∷ es) fs r.1)
+
+-- a key that isn't above the one before it
+pub falls_on : (order : List ℕ → List ℕ → Ordering) (b : List ℕ) (ss : List Span) (i : ℕ) (d : Span) (before : Option (Bor (List ℕ))) (key : List ℕ) → i < length ss → key ≡ (spanned b (get_or ss i d)).0
+    → EndsIn before (keys (all_spanned b (take i ss))) → IsFallen order before key → Rising order (keys (all_spanned b ss)) → ⊥
+falls_on order b ss i d None key l k e f r = f
+falls_on order b ss i d (Some x) key l k e f r =
+    let some : List Entry = all_spanned b (take i ss) in
+    let whole : all_spanned b ss ≡ all_spanned b (take (i + 1) ss) ++ all_spanned b (drop (i + 1) ss) = ap (all_spanned b) (sym (take-append-drop (i + 1) ss)) ∙ map-append (spanned b) (take (i + 1) ss) (drop (i + 1) ss) in
+    let front : Rising order (keys (all_spanned b (take (i + 1) ss))) = rising_front order (all_spanned b (take (i + 1) ss)) (all_spanned b (drop (i + 1) ss)) (subst (λ (z : List Entry). Rising order (keys z)) whole r) in
+    let last : keys (all_spanned b (take (i + 1) ss)) ≡ e.0 ++ x.now ∷ key ∷ [] = ap keys (spanned_more b ss i d l) ∙ map-append (λ (z : Entry). z.0) some (spanned b (get_or ss i d) ∷ []) ∙ (λ j. e.1 j ++ sym k j ∷ []) ∙ append_assoc e.0 (x.now ∷ []) (key ∷ []) in
+    f (rising_last order e.0 x.now key (subst (Rising order) last front))
+
+-- the bytes of a key and a value, as many as there are
+pub pair_taken : (k v len : ℕ) (x : List ℕ) → length x < 2 ^ 64 → (k + v < 2 ^ 64 → len ≡ k + v) → (2 ^ 64 ≤ k + v → len ≡ 2 ^ 64 - 1) → take len x ≡ take k x ++ take v (drop k x)
+pair_taken k v len x short sum most =
+    elim (cases_lt (k + v) (2 ^ 64)) [
+      | inl l ↦ ap (λ n. take n x) (sum l) ∙ take-add k v x
+      | inr m ↦ let n : len ≡ 2 ^ 64 - 1 = most m in take_all len x (omega arith) ∙ sym (take_all (k + v) x (omega arith)) ∙ take-add k v x
+    ]
 
 pub joined_more : (es : List Entry) (e : Entry) → joined (es ++ e ∷ []) ≡ joined es ++ (e.0 ++ e.1)
 joined_more [] e = append-nil (e.0 ++ e.1)
@@ -91,6 +125,28 @@ written_more order b before key left rest all p pair old half new s l k q h n =
       last = (keys s.es, map-append (λ (z : Entry). z.0) s.es (e ∷ []) ∙ ap (λ z. keys s.es ++ z ∷ []) (sym k));
       written = n ∙ (λ i. s.written i ++ q i) ∙ append_assoc old (joined s.es) (e.0 ++ e.1) ∙ ap (λ z. old ++ z) (sym (joined_more s.es e));
     }
+
+at_middle : (P : Entry → Type 0) (fs more : List Entry) (e : Entry) → AllByRecursion P (fs ++ e ∷ more) → P e
+at_middle P [] more e h = h.0
+at_middle P (f ∷ fs) more e h = at_middle P fs more e h.1
+
+-- the last key of some stands once more behind them
+twice : (fs more : List Entry) (e : Entry) (js : List (List ℕ)) → keys fs ≡ js ++ e.0 ∷ [] → HasDistinctKeys (fs ++ e ∷ more) → ⊥
+twice [] more e [] q h = cc
+twice [] more e (j ∷ js) q h = cc
+twice (f ∷ fs) more e [] q h = at_middle (λ (g : Entry). f.0 ≡ g.0 → ⊥) fs more e h.0 (cc)
+twice (f ∷ fs) more e (j ∷ js) q h = let rest : keys fs ≡ js ++ e.0 ∷ [] = cc in twice fs more e js rest h.1
+
+-- the next key is the one before it
+pub written_twice : (order : List ℕ → List ℕ → Ordering) (b : List ℕ) (x : Bor (List ℕ)) (before : Option (Bor (List ℕ))) (left rest all : List PairPlace) (p : PairPlace) (old now : List ℕ) → WrittenUpTo order b before left all old now
+    → left ≡ rest ++ p ∷ [] → before ≡ Some x → x.now ≡ (spanned b (span_of p)).0 → HasDistinctKeys (all_spanned b (spans_of (reverse all))) → ⊥
+written_twice order b x before left rest all p old now s l is k d =
+    let e : Entry = spanned b (span_of p) in
+    let more : List Entry = all_spanned b (spans_of (reverse rest)) in
+    let turned : reverse left ≡ p ∷ reverse rest = ap reverse l ∙ reverse-append rest (p ∷ []) in
+    let whole : all_spanned b (spans_of (reverse all)) ≡ s.es ++ e ∷ more = sym s.others ∙ ap (λ z. s.es ++ all_spanned b (spans_of z)) turned in
+    let last : EndsIn (Some x) (keys s.es) = subst (λ (o : Option (Bor (List ℕ))). EndsIn o (keys s.es)) is s.last in
+    twice s.es more e last.0 (last.1 ∙ ap (λ z. last.0 ++ z ∷ []) k) (subst HasDistinctKeys whole d)
 
 pub written_all : (order : List ℕ → List ℕ → Ordering) (b : List ℕ) (before : Option (Bor (List ℕ))) (places all : List PairPlace) (old new : List ℕ) → IsPermutation places all → WrittenUpTo order b before [] all old new
     → (fs : List Entry) × IsPermutation (all_spanned b (spans_of places)) fs × Rising order (keys fs) × (new ≡ old ++ joined fs)

@@ -18,3 +18,11 @@ pub mod Falling
 pub mod Settling
 pub mod Tagging
 pub mod Halves
+pub mod Missing
+pub mod Hooks
+pub mod Blames
+pub mod Outcomes
+pub mod Nothings
+pub mod Laying
+pub mod Repeating
+pub mod Written

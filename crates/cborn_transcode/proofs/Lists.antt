@@ -1,21 +1,17 @@
 -- Items one after another, and arrays of them.
-use Rattle.std.proofs.Common.{◌≡◌, ℕ, suc, ◌+◌, ◌-◌, ◌≤◌, List, [], ◌∷◌, ◌++◌, length, refl, sym, ap, ◌∙◌, subst, arith, append_assoc, append-nil, Ordering}
+use Rattle.std.proofs.Common.{◌≡◌, ℕ, suc, ◌+◌, List, [], ◌∷◌, ◌++◌, length, refl, sym, ap, ◌∙◌, subst, append_assoc, append-nil, Ordering}
 use Rattle.std.specs.List.{AllZip}
 use Rattle.cborn_model.specs.declared.heads.Size.{Size}
-use Rattle.cborn_model.specs.declared.heads.Size.TheVariants.{Fixed, Endless}
-use Rattle.cborn_model.specs.declared.heads.Width.{Width}
-use Rattle.cborn_model.specs.declared.heads.Major.TheVariants.{Array}
-use Rattle.cborn_model.specs.Heads.{Given, Unbounded, head, WidthFits, IsLeastHead}
+use Rattle.cborn_model.specs.Heads.{IsLeastHead}
 use Rattle.cborn_model.specs.Meaning.{Means, AllMean}
 use Rattle.cborn_model.specs.Tree.{Tree, Items, trees}
 use Rattle.cborn_model.specs.Value.{Value, array, values_of}
 use Rattle.cborn_model.proofs.Listed.Values.{value_count-values_of}
-use Rattle.cborn_det.specs.Appending.{Appends, Replaces}
 use Rattle.cborn_det.specs.Det.{DetSeq}
 use Rattle.cborn_det.proofs.Steps.{values_of_seq}
-use Rattle.cborn_wire.proofs.Parts.Nodes.{no_node, node_more, nodes_more, nodes_within, array_read, endless_array_read, wellformed}
+use Rattle.cborn_wire.proofs.Parts.Nodes.{no_node, node_more, nodes_more, wellformed}
 use Rattle.cborn_transcode.specs.Transcoding.{IsEncodedAs, AreEncodedAs, ItemTranscoded, ItemsTranscoded, IsTranscoded}
-use Rattle.cborn_transcode.proofs.Encoding.{appends_both, head_put}
+use Rattle.cborn_transcode.proofs.Encoding.{appends_both}
 
 mean_append : (ts us : List Tree) (vs ws : List Value) → AllZip Means ts vs → AllZip Means us ws → AllZip Means (ts ++ us) (vs ++ ws)
 mean_append [] us [] ws h k = k
@@ -60,22 +56,8 @@ module _ (order : List ℕ → List ℕ → Ordering) where
     pub all_append : (m : ℕ) → ItemsTranscoded order room m mid rest half new → ItemsTranscoded order room (n + m) input rest old new
     all_append m t = nodes_more s t (appends_both old s.holds t.holds (both_encoded s.nodes t.nodes))
 
-    -- no deeper than an item without children
-    pub run_more : (m : ℕ) → ItemsTranscoded order 0 m mid rest half new → ItemsTranscoded order room (n + m) input rest old new
-    run_more m t = all_append m (nodes_within (omega arith) t)
-
     pub all_more : ItemTranscoded order room mid rest half new → ItemsTranscoded order room (n + 1) input rest old new
     all_more t = node_more s t (appends_both old s.holds t.holds (more_encoded s.nodes t.node))
-
-  pub array_done : {room n : ℕ} {input rest mid new : List ℕ} (old : List ℕ) (w : Width) → 1 ≤ room → WidthFits w n → Appends (IsLeastHead 4 n) old mid → ItemsTranscoded order (room - 1) n input rest mid new
-      → ItemTranscoded order room (head Array (Given w n) ++ input) rest old new
-  array_done old w r h a s = array_read 0 w r h s (appends_both old a s.holds (λ x y l e. array_encoded (Fixed w) s.nodes x y (subst (λ k. IsLeastHead 4 k x) (sym s.count) l) e))
-
-  pub endless_array_done : {room n start : ℕ} {input after rest half new : List ℕ} (old : List ℕ) → 1 ≤ room → start ≡ length old → after ≡ 255 ∷ rest → ItemsTranscoded order (room - 1) n input after (old ++ 0 ∷ []) half → Replaces (IsLeastHead 4 n) start half new
-      → ItemTranscoded order room (head Array Unbounded ++ input) rest old new
-  endless_array_done old r st e s h =
-      let written : Appends (AreEncodedAs order s.nodes) (old ++ h.0) _ = (s.holds.0, s.holds.1, head_put old s.holds.0 st s.holds.2 h) in
-      endless_array_read 0 r e s (appends_both old (h.0, h.1, refl) written (λ x y l i. array_encoded Endless s.nodes x y (subst (λ k. IsLeastHead 4 k x) (sym s.count) l) i))
 
 pub normalised : (order : List ℕ → List ℕ → Ordering) (limit n : ℕ) (input output : List ℕ) → ItemsTranscoded order limit n input [] [] output → IsTranscoded order limit input output
 normalised order limit n input output s =

@@ -1,13 +1,13 @@
 -- Pairs one after another, and maps of them.
-use Rattle.std.proofs.Common.{◌≡◌, ℕ, ◌+◌, ◌-◌, ◌≤◌, List, [], ◌∷◌, ◌++◌, length, take, drop, refl, sym, ap, ◌∙◌, subst, arith, append_assoc, append-nil, length-append, take_at, drop_at, Ordering, Less, false, true≢false, is_eq, IsPermutation}
+use Rattle.std.proofs.Common.{◌≡◌, ℕ, ◌+◌, ◌-◌, ◌≤◌, List, [], ◌∷◌, ◌++◌, length, refl, sym, ap, ◌∙◌, subst, arith, append_assoc, append-nil, length-append, Ordering, Less, false, true≢false, is_eq, IsPermutation}
 use Rattle.std.specs.List.{AllByRecursion, IsDistinct}
 use Rattle.std.proofs.lemmas.List.Sorted.{IsPermutation-sym}
 use Rattle.std.proofs.lemmas.Map.Keys.{IsDistinct-IsPermutation}
 use Rattle.cborn_model.specs.declared.heads.Width.{Width}
 use Rattle.cborn_model.specs.declared.heads.Size.{Size}
-use Rattle.cborn_model.specs.declared.heads.Size.TheVariants.{Fixed, Endless}
+use Rattle.cborn_model.specs.declared.heads.Size.TheVariants.{Fixed}
 use Rattle.cborn_model.specs.declared.heads.Major.TheVariants.{Map}
-use Rattle.cborn_model.specs.Heads.{Given, Unbounded, head, WidthFits, IsLeastHead}
+use Rattle.cborn_model.specs.Heads.{Given, head, WidthFits, IsLeastHead}
 use Rattle.cborn_model.specs.Tree.{Pairs, entries}
 use Rattle.cborn_model.specs.Spelled.{spelled_entries, FitsEntries}
 use Rattle.cborn_model.specs.Value.{Value, Couples, no_pairs, pair, pairs_of, dict}
@@ -16,19 +16,19 @@ use Rattle.cborn_model.specs.Meaning.{Means, EntriesMean}
 use Rattle.cborn_model.specs.Orders.{IsKeyOrder, Rising}
 use Rattle.cborn_model.proofs.Listed.Trees.{count_entries-entries}
 use Rattle.cborn_wire.specs.Parts.{Pair}
-use Rattle.cborn_wire.proofs.Parts.Pairs.{no_pair, entry_more, pairs_as, map_read, endless_map_read}
+use Rattle.cborn_wire.proofs.Parts.Pairs.{no_pair, entry_more, map_read}
 use Rattle.cborn_judge.proofs.Meaning.Meanings.{Short, left, entries_valid}
 use Rattle.cborn_det.specs.Det.{Det, DetPairs, Entry, joined, keys}
 use Rattle.cborn_det.specs.devices.Writing.{HasDistinctKeys}
-use Rattle.cborn_det.specs.Appending.{Appends, Replaces}
+use Rattle.cborn_det.specs.Appending.{Appends}
 use Rattle.cborn_det.proofs.Arranging.{Tied, tied_turned}
 use Rattle.cborn_det.proofs.Canon.{one_of_same}
 use Rattle.cborn_det.proofs.Room.{counted_pairs}
 use Rattle.cborn_det.proofs.Steps.{pairs_push}
 use Rattle.cborn_det.proofs.Rising.{rises_after, rising_tail}
 use Rattle.cborn_transcode.specs.declared.entries.Span.{Span}
-use Rattle.cborn_transcode.specs.Transcoding.{IsEncodedAs, ArePairsEncodedAs, ArePairsWritten, IsMapWritten, ItemTranscoded, PairsTranscoded, MapTranscoded, AreSpans}
-use Rattle.cborn_transcode.proofs.Encoding.{appends_behind, head_put}
+use Rattle.cborn_transcode.specs.Transcoding.{IsEncodedAs, ArePairsEncodedAs, ArePairsWritten, IsMapWritten, ItemTranscoded, PairsTranscoded, MapTranscoded}
+use Rattle.cborn_transcode.proofs.Encoding.{appends_behind}
 use Rattle.cborn_transcode.proofs.Keying.{spans_more, joined_more}
 
 -- ---- one pair more
@@ -87,7 +87,7 @@ module _ (order : List ℕ → List ℕ → Ordering) where
     apart [] h = tt
     apart (e ∷ es) h = (apart_all e es h.0, apart es h.1)
 
-    distinct_moved : (es fs : List Entry) → IsPermutation es fs → Rising order (keys fs) → HasDistinctKeys es
+    pub distinct_moved : (es fs : List Entry) → IsPermutation es fs → Rising order (keys fs) → HasDistinctKeys es
     distinct_moved es fs p r = apart es (IsDistinct-IsPermutation (Tied order laws) (tied_turned order laws) fs es (IsPermutation-sym es fs p) (distinct_rising fs r))
 
     new_key : (k : Value) (x : List ℕ) (ps : Couples) (es : List Entry) → IsProper k → Det order k x → HasProperPairs ps → DetPairs order ps es → AllByRecursion (λ (f : Entry). x ≡ f.0 → ⊥) es → IsNew k ps
@@ -107,7 +107,7 @@ module _ (order : List ℕ → List ℕ → Ordering) where
         let count = sym (count_entries-entries ns) ∙ sym (counted_pairs (entries ns) (pairs_of e.0) e.1) in
         (dict (pairs_of e.0), (pairs_of e.0, e.1, new, refl), (h, es, fs, subst (λ k. IsLeastHead 5 k h) count i, e.2, moved, rises, refl))
 
-    map_written : (s : Size) (ns : List Pair) (old mid new : List ℕ) → FitsEntries (entries ns) → Short (spelled_entries (entries ns)) → Appends (IsLeastHead 5 (length ns)) old mid → IsMapWritten order mid new ns → Appends (IsEncodedAs order (Pairs 0 s (entries ns))) old new
+    pub map_written : (s : Size) (ns : List Pair) (old mid new : List ℕ) → FitsEntries (entries ns) → Short (spelled_entries (entries ns)) → Appends (IsLeastHead 5 (length ns)) old mid → IsMapWritten order mid new ns → Appends (IsEncodedAs order (Pairs 0 s (entries ns))) old new
     map_written s ns old mid new f l a m = appends_behind old (joined m.arranged) a m.written (λ h. map_encoded s ns m.es m.arranged h f l m.encoded m.moved m.rises)
 
     pub map_done : {room n : ℕ} {input rest mid new : List ℕ} (old : List ℕ) (w : Width) → 1 ≤ room → Short input → WidthFits w n → Appends (IsLeastHead 5 n) old mid → MapTranscoded order (room - 1) n input rest mid new
@@ -115,22 +115,3 @@ module _ (order : List ℕ → List ℕ → Ordering) where
     map_done {rest = rest} {mid} {new} old w r l h a s =
         let short : Short (spelled_entries (entries s.nodes)) = left (spelled_entries (entries s.nodes)) rest (subst Short s.read l) in
         map_read 0 w r h s (map_written (Fixed w) s.nodes old mid new s.fits short (subst (λ k. Appends (IsLeastHead 5 k) old mid) (sym s.count) a) s.holds)
-
-    pub endless_map_done : {room n start : ℕ} {input after rest half new : List ℕ} (old : List ℕ) → 1 ≤ room → Short input → start ≡ length old → after ≡ 255 ∷ rest → MapTranscoded order (room - 1) n input after (old ++ 0 ∷ []) half → Replaces (IsLeastHead 5 n) start half new
-        → ItemTranscoded order room (head Map Unbounded ++ input) rest old new
-    endless_map_done {after = after} {new = new} old r l st e s h =
-        let m = s.holds in
-        let short : Short (spelled_entries (entries s.nodes)) = left (spelled_entries (entries s.nodes)) after (subst Short s.read l) in
-        endless_map_read 0 r e s (map_written Endless s.nodes old (old ++ h.0) new s.fits short (h.0, subst (λ k. IsLeastHead 5 k h.0) (sym s.count) h.1, refl)
-        (record { es = m.es; arranged = m.arranged; encoded = m.encoded; moved = m.moved; rises = m.rises; written = head_put old (joined m.arranged) st m.written h }))
-
--- the pairs, once their entries are so arranged that the keys rise
-pub arranged_map : (order : List ℕ → List ℕ → Ordering) {room n start : ℕ} {spans : List Span} {input rest half new : List ℕ} (old : List ℕ) → start ≡ length old → PairsTranscoded order room n spans input rest old half
-    → ((es : List Entry) → AreSpans start es spans → drop start half ≡ joined es → (fs : List Entry) × IsPermutation es fs × Rising order (keys fs) × (new ≡ take start half ++ joined fs))
-    → MapTranscoded order room n input rest old new
-arranged_map order {start = start} {spans} old st s f =
-    let es : List Entry = s.holds.es in
-    let front : take start _ ≡ old = ap (take start) s.holds.written ∙ take_at old (joined es) start (sym st) in
-    let behind : drop start _ ≡ joined es = ap (drop start) s.holds.written ∙ drop_at old (joined es) start (sym st) in
-    let a = f es (subst (λ (p : ℕ). AreSpans p es spans) (sym st) s.holds.laid) behind in
-    pairs_as s (record { es = es; arranged = a.0; encoded = s.holds.encoded; moved = a.1; rises = a.2; written = a.3 ∙ ap (λ l. l ++ joined a.0) front })

@@ -59,7 +59,7 @@ mutual
   all_mean-from (more t ts) p no_values h = absurd h
   all_mean-from (more t ts) p (value v vs) h = (means-from t p v h.0, all_mean-from ts (p + length (spelled t)) vs h.1)
 
-  entries_mean-from : (es : Entries) (p : ℕ) (ps : Couples) → EntriesMean es ps → EntriesMean (entries_from p es) ps
+  pub entries_mean-from : (es : Entries) (p : ℕ) (ps : Couples) → EntriesMean es ps → EntriesMean (entries_from p es) ps
   entries_mean-from no_entry p no_pairs h = tt
   entries_mean-from no_entry p (pair a b ps) h = absurd h
   entries_mean-from (entry k v es) p no_pairs h = absurd h

@@ -1,14 +1,12 @@
 -- Strings behind a head that was read, and integers over byte strings.
-use Rattle.std.proofs.Common.{◌≡◌, ℕ, ◌-◌, ◌≤◌, List, [], ◌∷◌, ◌++◌, length, take, drop, refl, sym, ap, ◌∙◌, subst, arith, append_assoc, append-nil, length-append, take_at, drop_at, Bool}
-use Rattle.std.specs.List.{flat_map}
+use Rattle.std.proofs.Common.{◌≡◌, ℕ, ◌≤◌, List, [], ◌∷◌, ◌++◌, length, take, drop, refl, sym, ap, ◌∙◌, subst, append_assoc, append-nil, take_at, drop_at, Bool}
 use Rattle.cborn_model.specs.Bytes.{AreBytes, IsShortest, big_endian}
 use Rattle.cborn_model.specs.declared.heads.Major.{Major}
 use Rattle.cborn_model.specs.declared.heads.Major.TheVariants.{ByteString}
 use Rattle.cborn_model.specs.declared.heads.Width.{Width}
 use Rattle.cborn_model.specs.declared.nodes.Chunk.{Chunk}
-use Rattle.cborn_model.specs.Heads.{code, Given, Unbounded, head, WidthFits, IsLeastHead}
+use Rattle.cborn_model.specs.Heads.{Given, Unbounded, head, WidthFits}
 use Rattle.cborn_model.specs.Meaning.{joined_chunks}
-use Rattle.cborn_model.specs.Spelled.{chunk_bytes}
 use Rattle.cborn_det.specs.Appending.{Appends}
 use Rattle.cborn_det.specs.Det.{IsInteger}
 use Rattle.cborn_wire.specs.declared.heads.Argument.TheVariants as arguments
@@ -16,8 +14,7 @@ use Rattle.cborn_wire.specs.declared.heads.Head.{Head}
 use Rattle.cborn_wire.specs.HeadReading.{major_at, IsHeadOf}
 use Rattle.cborn_wire.proofs.Parts.Strings.{string_front, bytes_read, chunk_read, no_chunk, chunk_more, byte_chunks_read}
 use Rattle.cborn_judge.proofs.FirstFlaw.Texts.{are_text}
-use Rattle.cborn_transcode.specs.Transcoding.{ContentTaken, ChunkTaken, ChunksTaken, LongStringTaken, BignumTaken}
-use Rattle.cborn_transcode.proofs.Encoding.{string_written}
+use Rattle.cborn_transcode.specs.Transcoding.{ContentTaken, ChunkTaken, ChunksTaken, BignumTaken}
 
 -- ---- chunks
 
@@ -27,7 +24,7 @@ chunk_taken old t i e f c = chunk_read 0 t i e f c.1 (c.2, c.3)
 pub chunks_none : (major : Major) (input old : List ℕ) → ChunksTaken major input input old old
 chunks_none major input old = no_chunk ((λ e. tt), sym (append-nil old))
 
-joined_more : (cs : List Chunk) (c : Chunk) → joined_chunks (cs ++ c ∷ []) ≡ joined_chunks cs ++ c.bytes
+pub joined_more : (cs : List Chunk) (c : Chunk) → joined_chunks (cs ++ c ∷ []) ≡ joined_chunks cs ++ c.bytes
 joined_more [] c = append-nil c.bytes
 joined_more (d ∷ cs) c = ap (λ l. d.bytes ++ l) (joined_more cs c) ∙ sym (append_assoc d.bytes (joined_chunks cs) c.bytes)
 
@@ -36,17 +33,6 @@ chunks_more old s c =
     let laid : List ℕ = joined_chunks s.chunks in
     let written = c.holds.1 ∙ ap (λ l. l ++ c.chunk.bytes) s.holds.1 ∙ append_assoc old laid c.chunk.bytes ∙ ap (λ l. old ++ l) (sym (joined_more s.chunks c.chunk)) in
     chunk_more s c ((λ e. are_text s.chunks c.chunk (s.holds.0 e) (c.holds.0 e)), written)
-
-pub long_string_taken : (major : Major) (n : ℕ) (old : List ℕ) {input after rest mid new : List ℕ} → Appends (IsLeastHead (code major) n) old mid → ChunksTaken major input after mid new → after ≡ 255 ∷ rest → n ≡ length new - length mid → LongStringTaken major input rest old new
-long_string_taken major n old {input} {after} {rest} {mid} {new} h s e l =
-    let joined : List ℕ = joined_chunks s.chunks in
-    let count : n ≡ length joined = omega (arith, l, ap length s.holds.1, length-append mid joined) in
-    record {
-      chunks = s.chunks;
-      read = s.read ∙ ap (λ z. flat_map (chunk_bytes major) s.chunks ++ z) e;
-      fits = s.fits;
-      holds = (s.holds.0, string_written (code major) n joined old mid new h count s.holds.1);
-    }
 
 -- ---- integers
 

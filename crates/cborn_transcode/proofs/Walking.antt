@@ -244,6 +244,12 @@ module _ (order : List ℕ → List ℕ → Ordering) {room : ℕ} where
       let same : drop (length x - len) x ≡ s.0 = ap (drop (length x - len)) whole ∙ drop_at front s.0 (length x - len) size in
       subst (ItemWalked order room (drop at x)) (sym same) s.2
 
+-- an item ends no earlier than it begins
+pub forward : (at end : ℕ) (x : List ℕ) → at ≤ length x → end ≤ length x → ((order : List ℕ → List ℕ → Ordering) (room : ℕ) → ItemWalked order room (drop at x) (drop end x)) → at ≤ end
+forward at end x a b s =
+    let k = s (λ y z. Equal) 0 in
+    omega (arith, ap length k.read, length-append (spelled k.node) (drop end x), length-drop at x, length-drop end x)
+
 pub leaf_within : (at len : ℕ) (x : List ℕ) → at ≤ length x → ((order : List ℕ → List ℕ → Ordering) (room : ℕ) → Leaves (ItemWalked order room (drop at x)) len) → len ≤ length x
 leaf_within at len x a s =
     let behind : len ≤ length (drop at x) = item_within (s (λ y z. Equal) 0) in

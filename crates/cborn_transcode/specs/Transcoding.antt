@@ -1,16 +1,17 @@
 -- What one pass reads at the front of its input, and writes at the end of its buffer.
-use Rattle.std.specs.Prelude.{◌≡◌, ℕ, ◌+◌, List, [], ◌∷◌, ◌++◌, map, length, Bool, IsUtf8, IsPermutation, take, drop}
+use Rattle.std.specs.Prelude.{◌≡◌, ℕ, ◌+◌, ◌<◌, ◌≤◌, List, [], ◌∷◌, ◌++◌, map, length, Bool, IsUtf8, IsPermutation, take, drop}
 use Rattle.std.specs.declared.cmp.Ordering.{Ordering}
-use Rattle.std.specs.List.{AllZip}
+use Rattle.std.specs.List.{AllZip, AllByRecursion}
 use Rattle.cborn_model.specs.declared.heads.Major.{Major}
 use Rattle.cborn_model.specs.declared.heads.Major.TheVariants.{Unsigned, Negative, TextString}
-use Rattle.cborn_model.specs.Heads.{code, least, IsLeastHead}
-use Rattle.cborn_model.specs.Tree.{Tree, trees, entries, Simple}
-use Rattle.cborn_model.specs.Spelled.{Wellformed, Fits}
-use Rattle.cborn_model.specs.Value.{Value, integer, pairs_of}
+use Rattle.cborn_model.specs.Heads.{least}
+use Rattle.cborn_model.specs.Tree.{Tree, trees, entries}
+use Rattle.cborn_model.specs.Spelled.{Wellformed}
+use Rattle.cborn_model.specs.Valid.{HasNewKeys}
+use Rattle.cborn_model.specs.Value.{Value, Couples, integer, pairs_of}
 use Rattle.cborn_model.specs.Meaning.{Means, EntriesMean, ChunksAreText, IsBignum, joined_chunks}
 use Rattle.cborn_model.specs.Orders.{Rising}
-use Rattle.cborn_det.specs.Det.{Det, DetSeq, DetPairs, IsString, IsInteger, Entry, joined, keys}
+use Rattle.cborn_det.specs.Det.{Det, DetSeq, DetPairs, IsInteger, Entry, joined, keys}
 use Rattle.cborn_det.specs.Appending.{Appends}
 use Rattle.cborn_transcode.specs.declared.entries.Span.{Span}
 use Rattle.cborn_wire.specs.declared.heads.Argument.{Argument}
@@ -45,6 +46,13 @@ AreSpans p [] (s ∷ ss) = ⊥
 AreSpans p (e ∷ es) [] = ⊥
 AreSpans p (e ∷ es) (s ∷ ss) = (s.start ≡ p) × (s.key_len ≡ length e.0) × (s.value_len ≡ length e.1) × AreSpans (p + length e.0 + length e.1) es ss
 
+-- entries with keys that aren't empty stand one after another from the start to the end of the bytes, where the spans say
+pub record AreLaid (start : ℕ) (es : List Entry) (spans : List Span) (b : List ℕ) : Type 0 where
+  pub inside : start ≤ length b
+  pub laid : AreSpans start es spans
+  pub some : AllByRecursion (λ (e : Entry). 0 < length e.0) es
+  pub read : drop start b ≡ joined es
+
 -- ---- parts of the input, and what is written of them: what was old becomes new
 
 -- a string of the major type may hold this
@@ -55,10 +63,6 @@ IsContent major content = major ≡ TextString → IsUtf8 content
 abbrev pub ContentTaken : Major → ℕ → List ℕ → List ℕ → List ℕ → List ℕ → Type 0
 ContentTaken major n input rest old new = (content : List ℕ) × StringRead n input content rest × IsContent major content × (new ≡ old ++ content)
 
--- the content of a string of n bytes; the string is written
-abbrev pub StringTaken : Major → ℕ → List ℕ → List ℕ → List ℕ → List ℕ → Type 0
-StringTaken major n input rest old new = (content : List ℕ) × StringRead n input content rest × IsContent major content × Appends (IsString (code major) content) old new
-
 -- a chunk, whose content is copied
 abbrev pub ChunkTaken : Major → List ℕ → List ℕ → List ℕ → List ℕ → Type 0
 ChunkTaken major input rest old new = ChunkRead (λ c. IsContent major c.bytes × (new ≡ old ++ c.bytes)) major input rest
@@ -67,17 +71,9 @@ ChunkTaken major input rest old new = ChunkRead (λ c. IsContent major c.bytes �
 abbrev pub ChunksTaken : Major → List ℕ → List ℕ → List ℕ → List ℕ → Type 0
 ChunksTaken major input rest old new = ChunksRead (λ cs. (major ≡ TextString → ChunksAreText cs) × (new ≡ old ++ joined_chunks cs)) major input rest
 
--- the chunks of a string up to its break; the string is written
-abbrev pub LongStringTaken : Major → List ℕ → List ℕ → List ℕ → List ℕ → Type 0
-LongStringTaken major input rest old new = ChunksRead (λ cs. (major ≡ TextString → ChunksAreText cs) × Appends (IsString (code major) (joined_chunks cs)) old new) major input (255 ∷ rest)
-
 -- the content of tag 2 or 3; the integer is written
 abbrev pub BignumTaken : Bool → List ℕ → List ℕ → List ℕ → List ℕ → Type 0
 BignumTaken negative input rest old new = NodeRead (λ t. (m : List ℕ) × IsBignum negative t (integer negative m) × Appends (IsInteger negative m) old new) 0 input rest
-
--- a simple value's head, which is written
-abbrev pub SimpleTaken : Argument → List ℕ → List ℕ → Type 0
-SimpleTaken a old new = (n : ℕ) × (a ≡ arguments.Given (least n) n) × Fits (Simple 0 n) × Appends (IsLeastHead 7 n) old new
 
 -- of pairs their entries, which are written where the spans say
 pub record ArePairsWritten (order : List ℕ → List ℕ → Ordering) (spans : List Span) (old new : List ℕ) (ns : List Pair) : Type 0 where
@@ -94,6 +90,10 @@ pub record IsMapWritten (order : List ℕ → List ℕ → Ordering) (old new : 
   pub moved : IsPermutation es arranged
   pub rises : Rising order (keys arranged)
   pub written : new ≡ old ++ joined arranged
+
+-- n pairs one after another, which mean the pairs of a map: no two of their keys are the same
+abbrev pub IsMapRead : ℕ → ℕ → List ℕ → List ℕ → Type 0
+IsMapRead = PairsRead (λ ns. (ps : Couples) × EntriesMean (entries ns) ps × HasNewKeys ps)
 
 module _ (order : List ℕ → List ℕ → Ordering) (room : ℕ) where
   -- a node no deeper than the room; the encoding of what it means is written
@@ -123,6 +123,18 @@ pub record IsTranscoded (order : List ℕ → List ℕ → Ordering) (limit : �
   pub read : Wellformed limit (trees nodes) input
   pub meant : AllZip Means nodes items
   pub encoded : DetSeq order items output
+
+-- the node means no item
+abbrev pub MeansNothing : Tree → Type 0
+MeansNothing t = (item : Value) → Means t item → ⊥
+
+-- whatever node, no deeper than the room, stands at the front, it means no item
+unfoldable pub HoldsNoItem : (room : ℕ) (input : List ℕ) → Type 0
+HoldsNoItem room input = (rest : List ℕ) (t : NodeRead (λ _. Unit {0}) room input rest) → MeansNothing t.node
+
+-- whatever nodes, none deeper than the limit, the input spells, one of them means no item
+unfoldable pub HoldsNoItems : (limit : ℕ) (input : List ℕ) → Type 0
+HoldsNoItems limit input = (nodes : List Tree) (items : List Value) → Wellformed limit (trees nodes) input → AllZip Means nodes items → ⊥
 
 -- the major type of an integer
 abbrev pub IsIntegral : Major → Type 0

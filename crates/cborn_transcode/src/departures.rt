@@ -183,7 +183,9 @@ fn is_loose<O: KeyOrder>(alloc: Global, bytes: &[u8]) -> Option<bool>
     ensures { IfSome result (TellsLoose bytes.now) }
 {
     let mut out = Vec::new(alloc);
-    put_item::<O, Nothing>(alloc, &mut Nothing, 0, bytes, &mut out)?;
+    let Ok(Some(_rest)) = put_item::<O, Nothing>(alloc, &mut Nothing, 0, bytes, &mut out) else {
+        return None;
+    };
     let (_, _, content) = read_least(&out)?;
     Some(loose_defect(0, content).is_some())
 }
@@ -237,5 +239,8 @@ pub(crate) fn settle<O: KeyOrder>(asked: &mut Asked<O>) -> bool {
         return false;
     };
     let mut out = Vec::new(alloc);
-    put_key::<O, WaitingKeys<O>>(alloc, keys, 1024, bytes, &mut out).is_some()
+    matches!(
+        put_key::<O, WaitingKeys<O>>(alloc, keys, 1024, bytes, &mut out),
+        Ok(true)
+    )
 }

@@ -1,6 +1,6 @@
 //! The keys of maps that a pass is inside of.
 
-use std::alloc::Global;
+use std::alloc::{AllocError, Global};
 
 /// The keys of maps that a pass is inside of. Behind a pass that gave no answer, these are those that
 /// hold the place where it gave up; tests hold that, and no clause does.
@@ -47,9 +47,13 @@ impl OpenKeys {
         false
     }
 
-    /// The key with `left` bytes from there on begins. None: memory was refused.
-    pub(crate) fn push(&mut self, left: usize) -> Option<()> {
-        self.lefts.push(left).ok()
+    /// The key with `left` bytes from there on begins.
+    ///
+    /// # Errors
+    /// Memory was refused.
+    pub(crate) fn push(&mut self, left: usize) -> Result<(), AllocError> {
+        self.lefts.push(left)?;
+        Ok(())
     }
 
     /// The key that was entered last ends.

@@ -1,75 +1,111 @@
 //! A whole input.
 
-ghost use Rattle.std.specs.Prelude.{ℕ, ◌≤◌, [], length, take, IfSome, OnSome};
-ghost use Rattle.cborn_transcode.specs.Transcoding.{ItemTranscoded, ItemsTranscoded, IsTranscoded};
+ghost use Rattle.std.specs.Prelude.{ℕ, ◌≤◌, [], length, take, drop, IfOk, MatchOption};
+ghost use Rattle.cborn_transcode.specs.Transcoding.{ItemTranscoded, ItemsTranscoded, IsTranscoded, HoldsNoItem, HoldsNoItems};
 
+use crate::encodings::Encoder;
 use crate::items::put_item;
 use crate::noting::Nothing;
 use crate::open_keys::OpenKeys;
+use cborn_descent::{Descent, descend};
 use cborn_model::{KeyOrder, Limit};
-use std::alloc::Global;
+use cborn_wire::last;
+use std::alloc::{AllocError, Global};
 
 /// The deterministic encodings of the items that the bytes hold, one after another, the keys of
-/// maps in the order `O` (RFC 8949 section 4.2). None promises nothing: the bytes hold no items, or
-/// memory was refused.
-pub fn transcode<O: KeyOrder>(alloc: Global, limit: Limit, bytes: &[u8]) -> Option<Vec<u8>>
-    ensures { IfSome result (λ out. IsTranscoded O.order limit bytes.now out.items) }
+/// maps in the order `O` (RFC 8949 section 4.2). None where the bytes hold no items: they aren't
+/// well-formed within the limit (RFC 8949 section 3), or an item in them isn't valid (section 5.3).
+///
+/// # Errors
+/// A growth of the memory was refused.
+pub fn transcode<O: KeyOrder>(
+    alloc: Global,
+    limit: Limit,
+    bytes: &[u8],
+) -> Result<Option<Vec<u8>>, AllocError>
+    ensures { IfOk result (λ made. MatchOption made (HoldsNoItems limit bytes.now) (λ out. IsTranscoded O.order limit bytes.now out.items)) }
 {
     transcode_after::<O>(alloc, limit, 0, bytes)
 }
 
 /// The deterministic encodings of the items that the bytes hold, one after another, where the first
-/// `front` bytes are these already: they are copied. None promises nothing, as of `transcode`.
+/// `front` bytes are these already: they are copied. The keys of maps are in the order `O` (RFC 8949
+/// section 4.2). None where the bytes hold no items: they aren't well-formed within the limit (RFC
+/// 8949 section 3), or an item in them isn't valid (section 5.3).
+///
+/// # Errors
+/// A growth of the memory was refused.
 pub fn transcode_after<O: KeyOrder>(
     alloc: Global,
     limit: Limit,
     front: usize,
     bytes: &[u8],
-) -> Option<Vec<u8>>
+) -> Result<Option<Vec<u8>>, AllocError>
     requires within { front ≤ length bytes.now }
     requires own { IsTranscoded O.order limit (take front bytes.now) (take front bytes.now) }
-    ensures { IfSome result (λ out. IsTranscoded O.order limit bytes.now out.items) }
+    ensures { IfOk result (λ made. MatchOption made (HoldsNoItems limit bytes.now) (λ out. IsTranscoded O.order limit bytes.now out.items)) }
 {
-    let mut out = Vec::with_capacity(alloc, bytes.len()).ok()?;
-    let (own, rest) = bytes.split_at(front);
-    out.extend_from_slice(own).ok()?;
-    put_all::<O>(alloc, limit.get(), rest, &mut out)?;
-    Some(out)
+    put_all::<O>(alloc, limit.get(), front, bytes)
 }
 
 /// Appends the deterministic encoding of the item at the front of the bytes, which is no deeper than
 /// `room`, the keys of maps in the order `O` (RFC 8949 section 4.2); answers what follows it, which
-/// isn't looked at. None promises nothing, nor of what `out` then holds: no item stands there, or
-/// memory was refused. Then `open` has the keys
-/// that hold the place where it gave up.
+/// isn't looked at. None where no such item stands there. Then, and after an error, nothing is
+/// promised of what `out` holds, and `open` has the keys that hold the place where it gave up.
+///
+/// # Errors
+/// A growth of the memory was refused.
 pub fn transcode_item<'a, O: KeyOrder>(
     alloc: Global,
     open: &mut OpenKeys,
     room: u64,
     bytes: &'a [u8],
     out: &mut Vec<u8>,
-) -> Option<&'a [u8]>
+) -> Result<Option<&'a [u8]>, AllocError>
     requires { room ≤ 1024 }
-    ensures { IfSome result (λ rest. ItemTranscoded O.order room bytes.now rest.now out.old.items out.new.items) }
+    ensures { IfOk result (λ found. MatchOption found (HoldsNoItem room bytes.now) (λ rest. ItemTranscoded O.order room bytes.now rest.now out.old.items out.new.items)) }
 {
     put_item::<O, OpenKeys>(alloc, open, room, bytes, out)
 }
 
-/// Appends the encodings of the items, none deeper than `room`, up to the end.
-fn put_all<O: KeyOrder>(alloc: Global, room: u64, bytes: &[u8], out: &mut Vec<u8>) -> Option<()>
-    requires { room ≤ 1024 }
-    ensures { OnSome result ((n : ℕ) × ItemsTranscoded O.order room n bytes.now [] out.old.items out.new.items) }
+/// The first `front` bytes as they are, and after them the encodings of the items that the others
+/// hold, none deeper than `room`. None where these hold no such items.
+///
+/// # Errors
+/// A growth of the memory was refused.
+fn put_all<O: KeyOrder>(
+    alloc: Global,
+    room: u64,
+    front: usize,
+    bytes: &[u8],
+) -> Result<Option<Vec<u8>>, AllocError>
+    requires room { room ≤ 1024 }
+    requires within { front ≤ length bytes.now }
+    ensures { IfOk result (λ made. MatchOption made (HoldsNoItems room (drop front bytes.now)) (λ out. (n : ℕ) × ItemsTranscoded O.order room n (drop front bytes.now) [] (take front bytes.now) out.items)) }
 {
+    let mut out = Vec::with_capacity(alloc, bytes.len())?;
+    let (own, others) = bytes.split_at(front);
+    out.extend_from_slice(own)?;
     let mut noting = Nothing;
-    let mut rest = bytes;
-    'items: for _ in 0..bytes.len() {
-        if rest.is_empty() {
-            break;
+    let mut encoder: Encoder<O, Nothing> = Encoder::new(alloc, &mut noting, out);
+    let mut rest = others;
+    'items: while !rest.is_empty() {
+        match descend(&mut encoder, room, rest) {
+            Descent::Taken(left) => {
+                let Some(after) = last(rest, left) else {
+                    return Ok(None);
+                };
+                rest = after;
+            }
+            Descent::Malformed => return Ok(None),
+            Descent::Stopped => {
+                let Some(e) = encoder.refused else {
+                    return Ok(None);
+                };
+                return Err(e);
+            }
         }
-        rest = put_item::<O, Nothing>(alloc, &mut noting, room, rest, out)?;
     }
-    if !rest.is_empty() {
-        return None;
-    }
-    Some(())
+    let Encoder { out, .. } = encoder;
+    Ok(Some(out))
 }

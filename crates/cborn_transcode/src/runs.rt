@@ -1,6 +1,6 @@
 //! Runs of items that are deterministic as they stand.
 
-ghost use Rattle.std.specs.Prelude.{◌<◌, ◌≤◌, ℕ, List, length, drop, IfSome, IsTrue};
+ghost use Rattle.std.specs.Prelude.{◌<◌, ◌≤◌, ℕ, List, length, drop, IfOk, IsTrue};
 ghost use Rattle.std.specs.declared.cmp.Ordering.{Ordering};
 ghost use Rattle.cborn_transcode.specs.Transcoding.{ItemsTranscoded, IsIntegral, IsLeast};
 ghost use Rattle.cborn_transcode.specs.shared.Walking.{ItemWalked, ItemsWalked};
@@ -8,18 +8,26 @@ ghost use Rattle.cborn_model.specs.Heads.{major_at};
 
 use cborn_model::{Major, shortest};
 use cborn_wire::{Argument, Head, HeadRead, read_head};
+use std::alloc::AllocError;
 
-/// Appends the integers with shortest heads at the front of the bytes, at most `most`; answers what
-/// follows them, and how many they are.
+/// Appends the integers with shortest heads at the front of the bytes, at most `most`; answers how
+/// many bytes they have, and how many they are.
+///
+/// # Errors
+/// Memory was refused.
 #[inline(always)]
-pub(crate) fn put_run<'a>(most: u64, bytes: &'a [u8], out: &mut Vec<u8>) -> Option<(&'a [u8], u64)>
-    ensures run { IfSome result (λ r. (order : List ℕ → List ℕ → Ordering) → ItemsTranscoded order 0 r.1 bytes.now r.0.now out.old.items out.new.items) }
-    ensures most { IfSome result (λ r. r.1 ≤ most) }
+pub(crate) fn put_run(
+    most: u64,
+    bytes: &[u8],
+    out: &mut Vec<u8>,
+) -> Result<(usize, u64), AllocError>
+    ensures run { IfOk result (λ r. (order : List ℕ → List ℕ → Ordering) → ItemsTranscoded order 0 r.1 bytes.now (drop r.0 bytes.now) out.old.items out.new.items) }
+    ensures within { IfOk result (λ r. (r.0 ≤ length bytes.now) × (r.1 ≤ most)) }
 {
     let (len, count) = int_run(bytes, most);
-    let (run, rest) = bytes.split_at(len);
-    out.extend_from_slice(run).ok()?;
-    Some((rest, count))
+    let (run, _) = bytes.split_at(len);
+    out.extend_from_slice(run)?;
+    Ok((len, count))
 }
 
 /// The length of the integers with shortest heads at the front of the bytes, at most `most`, and

@@ -6,7 +6,7 @@ ghost use Rattle.cborn_transcode.specs.devices.Departing.{KeyIs};
 
 use crate::settled_keys::SettledKey;
 use cborn_model::KeyOrder;
-use std::alloc::Global;
+use std::alloc::{AllocError, Global};
 
 /// Keys that hold a departure, and wait until it is known whether they are above the one before: that
 /// is settled of all of them while the outermost is encoded.
@@ -47,18 +47,27 @@ impl<'k, O: KeyOrder> WaitingKeys<'k, O> {
         Some(bytes)
     }
 
-    /// Settles the key at the front of `bytes`, with `left` bytes behind it and this encoding, if it is
-    /// the next that waits. None: memory was refused.
-    pub(crate) fn settle(&mut self, bytes: &[u8], left: usize, encoding: &[u8]) -> Option<()>
+    /// Settles the key at the front of `bytes`, with `left` bytes after it and this encoding, if it is
+    /// the next that waits.
+    ///
+    /// # Errors
+    /// Memory was refused.
+    pub(crate) fn settle(
+        &mut self,
+        bytes: &[u8],
+        left: usize,
+        encoding: &[u8],
+    ) -> Result<(), AllocError>
         requires { ItemLeaves O.order 1024 bytes.now left [] encoding.now }
     {
         if let Some((waiting, before)) = self.waiting.get(self.settled.len()) {
             if waiting.len() == bytes.len() {
-                let key = SettledKey::new(waiting, before, bytes, left, encoding)?;
-                self.settled.push(key).ok()?;
+                if let Some(key) = SettledKey::new(waiting, before, bytes, left, encoding) {
+                    self.settled.push(key)?;
+                }
             }
         }
-        Some(())
+        Ok(())
     }
 
     /// Whether the key at the front of `bytes` is above the one before. None promises nothing.

@@ -1,4 +1,4 @@
-use Rattle.std.proofs.Common.{◌≢◌, ◌+◌, ℕ, List, refl, sym, ap, ◌∙◌, subst, arith, inl, inr}
+use Rattle.std.proofs.Common.{◌≢◌, ◌+◌, ◌-◌, ℕ, List, refl, sym, ap, ◌∙◌, subst, arith, inl, inr}
 use Rattle.std.proofs.lemmas.List.{take_rest}
 use Rattle.cborn_model.specs.declared.heads.Size.TheVariants.{Fixed, Endless}
 use Rattle.cborn_model.specs.Heads.{Given, Unbounded, WidthFits}
@@ -12,7 +12,7 @@ use Rattle.cborn_descent.proofs.Heads.{head_never, endless_never, by_nots, simpl
 use Rattle.cborn_descent.proofs.Onlies.{array_deep, array_short, endless_array_deep, tag_deep, always_only, leaf, tag_descended, items_always, items_next, array_descended, endless_descended, array_closed, items_run, endless_all}
 use Rattle.cborn_wire.proofs.Parts.Pairs.{pair_read, pair_more, endless_map_read}
 use Rattle.cborn_descent.proofs.Pairs.{map_deep, map_short, endless_map_deep}
-use Rattle.cborn_descent.proofs.Maps.{map_closed, map_descended, endless_map_descended, endless_map_all, pairs_always, pairs_next, pair_last, pair_always, key_stops, value_stops, none_ends, pair_some}
+use Rattle.cborn_descent.proofs.Maps.{met, spellable, map_blamed, endless_map_blamed, map_closed, map_descended, endless_map_descended, endless_map_all, pairs_always, pairs_next, pair_last, pair_always, key_stops, value_stops, none_ends, pair_some}
 use Rattle.cborn_descent.proofs.items.+descended.Goals as goal
 
 pub take_array-returns-then-room-eq0 : goal.take_array-returns-then-room-eq0
@@ -29,8 +29,20 @@ take_array-returns-in-Some-close_array g t c =
       c.in-Ok.rest.now,
       refl,
       array_closed c.args.room c.args.width c.args.n c.in-Ok.count c.args.bytes.now c.in-Ok.rest.now (omega arith) c.requires.fits r.0 r.1
-          (λ ts p l e. c.in-Some-close_array.ensures.taken c.args.sink.now (Fixed c.args.width) ts l (subst (WidthFits c.args.width) (sym e) c.requires.fits)
+          (λ ts p l e. c.in-Some-close_array.ensures.taken c.args.sink.now (Fixed c.args.width) ts refl l (subst (WidthFits c.args.width) (sym e) c.requires.fits)
           (subst (λ (k : ℕ). g.S.Sink.in_array c.args.sink.now c.take_items.new.sink c.take_items.new.begun (Given c.args.width k) ts) (sym e) p)),
+    )
+
+pub take_array-close_array-requires : goal.take_array-close_array-requires
+take_array-close_array-requires g t c =
+    let r = c.in-Ok.ensures c.args.sink.now (Given c.args.width c.args.n) c.in-Some.ensures.opened in
+    let e = met c.in-Ok.count c.args.n r.1 in (
+      c.args.sink.now,
+      Fixed c.args.width,
+      r.0.nodes,
+      refl,
+      r.0.count,
+      subst (λ (k : ℕ). g.S.Sink.in_array c.args.sink.now c.take_items.new.sink c.take_items.new.begun (Given c.args.width k) r.0.nodes) (sym e) r.0.holds,
     )
 
 pub take_array-returns-in-None : goal.take_array-returns-in-None
@@ -60,8 +72,13 @@ take_endless_array-returns-in-Some-close_array g t c =
       c.in-Some-behind_break.after.now,
       refl,
       endless_array_read 0 (omega arith) c.in-Some-behind_break.ensures r.0
-          (c.in-Some-close_array.ensures.taken c.args.sink.now Endless r.0.nodes r.0.count tt r.0.holds),
+          (c.in-Some-close_array.ensures.taken c.args.sink.now Endless r.0.nodes refl r.0.count tt r.0.holds),
     )
+
+pub take_endless_array-close_array-requires : goal.take_endless_array-close_array-requires
+take_endless_array-close_array-requires g t c =
+    let r = c.in-Ok.ensures c.args.sink.now Unbounded c.in-Some.ensures.opened in
+    (c.args.sink.now, Endless, r.0.nodes, refl, r.0.count, r.0.holds)
 
 pub take_endless_array-returns-in-None : goal.take_endless_array-returns-in-None
 take_endless_array-returns-in-None g t c =
@@ -208,14 +225,29 @@ take_map-returns-in-Some g t c =
     let r = c.in-Ok.ensures c.args.sink.now (Given c.args.width c.args.n) c.in-Inside.ensures in (
       c.in-Ok.rest.now,
       refl,
-      map_closed c.args.room c.args.width c.args.n c.in-Ok.count c.args.bytes.now c.in-Ok.rest.now (omega arith) c.requires.fits r.0 r.1
-          (λ ts p l e. c.in-Some.ensures.taken c.args.sink.now (Fixed c.args.width) ts l (subst (WidthFits c.args.width) (sym e) c.requires.fits)
+      map_closed c.args.room c.args.width c.args.n c.in-Ok.count c.args.bytes.now c.in-Ok.rest.now (omega arith) c.requires.fits (omega arith) r.0 r.1
+          (λ ts p l spells e. c.in-Some.ensures.taken c.args.sink.now (Fixed c.args.width) ts refl l (subst (WidthFits c.args.width) (sym e) c.requires.fits) spells
           (subst (λ (k : ℕ). g.S.Sink.in_map c.args.sink.now c.take_pairs.new.sink c.take_pairs.new.begun (Given c.args.width k) ts) (sym e) p)),
+    )
+
+pub take_map-close_map-requires : goal.take_map-close_map-requires
+take_map-close_map-requires g t c =
+    let r = c.in-Ok.ensures c.args.sink.now (Given c.args.width c.args.n) c.in-Inside.ensures in
+    let e = met c.in-Ok.count c.args.n r.1 in (
+      c.args.sink.now,
+      Fixed c.args.width,
+      r.0.nodes,
+      refl,
+      r.0.count,
+      subst (λ (k : ℕ). g.S.Sink.in_map c.args.sink.now c.take_pairs.new.sink c.take_pairs.new.begun (Given c.args.width k) r.0.nodes) (sym e) r.0.holds,
     )
 
 pub take_map-returns-in-None : goal.take_map-returns-in-None
 take_map-returns-in-None g t c =
-    always_only (g.S.Sink.blames c.close_map.new.self) c.args.room _ (c.close_map.ensures.stopped c.in-None.is)
+    let r = c.in-Ok.ensures c.args.sink.now (Given c.args.width c.args.n) c.in-Inside.ensures in
+    map_blamed (g.S.Sink.blames c.close_map.new.self) c.args.room c.args.width c.args.n c.in-Ok.count c.args.bytes.now c.in-Ok.rest.now c.requires.fits r.0 r.1
+    (λ e. c.close_map.ensures.stopped c.in-None.is c.args.sink.now (Fixed c.args.width) r.0.nodes r.0.count (spellable (c.args.room - 1) c.in-Ok.count c.args.bytes.now c.in-Ok.rest.now (omega arith) r.0)
+    (subst (λ (k : ℕ). g.S.Sink.in_map c.args.sink.now c.take_pairs.new.sink c.take_pairs.new.begun (Given c.args.width k) r.0.nodes) (sym e) r.0.holds))
 
 pub take_map-returns-in-Err : goal.take_map-returns-in-Err
 take_map-returns-in-Err g t c =
@@ -240,12 +272,19 @@ take_endless_map-returns-in-Some-close_map g t c =
       c.in-Some-behind_break.after.now,
       refl,
       endless_map_read 0 (omega arith) c.in-Some-behind_break.ensures r.0
-          (c.in-Some-close_map.ensures.taken c.args.sink.now Endless r.0.nodes r.0.count tt r.0.holds),
+          (c.in-Some-close_map.ensures.taken c.args.sink.now Endless r.0.nodes refl r.0.count tt (spellable (c.args.room - 1) c.in-Ok.count c.args.bytes.now c.in-Ok.rest.now (omega arith) r.0) r.0.holds),
     )
+
+pub take_endless_map-close_map-requires : goal.take_endless_map-close_map-requires
+take_endless_map-close_map-requires g t c =
+    let r = c.in-Ok.ensures c.args.sink.now Unbounded c.in-Some.ensures.opened in
+    (c.args.sink.now, Endless, r.0.nodes, refl, r.0.count, r.0.holds)
 
 pub take_endless_map-returns-in-None : goal.take_endless_map-returns-in-None
 take_endless_map-returns-in-None g t c =
-    always_only (g.S.Sink.blames c.close_map.new.self) c.args.room _ (c.close_map.ensures.stopped c.in-None.is)
+    let r = c.in-Ok.ensures c.args.sink.now Unbounded c.in-Some.ensures.opened in
+    endless_map_blamed (g.S.Sink.blames c.close_map.new.self) c.args.room c.in-Ok.count c.args.bytes.now c.in-Ok.rest.now _ r.0 c.in-Some-behind_break.ensures
+    (c.close_map.ensures.stopped c.in-None.is c.args.sink.now Endless r.0.nodes r.0.count (spellable (c.args.room - 1) c.in-Ok.count c.args.bytes.now c.in-Ok.rest.now (omega arith) r.0) r.0.holds)
 
 pub take_endless_map-returns-in-Err : goal.take_endless_map-returns-in-Err
 take_endless_map-returns-in-Err g t c =
@@ -278,6 +317,18 @@ take_pairs-pairs-preserved g t c =
           pair_more s y y.holds,
       omega (arith, more, c.pairs.invariant.1),
     )
+
+pub take_pair-before_value-requires : goal.take_pair-before_value-requires
+take_pair-before_value-requires g t c =
+    let begun = c.requires.begun in
+    (begun.0, c.args.sink.now, begun.1, begun.2, begun.3, (c.args.room, c.requires.room, c.in-Taken.ensures))
+
+pub take_pair-after_value-requires : goal.take_pair-after_value-requires
+take_pair-after_value-requires g t c =
+    let begun = c.requires.begun in
+    let k = node_last c.in-Taken.ensures c.in-Some-last.ensures.found in
+    let v = c.in-Taken-take_node.ensures in
+    (begun.0, c.before_value.new.self, begun.1, begun.2, k.node, v.2.node, c.in-Some.ensures.taken begun.0 c.args.sink.now begun.1 begun.2 k.node begun.3 k.holds, v.2.holds)
 
 pub take_pair-returns-in_default-clause-taken : goal.take_pair-returns-in_default-clause-taken
 take_pair-returns-in_default-clause-taken g t c a n ps h =

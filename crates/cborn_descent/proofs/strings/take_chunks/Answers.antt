@@ -30,3 +30,8 @@ chunks-preserved g c =
           chunk_more s y (omega (arith, length-append s.chunks (y.chunk ∷ []), s.holds.0), y.holds),
       omega (arith, less, c.chunks.invariant.1),
     )
+
+pub close_chunks-requires : goal.close_chunks-requires
+close_chunks-requires g c =
+    let s = c.chunks.invariant.0 c.args.sink.now c.in-Some.ensures.opened in
+    (c.args.sink.now, s.chunks, s.holds.0, s.holds.1)

@@ -1,6 +1,7 @@
 use Rattle.std.proofs.Common.{rules, ◌≡◌, ◌≤◌, ◌∙◌, ℕ, List, length, take, subst, sym}
 use Rattle.cborn_transcode.specs.Transcoding.{IsTranscoded}
 use Rattle.cborn_transcode.proofs.Fronting.{whole_front}
+use Rattle.cborn_transcode.proofs.Outcomes.{of_some}
 use Rattle.cborn_engine.proofs.Answers.Noted.{encoded}
 use Rattle.cborn_engine.proofs.encodings.encode_text.Goals as goal
 
@@ -29,12 +30,12 @@ transcode_after-requires-clause-own g c =
     let same : c.deref.result.now ≡ c.deref-2.result.now = c.deref.ensures.value ∙ sym c.deref-2.ensures.value in
     subst (λ (x : List ℕ). IsTranscoded g.O.KeyOrder.order c.args.limit (take n x) (take n x)) same c.deterministic_front-front.ensures.front.1
 
-pub returns-in-Some-transcode_after-clause-answers : goal.returns-in-Some-transcode_after-clause-answers
-returns-in-Some-transcode_after-clause-answers g c within =
+pub returns-in-Some-2-clause-answers : goal.returns-in-Some-2-clause-answers
+returns-in-Some-2-clause-answers g c within =
     let order = g.O.KeyOrder.order in
     let read = c.in-Some in
-    let answer = c.in-Some-transcode_after.encodings.items in (
+    let answer = c.in-Some-2.encodings.items in (
       within,
       encoded c.args.profile c.args.limit c.args.input.now read.bytes.items read.ensures.0 read.ensures.1 order answer
-          (subst (λ (x : List ℕ). IsTranscoded order c.args.limit x answer) c.deref-2.ensures.value c.in-Some-transcode_after.ensures) within,
+          (subst (λ (x : List ℕ). IsTranscoded order c.args.limit x answer) c.deref-2.ensures.value (of_some _ _ c.in_ok-encodings.field-0 c.in-Some-2.encodings c.in-Some-2.is c.in_ok-encodings.ensures)) within,
     )

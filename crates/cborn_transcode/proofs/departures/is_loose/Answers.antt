@@ -7,6 +7,7 @@ use Rattle.cborn_judge.specs.declared.defects.Defect.{Defect}
 use Rattle.cborn_judge.specs.declared.defects.DefectReason.TheVariants.{LooseBignum}
 use Rattle.cborn_transcode.specs.Transcoding.{ItemTranscoded}
 use Rattle.cborn_transcode.specs.shared.Walking.{LeastHeadRead}
+use Rattle.cborn_transcode.proofs.Outcomes.{of_some}
 use Rattle.cborn_transcode.proofs.Tagging.{content_is}
 use Rattle.cborn_transcode.proofs.departures.is_loose.Goals as goal
 
@@ -18,6 +19,6 @@ pub returns : goal.returns
 returns g c total t rest b s is =
     let order = g.O.KeyOrder.order in
     let read : LeastHeadRead c.in_ok-content.field-0-0 c.in_ok-content.field-0-1 c.put_item.new.out.items c.in_ok-content.content.now = subst (λ x. LeastHeadRead c.in_ok-content.field-0-0 c.in_ok-content.field-0-1 x c.in_ok-content.content.now) c.deref.ensures.value c.in_ok-content.ensures.read in
-    let coded : ItemTranscoded order 0 c.args.bytes.now c.in_ok-put_item.field-0.now [] c.put_item.new.out.items = subst (λ x. ItemTranscoded order 0 c.args.bytes.now c.in_ok-put_item.field-0.now x c.put_item.new.out.items) c.new-out.ensures.items c.in_ok-put_item.ensures in
-    let same : c.in_ok-content.content.now ≡ b = content_is order total c.in_ok-content.field-0-1 t c.args.bytes.now rest c.in_ok-put_item.field-0.now c.put_item.new.out.items c.in_ok-content.content.now b c.in_ok-content.field-0-0 s is coded read in
+    let coded : ItemTranscoded order 0 c.args.bytes.now c.in-Ok-Some._rest.now [] c.put_item.new.out.items = subst (λ x. ItemTranscoded order 0 c.args.bytes.now c.in-Ok-Some._rest.now x c.put_item.new.out.items) c.new-out.ensures.items (of_some _ _ c.in-Ok-Some.field-0 c.in-Ok-Some._rest c.in-Ok-Some.field-0-is c.in-Ok-Some.ensures) in
+    let same : c.in_ok-content.content.now ≡ b = content_is order total c.in_ok-content.field-0-1 t c.args.bytes.now rest c.in-Ok-Some._rest.now c.put_item.new.out.items c.in_ok-content.content.now b c.in_ok-content.field-0-0 s is coded read in
     subst (λ z. IsTrue z ↔ IsLoose b) (sym c.is_some.ensures) (found b c.loose_defect.result (subst (λ z. FindsDefect (LooseBytesAt 0 z) c.loose_defect.result) same c.loose_defect.ensures))

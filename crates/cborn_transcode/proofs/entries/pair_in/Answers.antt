@@ -1,9 +1,9 @@
-use Rattle.std.proofs.Common.{◌∙◌, ap, drop, take}
-use Rattle.std.proofs.Math.Seq.{take-add}
-use Rattle.std.proofs.lemmas.Option.{IfSome_then}
+use Rattle.std.proofs.Common.{◌<◌, ◌^◌, drop, length, length-drop, arith, ◌∙◌}
+use Rattle.cborn_transcode.proofs.Keying.{pair_taken}
 use Rattle.cborn_transcode.proofs.entries.pair_in.Goals as goal
 
 pub returns : goal.returns
 returns c =
-    IfSome_then c.bytes_at.result c.bytes_at.ensures
-    (λ pair e. e ∙ ap (λ n. take n (drop c.args.span.now.start c.args.written.now)) c.pair_len.ensures ∙ take-add c.args.span.now.key_len c.args.span.now.value_len (drop c.args.span.now.start c.args.written.now))
+    let x = drop c.args.span.now.start c.args.written.now in
+    let short : length x < 2 ^ 64 = omega (arith, length-drop c.args.span.now.start c.args.written.now) in
+    c.bytes_at.ensures ∙ pair_taken c.args.span.now.key_len c.args.span.now.value_len c.pair_len.result x short c.pair_len.ensures.sum c.pair_len.ensures.most

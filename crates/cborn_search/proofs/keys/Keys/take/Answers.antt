@@ -1,6 +1,7 @@
 use Rattle.std.proofs.Common.{ℕ, ◌-◌, ◌<◌, ◌^◌, List, [], length, refl, subst, arith, ap, ◌∙◌, length-append}
 use Rattle.cborn_model.specs.Orders.{bytewise}
 use Rattle.cborn_transcode.specs.Transcoding.{ItemTranscoded}
+use Rattle.cborn_transcode.proofs.Outcomes.{of_some}
 use Rattle.cborn_search.proofs.Keying.{key_taken, some_key}
 use Rattle.cborn_search.proofs.Marking.{own_marked, written_marked}
 use Rattle.cborn_search.proofs.keys.Keys.take.Goals as goal
@@ -24,8 +25,8 @@ returns-in-Some-write c =
     let pairs : List ℕ = c.args.pairs.now in
     let front : List ℕ = c.requires.behind.0 in
     let short : length x < 2 ^ 64 = omega (arith, c.requires.within, c.ranges.total.fits, ap length c.requires.behind.1 ∙ length-append front x) in
-    let rest : List ℕ = c.in-Some-transcode_item.rest.now in
-    let coded : ItemTranscoded bytewise c.args.room x rest [] c.transcode_item.new.out.items = subst (λ (l : List ℕ). ItemTranscoded bytewise c.args.room x rest l c.transcode_item.new.out.items) c.in-Some-make_room.ensures c.in-Some-transcode_item.ensures in (
+    let rest : List ℕ = c.in-Ok-Some.rest.now in
+    let coded : ItemTranscoded bytewise c.args.room x rest [] c.transcode_item.new.out.items = subst (λ (l : List ℕ). ItemTranscoded bytewise c.args.room x rest l c.transcode_item.new.out.items) c.in-Some-make_room.ensures (of_some _ _ c.in-Ok-Some.field-0 c.in-Ok-Some.rest c.in-Ok-Some.field-0-is c.in-Ok-Some.ensures) in (
       rest,
       refl,
       key_taken c.args.room c.args.total pairs x rest c.transcode_item.new.out.items c.args.self.now c.write.new.self short coded
