@@ -5,3 +5,4 @@ pub mod Texts
 pub mod Pairs
 pub mod Chunks
 pub mod Maps
+pub mod Wholes

@@ -1,4 +1,5 @@
 pub mod Counting
 pub mod Encoding
+pub mod Malformed
 pub mod Reading
 pub mod OneItem

@@ -17,7 +17,7 @@ use crate::faults::EngineFault;
 use crate::kinds::Kind;
 use crate::showings::read_shown;
 use cborn_model::{KeyOrder, Limit};
-use cborn_show::show_bytes;
+use cborn_show::{Notated, show_bytes};
 use cborn_streams::{Sink, Source, write_answer};
 use std::alloc::{AllocError, Global};
 
@@ -107,7 +107,7 @@ pub fn fixed_text(alloc: Global, limit: Limit, bytes: &[u8]) -> Result<Vec<u8>, 
     ensures { IfOk result (λ text. IsFixedText bytes.now text.items) }
 {
     match show_bytes(alloc, limit, bytes)? {
-        Some(text) => Ok(text),
-        None => unreachable!(),
+        Notated::Text(text) => Ok(text),
+        Notated::Malformed | Notated::Unshowable => unreachable!(),
     }
 }

@@ -1,8 +1,12 @@
-//! Why a text is refused for which the passes had no answer, told without its nodes: the fault of its
-//! tokens, grammar or meaning, or the first flaw of its items. A flaw is looked for in the bytes that
-//! the text spells, and told at its place in the text.
-ghost use Rattle.std.specs.Prelude.{◌≡◌, ◌≤◌, ℕ, length, IfErr, IsUtf8};
+//! Why an input is refused for which the passes had no answer, told without its nodes. Of bytes this is
+//! the fault of what isn't well-formed. Of a text it is the fault of its tokens, grammar or meaning, or
+//! the first flaw of its items: a flaw is looked for in the bytes that the text spells, and told at its
+//! place in the text.
+ghost use Rattle.std.specs.Prelude.{◌≡◌, ◌≤◌, ◌⊎◌, ℕ, length, IfErr, IsUtf8};
+ghost use Rattle.cborn_engine.specs.declared.faults.EngineFault.TheVariants as fault;
+ghost use Rattle.cborn_wire.specs.Faults.{IsWellformed};
 ghost use Rattle.cborn_spell.specs.Descent.{IsSpelling};
+ghost use Rattle.cborn_engine.specs.devices.Malformed.{IsWireFault};
 ghost use Rattle.cborn_engine.specs.devices.Counting.{read_failures, read_failures_at};
 ghost use Rattle.cborn_engine.specs.devices.Encoding.{kind_of};
 ghost use Rattle.cborn_engine.specs.Loading.{IsNoFlaw};
@@ -17,7 +21,30 @@ use cborn_lex::Profile;
 use cborn_model::Limit;
 use cborn_places::place_in_text;
 use cborn_search::{Validity, first_flaw};
-use std::alloc::Global;
+use cborn_wire::{WireFault, scan};
+use std::alloc::{AllocError, Global};
+
+/// The fault of bytes that aren't well-formed.
+pub fn fault_of_bytes(limit: Limit, input: &[u8]) -> EngineFault
+    requires { IsWellformed limit input.now → ⊥ }
+    ensures { IsWireFault limit input.now result }
+{
+    match scan(limit, input) {
+        Some((place, reason)) => EngineFault::Wire(WireFault::Refused { place, reason }),
+        None => unreachable!(),
+    }
+}
+
+/// What is answered of bytes where a growth was refused: the fault of those that aren't well-formed,
+/// whatever memory there is; else `OutOfMemory`.
+pub fn fault_or_refusal(limit: Limit, input: &[u8], refused: AllocError) -> EngineFault
+    ensures { IsWireFault limit input.now result ⊎ IsWellformed limit input.now × (result ≡ fault.OutOfMemory) }
+{
+    match scan(limit, input) {
+        Some((place, reason)) => EngineFault::Wire(WireFault::Refused { place, reason }),
+        None => EngineFault::from(refused),
+    }
+}
 
 /// Why a text has no answer for which the pass over it spelled no bytes: the fault of its content;
 /// where it has none, memory was refused.

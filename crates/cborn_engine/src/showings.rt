@@ -1,35 +1,32 @@
 //! Reading a whole input, and telling what it holds in another form. Bytes that are to stay bytes
 //! are what their nodes spell, once it is known that they are well-formed. Else they become
-//! notation by a pass that keeps no tree; where it answers nothing, what is wrong with them is
-//! looked for, without a tree too. A text becomes bytes first, by such a pass.
-ghost use Rattle.std.specs.Prelude.{◌≡◌, ◌≤◌, ◌+◌, ℕ, List, length, IfOk, IfSome, IsTrue, IsFalse};
-ghost use Rattle.cborn_model.specs.Placed.{PlacedAll};
-ghost use Rattle.cborn_model.specs.Spelled.{Wellformed};
-ghost use Rattle.cborn_model.specs.Tree.{Tree, trees};
-ghost use Rattle.cborn_edn.specs.declared.faults.ShowFault.TheVariants.{NotUtf8};
+//! notation by a pass that keeps no tree; where they have none, the reason is looked for, without a
+//! tree too. A text becomes bytes first, by such a pass.
+ghost use Rattle.std.specs.Prelude.{◌≡◌, ◌≢◌, ◌≤◌, ◌+◌, ℕ, length, Err, IsTrue, IsFalse};
 ghost use Rattle.cborn_wire.specs.declared.faults.WireReason.{WireReason};
-ghost use Rattle.cborn_wire.specs.Faults.{Fault};
+ghost use Rattle.cborn_wire.specs.Faults.{Fault, IsWellformed};
+ghost use Rattle.cborn_show.specs.Passed.{HasNoNotation};
 ghost use Rattle.cborn_engine.specs.declared.kinds.Kind.TheVariants as kinds;
 ghost use Rattle.cborn_engine.specs.devices.Encoding.{kind_of};
 ghost use Rattle.cborn_engine.specs.devices.Reading.{Reads};
 ghost use Rattle.cborn_engine.specs.Reading.{most_bytes};
-ghost use Rattle.cborn_engine.specs.devices.Counting.{read_failures};
-ghost use Rattle.cborn_engine.specs.Showing.{TellAnswers, IsShown, IsUnshownAs};
+ghost use Rattle.cborn_engine.specs.devices.Counting.{read_failures, read_failures_at};
+ghost use Rattle.cborn_engine.specs.Showing.{TellAnswers, IsShown};
 ghost use Rattle.cborn_engine.specs.Whole.{TellsFault};
 
 use crate::faults::EngineFault;
 use crate::inputs::MOST;
 use crate::kinds::{Kind, profile_of};
-use crate::refusals::fault_of_text;
+use crate::refusals::{fault_of_bytes, fault_of_text, fault_or_refusal};
 use crate::texts::bytes_of_text;
 use cborn_edn::ShowFault;
 use cborn_lex::Profile;
 use cborn_model::Limit;
-use cborn_search::first_bad_text;
-use cborn_show::show_bytes;
+use cborn_search::{TextValidity, first_bad_text};
+use cborn_show::{Notated, show_bytes};
 use cborn_streams::{Source, read_bytes};
-use cborn_wire::{WireFault, scan};
-use std::alloc::{AllocError, Global};
+use cborn_wire::scan;
+use std::alloc::Global;
 
 /// The items of the whole input as they are spelled, in a form of this kind. Bytes that are to stay
 /// bytes are moved.
@@ -75,7 +72,8 @@ pub fn show_input(
     out_kind: Kind,
     input: &[u8],
 ) -> Result<Vec<u8>, EngineFault>
-    requires { length input.now ≤ most_bytes }
+    requires short { length input.now ≤ most_bytes }
+    requires malformed { in_kind ≡ kinds.Wire → out_kind ≡ kinds.Wire → IsWellformed limit input.now → ⊥ }
     ensures answers { length input.now ≤ most_bytes → TellAnswers in_kind out_kind limit most_bytes input.now result }
     ensures malformed { length input.now ≤ most_bytes → TellsFault in_kind limit input.now result }
     ensures failures { (n : ℕ) → read_failures result n ≡ n }
@@ -86,49 +84,61 @@ pub fn show_input(
     }
 }
 
-/// What `show_input` answers of bytes. Bytes that aren't well-formed are refused by their fault,
-/// also where memory was refused; else where they have no notation, the text is looked for that
-/// isn't UTF-8.
+/// What `show_input` answers of bytes.
 fn tell_bytes(
     alloc: Global,
     limit: Limit,
     out_kind: Kind,
     input: &[u8],
 ) -> Result<Vec<u8>, EngineFault>
+    requires { out_kind ≡ kinds.Wire → IsWellformed limit input.now → ⊥ }
     ensures answers { length input.now ≤ most_bytes → TellAnswers kinds.Wire out_kind limit most_bytes input.now result }
     ensures malformed { TellsFault kinds.Wire limit input.now result }
     ensures failures { (n : ℕ) → read_failures result n ≡ n }
 {
-    let told = match tell_bytes_by_pass(alloc, limit, out_kind, input) {
-        Ok(Some(answer)) => return Ok(answer),
-        Ok(None) => Ok(()),
-        Err(refused) => Err(refused),
-    };
-    if let Some((place, reason)) = scan(limit, input) {
-        return Err(EngineFault::Wire(WireFault::Refused { place, reason }));
+    match out_kind {
+        Kind::Wire => Err(fault_of_bytes(limit, input)),
+        Kind::Notation | Kind::Notation2 => notate_bytes(alloc, limit, out_kind, input),
     }
-    told?;
-    if let Some(place) = bad_text(alloc, limit, out_kind, input) {
-        return Err(EngineFault::Show(ShowFault::NotUtf8 { place }));
-    }
-    Err(EngineFault::OutOfMemory)
 }
 
-/// Bytes that are to become notation, in notation, if they have one.
+/// Bytes in notation.
 ///
 /// # Errors
-/// Where a growth of the text was refused.
-fn tell_bytes_by_pass(
+/// The fault of bytes that aren't well-formed, also where memory was refused; `Show` where a text
+/// string isn't UTF-8; `OutOfMemory` where a growth of the text was refused.
+fn notate_bytes(
     alloc: Global,
     limit: Limit,
     out_kind: Kind,
     input: &[u8],
-) -> Result<Option<Vec<u8>>, AllocError>
-    ensures { IfOk result (λ told. IfSome told (λ answer. IsShown kinds.Wire out_kind limit input.now answer.items)) }
+) -> Result<Vec<u8>, EngineFault>
+    requires { out_kind ≢ kinds.Wire }
+    ensures answers { length input.now ≤ most_bytes → TellAnswers kinds.Wire out_kind limit most_bytes input.now result }
+    ensures malformed { TellsFault kinds.Wire limit input.now result }
+    ensures failures { (n : ℕ) → read_failures result n ≡ n }
 {
-    match out_kind {
-        Kind::Wire => Ok(None),
-        Kind::Notation | Kind::Notation2 => show_bytes(alloc, limit, input),
+    match show_bytes(alloc, limit, input) {
+        Ok(Notated::Text(answer)) => Ok(answer),
+        Ok(Notated::Malformed) => Err(fault_of_bytes(limit, input)),
+        Ok(Notated::Unshowable) => Err(why_unshown(limit, out_kind, input)),
+        Err(refused) => Err(fault_or_refusal(limit, input, refused)),
+    }
+}
+
+/// Why bytes have no notation: the first text string that isn't UTF-8, or the fault of bytes that
+/// aren't well-formed.
+fn why_unshown(limit: Limit, out_kind: Kind, input: &[u8]) -> EngineFault
+    requires notation { out_kind ≢ kinds.Wire }
+    requires none { HasNoNotation limit input.now }
+    ensures answers { length input.now ≤ most_bytes → TellAnswers kinds.Wire out_kind limit most_bytes input.now (Err result) }
+    ensures malformed { TellsFault {A = Unit {0}} kinds.Wire limit input.now (Err result) }
+    ensures failures { (n : ℕ) → read_failures_at result n ≡ n }
+{
+    match first_bad_text(limit, input) {
+        TextValidity::Valid => unreachable!(),
+        TextValidity::NotUtf8 { place } => EngineFault::Show(ShowFault::NotUtf8 { place }),
+        TextValidity::Malformed => fault_of_bytes(limit, input),
     }
 }
 
@@ -151,19 +161,8 @@ fn tell_text(
     match out_kind {
         Kind::Wire => Ok(bytes),
         Kind::Notation | Kind::Notation2 => match show_bytes(alloc, limit, &bytes)? {
-            Some(answer) => Ok(answer),
-            None => unreachable!(),
+            Notated::Text(answer) => Ok(answer),
+            Notated::Malformed | Notated::Unshowable => unreachable!(),
         },
-    }
-}
-
-/// The place of the first text string in well-formed bytes that keeps them from being told in this
-/// kind.
-fn bad_text(alloc: Global, limit: Limit, out_kind: Kind, input: &[u8]) -> Option<u64>
-    ensures { IfSome result (λ place. (most : ℕ) (nodes : List Tree) → Wellformed most (trees nodes) input.now → PlacedAll 0 (trees nodes) → IsUnshownAs out_kind nodes (NotUtf8 place)) }
-{
-    match out_kind {
-        Kind::Wire => None,
-        Kind::Notation | Kind::Notation2 => first_bad_text(alloc, limit, input),
     }
 }

@@ -17,11 +17,11 @@ use Rattle.cborn_judge.proofs.SameKeys.Pushing.{keys_push, keys_skip}
 use Rattle.cborn_transcode.specs.Transcoding.{ItemTranscoded}
 use Rattle.cborn_transcode.proofs.Opening.{stands}
 use Rattle.cborn_transcode.proofs.Placing.{means-from}
-use Rattle.cborn_search.specs.Flawed.{Told, Sought, FindsTold, IsEarliestTold, Searched, SeenKey, seen_bytes, seen_position, seen_place}
+use Rattle.cborn_search.specs.Flawed.{Told, FindsTold, IsEarliestTold, Searched, SeenKey, seen_bytes, seen_position, seen_place}
 use Rattle.cborn_search.specs.devices.Marks.{AreMarked, KeyTaken, KeyJoined}
 use Rattle.cborn_search.specs.declared.keys.Keys.{Keys}
 use Rattle.cborn_search.specs.declared.searched_maps.SearchedMap.{SearchedMap}
-use Rattle.cborn_search.proofs.Searching.{never, still}
+use Rattle.cborn_search.proofs.Searching.{still}
 use Rattle.cborn_search.proofs.Marking.{marked_wider}
 
 -- ---- a key that was encoded
@@ -51,28 +51,28 @@ pub some_told : (o : Option Told) → is_some o ≡ true → (f : Told) × (o �
 some_told None e = absurd (cc)
 some_told (Some f) e = (f, refl)
 
-module _ (only : Bool) (room total : ℕ) (pairs x : List ℕ) (old new : SearchedMap) where
-  pub taken_joins : {left : ℕ} → Leaves (KeyTaken room total pairs x old.keys new.keys) left → new.first ≡ old.first → Leaves (KeyJoined only room total pairs x old new) left
+module _ (room total : ℕ) (pairs x : List ℕ) (old new : SearchedMap) where
+  pub taken_joins : {left : ℕ} → Leaves (KeyTaken room total pairs x old.keys new.keys) left → new.first ≡ old.first → Leaves (KeyJoined room total pairs x old new) left
   taken_joins s e = (
     s.0,
     s.1,
     record {
       flaw = None;
-      key = record { node = s.2.key.node; read = s.2.key.read; fits = s.2.key.fits; shallow = s.2.key.shallow; holds = (s.2.key.holds.0, λ p r f. s.2.key.holds.1 p r f.0) };
+      key = record { node = s.2.key.node; read = s.2.key.read; fits = s.2.key.fits; shallow = s.2.key.shallow; holds = (s.2.key.holds.0, s.2.key.holds.1) };
       first = subst (IsEarliestTold old.first None) (sym e) (still old.first);
-      joins = λ ks n h. let m = s.2.pushed ks n h in (m.0, m.1, λ o. m.2);
+      joins = λ ks n h. let m = s.2.pushed ks n h in (m.0, m.1, m.2);
     },
   )
 
   -- ---- a key that was searched
 
   -- one with a flaw means nothing
-  unknown : (rest : List ℕ) (s : Bool) (flaw : Option Told) (f : Told) → flaw ≡ Some f → (k : Searched only room total x rest flaw s) → (v : Value) → Means k.node v → ⊥
-  unknown rest s flaw f e k v m = no_flaw k.node v m f.0 f.1 (subst (λ (o : Option Told). FindsTold (Sought only (Flaw k.node)) o) e k.holds.1.0).is.0
+  unknown : (rest : List ℕ) (s : Bool) (flaw : Option Told) (f : Told) → flaw ≡ Some f → (k : Searched room total x rest flaw s) → (v : Value) → Means k.node v → ⊥
+  unknown rest s flaw f e k v m = no_flaw k.node v m f.0 f.1 (subst (λ (o : Option Told). FindsTold (Flaw k.node) o) e k.holds.1.0).is
 
-  -- it isn't kept, nor is any where texts alone are looked for
-  pub searched_joins : {left : ℕ} (s : Bool) (flaw : Option Told) → Leaves (λ rest. Searched only room total x rest flaw s) left → new.keys ≡ old.keys → IsEarliestTold old.first flaw new.first → (only ≡ true) ⊎ ((f : Told) × (flaw ≡ Some f))
-      → Leaves (KeyJoined only room total pairs x old new) left
+  -- it isn't kept
+  pub searched_joins : {left : ℕ} (s : Bool) (flaw : Option Told) → Leaves (λ rest. Searched room total x rest flaw s) left → new.keys ≡ old.keys → IsEarliestTold old.first flaw new.first → (f : Told) × (flaw ≡ Some f)
+      → Leaves (KeyJoined room total pairs x old new) left
   searched_joins s flaw l e first why = (
     l.0,
     l.1,
@@ -83,17 +83,13 @@ module _ (only : Bool) (room total : ℕ) (pairs x : List ℕ) (old new : Search
       joins = λ ks n h. (
         ks,
         marked_wider total pairs (total - length x) (suc (total - length x)) ks new.keys (omega arith) (subst (AreMarked total pairs (total - length x) ks) (sym e) h),
-        λ o v ns c are.
-            elim why [
-              | inl texts ↦ absurd (never only o texts)
-              | inr f ↦ keys_skip seen_bytes seen_position seen_place ns 0 ks (l.2.node, v) are (unknown l.0 s flaw f.0 f.1 l.2)
-            ],
+        λ v ns c are. keys_skip seen_bytes seen_position seen_place ns 0 ks (l.2.node, v) are (unknown l.0 s flaw why.0 why.1 l.2),
       );
     },
   )
 
   -- the same from a map that is as this one
-  pub joined_from : {left : ℕ} (same : SearchedMap) → same.keys ≡ old.keys → same.first ≡ old.first → Leaves (KeyJoined only room total pairs x same new) left → Leaves (KeyJoined only room total pairs x old new) left
+  pub joined_from : {left : ℕ} (same : SearchedMap) → same.keys ≡ old.keys → same.first ≡ old.first → Leaves (KeyJoined room total pairs x same new) left → Leaves (KeyJoined room total pairs x old new) left
   joined_from same e f s = (
     s.0,
     s.1,
@@ -106,8 +102,8 @@ module _ (only : Bool) (room total : ℕ) (pairs x : List ℕ) (old new : Search
   )
 
   -- what is left is what stands behind it
-  pub joined_last : {left : ℕ} {rest : List ℕ} → Leaves (KeyJoined only room total pairs x old new) left → ((front back : List ℕ) → x ≡ front ++ back → length back ≡ left → rest ≡ back) → KeyJoined only room total pairs x old new rest
-  joined_last s last = subst (KeyJoined only room total pairs x old new) (sym (last (spelled s.2.key.node) s.0 s.2.key.read s.1)) s.2
+  pub joined_last : {left : ℕ} {rest : List ℕ} → Leaves (KeyJoined room total pairs x old new) left → ((front back : List ℕ) → x ≡ front ++ back → length back ≡ left → rest ≡ back) → KeyJoined room total pairs x old new rest
+  joined_last s last = subst (KeyJoined room total pairs x old new) (sym (last (spelled s.2.key.node) s.0 s.2.key.read s.1)) s.2
 
 -- something stands there
 pub some_key : (room : ℕ) (x rest out : List ℕ) → ItemTranscoded bytewise room x rest [] out → 0 < length x

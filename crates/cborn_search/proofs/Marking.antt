@@ -264,9 +264,6 @@ tie_equal total pairs written before w m q e l s p =
 
 -- ---- the first key that is repeated
 
-pub no_repeat : (r : InvalidReason) → r ≡ DuplicateKey → r ≡ NotUtf8 → ⊥
-no_repeat r e f = cc
-
 pub first_repeated : (total end : ℕ) (pairs : List ℕ) (keys : Keys) (ms : List Mark) (ns : List Pair) (ks : List SeenKey) (o : Option Told) → AreMarked total pairs end ks keys → AreSeen ks ns → IsPermutation keys.marks.items ms → InPlace total pairs keys.written.items ms
     → FindsTold (TieFlaw total pairs keys.written.items ms) o → FindsTold (RepeatFlaw (entries ns)) o
 first_repeated total end pairs keys ms ns ks o h s p i f = alike_told (TieFlaw total pairs written ms) (RepeatFlaw (entries ns)) o both f

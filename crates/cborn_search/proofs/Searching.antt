@@ -27,7 +27,7 @@ use Rattle.cborn_judge.proofs.Loops.Firsts.{Either, found_both, found_alike}
 use Rattle.cborn_judge.proofs.FirstFlaw.Steps.{flaw_items, flaw_tagged}
 use Rattle.cborn_judge.proofs.FirstFlaw.Texts.{bad_after, bad_before, bad_last}
 use Rattle.cborn_judge.proofs.FirstFlaw.Walking.{one_more}
-use Rattle.cborn_search.specs.Flawed.{Told, told_place, told_reason, Sought, IsEarliestTold, FindsTold, TextFlaw, BadChunk, ChunkSeen, ChunksSeen, IsKind, HasFlaw, Searched, HaveFlaw, SearchedAll}
+use Rattle.cborn_search.specs.Flawed.{Told, told_place, told_reason, IsEarliestTold, FindsTold, TextFlaw, BadChunk, ChunkSeen, ChunksSeen, IsKind, HasFlaw, Searched, HaveFlaw, SearchedAll}
 use Rattle.cborn_search.proofs.Places.{node_placed, chunk_placed, items_placed, inside}
 
 pub both_told : (F G : ℕ → InvalidReason → Type 0) (a b o : Option Told) → FindsTold F a → FindsTold G b → IsEarliestTold a b o → FindsTold (Either F G) o
@@ -36,67 +36,38 @@ both_told = found_both flaw_rank told_place told_reason
 pub alike_told : (F G : ℕ → InvalidReason → Type 0) (o : Option Told) → ((p : ℕ) (r : InvalidReason) → F p r ↔ G p r) → FindsTold F o → FindsTold G o
 alike_told = found_alike flaw_rank told_place told_reason
 
-module _ (only : Bool) where
-  pub both_sought : (F G : ℕ → InvalidReason → Type 0) (a b o : Option Told) → FindsTold (Sought only F) a → FindsTold (Sought only G) b → IsEarliestTold a b o → FindsTold (Sought only (Either F G)) o
-  both_sought F G a b o f g e = alike_told (Either (Sought only F) (Sought only G)) (Sought only (Either F G)) o (λ p r. (to p r, from p r)) (both_told (Sought only F) (Sought only G) a b o f g e)
-    where
-      to : (p : ℕ) (r : InvalidReason) → Either (Sought only F) (Sought only G) p r → Sought only (Either F G) p r
-      to p r (inl k) = (inl k.0, k.1)
-      to p r (inr k) = (inr k.0, k.1)
-
-      from : (p : ℕ) (r : InvalidReason) → Sought only (Either F G) p r → Either (Sought only F) (Sought only G) p r
-      from p r (inl k, t) = inl (k, t)
-      from p r (inr k, t) = inr (k, t)
-
-  pub alike_sought : (F G : ℕ → InvalidReason → Type 0) (o : Option Told) → ((p : ℕ) (r : InvalidReason) → F p r ↔ G p r) → FindsTold (Sought only F) o → FindsTold (Sought only G) o
-  alike_sought F G o f h = alike_told (Sought only F) (Sought only G) o (λ p r. ((λ k. ((f p r).0 k.0, k.1)), (λ k. ((f p r).1 k.0, k.1)))) h
-
-  -- all of them are texts
-  pub all_sought : (F G : ℕ → InvalidReason → Type 0) (o : Option Told) → ((p : ℕ) (r : InvalidReason) → F p r ↔ G p r) → ((p : ℕ) (r : InvalidReason) → F p r → r ≡ NotUtf8) → FindsTold F o → FindsTold (Sought only G) o
-  all_sought F G o f t h = alike_told F (Sought only G) o (λ p r. ((λ k. ((f p r).0 k, (λ e. t p r k))), (λ k. (f p r).1 k.0))) h
-
-pub never : (b : Bool) → b ≡ false → b ≡ true → ⊥
-never b e f = cc
-
--- where each flaw is looked for
-pub sought : (only : Bool) (F : ℕ → InvalidReason → Type 0) (o : Option Told) → only ≡ false → FindsTold F o → FindsTold (Sought only F) o
-sought only F o all h = alike_told F (Sought only F) o (λ p r. ((λ k. (k, (λ e. absurd (never only all e)))), (λ k. k.0))) h
-
-pub plain : (F : ℕ → InvalidReason → Type 0) (o : Option Told) → FindsTold (Sought false F) o → FindsTold F o
-plain F o h = alike_told (Sought false F) F o (λ p r. ((λ k. k.0), (λ k. (k, (λ e. absurd (never false refl e)))))) h
-
 -- nothing is found beside what was found
 pub still : (a : Option Told) → IsEarliestTold a None a
 still None = refl
 still (Some x) = refl
 
 -- what is behind a head that was read
-pub seen_from : (only : Bool) (room total : ℕ) (flaw : Option Told) (s : Bool) {x tail : List ℕ} {h : Head} {n left : ℕ} {m : Major} {a : Argument} → tail ≡ drop n x → IsHeadOf x h n → major_at h.major ≡ m → h.argument ≡ a → length x ≤ total
-    → (ArgumentFits (seen_argument a) → length (head m (seen_argument a) ++ tail) ≤ total → total - length x ≡ total - length (head m (seen_argument a) ++ tail) → Leaves (λ rest. Searched only room total (head m (seen_argument a) ++ tail) rest flaw s) left)
-    → Leaves (λ rest. Searched only room total x rest flaw s) left
-seen_from only room total flaw s {x} {left = left} t i e f l done =
-    read_from (λ (y : List ℕ). length y ≤ total → total - length x ≡ total - length y → Leaves (λ rest. Searched only room total y rest flaw s) left) t i e f done l refl
+pub seen_from : (room total : ℕ) (flaw : Option Told) (s : Bool) {x tail : List ℕ} {h : Head} {n left : ℕ} {m : Major} {a : Argument} → tail ≡ drop n x → IsHeadOf x h n → major_at h.major ≡ m → h.argument ≡ a → length x ≤ total
+    → (ArgumentFits (seen_argument a) → length (head m (seen_argument a) ++ tail) ≤ total → total - length x ≡ total - length (head m (seen_argument a) ++ tail) → Leaves (λ rest. Searched room total (head m (seen_argument a) ++ tail) rest flaw s) left)
+    → Leaves (λ rest. Searched room total x rest flaw s) left
+seen_from room total flaw s {x} {left = left} t i e f l done =
+    read_from (λ (y : List ℕ). length y ≤ total → total - length x ≡ total - length y → Leaves (λ rest. Searched room total y rest flaw s) left) t i e f done l refl
 
 -- ---- leaves
 
-module _ (only : Bool) (room total : ℕ) where
-  pub uint_seen : (w : Width) (n : ℕ) (rest : List ℕ) → WidthFits w n → Searched only room total (head Unsigned (Given w n) ++ rest) rest None false
-  uint_seen w n rest h = uint_read (total - length (head Unsigned (Given w n) ++ rest)) w n h (refl, ((λ p r f. subst (λ z. FlawAt z p r) f.0.1 f.0.2), (λ b k. k)))
+module _ (room total : ℕ) where
+  pub uint_seen : (w : Width) (n : ℕ) (rest : List ℕ) → WidthFits w n → Searched room total (head Unsigned (Given w n) ++ rest) rest None false
+  uint_seen w n rest h = uint_read (total - length (head Unsigned (Given w n) ++ rest)) w n h (refl, ((λ p r f. subst (λ z. FlawAt z p r) f.1 f.2), (λ b k. k)))
 
-  pub nint_seen : (w : Width) (n : ℕ) (rest : List ℕ) → WidthFits w n → Searched only room total (head Negative (Given w n) ++ rest) rest None false
-  nint_seen w n rest h = nint_read (total - length (head Negative (Given w n) ++ rest)) w n h (refl, ((λ p r f. subst (λ z. FlawAt z p r) f.0.1 f.0.2), (λ b k. k)))
+  pub nint_seen : (w : Width) (n : ℕ) (rest : List ℕ) → WidthFits w n → Searched room total (head Negative (Given w n) ++ rest) rest None false
+  nint_seen w n rest h = nint_read (total - length (head Negative (Given w n) ++ rest)) w n h (refl, ((λ p r f. subst (λ z. FlawAt z p r) f.1 f.2), (λ b k. k)))
 
-  pub bytes_seen : (w : Width) (n : ℕ) (input content rest : List ℕ) → WidthFits w n → StringRead n input content rest → Searched only room total (head ByteString (Given w n) ++ input) rest None true
-  bytes_seen w n input content rest h s = bytes_read (total - length (head ByteString (Given w n) ++ input)) w h s (refl, ((λ p r f. subst (λ z. FlawAt z p r) f.0.1 f.0.2), (content, refl)))
+  pub bytes_seen : (w : Width) (n : ℕ) (input content rest : List ℕ) → WidthFits w n → StringRead n input content rest → Searched room total (head ByteString (Given w n) ++ input) rest None true
+  bytes_seen w n input content rest h s = bytes_read (total - length (head ByteString (Given w n) ++ input)) w h s (refl, ((λ p r f. subst (λ z. FlawAt z p r) f.1 f.2), (content, refl)))
 
   pub text_seen : (place : ℕ) (w : Width) (n : ℕ) (input content rest : List ℕ) (flaw : Option Told) → WidthFits w n → place ≡ total - length (head TextString (Given w n) ++ input) → StringRead n input content rest → FindsTold (TextFlaw place content) flaw
-      → Searched only room total (head TextString (Given w n) ++ input) rest flaw false
+      → Searched room total (head TextString (Given w n) ++ input) rest flaw false
   text_seen place w n input content rest flaw h e s f =
       text_read place w h s
-      (e, (all_sought only (TextFlaw place content) (Flaw (Text place w content)) flaw (λ p r. ((λ k. (Text place w content, refl, k)), (λ k. subst (λ z. FlawAt z p r) k.1 k.2))) (λ p r k. k.1) f, (λ b k. k)))
+      (e, (alike_told (TextFlaw place content) (Flaw (Text place w content)) flaw (λ p r. ((λ k. (Text place w content, refl, k)), (λ k. subst (λ z. FlawAt z p r) k.1 k.2))) f, (λ b k. k)))
 
-  pub simple_seen : (a : Argument) (rest : List ℕ) → IsSimpleArgument a → Searched only room total (head Other (seen_argument a) ++ rest) rest None false
-  simple_seen a rest s = simple_read (total - length (head Other (seen_argument a) ++ rest)) a s (refl, ((λ p r f. subst (λ z. FlawAt z p r) f.0.1 f.0.2), (λ b k. k)))
+  pub simple_seen : (a : Argument) (rest : List ℕ) → IsSimpleArgument a → Searched room total (head Other (seen_argument a) ++ rest) rest None false
+  simple_seen a rest s = simple_read (total - length (head Other (seen_argument a) ++ rest)) a s (refl, ((λ p r f. subst (λ z. FlawAt z p r) f.1 f.2), (λ b k. k)))
 
 -- ---- chunks
 
@@ -118,55 +89,52 @@ module _ (major : Major) (total : ℕ) where
         (λ m. alike_told (Either (ChunkFlaw x.chunks) (BadChunk y.chunk)) (ChunkFlaw (x.chunks ++ y.chunk ∷ [])) o (one_chunk x.chunks y.chunk) (both_told (ChunkFlaw x.chunks) (BadChunk y.chunk) a b o (x.holds.1 m) (y.holds.1 m) e)),
       )
 
-module _ (only : Bool) (room total : ℕ) (input after rest : List ℕ) (flaw : Option Told) where
-  pub byte_chunks_seen : length (head ByteString Unbounded ++ input) ≤ total → after ≡ 255 ∷ rest → ChunksSeen ByteString total input after flaw → Searched only room total (head ByteString Unbounded ++ input) rest None true
+module _ (room total : ℕ) (input after rest : List ℕ) (flaw : Option Told) where
+  pub byte_chunks_seen : length (head ByteString Unbounded ++ input) ≤ total → after ≡ 255 ∷ rest → ChunksSeen ByteString total input after flaw → Searched room total (head ByteString Unbounded ++ input) rest None true
   byte_chunks_seen l e s =
       let p : ℕ = total - length (head ByteString Unbounded ++ input) in
       let q : total - length input ≡ suc p = omega (arith, l) in
-      byte_chunks_read p e s ((refl, subst (λ k. ChunksPlaced ByteString k s.chunks) q s.holds.0), ((λ k r f. subst (λ z. FlawAt z k r) f.0.1 f.0.2), (joined_chunks s.chunks, refl)))
+      byte_chunks_read p e s ((refl, subst (λ k. ChunksPlaced ByteString k s.chunks) q s.holds.0), ((λ k r f. subst (λ z. FlawAt z k r) f.1 f.2), (joined_chunks s.chunks, refl)))
 
-  pub text_chunks_seen : length (head TextString Unbounded ++ input) ≤ total → after ≡ 255 ∷ rest → ChunksSeen TextString total input after flaw → Searched only room total (head TextString Unbounded ++ input) rest flaw false
+  pub text_chunks_seen : length (head TextString Unbounded ++ input) ≤ total → after ≡ 255 ∷ rest → ChunksSeen TextString total input after flaw → Searched room total (head TextString Unbounded ++ input) rest flaw false
   text_chunks_seen l e s =
       let p : ℕ = total - length (head TextString Unbounded ++ input) in
       let q : total - length input ≡ suc p = omega (arith, l) in
       text_chunks_read p e s (
         (refl, subst (λ k. ChunksPlaced TextString k s.chunks) q s.holds.0),
-        (all_sought only (ChunkFlaw s.chunks) (Flaw (TextChunks p s.chunks)) flaw (λ k r. ((λ f. (TextChunks p s.chunks, refl, f)), (λ f. subst (λ z. FlawAt z k r) f.1 f.2))) (λ k r f. f.0) (s.holds.1 refl), (λ b k. k)),
+        (alike_told (ChunkFlaw s.chunks) (Flaw (TextChunks p s.chunks)) flaw (λ k r. ((λ f. (TextChunks p s.chunks, refl, f)), (λ f. subst (λ z. FlawAt z k r) f.1 f.2))) (s.holds.1 refl), (λ b k. k)),
       )
 
 -- ---- nodes one after another
 
-pub all_more : (only : Bool) (room total n : ℕ) (input mid rest : List ℕ) (a b o : Option Told) (s : Bool) → length input ≤ total → SearchedAll only room total n input mid a → Searched only room total mid rest b s → IsEarliestTold a b o → SearchedAll only room total (n + 1) input rest o
-all_more only room total n input mid rest a b o s l x y e =
+pub all_more : (room total n : ℕ) (input mid rest : List ℕ) (a b o : Option Told) (s : Bool) → length input ≤ total → SearchedAll room total n input mid a → Searched room total mid rest b s → IsEarliestTold a b o → SearchedAll room total (n + 1) input rest o
+all_more room total n input mid rest a b o s l x y e =
     node_more x y (
       node_placed total input mid l x.nodes y.node x.read x.holds.0 y.holds.0,
-      alike_sought only (Either (FlawIn (trees x.nodes)) (Flaw y.node)) (FlawIn (trees (x.nodes ++ y.node ∷ []))) o (one_more x.nodes y.node) (both_sought only (FlawIn (trees x.nodes)) (Flaw y.node) a b o x.holds.1 y.holds.1.0 e),
+      alike_told (Either (FlawIn (trees x.nodes)) (Flaw y.node)) (FlawIn (trees (x.nodes ++ y.node ∷ []))) o (one_more x.nodes y.node) (both_told (FlawIn (trees x.nodes)) (Flaw y.node) a b o x.holds.1 y.holds.1.0 e),
     )
 
 -- ---- arrays
 
-flaw_of_array : (only : Bool) (p : ℕ) (size : Size) (flaw : Option Told) (ts : List Tree) → HaveFlaw only flaw ts → HasFlaw only flaw false (Items p size (trees ts))
-flaw_of_array only p size flaw ts h = (alike_sought only (FlawIn (trees ts)) (Flaw (Items p size (trees ts))) flaw (λ k j. let f = flaw_items p size (trees ts) k j in (f.1, f.0)) h, (λ b k. k))
+flaw_of_array : (p : ℕ) (size : Size) (flaw : Option Told) (ts : List Tree) → HaveFlaw flaw ts → HasFlaw flaw false (Items p size (trees ts))
+flaw_of_array p size flaw ts h = (alike_told (FlawIn (trees ts)) (Flaw (Items p size (trees ts))) flaw (λ k j. let f = flaw_items p size (trees ts) k j in (f.1, f.0)) h, (λ b k. k))
 
-pub array_seen : (only : Bool) (room total : ℕ) (w : Width) (n : ℕ) (input rest : List ℕ) (flaw : Option Told) → 1 ≤ room → WidthFits w n → length (head Array (Given w n) ++ input) ≤ total → SearchedAll only (room - 1) total n input rest flaw
-    → Searched only room total (head Array (Given w n) ++ input) rest flaw false
-array_seen only room total w n input rest flaw r h l s =
+pub array_seen : (room total : ℕ) (w : Width) (n : ℕ) (input rest : List ℕ) (flaw : Option Told) → 1 ≤ room → WidthFits w n → length (head Array (Given w n) ++ input) ≤ total → SearchedAll (room - 1) total n input rest flaw
+    → Searched room total (head Array (Given w n) ++ input) rest flaw false
+array_seen room total w n input rest flaw r h l s =
     let p : ℕ = total - length (head Array (Given w n) ++ input) in
-    array_read p w r h s ((refl, items_placed total w n input s.nodes l s.count s.holds.0), flaw_of_array only p (Fixed w) flaw s.nodes s.holds.1)
+    array_read p w r h s ((refl, items_placed total w n input s.nodes l s.count s.holds.0), flaw_of_array p (Fixed w) flaw s.nodes s.holds.1)
 
-pub endless_array_seen : (only : Bool) (room total n : ℕ) (input after rest : List ℕ) (flaw : Option Told) → 1 ≤ room → after ≡ 255 ∷ rest → length (head Array Unbounded ++ input) ≤ total → SearchedAll only (room - 1) total n input after flaw
-    → Searched only room total (head Array Unbounded ++ input) rest flaw false
-endless_array_seen only room total n input after rest flaw r e l s =
+pub endless_array_seen : (room total n : ℕ) (input after rest : List ℕ) (flaw : Option Told) → 1 ≤ room → after ≡ 255 ∷ rest → length (head Array Unbounded ++ input) ≤ total → SearchedAll (room - 1) total n input after flaw
+    → Searched room total (head Array Unbounded ++ input) rest flaw false
+endless_array_seen room total n input after rest flaw r e l s =
     let p : ℕ = total - length (head Array Unbounded ++ input) in
-    endless_array_read p r e s ((refl, subst (λ k. PlacedAll k (trees s.nodes)) (inside total (head Array Unbounded) input l) s.holds.0), flaw_of_array only p Endless flaw s.nodes s.holds.1)
+    endless_array_read p r e s ((refl, subst (λ k. PlacedAll k (trees s.nodes)) (inside total (head Array Unbounded) input l) s.holds.0), flaw_of_array p Endless flaw s.nodes s.holds.1)
 
 -- ---- tags
 
-own_first : (only : Bool) (p : ℕ) (w : Width) (n : ℕ) (t : Tree) → only ≡ false → (n ≡ 2) ⊎ (n ≡ 3) → ((b : List ℕ) → IsByteString t b → ⊥) → IsFirst flaw_rank (Sought only (FlawAt (Tagged p w n t))) p BadBignum
-own_first only p w n t all d b = record { is = ((refl, refl, d, b), (λ e. absurd (never only all e))); first = λ q s f. inr (sym f.0.0, (let e : flaw_rank BadBignum ≡ flaw_rank s = ap flaw_rank (sym f.0.1) in omega arith)) }
-
-no_text : (r : InvalidReason) → r ≡ BadBignum → r ≡ NotUtf8 → ⊥
-no_text r e f = cc
+own_first : (p : ℕ) (w : Width) (n : ℕ) (t : Tree) → (n ≡ 2) ⊎ (n ≡ 3) → ((b : List ℕ) → IsByteString t b → ⊥) → IsFirst flaw_rank (FlawAt (Tagged p w n t)) p BadBignum
+own_first p w n t d b = record { is = (refl, refl, d, b); first = λ q s f. inr (sym f.0, (let e : flaw_rank BadBignum ≡ flaw_rank s = ap flaw_rank (sym f.1) in omega arith)) }
 
 is_string_of : (t : Tree) (s : Bool) → s ≡ true → IsKind s t → (b : List ℕ) × IsByteString t b
 is_string_of t true e k = k
@@ -176,35 +144,35 @@ no_string_of : (t : Tree) (s : Bool) → s ≡ false → IsKind s t → (b : Lis
 no_string_of t true e k = cc
 no_string_of t false e k = k
 
-module _ (only : Bool) (room total place : ℕ) (w : Width) (n : ℕ) (input rest : List ℕ) (flaw : Option Told) (s : Bool) where
+module _ (room total place : ℕ) (w : Width) (n : ℕ) (input rest : List ℕ) (flaw : Option Told) (s : Bool) where
   -- the tag has no flaw of its own
-  sound_tag : 1 ≤ room → WidthFits w n → length (head Tag (Given w n) ++ input) ≤ total → Searched only (room - 1) total input rest flaw s → ((t : Tree) (p q : ℕ) (r : InvalidReason) → IsKind s t → Sought only (FlawAt (Tagged p w n t)) q r → ⊥)
-      → Searched only room total (head Tag (Given w n) ++ input) rest flaw false
+  sound_tag : 1 ≤ room → WidthFits w n → length (head Tag (Given w n) ++ input) ≤ total → Searched (room - 1) total input rest flaw s → ((t : Tree) (p q : ℕ) (r : InvalidReason) → IsKind s t → FlawAt (Tagged p w n t) q r → ⊥)
+      → Searched room total (head Tag (Given w n) ++ input) rest flaw false
   sound_tag r h l x d =
       let p : ℕ = total - length (head Tag (Given w n) ++ input) in
       let t : Tree = x.node in
       tagged_read p w n r h x (
         (refl, subst (λ k. Placed k t) (inside total (head Tag (Given w n)) input l) x.holds.0),
-        (alike_told (Sought only (Flaw t)) (Sought only (Flaw (Tagged p w n t))) flaw (λ q i. let f = flaw_tagged p w n t q i in ((λ k. (f.1 (inr k.0), k.1)), (λ k. elim (f.0 k.0) [ inl o ↦ absurd (d t p q i x.holds.1.1 (o, k.1)) | inr o ↦ (o, k.1) ]))) x.holds.1.0, (λ b k. k)),
+        (alike_told (Flaw t) (Flaw (Tagged p w n t)) flaw (λ q i. let f = flaw_tagged p w n t q i in ((λ k. f.1 (inr k)), (λ k. elim (f.0 k) [ inl o ↦ absurd (d t p q i x.holds.1.1 o) | inr o ↦ o ]))) x.holds.1.0, (λ b k. k)),
       )
 
-  pub tagged_seen : 1 ≤ room → WidthFits w n → length (head Tag (Given w n) ++ input) ≤ total → Searched only (room - 1) total input rest flaw s → n ≢ 2 → n ≢ 3
-      → Searched only room total (head Tag (Given w n) ++ input) rest flaw false
-  tagged_seen r h l x a b = sound_tag r h l x (λ t p q i k f. elim f.0.2 [ inl e ↦ a e | inr e ↦ b e ])
+  pub tagged_seen : 1 ≤ room → WidthFits w n → length (head Tag (Given w n) ++ input) ≤ total → Searched (room - 1) total input rest flaw s → n ≢ 2 → n ≢ 3
+      → Searched room total (head Tag (Given w n) ++ input) rest flaw false
+  tagged_seen r h l x a b = sound_tag r h l x (λ t p q i k f. elim f.2 [ inl e ↦ a e | inr e ↦ b e ])
 
-  pub bignum_seen : 1 ≤ room → WidthFits w n → length (head Tag (Given w n) ++ input) ≤ total → Searched only (room - 1) total input rest flaw s → (only ≡ true) ⊎ (s ≡ true)
-      → Searched only room total (head Tag (Given w n) ++ input) rest flaw false
-  bignum_seen r h l x e = sound_tag r h l x (λ t p q i k f. elim e [ inl o ↦ no_text i f.0.1 (f.1 o) | inr o ↦ (let b = is_string_of t s o k in f.0.3 b.0 b.1) ])
+  pub bignum_seen : 1 ≤ room → WidthFits w n → length (head Tag (Given w n) ++ input) ≤ total → Searched (room - 1) total input rest flaw s → s ≡ true
+      → Searched room total (head Tag (Given w n) ++ input) rest flaw false
+  bignum_seen r h l x e = sound_tag r h l x (λ t p q i k f. let b = is_string_of t s e k in f.3 b.0 b.1)
 
-  pub bad_bignum_seen : (o : Option Told) → 1 ≤ room → WidthFits w n → length (head Tag (Given w n) ++ input) ≤ total → place ≡ total - length (head Tag (Given w n) ++ input) → Searched only (room - 1) total input rest flaw s → (n ≡ 2) ⊎ (n ≡ 3) → (only ≡ false) × (s ≡ false) → IsEarliestTold (Some (place, BadBignum)) flaw o
-      → Searched only room total (head Tag (Given w n) ++ input) rest o false
+  pub bad_bignum_seen : (o : Option Told) → 1 ≤ room → WidthFits w n → length (head Tag (Given w n) ++ input) ≤ total → place ≡ total - length (head Tag (Given w n) ++ input) → Searched (room - 1) total input rest flaw s → (n ≡ 2) ⊎ (n ≡ 3) → s ≡ false → IsEarliestTold (Some (place, BadBignum)) flaw o
+      → Searched room total (head Tag (Given w n) ++ input) rest o false
   bad_bignum_seen o r h l e x d b k =
       let t : Tree = x.node in
       tagged_read place w n r h x (
         (e, subst (λ k. Placed k t) (inside total (head Tag (Given w n)) input l) x.holds.0),
         (
-          alike_sought only (Either (FlawAt (Tagged place w n t)) (Flaw t)) (Flaw (Tagged place w n t)) o (λ q i. let f = flaw_tagged place w n t q i in (f.1, f.0))
-              (both_sought only (FlawAt (Tagged place w n t)) (Flaw t) (Some (place, BadBignum)) flaw o (own_first only place w n t b.0 d (no_string_of t s b.1 x.holds.1.1)) x.holds.1.0 k),
+          alike_told (Either (FlawAt (Tagged place w n t)) (Flaw t)) (Flaw (Tagged place w n t)) o (λ q i. let f = flaw_tagged place w n t q i in (f.1, f.0))
+              (both_told (FlawAt (Tagged place w n t)) (Flaw t) (Some (place, BadBignum)) flaw o (own_first place w n t d (no_string_of t s b x.holds.1.1)) x.holds.1.0 k),
           (λ b z. z),
         ),
       )

@@ -21,7 +21,6 @@ use Rattle.cborn_judge.proofs.FirstFlaw.Sequences.{mean_more}
 use Rattle.cborn_search.specs.Flawed.{Told, FindsTold, NodesAt, Searched, HaveFlaw, SearchedAll}
 use Rattle.cborn_search.specs.Searching.{FlawVerdict, IsFirstFlawOf, HasBadText, IsFirstBadText}
 use Rattle.cborn_search.proofs.Places.{node_placed}
-use Rattle.cborn_search.proofs.Searching.{plain}
 
 refused_last : (ts : List Tree) (vs : List Value) (t : Tree) (f : Told) → AllZip Means ts vs → IsRefusal t (Refused f.0 f.1) → IsRefusalOfAll (ts ++ t ∷ []) (Refused f.0 f.1)
 refused_last [] [] t f h r = inl r
@@ -48,11 +47,11 @@ HaveVerdict flaw ts = FlawVerdict ts flaw
 pub none_judged : (room total : ℕ) (input : List ℕ) → NodesAt (HaveVerdict None) room total 0 input input
 none_judged room total input = no_node (tt, ([], tt))
 
-pub judged_more : (room total n : ℕ) (input mid rest : List ℕ) (a flaw o : Option Told) (s : Bool) → length input ≤ total → NodesAt (HaveVerdict a) room total n input mid → Searched false room total mid rest flaw s → o ≡ option_or a flaw → NodesAt (HaveVerdict o) room total (n + 1) input rest
+pub judged_more : (room total n : ℕ) (input mid rest : List ℕ) (a flaw o : Option Told) (s : Bool) → length input ≤ total → NodesAt (HaveVerdict a) room total n input mid → Searched room total mid rest flaw s → o ≡ option_or a flaw → NodesAt (HaveVerdict o) room total (n + 1) input rest
 judged_more room total n input mid rest a flaw o s l x y e =
     node_more x y (
       node_placed total input mid l x.nodes y.node x.read x.holds.0 y.holds.0,
-      subst (λ (z : Option Told). FlawVerdict (x.nodes ++ y.node ∷ []) z) (sym e) (verdict_more x.nodes y.node a flaw x.holds.1 (plain (Flaw y.node) flaw y.holds.1.0)),
+      subst (λ (z : Option Told). FlawVerdict (x.nodes ++ y.node ∷ []) z) (sym e) (verdict_more x.nodes y.node a flaw x.holds.1 y.holds.1.0),
     )
 
 -- nodes that were read up to the end
@@ -65,23 +64,5 @@ pub flaw_found : (room n : ℕ) (input rest : List ℕ) (o : Option Told) → le
 flaw_found room n input rest o e x = let w = whole_read (HaveVerdict o) room n input rest e x in record { nodes = x.nodes; read = w.0; placed = w.1; verdict = x.holds.1 }
 
 -- nodes that spell the same bytes, and stand at the same place
-one_list : (ts us : Trees) → FitsAll ts → FitsAll us → spelled_all ts ≡ spelled_all us → PlacedAll 0 ts → PlacedAll 0 us → ts ≡ us
+pub one_list : (ts us : Trees) → FitsAll ts → FitsAll us → spelled_all ts ≡ spelled_all us → PlacedAll 0 ts → PlacedAll 0 us → ts ≡ us
 one_list ts us f g e h k = sym (same_all-from ts 0 h) ∙ one_spelling ts us f g e 0 ∙ same_all-from us 0 k
-
-module _ (room n : ℕ) (input rest : List ℕ) (p : ℕ) (r : InvalidReason) (e : length rest ≡ 0) (x : SearchedAll true room (length input) n input rest (Some (p, r))) where
-  lowest : (q : ℕ) → HasBadText (trees x.nodes) q → p ≤ q
-  lowest q b = elim (x.holds.1.first q NotUtf8 (b, λ e. refl)) [ inl l ↦ omega (arith, l) | inr l ↦ omega (arith, l.0) ]
-
-  found : IsFirstBadText (trees x.nodes) p
-  found = record { is = subst (λ (s : InvalidReason). FlawIn (trees x.nodes) p s) (x.holds.1.is.1 refl) x.holds.1.is.0; lowest = lowest }
-
-  -- where texts alone were looked for
-  bad_text_found : (most : ℕ) (nodes : Trees) → Wellformed most nodes input → PlacedAll 0 nodes → IsFirstBadText nodes p
-  bad_text_found most nodes w h =
-      let g = whole_read (HaveFlaw true (Some (p, r))) room n input rest e x in
-      let same : trees x.nodes ≡ nodes = one_list (trees x.nodes) nodes g.0.fit w.fit (g.0.spells ∙ sym w.spells) g.1 h in
-      subst (λ (ts : Trees). IsFirstBadText ts p) same found
-
-pub bad_text_of : (room n : ℕ) (input rest : List ℕ) (o : Option Told) (p : ℕ) (r : InvalidReason) → length rest ≡ 0 → SearchedAll true room (length input) n input rest o → o ≡ Some (p, r)
-    → (most : ℕ) (nodes : Trees) → Wellformed most nodes input → PlacedAll 0 nodes → IsFirstBadText nodes p
-bad_text_of room n input rest o p r e x s = bad_text_found room n input rest p r e (subst (λ (z : Option Told). SearchedAll true room (length input) n input rest z) s x)

@@ -30,10 +30,6 @@ IsEarliestTold = IsEarliest (λ f. (told_place f, flaw_rank (told_reason f)))
 abbrev pub FindsTold : (ℕ → InvalidReason → Type 0) → Option Told → Type 0
 FindsTold = Finds flaw_rank told_place told_reason
 
--- what a search looks for: each of these flaws, or the texts among them that are not UTF-8
-abbrev pub Sought : Bool → (ℕ → InvalidReason → Type 0) → ℕ → InvalidReason → Type 0
-Sought only_texts F p r = F p r × (only_texts ≡ true → r ≡ NotUtf8)
-
 -- the text at this place is not UTF-8
 abbrev pub TextFlaw : ℕ → List ℕ → ℕ → InvalidReason → Type 0
 TextFlaw q b p r = (p ≡ q) × (r ≡ NotUtf8) × (IsUtf8 b → ⊥)
@@ -68,22 +64,22 @@ IsKind is_string t = MatchBool is_string ((b : List ℕ) × IsByteString t b) ((
 abbrev pub IsSound : Tree → Type 0
 IsSound t = (p : ℕ) (r : InvalidReason) → Flaw t p r → ⊥
 
-abbrev pub FlawFound : Bool → Option Told → Tree → Type 0
-FlawFound only_texts flaw t = FindsTold (Sought only_texts (Flaw t)) flaw
+abbrev pub FlawFound : Option Told → Tree → Type 0
+FlawFound flaw t = FindsTold (Flaw t) flaw
 
-abbrev pub HasFlaw : Bool → Option Told → Bool → Tree → Type 0
-HasFlaw only_texts flaw is_string t = FlawFound only_texts flaw t × IsKind is_string t
+abbrev pub HasFlaw : Option Told → Bool → Tree → Type 0
+HasFlaw flaw is_string t = FlawFound flaw t × IsKind is_string t
 
 -- a node, its first flaw, and whether it is a byte string
-abbrev pub Searched : Bool → ℕ → ℕ → List ℕ → List ℕ → Option Told → Bool → Type 0
-Searched only_texts room total input rest flaw is_string = NodeAt (HasFlaw only_texts flaw is_string) room total input rest
+abbrev pub Searched : ℕ → ℕ → List ℕ → List ℕ → Option Told → Bool → Type 0
+Searched room total input rest flaw is_string = NodeAt (HasFlaw flaw is_string) room total input rest
 
-abbrev pub HaveFlaw : Bool → Option Told → List Tree → Type 0
-HaveFlaw only_texts flaw ts = FindsTold (Sought only_texts (FlawIn (trees ts))) flaw
+abbrev pub HaveFlaw : Option Told → List Tree → Type 0
+HaveFlaw flaw ts = FindsTold (FlawIn (trees ts)) flaw
 
 -- n nodes one after another, and their first flaw
-abbrev pub SearchedAll : Bool → ℕ → ℕ → ℕ → List ℕ → List ℕ → Option Told → Type 0
-SearchedAll only_texts room total n input rest flaw = NodesAt (HaveFlaw only_texts flaw) room total n input rest
+abbrev pub SearchedAll : ℕ → ℕ → ℕ → List ℕ → List ℕ → Option Told → Type 0
+SearchedAll room total n input rest flaw = NodesAt (HaveFlaw flaw) room total n input rest
 
 -- a key that means something: its encoding, its position in the map, and its place
 abbrev pub SeenKey : Type 0
@@ -102,13 +98,9 @@ seen_place k = k.2
 abbrev pub AreSeen : List SeenKey → List Pair → Type 0
 AreSeen keys ns = AreKeys seen_bytes seen_position seen_place (entries ns) 0 keys
 
--- where texts alone are looked for, no key is kept
-abbrev pub AreSought : Bool → List SeenKey → List Pair → Type 0
-AreSought only_texts keys ns = only_texts ≡ false → AreSeen keys ns
-
-abbrev pub PairsFlaw : Bool → Option Told → List SeenKey → List Pair → Type 0
-PairsFlaw only_texts flaw keys ns = FindsTold (Sought only_texts (FlawAmong (entries ns))) flaw × AreSought only_texts keys ns
+abbrev pub PairsFlaw : Option Told → List SeenKey → List Pair → Type 0
+PairsFlaw flaw keys ns = FindsTold (FlawAmong (entries ns)) flaw × AreSeen keys ns
 
 -- n pairs one after another, the first flaw of their keys and values, and the keys that mean something
-abbrev pub PairsSeen : Bool → ℕ → ℕ → ℕ → List ℕ → List ℕ → Option Told → List SeenKey → Type 0
-PairsSeen only_texts room total n input rest flaw keys = PairsAt (PairsFlaw only_texts flaw keys) room total n input rest
+abbrev pub PairsSeen : ℕ → ℕ → ℕ → List ℕ → List ℕ → Option Told → List SeenKey → Type 0
+PairsSeen room total n input rest flaw keys = PairsAt (PairsFlaw flaw keys) room total n input rest

@@ -6,10 +6,13 @@ use Rattle.cborn_model.specs.Placed.{PlacedAll}
 use Rattle.cborn_model.specs.Spelled.{Wellformed}
 use Rattle.cborn_model.specs.Tree.{Tree, Trees, trees}
 use Rattle.cborn_model.specs.Value.{Value}
+use Rattle.cborn_wire.specs.Faults.{IsWellformed}
 use Rattle.cborn_judge.specs.Flaws.{WithinAll, FlawAt, IsRefusalOfAll}
 use Rattle.cborn_judge.specs.declared.faults.Invalid.TheVariants.{Refused}
 use Rattle.cborn_judge.specs.declared.faults.InvalidReason.TheVariants.{NotUtf8}
 use Rattle.cborn_search.specs.Flawed.{Told}
+use Rattle.cborn_search.specs.declared.bad_texts.TextValidity.{TextValidity}
+use Rattle.cborn_search.specs.declared.bad_texts.TextValidity.TheVariants as texts
 use Rattle.cborn_search.specs.declared.sequences.Validity.{Validity}
 use Rattle.cborn_search.specs.declared.sequences.Validity.TheVariants.{Valid, Flaw, Unknown}
 
@@ -39,3 +42,19 @@ HasBadText nodes p = (q : Tree) × WithinAll q nodes × FlawAt q p NotUtf8
 pub record IsFirstBadText (nodes : Trees) (p : ℕ) : Type 0 where
   pub is : HasBadText nodes p
   pub lowest : (q : ℕ) → HasBadText nodes q → p ≤ q
+
+-- of these nodes this is the first such text, or there is none
+abbrev pub FirstBadText : Trees → Option ℕ → Type 0
+FirstBadText nodes None = (p : ℕ) → HasBadText nodes p → ⊥
+FirstBadText nodes (Some p) = IsFirstBadText nodes p
+
+-- the bytes are well-formed under the limit, and this is the first such text of the nodes that they spell, each node at its offset, or there is none
+pub record HaveFirstBadText (limit : ℕ) (input : List ℕ) (found : Option ℕ) : Type 0 where
+  pub read : IsWellformed limit input
+  pub first : (most : ℕ) (nodes : Trees) → Wellformed most nodes input → PlacedAll 0 nodes → FirstBadText nodes found
+
+-- what a search for such texts answers: each text is UTF-8; or this is the first that isn't; or the bytes aren't well-formed under the limit
+abbrev pub IsTextValidity : ℕ → List ℕ → TextValidity → Type 0
+IsTextValidity limit input texts.Valid = HaveFirstBadText limit input None
+IsTextValidity limit input (texts.NotUtf8 place) = HaveFirstBadText limit input (Some place)
+IsTextValidity limit input texts.Malformed = IsWellformed limit input → ⊥

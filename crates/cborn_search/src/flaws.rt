@@ -15,8 +15,7 @@ ghost use Rattle.cborn_search.specs.devices.Marks.{KeyJoined, MapSeen};
 use crate::finding::Finding;
 use crate::keys::Taken;
 use crate::leaves::{
-    integer_len, is_bignum, is_simple, is_sound, search_long_bytes, search_long_text, search_text,
-    string_at,
+    integer_len, is_bignum, is_simple, search_long_bytes, search_long_text, search_text, string_at,
 };
 use crate::searched_maps::{SearchedMap, SpareMaps};
 use cborn_judge::{InvalidReason, earliest};
@@ -28,7 +27,6 @@ use cborn_wire::{Argument, HeadRead, behind_break, is_done, last, read_head};
 #[inline(always)]
 pub(crate) fn search_item<'a>(
     maps: &mut SpareMaps,
-    only_texts: bool,
     room: u64,
     total: u64,
     bytes: &'a [u8],
@@ -36,9 +34,9 @@ pub(crate) fn search_item<'a>(
 ) -> Option<&'a [u8]>
     requires room { room ≤ 1024 }
     requires within { length bytes.now ≤ total }
-    ensures { IfSome result (λ rest. Searched only_texts room total bytes.now rest.now found.new.flaw found.new.is_string) }
+    ensures { IfSome result (λ rest. Searched room total bytes.now rest.now found.new.flaw found.new.is_string) }
 {
-    let left = search_node(maps, only_texts, room, total, bytes, found)?;
+    let left = search_node(maps, room, total, bytes, found)?;
     last(bytes, left)
 }
 
@@ -48,7 +46,6 @@ pub(crate) fn search_item<'a>(
 #[inline(never)]
 fn search_node(
     maps: &mut SpareMaps,
-    only_texts: bool,
     room: u64,
     total: u64,
     bytes: &[u8],
@@ -56,7 +53,7 @@ fn search_node(
 ) -> Option<usize>
     requires room { room ≤ 1024 }
     requires within { length bytes.now ≤ total }
-    ensures { IfSome result (Leaves (λ rest. Searched only_texts room total bytes.now rest found.new.flaw found.new.is_string)) }
+    ensures { IfSome result (Leaves (λ rest. Searched room total bytes.now rest found.new.flaw found.new.is_string)) }
 {
     let HeadRead::Full(head, len) = read_head(bytes) else {
         return None;
@@ -78,13 +75,13 @@ fn search_node(
                 Some(after.len())
             }
             Major::TextString => search_text(place, n, rest, found),
-            Major::Array => search_fixed_array(maps, only_texts, room, total, n, rest, found),
-            Major::Map => search_fixed_map(maps, only_texts, room, total, n, rest, found),
+            Major::Array => search_fixed_array(maps, room, total, n, rest, found),
+            Major::Map => search_fixed_map(maps, room, total, n, rest, found),
             Major::Tag => {
                 if is_bignum(n) {
-                    search_bignum(maps, only_texts, room, total, place, rest, found)
+                    search_bignum(maps, room, total, place, rest, found)
                 } else {
-                    search_tagged(maps, only_texts, room, total, rest, found)
+                    search_tagged(maps, room, total, rest, found)
                 }
             }
             Major::Other => {
@@ -98,8 +95,8 @@ fn search_node(
         Argument::Endless => match major {
             Major::ByteString => search_long_bytes(total, rest, found),
             Major::TextString => search_long_text(total, rest, found),
-            Major::Array => search_endless_array(maps, only_texts, room, total, rest, found),
-            Major::Map => search_endless_map(maps, only_texts, room, total, rest, found),
+            Major::Array => search_endless_array(maps, room, total, rest, found),
+            Major::Map => search_endless_map(maps, room, total, rest, found),
             _ => None,
         },
     }
@@ -110,7 +107,6 @@ fn search_node(
 #[inline(never)]
 fn search_fixed_array(
     maps: &mut SpareMaps,
-    only_texts: bool,
     room: u64,
     total: u64,
     n: u64,
@@ -119,21 +115,12 @@ fn search_fixed_array(
 ) -> Option<usize>
     requires room { room ≤ 1024 }
     requires within { length bytes.now ≤ total }
-    ensures { IfSome result (λ left. (w : Width) → WidthFits w n → length (head Array (Given w n) ++ bytes.now) ≤ total → Leaves (λ rest. Searched only_texts room total (head Array (Given w n) ++ bytes.now) rest found.new.flaw found.new.is_string) left) }
+    ensures { IfSome result (λ left. (w : Width) → WidthFits w n → length (head Array (Given w n) ++ bytes.now) ≤ total → Leaves (λ rest. Searched room total (head Array (Given w n) ++ bytes.now) rest found.new.flaw found.new.is_string) left) }
 {
     if room == 0 {
         return None;
     }
-    let (rest, count, flaw) = search_items(
-        maps,
-        only_texts,
-        room - 1,
-        total,
-        n,
-        false,
-        bytes,
-        found,
-    )?;
+    let (rest, count, flaw) = search_items(maps, room - 1, total, n, false, bytes, found)?;
     if count != n {
         return None;
     }
@@ -149,7 +136,6 @@ fn search_fixed_array(
 #[inline(never)]
 fn search_endless_array(
     maps: &mut SpareMaps,
-    only_texts: bool,
     room: u64,
     total: u64,
     bytes: &[u8],
@@ -157,21 +143,12 @@ fn search_endless_array(
 ) -> Option<usize>
     requires room { room ≤ 1024 }
     requires within { length bytes.now ≤ total }
-    ensures { IfSome result (λ left. length (head Array Unbounded ++ bytes.now) ≤ total → Leaves (λ rest. Searched only_texts room total (head Array Unbounded ++ bytes.now) rest found.new.flaw found.new.is_string) left) }
+    ensures { IfSome result (λ left. length (head Array Unbounded ++ bytes.now) ≤ total → Leaves (λ rest. Searched room total (head Array Unbounded ++ bytes.now) rest found.new.flaw found.new.is_string) left) }
 {
     if room == 0 {
         return None;
     }
-    let (rest, _, flaw) = search_items(
-        maps,
-        only_texts,
-        room - 1,
-        total,
-        u64::MAX,
-        true,
-        bytes,
-        found,
-    )?;
+    let (rest, _, flaw) = search_items(maps, room - 1, total, u64::MAX, true, bytes, found)?;
     let after = behind_break(rest)?;
     *found = Finding {
         flaw,
@@ -186,7 +163,6 @@ fn search_endless_array(
 #[inline(always)]
 fn search_items<'a>(
     maps: &mut SpareMaps,
-    only_texts: bool,
     room: u64,
     total: u64,
     most: u64,
@@ -196,7 +172,7 @@ fn search_items<'a>(
 ) -> Option<(&'a [u8], u64, Option<(u64, InvalidReason)>)>
     requires room { room ≤ 1024 }
     requires within { length bytes.now ≤ total }
-    ensures { IfSome result (λ r. SearchedAll only_texts room total r.1 bytes.now r.0.now r.2) }
+    ensures { IfSome result (λ r. SearchedAll room total r.1 bytes.now r.0.now r.2) }
 {
     let mut rest = bytes;
     let mut count = 0;
@@ -210,7 +186,7 @@ fn search_items<'a>(
             count += 1;
             continue;
         }
-        rest = search_item(maps, only_texts, room, total, rest, found)?;
+        rest = search_item(maps, room, total, rest, found)?;
         first = earliest(first, found.flaw);
         count += 1;
     }
@@ -222,7 +198,6 @@ fn search_items<'a>(
 #[inline(never)]
 fn search_fixed_map(
     maps: &mut SpareMaps,
-    only_texts: bool,
     room: u64,
     total: u64,
     n: u64,
@@ -231,12 +206,12 @@ fn search_fixed_map(
 ) -> Option<usize>
     requires room { room ≤ 1024 }
     requires within { length bytes.now ≤ total }
-    ensures { IfSome result (λ left. (w : Width) → WidthFits w n → length (head Map (Given w n) ++ bytes.now) ≤ total → Leaves (λ rest. Searched only_texts room total (head Map (Given w n) ++ bytes.now) rest found.new.flaw found.new.is_string) left) }
+    ensures { IfSome result (λ left. (w : Width) → WidthFits w n → length (head Map (Given w n) ++ bytes.now) ≤ total → Leaves (λ rest. Searched room total (head Map (Given w n) ++ bytes.now) rest found.new.flaw found.new.is_string) left) }
 {
     if room == 0 {
         return None;
     }
-    let (rest, count) = search_pairs(maps, only_texts, room - 1, total, n, false, bytes, found)?;
+    let (rest, count) = search_pairs(maps, room - 1, total, n, false, bytes, found)?;
     if count != n {
         return None;
     }
@@ -248,7 +223,6 @@ fn search_fixed_map(
 #[inline(never)]
 fn search_endless_map(
     maps: &mut SpareMaps,
-    only_texts: bool,
     room: u64,
     total: u64,
     bytes: &[u8],
@@ -256,21 +230,12 @@ fn search_endless_map(
 ) -> Option<usize>
     requires room { room ≤ 1024 }
     requires within { length bytes.now ≤ total }
-    ensures { IfSome result (λ left. length (head Map Unbounded ++ bytes.now) ≤ total → Leaves (λ rest. Searched only_texts room total (head Map Unbounded ++ bytes.now) rest found.new.flaw found.new.is_string) left) }
+    ensures { IfSome result (λ left. length (head Map Unbounded ++ bytes.now) ≤ total → Leaves (λ rest. Searched room total (head Map Unbounded ++ bytes.now) rest found.new.flaw found.new.is_string) left) }
 {
     if room == 0 {
         return None;
     }
-    let (rest, _) = search_pairs(
-        maps,
-        only_texts,
-        room - 1,
-        total,
-        u64::MAX,
-        true,
-        bytes,
-        found,
-    )?;
+    let (rest, _) = search_pairs(maps, room - 1, total, u64::MAX, true, bytes, found)?;
     let after = behind_break(rest)?;
     Some(after.len())
 }
@@ -281,7 +246,6 @@ fn search_endless_map(
 #[inline(always)]
 fn search_pairs<'a>(
     maps: &mut SpareMaps,
-    only_texts: bool,
     room: u64,
     total: u64,
     most: u64,
@@ -291,18 +255,18 @@ fn search_pairs<'a>(
 ) -> Option<(&'a [u8], u64)>
     requires room { room ≤ 1024 }
     requires within { length bytes.now ≤ total }
-    ensures { IfSome result (λ r. MapSeen only_texts room total r.1 bytes.now r.0.now found.new.flaw × (found.new.is_string ≡ false)) }
+    ensures { IfSome result (λ r. MapSeen room total r.1 bytes.now r.0.now found.new.flaw × (found.new.is_string ≡ false)) }
 {
     let mut map = maps.fresh_map()?;
     let mut rest = bytes;
     let mut count = 0;
     'pairs: while !is_done(count, most, may_end, rest) {
-        let middle = search_key(maps, &mut *map, only_texts, room, total, bytes, rest, found)?;
-        rest = search_value(maps, only_texts, room, total, middle, found)?;
+        let middle = search_key(maps, &mut *map, room, total, bytes, rest, found)?;
+        rest = search_value(maps, room, total, middle, found)?;
         map.note(found.flaw);
         count += 1;
     }
-    map.conclude(only_texts, total, bytes, found)?;
+    map.conclude(total, bytes, found)?;
     maps.put_back(map);
     Some((rest, count))
 }
@@ -314,7 +278,6 @@ fn search_pairs<'a>(
 fn search_key<'a>(
     maps: &mut SpareMaps,
     map: &mut SearchedMap,
-    only_texts: bool,
     room: u64,
     total: u64,
     pairs: &[u8],
@@ -324,13 +287,13 @@ fn search_key<'a>(
     requires room { room ≤ 1024 }
     requires within { length pairs.now ≤ total }
     requires behind { (front : List ℕ) × (pairs.now ≡ front ++ bytes.now) }
-    ensures { IfSome result (λ rest. KeyJoined only_texts room total pairs.now bytes.now map.old map.new rest.now) }
+    ensures { IfSome result (λ rest. KeyJoined room total pairs.now bytes.now map.old map.new rest.now) }
 {
     match map.take(maps, room, total, pairs, bytes) {
         Taken::Behind(left) => last(bytes, left),
         Taken::Not => {
-            let left = search_node(maps, only_texts, room, total, bytes, found)?;
-            if !only_texts && found.flaw.is_none() {
+            let left = search_node(maps, room, total, bytes, found)?;
+            if found.flaw.is_none() {
                 return None;
             }
             map.note(found.flaw);
@@ -346,7 +309,6 @@ fn search_key<'a>(
 #[inline(always)]
 fn search_value<'a>(
     maps: &mut SpareMaps,
-    only_texts: bool,
     room: u64,
     total: u64,
     bytes: &'a [u8],
@@ -354,7 +316,7 @@ fn search_value<'a>(
 ) -> Option<&'a [u8]>
     requires room { room ≤ 1024 }
     requires within { length bytes.now ≤ total }
-    ensures { IfSome result (λ rest. Searched only_texts room total bytes.now rest.now found.new.flaw found.new.is_string) }
+    ensures { IfSome result (λ rest. Searched room total bytes.now rest.now found.new.flaw found.new.is_string) }
 {
     if let Some(len) = integer_len(bytes) {
         *found = Finding {
@@ -363,7 +325,7 @@ fn search_value<'a>(
         };
         return Some(&bytes[len..]);
     }
-    search_item(maps, only_texts, room, total, bytes, found)
+    search_item(maps, room, total, bytes, found)
 }
 
 /// The bignum at `place` over the item at the front, which has to be a byte string.
@@ -371,7 +333,6 @@ fn search_value<'a>(
 #[inline(never)]
 fn search_bignum(
     maps: &mut SpareMaps,
-    only_texts: bool,
     room: u64,
     total: u64,
     place: u64,
@@ -380,13 +341,13 @@ fn search_bignum(
 ) -> Option<usize>
     requires room { room ≤ 1024 }
     requires within { length bytes.now ≤ total }
-    ensures { IfSome result (λ left. (w : Width) (n : ℕ) → (n ≡ 2) ⊎ (n ≡ 3) → WidthFits w n → length (head Tag (Given w n) ++ bytes.now) ≤ total → place ≡ total - length (head Tag (Given w n) ++ bytes.now) → Leaves (λ rest. Searched only_texts room total (head Tag (Given w n) ++ bytes.now) rest found.new.flaw found.new.is_string) left) }
+    ensures { IfSome result (λ left. (w : Width) (n : ℕ) → (n ≡ 2) ⊎ (n ≡ 3) → WidthFits w n → length (head Tag (Given w n) ++ bytes.now) ≤ total → place ≡ total - length (head Tag (Given w n) ++ bytes.now) → Leaves (λ rest. Searched room total (head Tag (Given w n) ++ bytes.now) rest found.new.flaw found.new.is_string) left) }
 {
     if room == 0 {
         return None;
     }
-    let left = search_node(maps, only_texts, room - 1, total, bytes, found)?;
-    if is_sound(only_texts, found.is_string) {
+    let left = search_node(maps, room - 1, total, bytes, found)?;
+    if found.is_string {
         found.is_string = false;
         return Some(left);
     }
@@ -404,7 +365,6 @@ fn search_bignum(
 #[inline(never)]
 fn search_tagged(
     maps: &mut SpareMaps,
-    only_texts: bool,
     room: u64,
     total: u64,
     bytes: &[u8],
@@ -412,12 +372,12 @@ fn search_tagged(
 ) -> Option<usize>
     requires room { room ≤ 1024 }
     requires within { length bytes.now ≤ total }
-    ensures { IfSome result (λ left. (w : Width) (n : ℕ) → n ≢ 2 → n ≢ 3 → WidthFits w n → length (head Tag (Given w n) ++ bytes.now) ≤ total → Leaves (λ rest. Searched only_texts room total (head Tag (Given w n) ++ bytes.now) rest found.new.flaw found.new.is_string) left) }
+    ensures { IfSome result (λ left. (w : Width) (n : ℕ) → n ≢ 2 → n ≢ 3 → WidthFits w n → length (head Tag (Given w n) ++ bytes.now) ≤ total → Leaves (λ rest. Searched room total (head Tag (Given w n) ++ bytes.now) rest found.new.flaw found.new.is_string) left) }
 {
     if room == 0 {
         return None;
     }
-    let left = search_node(maps, only_texts, room - 1, total, bytes, found)?;
+    let left = search_node(maps, room - 1, total, bytes, found)?;
     found.is_string = false;
     Some(left)
 }

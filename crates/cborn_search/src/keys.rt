@@ -3,7 +3,7 @@
 ghost use Rattle.std.specs.Prelude.{◌≡◌, ◌≤◌, ◌++◌, ℕ, List, [], length, take, drop, IfSome, OnSome, IsPermutation};
 ghost use Rattle.cborn_model.specs.Tree.{entries};
 ghost use Rattle.cborn_judge.specs.shared.Judged.{RepeatFlaw};
-ghost use Rattle.cborn_search.specs.Flawed.{Sought, FindsTold, SeenKey, AreSought};
+ghost use Rattle.cborn_search.specs.Flawed.{FindsTold, SeenKey, AreSeen};
 ghost use Rattle.cborn_search.specs.devices.Marks.{mark_bytes, mark_place, AreMarked, IsPushed, IsWritten, Takes, InPlace, ComesAfter, TieAfter, TieFlaw};
 ghost use Rattle.cborn_wire.specs.Parts.{Pair};
 
@@ -145,15 +145,11 @@ impl Keys {
     #[inline(never)]
     pub(crate) fn first_repeat(
         &mut self,
-        only_texts: bool,
         total: u64,
         pairs: &[u8],
     ) -> Option<Option<(u64, InvalidReason)>>
-        ensures { IfSome result (λ first. (ns : List Pair) (ks : List SeenKey) (end : ℕ) → AreMarked total pairs.now end ks self.old → AreSought only_texts ks ns → FindsTold (Sought only_texts (RepeatFlaw (entries ns))) first) }
+        ensures { IfSome result (λ first. (ns : List Pair) (ks : List SeenKey) (end : ℕ) → AreMarked total pairs.now end ks self.old → AreSeen ks ns → FindsTold (RepeatFlaw (entries ns)) first) }
     {
-        if only_texts {
-            return Some(None);
-        }
         if let Some(first) = first_tie(total, pairs, &self.written, &self.marks) {
             return Some(first);
         }

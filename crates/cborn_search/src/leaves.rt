@@ -21,20 +21,12 @@ pub(crate) fn is_bignum(n: u64) -> bool
     n == 2 || n == 3
 }
 
-/// Whether a bignum has no flaw of its own that is looked for.
-#[inline(always)]
-pub(crate) fn is_sound(only_texts: bool, is_string: bool) -> bool
-    ensures { MatchBool result ((only_texts ≡ true) ⊎ (is_string ≡ true)) ((only_texts ≡ false) × (is_string ≡ false)) }
-{
-    only_texts || is_string
-}
-
 /// The length of the integer at the front, if one stands there. It is quicker than a call for each
 /// item where integers follow one another.
 #[inline(always)]
 pub(crate) fn integer_len(bytes: &[u8]) -> Option<usize>
     ensures len { IfSome result (λ len. len ≤ length bytes.now) }
-    ensures integer { IfSome result (λ len. (only : Bool) (room total : ℕ) → Searched only room total bytes.now (drop len bytes.now) None false) }
+    ensures integer { IfSome result (λ len. (room total : ℕ) → Searched room total bytes.now (drop len bytes.now) None false) }
 {
     let [0..64, ..] = bytes else {
         return None;
@@ -150,7 +142,7 @@ fn chunk_flaw(major: Major, place: u64, bytes: &[u8]) -> Option<(u64, InvalidRea
 /// The text of `n` bytes at the front, whose head is at `place`; answers how many bytes follow it.
 #[inline(never)]
 pub(crate) fn search_text(place: u64, n: u64, bytes: &[u8], found: &mut Finding) -> Option<usize>
-    ensures { IfSome result (λ left. (only : Bool) (room total : ℕ) (w : Width) → WidthFits w n → place ≡ total - length (head TextString (Given w n) ++ bytes.now) → Leaves (λ rest. Searched only room total (head TextString (Given w n) ++ bytes.now) rest found.new.flaw found.new.is_string) left) }
+    ensures { IfSome result (λ left. (room total : ℕ) (w : Width) → WidthFits w n → place ≡ total - length (head TextString (Given w n) ++ bytes.now) → Leaves (λ rest. Searched room total (head TextString (Given w n) ++ bytes.now) rest found.new.flaw found.new.is_string) left) }
 {
     let (content, after) = string_at(n, bytes)?;
     let flaw = text_flaw(place, content);
@@ -165,7 +157,7 @@ pub(crate) fn search_text(place: u64, n: u64, bytes: &[u8], found: &mut Finding)
 #[inline(never)]
 pub(crate) fn search_long_bytes(total: u64, bytes: &[u8], found: &mut Finding) -> Option<usize>
     requires { length bytes.now ≤ total }
-    ensures { IfSome result (λ left. (only : Bool) (room : ℕ) → length (head ByteString Unbounded ++ bytes.now) ≤ total → Leaves (λ rest. Searched only room total (head ByteString Unbounded ++ bytes.now) rest found.new.flaw found.new.is_string) left) }
+    ensures { IfSome result (λ left. (room : ℕ) → length (head ByteString Unbounded ++ bytes.now) ≤ total → Leaves (λ rest. Searched room total (head ByteString Unbounded ++ bytes.now) rest found.new.flaw found.new.is_string) left) }
 {
     let (after, _) = search_chunks(Major::ByteString, total, bytes)?;
     let end = behind_break(after)?;
@@ -180,7 +172,7 @@ pub(crate) fn search_long_bytes(total: u64, bytes: &[u8], found: &mut Finding) -
 #[inline(never)]
 pub(crate) fn search_long_text(total: u64, bytes: &[u8], found: &mut Finding) -> Option<usize>
     requires { length bytes.now ≤ total }
-    ensures { IfSome result (λ left. (only : Bool) (room : ℕ) → length (head TextString Unbounded ++ bytes.now) ≤ total → Leaves (λ rest. Searched only room total (head TextString Unbounded ++ bytes.now) rest found.new.flaw found.new.is_string) left) }
+    ensures { IfSome result (λ left. (room : ℕ) → length (head TextString Unbounded ++ bytes.now) ≤ total → Leaves (λ rest. Searched room total (head TextString Unbounded ++ bytes.now) rest found.new.flaw found.new.is_string) left) }
 {
     let (after, flaw) = search_chunks(Major::TextString, total, bytes)?;
     let end = behind_break(after)?;

@@ -4,11 +4,12 @@
 //! through the bytes once. Of the keys of the maps that it is in it keeps where they lie, and the
 //! encodings of those that aren't their own. A key is taken in before it is searched, since one that
 //! has an encoding has no flaw; only a key that has none is searched, with all that it holds.
-//! [`first_bad_text`] is the same search for texts that aren't UTF-8 alone, which keeps nothing.
+//! [`first_bad_text`] goes through the bytes for texts that aren't UTF-8 alone, and keeps nothing.
 //!
 //! A reader of the definitions starts at `specs/Searching.antt`.
 #![tactic(auto)]
 
+mod bad_texts;
 mod finding;
 mod flaws;
 mod keys;
@@ -16,4 +17,5 @@ mod leaves;
 mod searched_maps;
 mod sequences;
 
-pub use sequences::{Validity, first_bad_text, first_flaw};
+pub use bad_texts::{TextValidity, first_bad_text};
+pub use sequences::{Validity, first_flaw};

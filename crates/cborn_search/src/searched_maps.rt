@@ -42,7 +42,7 @@ impl SearchedMap {
     }
 
     /// Takes in the key at the front of `bytes`, which `pairs` end with, if it has no flaw. It isn't tried
-    /// where texts alone are looked for, nor where it is known to hold the flaw of a key around it: so
+    /// where it is known to hold the flaw of a key around it: so
     /// no byte is tried again at each level of a nest of keys.
     #[inline(never)]
     pub(crate) fn take(
@@ -59,7 +59,7 @@ impl SearchedMap {
         ensures keys { Takes room total pairs.now bytes.now self.old.keys self.new.keys result }
         ensures first { self.new.first ≡ self.old.first }
     {
-        if maps.only_texts || maps.flawed.has_key(bytes.len()) {
+        if maps.flawed.has_key(bytes.len()) {
             return Taken::Not;
         }
         self.keys.take(
@@ -86,16 +86,10 @@ impl SearchedMap {
 
     /// Tells the first flaw of the map whose pairs these are. None promises nothing.
     #[inline(never)]
-    pub(crate) fn conclude(
-        &mut self,
-        only_texts: bool,
-        total: u64,
-        pairs: &[u8],
-        found: &mut Finding,
-    ) -> Option<()>
-        ensures { OnSome result (Concludes only_texts total pairs.now self.old.keys self.old.first found.new.flaw × (found.new.is_string ≡ false)) }
+    pub(crate) fn conclude(&mut self, total: u64, pairs: &[u8], found: &mut Finding) -> Option<()>
+        ensures { OnSome result (Concludes total pairs.now self.old.keys self.old.first found.new.flaw × (found.new.is_string ≡ false)) }
     {
-        let repeat = self.keys.first_repeat(only_texts, total, pairs)?;
+        let repeat = self.keys.first_repeat(total, pairs)?;
         let flaw = earliest(self.first, repeat);
         *found = Finding {
             flaw,
@@ -115,19 +109,16 @@ pub(crate) struct SpareMaps {
     encoding: Vec<u8>,
     /// Of a key that wasn't taken in, the keys inside it that hold its flaw.
     flawed: OpenKeys,
-    /// Texts alone are looked for.
-    only_texts: bool,
 }
 
 impl SpareMaps {
     /// None yet.
-    pub(crate) fn new(alloc: Global, only_texts: bool) -> SpareMaps {
+    pub(crate) fn new(alloc: Global) -> SpareMaps {
         SpareMaps {
             alloc,
             spare: Vec::new(alloc),
             encoding: Vec::new(alloc),
             flawed: OpenKeys::new(alloc),
-            only_texts,
         }
     }
 

@@ -39,7 +39,7 @@ pub fn first_flaw(alloc: Global, limit: Limit, bytes: &[u8]) -> Validity
 {
     let total = bytes.len() as u64;
     let room = limit.get();
-    let mut maps = SpareMaps::new(alloc, false);
+    let mut maps = SpareMaps::new(alloc);
     let mut rest = bytes;
     let mut first: Option<(u64, InvalidReason)> = None;
     let mut found = Finding {
@@ -50,7 +50,7 @@ pub fn first_flaw(alloc: Global, limit: Limit, bytes: &[u8]) -> Validity
         if rest.is_empty() {
             break;
         }
-        let Some(behind) = search_item(&mut maps, false, room, total, rest, &mut found) else {
+        let Some(behind) = search_item(&mut maps, room, total, rest, &mut found) else {
             return Validity::Unknown;
         };
         rest = behind;
@@ -62,36 +62,5 @@ pub fn first_flaw(alloc: Global, limit: Limit, bytes: &[u8]) -> Validity
     match first {
         Some((place, reason)) => Validity::Flaw { place, reason },
         None => Validity::Valid,
-    }
-}
-
-/// The place of the first text string, or chunk of one, that isn't UTF-8 (RFC 8949 section 3.1): its
-/// offset in bytes from the start of the input. It is the search of `first_flaw`, for texts alone,
-/// and keeps no key. None promises nothing.
-pub fn first_bad_text(alloc: Global, limit: Limit, bytes: &[u8]) -> Option<u64>
-    ensures { IfSome result (λ place. (most : ℕ) (nodes : Trees) → Wellformed most nodes bytes.now → PlacedAll 0 nodes → IsFirstBadText nodes place) }
-{
-    let total = bytes.len() as u64;
-    let room = limit.get();
-    let mut maps = SpareMaps::new(alloc, true);
-    let mut found = Finding {
-        flaw: None,
-        is_string: false,
-    };
-    let mut rest = bytes;
-    let mut first: Option<(u64, InvalidReason)> = None;
-    'items: for _ in 0..bytes.len() {
-        if rest.is_empty() {
-            break;
-        }
-        rest = search_item(&mut maps, true, room, total, rest, &mut found)?;
-        first = earliest(first, found.flaw);
-    }
-    if !rest.is_empty() {
-        return None;
-    }
-    match first {
-        Some((place, _)) => Some(place),
-        None => None,
     }
 }

@@ -87,14 +87,6 @@ some_lines limit n input rest out text s r some t = go s.nodes refl
         same : text ≡ shown_lines (trees s.nodes)
         same = t ∙ ap (λ l. l ++ codes "\n") s.holds.1 ∙ ap (λ (ts : List Tree). joined_by (codes ",\n") (map shown ts) ++ codes "\n") e ∙ lines_joined x xs ∙ ap (λ (ts : List Tree). shown_lines (trees ts)) (sym e)
 
-pub nothing_left : (l : List ℕ) → (length l == 0) ≡ true → l ≡ []
-nothing_left [] h = refl
-nothing_left (x ∷ l) h = let e : length (x ∷ l) ≡ 0 = eqb-true (length (x ∷ l)) 0 h in absurd (omega arith)
-
-pub something_left : (l : List ℕ) → (length l == 0) ≡ false → l ≡ [] → ⊥
-something_left [] h e = let t : true ≡ false = h in cc
-something_left (x ∷ l) h e = let t : length (x ∷ l) ≡ 0 = ap length e in omega arith
-
 -- ---- no notation
 
 -- behind those that were read no node stands, or none that is showable
@@ -117,6 +109,3 @@ blamed_pass hinted halt p room n input rest a s some only = absurd a
 pub blamed_result : {P : List Tree → Type 0} {E : Type 0} (hinted : Bool) (halt : Halt) (r : Result Pass E) (room n : ℕ) (input rest : List ℕ) → IfOk r (Answers halt) → NodesRead P room n input rest → (rest ≡ [] → ⊥) → Only (Blamed hinted halt) room rest → IfOk r (Passes hinted room input)
 blamed_result hinted halt (Err e) room n input rest a s some only = tt
 blamed_result hinted halt (Ok p) room n input rest a s some only = blamed_pass hinted halt p room n input rest a s some only
-
-pub node_some : {P : Tree → Type 0} {room : ℕ} {input rest : List ℕ} → NodeRead P room input rest → length rest < length input
-node_some {P} {room} {input} {rest} y = omega (arith, ap length y.read, length-append (spelled y.node) rest, some_byte y.node)

@@ -1,6 +1,6 @@
 -- What a pass over bytes writes of the nodes that it reads: their fixed notation, at the end of its buffer.
 -- Start with IsShownText and HasNoNotation, at the end: they are all that the public call promises.
-use Rattle.std.specs.Prelude.{◌≡◌, ℕ, zero, suc, List, [], ◌++◌, map, length, Bool, true, false, codes, decimal}
+use Rattle.std.specs.Prelude.{◌≡◌, ℕ, zero, suc, List, [], ◌++◌, map, length, Bool, true, false, ⊤, codes, decimal}
 use Rattle.std.specs.List.{flat_map}
 use Rattle.cborn_model.specs.declared.heads.Width.{Width}
 use Rattle.cborn_model.specs.declared.nodes.Chunk.{Chunk}
@@ -16,11 +16,16 @@ use Rattle.cborn_edn.specs.declared.strings.StringKind.TheVariants.{Bytes as OfB
 use Rattle.cborn_edn.specs.shared.Between.{between, shown_pair}
 use Rattle.cborn_edn.specs.Shown.{Shown, AreShowable, joined_by, shown, shown_chunk, shown_chunks, mark_for, indicator, opened, escaped}
 use Rattle.cborn_edn.specs.shared.Texts.{AreTexts, IsShowable, EachShowable, ArePairsShowable}
+use Rattle.cborn_wire.specs.Faults.{IsWellformed}
 use Rattle.cborn_wire.specs.Parts.{Pair, NodeRead, NodesRead}
 use Rattle.cborn_show.specs.declared.notations.Halt.{Halt}
 use Rattle.cborn_show.specs.declared.notations.Halt.TheVariants.{Refused, BadText, Doubtful}
+use Rattle.cborn_show.specs.declared.checks.Checked.{Checked}
+use Rattle.cborn_show.specs.declared.checks.Checked.TheVariants.{Good, Malformed as CheckedMalformed, BadText as HasBadText}
 use Rattle.cborn_show.specs.declared.passes.Pass.{Pass}
-use Rattle.cborn_show.specs.declared.passes.Pass.TheVariants.{Shown as PassShows, Unshown, Doubtful as InDoubt}
+use Rattle.cborn_show.specs.declared.passes.Pass.TheVariants.{Shown as PassShows, Malformed as FoundMalformed, Unshown, Doubtful as InDoubt}
+use Rattle.cborn_show.specs.declared.passes.Notated.{Notated}
+use Rattle.cborn_show.specs.declared.passes.Notated.TheVariants.{Text as ShownText, Malformed, Unshowable}
 
 abbrev pub kind_of : Bool → StringKind
 kind_of true = OfText
@@ -138,11 +143,24 @@ pub record IsShownText (limit : ℕ) (input text : List ℕ) : Type 0 where
 unfoldable pub HasNoNotation : (limit : ℕ) (input : List ℕ) → Type 0
 HasNoNotation limit input = (nodes : Trees) → Wellformed limit nodes input → AreShowable nodes → ⊥
 
+-- what a call answers: the text, that the bytes aren't well-formed under the limit, or that they have no notation
+abbrev pub Notates : (limit : ℕ) (input : List ℕ) → Notated → Type 0
+Notates limit input (ShownText text) = IsShownText limit input text.items
+Notates limit input Malformed = IsWellformed limit input → ⊥
+Notates limit input Unshowable = HasNoNotation limit input
+
 -- what a pass over a whole input answers; in doubt, without looking ahead, as where there is no notation
 abbrev pub Passes : (hinted : Bool) (limit : ℕ) (input : List ℕ) → Pass → Type 0
 Passes hinted limit input (PassShows text) = PassShown limit input text.items
+Passes hinted limit input FoundMalformed = IsWellformed limit input → ⊥
 Passes hinted limit input Unshown = HasNoNotation limit input
 Passes hinted limit input InDoubt = hinted ≡ false → HasNoNotation limit input
+
+-- what a walk that writes nothing answers
+abbrev pub Checks : (limit : ℕ) (input : List ℕ) → Checked → Type 0
+Checks limit input Good = ⊤
+Checks limit input CheckedMalformed = IsWellformed limit input → ⊥
+Checks limit input HasBadText = HasNoNotation limit input
 
 -- what a pass that stopped answers
 abbrev pub Answers : Halt → Pass → Type 0

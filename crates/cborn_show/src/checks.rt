@@ -1,11 +1,11 @@
 //! Whether bytes have a fixed notation, with nothing written.
 #![tactic(auto, unfolding(cborn_descent::specs::Descending::Always, cborn_descent::specs::Descending::Only, cborn_descent::specs::Descending::BlamesString, cborn_descent::specs::Descending::BlamesChunk))]
 
-ghost use Rattle.std.specs.Prelude.{◌≡◌, ◌≤◌, length, drop, false, true};
+ghost use Rattle.std.specs.Prelude.{◌≡◌, ◌≤◌, length, drop, true};
 ghost use Rattle.cborn_model.specs.Tree.{trees, entries};
 ghost use Rattle.cborn_edn.specs.shared.Texts.{AreTexts, IsShowable, EachShowable, ArePairsShowable};
 ghost use Rattle.cborn_wire.specs.Parts.{NodesRead};
-ghost use Rattle.cborn_show.specs.Passed.{HasNoNotation};
+ghost use Rattle.cborn_show.specs.Passed.{Checks};
 ghost use Rattle.cborn_show.specs.Rising.{bad_rises};
 
 use crate::leaves::is_bad_text;
@@ -13,11 +13,22 @@ use cborn_descent::{Descent, Opening, Sink, descend};
 use cborn_model::Width;
 use cborn_wire::last;
 
+/// What a walk that writes nothing says of bytes.
+#[derive(Clone, Copy)]
+pub(crate) enum Checked {
+    /// They hold items whose texts are UTF-8.
+    Good,
+    /// They hold no items.
+    Malformed,
+    /// A text in them isn't UTF-8.
+    BadText,
+}
+
 /// Whether the bytes hold items, none of them deeper than `room`, whose texts are UTF-8. Takes no
 /// memory.
-pub(crate) fn is_showable(room: u64, bytes: &[u8]) -> bool
+pub(crate) fn check_texts(room: u64, bytes: &[u8]) -> Checked
     requires { room ≤ 1024 }
-    ensures { result ≡ false → HasNoNotation room bytes.now }
+    ensures { Checks room bytes.now result }
 {
     let mut checking = Checking { count: 0 };
     let mut rest = bytes;
@@ -25,15 +36,15 @@ pub(crate) fn is_showable(room: u64, bytes: &[u8]) -> bool
         match descend(&mut checking, room, rest) {
             Descent::Taken(left) => {
                 let Some(after) = last(rest, left) else {
-                    return false;
+                    return Checked::Malformed;
                 };
                 rest = after;
             }
-            Descent::Malformed => return false,
-            Descent::Stopped => return false,
+            Descent::Malformed => return Checked::Malformed,
+            Descent::Stopped => return Checked::BadText,
         }
     }
-    true
+    Checked::Good
 }
 
 /// How many integers of one byte each stand at the front, at most `most`.

@@ -12,8 +12,8 @@
 //! each at its place, and the text is their fixed notation as `cborn_edn` defines it. So what is
 //! shown here is what the writer that keeps nodes shows, byte for byte.
 //!
-//! Where it answers none, the items have no notation (`HasNoNotation`): the bytes hold none within
-//! the limit, or a text in them isn't UTF-8. The error is that of a growth that was refused.
+//! Where it answers no text, there is none (`HasNoNotation`): the bytes hold no items within the
+//! limit, or a text in them isn't UTF-8. The error is that of a growth that was refused.
 //!
 //! In the code start with `passes`; `notations` is what the descent over the bytes tells of what it
 //! reads; `leaves` has the strings, `numbers` decimals and indicators, `runs` integers in a row, with
@@ -29,4 +29,4 @@ mod passes;
 mod prospects;
 mod runs;
 
-pub use passes::show_bytes;
+pub use passes::{Notated, show_bytes};

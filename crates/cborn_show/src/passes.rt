@@ -1,9 +1,9 @@
 //! A whole input.
 
-ghost use Rattle.std.specs.Prelude.{◌≤◌, IfOk, MatchOption};
-ghost use Rattle.cborn_show.specs.Passed.{IsShownText, HasNoNotation, Passes, Answers};
+ghost use Rattle.std.specs.Prelude.{◌≤◌, IfOk};
+ghost use Rattle.cborn_show.specs.Passed.{Notates, Passes, Answers};
 
-use crate::checks::is_showable;
+use crate::checks::{Checked, check_texts};
 use crate::notations::{Halt, Notation};
 use crate::prospects::Outlook;
 use cborn_descent::{Descent, descend};
@@ -12,33 +12,47 @@ use cborn_model::Limit;
 use cborn_wire::last;
 use std::alloc::{AllocError, Global};
 
+/// The fixed notation of bytes, or why they have none.
+#[derive(Drop)]
+pub enum Notated {
+    /// This is the text.
+    Text(Vec<u8>),
+    /// The bytes hold no items within the limit (RFC 8949 section 3).
+    Malformed,
+    /// They have none: a text string in them isn't UTF-8 (RFC 8949 section 8), whether or not they
+    /// hold items.
+    Unshowable,
+}
+
 /// What a pass over a whole input came to.
 #[derive(Drop)]
 pub(crate) enum Pass {
     /// This is the text.
     Shown(Vec<u8>),
+    /// There is none, since the bytes hold no items.
+    Malformed,
     /// There is none.
     Unshown,
     /// What is left doesn't look as if it would be shown.
     Doubtful,
 }
 
-/// The fixed notation of the items that the bytes hold. None where there is none: the bytes hold no
-/// items within the limit (RFC 8949 section 3), or a text string in them isn't UTF-8 (section 8).
-/// The text is empty where the bytes are; else a line for each item.
+/// The fixed notation of the items that the bytes hold, or why there is none. The text is empty where
+/// the bytes are; else a line for each item.
 ///
 /// Memory is at most about twice the input and the text together: where a text grows longer than
 /// one and a half times the input, what is left is looked over first.
 ///
 /// # Errors
 /// A growth of the text was refused.
-pub fn show_bytes(alloc: Global, limit: Limit, bytes: &[u8]) -> Result<Option<Vec<u8>>, AllocError>
-    ensures { IfOk result (λ shown. MatchOption shown (HasNoNotation limit bytes.now) (λ text. IsShownText limit bytes.now text.items)) }
+pub fn show_bytes(alloc: Global, limit: Limit, bytes: &[u8]) -> Result<Notated, AllocError>
+    ensures { IfOk result (Notates limit bytes.now) }
 {
     let room = limit.get();
     match put_all::<true>(alloc, room, bytes)? {
-        Pass::Shown(text) => Ok(Some(text)),
-        Pass::Unshown => Ok(None),
+        Pass::Shown(text) => Ok(Notated::Text(text)),
+        Pass::Malformed => Ok(Notated::Malformed),
+        Pass::Unshown => Ok(Notated::Unshowable),
         Pass::Doubtful => show_in_doubt(alloc, room, bytes),
     }
 }
@@ -46,17 +60,20 @@ pub fn show_bytes(alloc: Global, limit: Limit, bytes: &[u8]) -> Result<Option<Ve
 /// The text, or none, where a pass that looks ahead was in doubt: what the doubt was about is
 /// settled first, in a walk that takes no memory.
 #[inline(never)]
-fn show_in_doubt(alloc: Global, room: u64, bytes: &[u8]) -> Result<Option<Vec<u8>>, AllocError>
+fn show_in_doubt(alloc: Global, room: u64, bytes: &[u8]) -> Result<Notated, AllocError>
     requires { room ≤ 1024 }
-    ensures { IfOk result (λ shown. MatchOption shown (HasNoNotation room bytes.now) (λ text. IsShownText room bytes.now text.items)) }
+    ensures { IfOk result (Notates room bytes.now) }
 {
-    if !is_showable(room, bytes) {
-        return Ok(None);
+    match check_texts(room, bytes) {
+        Checked::Good => {}
+        Checked::Malformed => return Ok(Notated::Malformed),
+        Checked::BadText => return Ok(Notated::Unshowable),
     }
     match put_all::<false>(alloc, room, bytes)? {
-        Pass::Shown(text) => Ok(Some(text)),
-        Pass::Unshown => Ok(None),
-        Pass::Doubtful => Ok(None),
+        Pass::Shown(text) => Ok(Notated::Text(text)),
+        Pass::Malformed => Ok(Notated::Malformed),
+        Pass::Unshown => Ok(Notated::Unshowable),
+        Pass::Doubtful => Ok(Notated::Unshowable),
     }
 }
 
@@ -81,11 +98,11 @@ fn put_all<const HINTED: bool>(alloc: Global, room: u64, bytes: &[u8]) -> Result
         match descend(&mut notation, room, rest) {
             Descent::Taken(left) => {
                 let Some(after) = last(rest, left) else {
-                    return Ok(Pass::Unshown);
+                    return Ok(Pass::Malformed);
                 };
                 rest = after;
             }
-            Descent::Malformed => return Ok(Pass::Unshown),
+            Descent::Malformed => return Ok(Pass::Malformed),
             Descent::Stopped => return answer_of(notation.halt),
         }
         count += 1;

@@ -1,11 +1,11 @@
 -- Bytes that aren't well-formed are refused for their one fault.
-use Rattle.std.proofs.Common.{◌≡◌, ℕ, List, ap, sym, ◌∙◌, Result, Ok, Err}
+use Rattle.std.proofs.Common.{◌≡◌, ◌≤◌, ◌⊎◌, inl, inr, ℕ, List, length, refl, ap, sym, subst, ◌∙◌, Result, Ok, Err}
 use Rattle.cborn_model.specs.Tree.{Tree, Trees, trees}
 use Rattle.cborn_model.specs.Spelled.{Wellformed}
 use Rattle.cborn_model.specs.Value.{Value}
 use Rattle.cborn_wire.specs.declared.faults.WireFault.TheVariants as wire
 use Rattle.cborn_wire.specs.declared.faults.WireReason.{WireReason}
-use Rattle.cborn_wire.specs.Faults.{Fault}
+use Rattle.cborn_wire.specs.Faults.{Fault, IsWellformed}
 use Rattle.cborn_wire.proofs.Spelled.FaultLaws.{not_both, one_fault}
 use Rattle.cborn_lex.specs.declared.classes.Profile.{Profile}
 use Rattle.cborn_lex.specs.declared.classes.Profile.TheVariants as profile
@@ -14,7 +14,11 @@ use Rattle.cborn_engine.specs.declared.faults.EngineFault.{EngineFault}
 use Rattle.cborn_engine.specs.declared.faults.EngineFault.TheVariants as fault
 use Rattle.cborn_engine.specs.declared.kinds.Kind.{Kind}
 use Rattle.cborn_engine.specs.declared.kinds.Kind.TheVariants as kind
+use Rattle.cborn_engine.specs.devices.Counting.{read_failures_at}
 use Rattle.cborn_engine.specs.devices.Encoding.{kind_of}
+use Rattle.cborn_engine.specs.devices.Malformed.{IsWireFault}
+use Rattle.cborn_engine.specs.Loading.{IsNoFlaw}
+use Rattle.cborn_engine.specs.Refusing.{IsRefused}
 use Rattle.cborn_engine.specs.Faults.{of_first}
 use Rattle.cborn_engine.specs.Holding.{Spells, Holds}
 use Rattle.cborn_engine.specs.Whole.{TellsFault, TellsFirstFault}
@@ -72,3 +76,32 @@ first_handed k limit input why h p r e f = ap Err (error_of (h p r e f))
 
 pub both_answered : {A B : Type 0} (k : Kind) (limit : ℕ) (input : List ℕ) (a : A) (result : Result B CompareFault) → TellsFirstFault k limit input (Ok a) → TellsFirstFault k limit input result
 both_answered k limit input a result h p r e f = absurd (let clash = h p r e f in cc)
+
+-- ---- the fault of bytes that aren't well-formed
+
+-- bytes with a fault aren't well-formed
+pub no_reading : (limit : ℕ) (input : List ℕ) → (p : ℕ) × (r : WireReason) × Fault limit input p r → IsWellformed limit input → ⊥
+no_reading limit input f w = not_both limit input f.0 f.1 w f.2
+
+pub wire_told : {A : Type 0} (limit : ℕ) (input : List ℕ) (why : EngineFault) → IsWireFault limit input why → TellsFault {A = A} kind.Wire limit input (Err why)
+wire_told {A} limit input why f = subst (λ (e : EngineFault). TellsFault {A = A} kind.Wire limit input (Err e)) (sym f.2) (refused kind.Wire limit input f.0 f.1 f.3)
+
+pub wire_refused : (limit most : ℕ) (input : List ℕ) (why : EngineFault) → IsWireFault limit input why → length input ≤ most → IsRefused kind.Wire limit most input why × IsNoFlaw why
+wire_refused limit most input why f l = subst (λ (e : EngineFault). IsRefused kind.Wire limit most input e × IsNoFlaw e) (sym f.2) ((l, f.3), tt)
+
+pub wire_failures : (limit : ℕ) (input : List ℕ) (why : EngineFault) (n : ℕ) → IsWireFault limit input why → read_failures_at why n ≡ n
+wire_failures limit input why n f = subst (λ (e : EngineFault). read_failures_at e n ≡ n) (sym f.2) refl
+
+-- ---- where a growth was refused
+
+pub refusal_told : {A : Type 0} (limit : ℕ) (input : List ℕ) (why : EngineFault) → IsWireFault limit input why ⊎ IsWellformed limit input × (why ≡ fault.OutOfMemory) → TellsFault {A = A} kind.Wire limit input (Err why)
+refusal_told limit input why (inl f) = wire_told limit input why f
+refusal_told limit input why (inr f) = wellformed kind.Wire limit input f.0.0 (Err why) (λ e. f.0.1)
+
+pub refusal_refused : (limit most : ℕ) (input : List ℕ) (why : EngineFault) → IsWireFault limit input why ⊎ IsWellformed limit input × (why ≡ fault.OutOfMemory) → length input ≤ most → IsRefused kind.Wire limit most input why × IsNoFlaw why
+refusal_refused limit most input why (inl f) l = wire_refused limit most input why f l
+refusal_refused limit most input why (inr f) l = subst (λ (e : EngineFault). IsRefused kind.Wire limit most input e × IsNoFlaw e) (sym f.1) (l, tt)
+
+pub refusal_failures : (limit : ℕ) (input : List ℕ) (why : EngineFault) (n : ℕ) → IsWireFault limit input why ⊎ IsWellformed limit input × (why ≡ fault.OutOfMemory) → read_failures_at why n ≡ n
+refusal_failures limit input why n (inl f) = wire_failures limit input why n f
+refusal_failures limit input why n (inr f) = subst (λ (e : EngineFault). read_failures_at e n ≡ n) (sym f.1) refl

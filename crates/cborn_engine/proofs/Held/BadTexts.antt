@@ -1,5 +1,5 @@
 -- The first flaw that is a text which isn't UTF-8 is what keeps nodes from having notation. What holds items has one.
-use Rattle.std.proofs.Common.{◌≡◌, ℕ, ◌⊎◌, inl, inr, List, [], ◌∷◌, Bool, true, false, refl, subst}
+use Rattle.std.proofs.Common.{◌≡◌, ◌≤◌, ℕ, ◌⊎◌, inl, inr, List, [], ◌∷◌, Bool, true, false, refl, sym, ◌∙◌, subst, None}
 use Rattle.std.specs.Prelude.{IsUtf8}
 use Rattle.std.specs.Str.{is_utf8}
 use Rattle.std.proofs.lemmas.Str.{IsUtf8-from_is_utf8, is_utf8-from_IsUtf8}
@@ -11,7 +11,12 @@ use Rattle.cborn_judge.specs.declared.faults.InvalidReason.TheVariants.{NotUtf8}
 use Rattle.cborn_edn.specs.Shown.{IsBadText, IsBadAmong, IsBadInPairs, IsBadChunk, LowestBadText}
 use Rattle.cborn_judge.proofs.Meaning.Judging.{sound_all}
 use Rattle.cborn_transcode.proofs.Lists.{all_mean}
-use Rattle.cborn_search.specs.Searching.{HasBadText, IsFirstBadText}
+use Rattle.cborn_model.specs.Placed.{PlacedAll}
+use Rattle.cborn_model.specs.Spelled.{Wellformed}
+use Rattle.cborn_wire.specs.Faults.{IsWellformed}
+use Rattle.cborn_wire.specs.Places.{all_from}
+use Rattle.cborn_wire.proofs.Spelled.AsPlaced.{spelled_all-from, depth_all-from, fits_all-from, placed_all-from}
+use Rattle.cborn_search.specs.Searching.{HasBadText, IsFirstBadText, HaveFirstBadText}
 use Rattle.cborn_show.specs.Passed.{HasNoNotation}
 use Rattle.cborn_engine.specs.declared.kinds.Kind.TheVariants as kind
 use Rattle.cborn_engine.specs.Holding.{Holds}
@@ -95,6 +100,26 @@ module _ (p : ℕ) where
 
 pub lowest_bad_text : (nodes : Trees) (p : ℕ) → IsFirstBadText nodes p → LowestBadText nodes p
 lowest_bad_text nodes p h = record { is = bad_among h.is.0 p h.is.2 nodes h.is.1; lowest = λ q b. h.lowest q (flawed_among q nodes b) }
+
+-- nodes at their places spell what nodes spell
+pub placed_reading : (limit : ℕ) (x : List ℕ) → IsWellformed limit x → (ts : Trees) × Wellformed limit ts x × PlacedAll 0 ts
+placed_reading limit x (ts, w) = (
+  all_from 0 ts,
+  record { spells = spelled_all-from ts 0 ∙ w.spells; fit = fits_all-from ts 0 w.fit; shallow = subst (λ (d : ℕ). d ≤ limit) (sym (depth_all-from ts 0)) w.shallow },
+  placed_all-from ts 0,
+)
+
+-- what isn't well-formed has none
+pub malformed_unshown : (limit : ℕ) (x : List ℕ) → (IsWellformed limit x → ⊥) → HasNoNotation limit x
+unfolding HasNoNotation
+malformed_unshown limit x none nodes w good = none (nodes, w)
+
+-- where no text is bad, there is a notation
+pub good_shows : (limit : ℕ) (x : List ℕ) → HaveFirstBadText limit x None → HasNoNotation limit x → ⊥
+unfolding HasNoNotation
+good_shows limit x h none =
+    let r = placed_reading limit x h.read in
+    none r.0 r.1 (λ p b. h.first limit r.0 r.1 r.2 p (flawed_among p r.0 b))
 
 -- bytes that hold items have a notation
 pub held_shows : (limit : ℕ) (x : List ℕ) (items : List Value) → Holds kind.Wire limit x items → HasNoNotation limit x → ⊥

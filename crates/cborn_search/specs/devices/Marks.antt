@@ -12,7 +12,7 @@ use Rattle.cborn_judge.specs.shared.Judged.{FlawAmong, RepeatFlaw}
 use Rattle.cborn_judge.specs.shared.Repeats.{IsTied}
 use Rattle.cborn_judge.specs.declared.faults.InvalidReason.{InvalidReason}
 use Rattle.cborn_judge.specs.declared.faults.InvalidReason.TheVariants.{DuplicateKey}
-use Rattle.cborn_search.specs.Flawed.{Told, Sought, IsEarliestTold, FindsTold, NodeAt, PairsAt, IsSound, FlawFound, SeenKey, seen_bytes, seen_place, AreSeen, AreSought}
+use Rattle.cborn_search.specs.Flawed.{Told, IsEarliestTold, FindsTold, NodeAt, PairsAt, IsSound, FlawFound, SeenKey, seen_bytes, seen_place, AreSeen}
 use Rattle.cborn_search.specs.declared.keys.Keys.{Keys}
 use Rattle.cborn_search.specs.declared.keys.Mark.{Mark}
 use Rattle.cborn_search.specs.declared.keys.Taken.{Taken}
@@ -83,12 +83,12 @@ Takes room total pairs input old new (Behind left) = Leaves (KeyTaken room total
 Takes room total pairs input old new Not = new ≡ old
 Takes room total pairs input old new Unknown = ⊤
 
--- a key and its first flaw, which joins what is known of the map: the keys that are kept, if it has no flaw and keys are kept
-pub record KeyJoined (only_texts : Bool) (room total : ℕ) (pairs input : List ℕ) (old new : SearchedMap) (rest : List ℕ) : Type 0 where
+-- a key and its first flaw, which joins what is known of the map: the keys that are kept, if it has no flaw
+pub record KeyJoined (room total : ℕ) (pairs input : List ℕ) (old new : SearchedMap) (rest : List ℕ) : Type 0 where
   pub flaw : Option Told
-  pub key : NodeAt (FlawFound only_texts flaw) room total input rest
+  pub key : NodeAt (FlawFound flaw) room total input rest
   pub first : IsEarliestTold old.first flaw new.first
-  pub joins : (ks : List SeenKey) (n : ℕ) → AreMarked total pairs (total - length input) ks old.keys → (more : List SeenKey) × AreMarked total pairs (suc (total - length input)) more new.keys × (only_texts ≡ false → Joins n key.node ks more)
+  pub joins : (ks : List SeenKey) (n : ℕ) → AreMarked total pairs (total - length input) ks old.keys → (more : List SeenKey) × AreMarked total pairs (suc (total - length input)) more new.keys × Joins n key.node ks more
 
 module _ (total : ℕ) (pairs written : List ℕ) where
   -- y comes behind x: its bytes are above those of x, or the same, and its key stands later
@@ -116,14 +116,14 @@ module _ (total : ℕ) (pairs written : List ℕ) where
   TieFlaw ms p r = (r ≡ DuplicateKey) × (m : Mark) × IsTied (mark_bytes pairs written) ms m × (mark_place total pairs written m ≡ p)
 
 -- the flaws of a map: of its keys and values, and the keys that are repeated
-abbrev pub MapFlaw : Bool → Option Told → List Pair → Type 0
-MapFlaw only_texts flaw ns = FindsTold (Sought only_texts (λ p r. FlawAmong (entries ns) p r ⊎ RepeatFlaw (entries ns) p r)) flaw
+abbrev pub MapFlaw : Option Told → List Pair → Type 0
+MapFlaw flaw ns = FindsTold (λ p r. FlawAmong (entries ns) p r ⊎ RepeatFlaw (entries ns) p r) flaw
 
 -- n pairs one after another, and the first flaw of the map that they are
-abbrev pub MapSeen : Bool → ℕ → ℕ → ℕ → List ℕ → List ℕ → Option Told → Type 0
-MapSeen only_texts room total n input rest flaw = PairsAt (MapFlaw only_texts flaw) room total n input rest
+abbrev pub MapSeen : ℕ → ℕ → ℕ → List ℕ → List ℕ → Option Told → Type 0
+MapSeen room total n input rest flaw = PairsAt (MapFlaw flaw) room total n input rest
 
 -- of a map with these keys, and this first flaw of keys and values, this is the first flaw
-abbrev pub Concludes : Bool → ℕ → List ℕ → Keys → Option Told → Option Told → Type 0
-Concludes only_texts total pairs keys first flaw =
-    (repeat : Option Told) × ((ns : List Pair) (ks : List SeenKey) (end : ℕ) → AreMarked total pairs end ks keys → AreSought only_texts ks ns → FindsTold (Sought only_texts (RepeatFlaw (entries ns))) repeat) × IsEarliestTold first repeat flaw
+abbrev pub Concludes : ℕ → List ℕ → Keys → Option Told → Option Told → Type 0
+Concludes total pairs keys first flaw =
+    (repeat : Option Told) × ((ns : List Pair) (ks : List SeenKey) (end : ℕ) → AreMarked total pairs end ks keys → AreSeen ks ns → FindsTold (RepeatFlaw (entries ns)) repeat) × IsEarliestTold first repeat flaw

@@ -4,7 +4,7 @@ use Rattle.cborn_engine.specs.Reading.{most_bytes}
 use Rattle.cborn_engine.proofs.Answers.AtHand.{short, not_shown}
 use Rattle.cborn_engine.proofs.Answers.Told.{told}
 use Rattle.cborn_engine.specs.Whole.{TellsFault}
-use Rattle.cborn_engine.proofs.Answers.Malformed.{handed, answered, spelled}
+use Rattle.cborn_engine.proofs.Answers.Malformed.{handed, answered, spelled, no_reading}
 use Rattle.cborn_engine.proofs.Held.SameBytes.{same_bytes}
 use Rattle.cborn_engine.proofs.slices.show_slice.Goals as goal
 
@@ -43,3 +43,6 @@ pub returns-clause-same_bytes : goal.returns-clause-same_bytes
 returns-clause-same_bytes c =
     let shown = returns-clause-shown c in
     same_bytes c.args.in_kind c.args.out_kind c.args.limit c.args.input.now _ shown.0 shown.1
+
+pub show_input-requires-clause-malformed : goal.show_input-requires-clause-malformed
+show_input-requires-clause-malformed c e f = no_reading c.args.limit c.args.input.now (c.is_own_spelling.ensures.malformed c.if-is_own_spelling.false e f)

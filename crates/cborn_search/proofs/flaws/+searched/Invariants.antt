@@ -26,7 +26,7 @@ decreases-search_bignum l = 8 * l.room + 0
 
 -- the items so far
 abbrev pub invariant-search_items-items : goal.invariant-search_items-items
-invariant-search_items-items l = SearchedAll l.only_texts l.room l.total l.count l.bytes l.rest l.first × (l.count ≤ l.most) × (length l.rest ≤ l.total)
+invariant-search_items-items l = SearchedAll l.room l.total l.count l.bytes l.rest l.first × (l.count ≤ l.most) × (length l.rest ≤ l.total)
 
 abbrev pub decreases-search_fixed_map : goal.decreases-search_fixed_map
 decreases-search_fixed_map l = 8 * l.room + 0
@@ -42,7 +42,7 @@ decreases-search_pairs-pairs l = length l.rest
 
 -- the pairs so far, and their keys
 abbrev pub invariant-search_pairs-pairs : goal.invariant-search_pairs-pairs
-invariant-search_pairs-pairs l = (ks : List SeenKey) × PairsSeen l.only_texts l.room l.total l.count l.bytes l.rest l.map.value.first ks × AreMarked l.total l.bytes (l.total - length l.rest) ks l.map.value.keys × (l.count ≤ l.most) × (length l.rest ≤ l.total)
+invariant-search_pairs-pairs l = (ks : List SeenKey) × PairsSeen l.room l.total l.count l.bytes l.rest l.map.value.first ks × AreMarked l.total l.bytes (l.total - length l.rest) ks l.map.value.keys × (l.count ≤ l.most) × (length l.rest ≤ l.total)
 
 abbrev pub decreases-search_key : goal.decreases-search_key
 decreases-search_key l = 8 * l.room + 3

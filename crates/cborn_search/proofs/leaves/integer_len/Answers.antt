@@ -5,15 +5,15 @@ use Rattle.cborn_search.proofs.Searching.{uint_seen, nint_seen}
 use Rattle.cborn_search.proofs.leaves.integer_len.Goals as goal
 
 pub returns-in-Unsigned-clause-integer : goal.returns-in-Unsigned-clause-integer
-returns-in-Unsigned-clause-integer c only room total =
+returns-in-Unsigned-clause-integer c room total =
     let x : List ℕ = c.args.bytes.now in
     let tail : List ℕ = drop c.in-Full.len x in
-    read_from (λ (y : List ℕ). Searched only room total y tail None false) refl c.in-Full.ensures (sym c.major_type.ensures ∙ c.in-Unsigned.is) c.in-Given.is
-    (λ fits. uint_seen only room total c.in-Given.field-0 c.in-Given.field-1 tail fits)
+    read_from (λ (y : List ℕ). Searched room total y tail None false) refl c.in-Full.ensures (sym c.major_type.ensures ∙ c.in-Unsigned.is) c.in-Given.is
+    (λ fits. uint_seen room total c.in-Given.field-0 c.in-Given.field-1 tail fits)
 
 pub returns-in-Negative-clause-integer : goal.returns-in-Negative-clause-integer
-returns-in-Negative-clause-integer c only room total =
+returns-in-Negative-clause-integer c room total =
     let x : List ℕ = c.args.bytes.now in
     let tail : List ℕ = drop c.in-Full.len x in
-    read_from (λ (y : List ℕ). Searched only room total y tail None false) refl c.in-Full.ensures (sym c.major_type.ensures ∙ c.in-Negative.is) c.in-Given.is
-    (λ fits. nint_seen only room total c.in-Given.field-0 c.in-Given.field-1 tail fits)
+    read_from (λ (y : List ℕ). Searched room total y tail None false) refl c.in-Full.ensures (sym c.major_type.ensures ∙ c.in-Negative.is) c.in-Given.is
+    (λ fits. nint_seen room total c.in-Given.field-0 c.in-Given.field-1 tail fits)

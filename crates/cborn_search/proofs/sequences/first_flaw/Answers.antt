@@ -12,7 +12,7 @@ pub items-preserved : goal.items-preserved
 items-preserved c =
     let i = c.items.invariant in
     let total : ℕ = length c.args.bytes.now in
-    let x : Searched false c.get-room.result total c.items.rest.now c.in-Some.behind.now c.search_item.new.found.flaw c.search_item.new.found.is_string = c.in-Some.ensures in (
+    let x : Searched c.get-room.result total c.items.rest.now c.in-Some.behind.now c.search_item.new.found.flaw c.search_item.new.found.is_string = c.in-Some.ensures in (
       i.0 + 1,
       judged_more c.get-room.result total i.0 c.args.bytes.now c.items.rest.now c.in-Some.behind.now c.items.first c.search_item.new.found.flaw c.or-first.result c.search_item.new.found.is_string (omega arith) i.1 x c.or-first.ensures,
       omega (arith, node_left x, i.2),

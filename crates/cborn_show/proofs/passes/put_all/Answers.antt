@@ -1,8 +1,8 @@
 use Rattle.std.proofs.Common.{rules, ◌≡◌, ◌==◌, [], codes, length, true, false, sym, ◌∙◌, arith}
 use Rattle.cborn_wire.proofs.Parts.Nodes.{node_last}
-use Rattle.cborn_descent.specs.Descending.{Never}
 use Rattle.cborn_show.proofs.Nodes.{nodes_more}
-use Rattle.cborn_show.proofs.Placing.{no_lines, some_lines, nothing_left, something_left, failed, blamed_result, node_some}
+use Rattle.cborn_descent.proofs.Wholes.{malformed, nothing_left, something_left, node_some}
+use Rattle.cborn_show.proofs.Placing.{no_lines, some_lines, blamed_result}
 use Rattle.cborn_show.proofs.passes.put_all.Goals as goal
 
 pub returns-then-is_empty : goal.returns-then-is_empty
@@ -11,7 +11,7 @@ returns-then-is_empty g c = no_lines c.args.room c.args.bytes.now _ (nothing_lef
 pub returns-in-Malformed : goal.returns-in-Malformed
 returns-in-Malformed g c =
     let left : (length c.items.rest.now == 0) ≡ false = sym c.is_empty-in-items.ensures ∙ search rules in
-    failed Never c.args.room c.items.count c.args.bytes.now c.items.rest.now (λ t b h. b) c.items.invariant.0 (something_left c.items.rest.now left) c.in-Malformed.ensures
+    malformed c.args.room c.items.count c.args.bytes.now c.items.rest.now c.items.invariant.0 (something_left c.items.rest.now left) c.in-Malformed.ensures
 
 pub returns-in-Stopped : goal.returns-in-Stopped
 returns-in-Stopped g c =

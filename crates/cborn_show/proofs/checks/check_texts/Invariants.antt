@@ -1,7 +1,7 @@
 use Rattle.std.proofs.Common.{ℕ, List, length}
 use Rattle.cborn_model.specs.Tree.{Tree}
 use Rattle.cborn_wire.specs.Parts.{NodesRead}
-use Rattle.cborn_show.proofs.checks.is_showable.Given as goal
+use Rattle.cborn_show.proofs.checks.check_texts.Given as goal
 
 -- the items so far
 abbrev pub invariant-items : goal.invariant-items
