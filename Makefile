@@ -11,7 +11,7 @@ STACK ?= 256
 # The size in MB of the inputs whose cost in memory is tested.
 COST ?= 8
 
-.PHONY: help try build test check-quick layout tables vectors ample explanations growths failures counts cost instructions left-out believed stack big library-growths bench install clean
+.PHONY: help try build test check-quick layout tables vectors ample explanations growths failures counts cost instructions left-out believed stack big library-growths built-tests bench install clean
 
 help:
 	@echo 'make try        build the program from its source, before any proof and not optimised, and run it: ARGS="check FILE", or seven bytes'
@@ -20,7 +20,8 @@ help:
 	@echo 'make check-quick   while you change something: proves what changed, then make layout, tables and believed'
 	@echo 'make try-tests  make try on its seven bytes, on files, on standard input and on a wrong option: one build, of a minute'
 	@echo 'make layout     whether each file of the crates is in the layout of rt fmt, cites what it may, makes up no out of memory,'
-	@echo '                docs/PROMISES.md is what the sources say, and the documents are short and their links lead somewhere'
+	@echo '                docs/PROMISES.md and the table of worked inputs are what the sources say, and the documents are short and their'
+	@echo '                links lead somewhere'
 	@echo 'make tables     the built program on the tables of tests/ and at a terminal, the examples of the documents, completion-tests and release-tests'
 	@echo 'make vectors    the built program on each front of each worked input'
 	@echo 'make ample      the built program on some 17,000 inputs, bytes and texts, made and given: it never says out of memory'
@@ -35,7 +36,7 @@ help:
 	@echo 'make believed   the lines of definitions that a reader has to believe, and that the documents say so'
 	@echo 'make stack      the least stack that each command needs at 1,024 levels: no more than STACK KB (STACK is $(STACK))'
 	@echo 'make big        the largest inputs there are, 2^30 bytes, with time and memory: some minutes, 8 GB of memory, 3 GB of disk'
-	@echo 'make library-growths   the tests of the libraries, proved and built first, each growth refused in turn'
+	@echo 'make library-growths   the tests of the libraries, proved and built first, with each growth refused in turn'
 	@echo 'make gate-cost  the merge gate, and how much processor time each crate took of it'
 	@echo 'make bench      time the commands on a corpus of 130 MB, made under bench/corpus'
 	@echo 'make bench-peers    the program beside its peers, whose drivers it builds (Debian packages; it says which): some ten minutes'
@@ -75,15 +76,15 @@ build: kit
 	@test -e $(PROGRAM) || echo 'Each crate is proved, lowest first, and then $(PROGRAM) is built: a quarter of an hour on four idle processors, more than an hour where others use them too. A quiet minute is no hang.'
 	cd crates/cborn && rt run -- --version
 
-# What stands behind the gate runs side by side over the program that was built once before, while the library is proved and
-# built; the longest first.
-BEHIND := library-tests dist-tests vectors ample cost instructions counts explanations tables believed layout stack growths failures try-tests
+# What stands behind the gate runs side by side over the program and the tests that were built once before, while the library is
+# proved and built; the longest first.
+BEHIND := library-tests dist-tests vectors ample cost instructions counts explanations tables believed layout stack growths library-growths failures try-tests
 
 test:
 	rt ci
 	python3 tests/built.py
 	$(MAKE) build completions
-	$(MAKE) --old-file=build --jobs=$(shell nproc) --output-sync=target --keep-going $(BEHIND)
+	$(MAKE) --old-file=build --old-file=built-tests --jobs=$(shell nproc) --output-sync=target --keep-going $(BEHIND)
 	$(MAKE) --no-print-directory left-out
 
 # over what out/ keeps; it tries no must-fail edit, and runs no tests
@@ -94,6 +95,7 @@ check-quick:
 layout:
 	@find crates -name out -prune -o \( -name '*.rt' -o -name '*.antt' \) -print0 | xargs -0 '$(dir $(shell rt doc))bin/rattle' fmt --check
 	python3 tests/citations.py
+	python3 tests/vectors.py --check
 	python3 tests/promises.py --check
 	python3 tests/made_up.py
 	python3 tests/words.py
@@ -144,9 +146,12 @@ big: build
 
 library-growths: $(TESTS:%=growths-of-%) $(PASSES:%=growths-of-%)
 
-growths-of-%:
-	cd crates/$* && rt test
+growths-of-%: built-tests
 	python3 tests/growths.py $(if $(filter $*,$(PASSES)),--passes,--tests) crates/$*/out/$*_tests
+
+# rt ci builds them as well, and make test runs those
+built-tests: kit
+	for crate in $(TESTS) $(PASSES); do (cd crates/$$crate && rt test) || exit 1; done
 
 .PHONY: bench-peers bench-growth bench-cost gate-cost
 

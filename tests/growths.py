@@ -4,7 +4,8 @@
     growths.py PROGRAM [TABLE..]    each command line of the tables of this folder, and not those of forms/
     growths.py --tests TESTS [WORD..]
                                     each test of a crate's built tests, crates/NAME/out/NAME_tests, or each
-                                    whose name has one of the words
+                                    whose name has one of the words; those of fronts aside, which run one call on
+                                    thousands of inputs that other tests have whole
     growths.py --passes TESTS [WORD..]
                                     the same of a crate of passes
 
@@ -95,9 +96,10 @@ def tests_of_passes(*given):
 
 
 def names_of_tests(tests, words):
-    """The names of all built tests, or of each that has one of the words."""
+    """The names of all built tests but those of fronts, or of each that has one of the words."""
     told = subprocess.run([tests, "--list"], stdout=subprocess.PIPE, text=True, check=True).stdout
-    return [name for name in re.findall(r"^(.*): test$", told, re.MULTILINE) if not words or any(word in name for word in words)]
+    names = re.findall(r"^(.*): test$", told, re.MULTILINE)
+    return [name for name in names if (any(word in name for word in words) if words else not name.startswith("fronts::"))]
 
 
 def built_tests(is_allowed, served, names):

@@ -2,10 +2,12 @@
 """Give each front of each worked input to the built program, and compare what it answers with fronts.vectors.
 
     vectors.py PROGRAM [FILE..]
+    vectors.py --inputs     writes the inputs into a module of crates/cborn_engine_tests, which loads each front of each
+    vectors.py --check      fails where that module isn't what --inputs writes
 
-Each front is an input of `show --to wire`, which loads it and spells it, of `normalise`, of `compare` on both sides,
-and, if it is of bytes, of `check`. What is printed of a front that is read is computed by reading.py, which has
-nothing of the program. fronts.vectors says how its lines are read.
+Each front is an input of `show --to wire`, of `normalise`, of `compare` on both sides, and, if it is of bytes, of
+`check`. None of these calls `load`: tests in Rattle do. What is printed of a front that is read is computed by
+reading.py, which has nothing of the program. fronts.vectors says how its lines are read.
 """
 import itertools
 import pathlib
@@ -97,8 +99,37 @@ def tried(library, program, those):
     return count, wrong
 
 
+def literal(content, is_text):
+    """Bytes as a literal of Rattle: those of a text by its characters, as far as these are ASCII."""
+    plain = {chr(byte): chr(byte) for byte in range(32, 127)} | {"\\": "\\\\", '"': '\\"', "\n": "\\n"}
+    written = (is_text and plain.get(chr(byte)) or f"\\x{byte:02x}" for byte in content)
+    return f'b"{"".join(written)}"'
+
+
+def inputs_as_module(path):
+    """The worked inputs as a module of constants, each once, but for maps of 1,000 keys."""
+    found = {"BYTES": {}, "TEXTS": {}}
+    for kinds, content, _ in vectors(path):
+        if len(content) < 1024:
+            found["BYTES" if "wire" in kinds else "TEXTS"][content] = None
+    yield "//! The inputs of tests/fronts.vectors, made by tests/vectors.py: all but the maps of 1,000 keys.\n"
+    for name, about in ("BYTES", "Bytes."), ("TEXTS", "Texts of the notation, of which two aren't UTF-8."):
+        yield f"/// {about}\npub const {name}: [&[u8]; {len(found[name])}] = ["
+        yield from (f"    {literal(content, name == 'TEXTS')}," for content in found[name])
+        yield "];\n"
+
+
 def main():
     here = pathlib.Path(__file__).resolve().parent
+    if sys.argv[1] in ("--inputs", "--check"):
+        module = here.parent / "crates/cborn_engine_tests/src/fronts/inputs.rt"
+        text = "\n".join(inputs_as_module(here / "fronts.vectors")).rstrip() + "\n"
+        if sys.argv[1] == "--inputs":
+            module.write_text(text, encoding="utf-8")
+        elif module.read_text(encoding="utf-8") != text:
+            print(f"{module}: isn't what tests/vectors.py --inputs writes")
+            return 1
+        return 0
     program = str(pathlib.Path(sys.argv[1]).resolve())
     paths = [pathlib.Path(name) for name in sys.argv[2:]] or [here / "fronts.vectors"]
     with shared.library("serve.c") as library:

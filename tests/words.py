@@ -20,7 +20,7 @@ PARAGRAPH = 90
 LIMITS = {
     "README.md": 1_100,
     "CHANGELOG.md": 1_100,
-    "CONTRIBUTING.md": 1_000,
+    "CONTRIBUTING.md": 1_060,
     "docs/ARCHITECTURE.md": 1_550,
     "docs/DECISIONS.md": 2_300,
     "docs/DEFINITIONS.md": 2_500,

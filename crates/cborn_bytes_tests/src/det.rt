@@ -2,7 +2,9 @@
 //! the answer is right is a clause; `judge` encodes one item of each form.
 
 use cborn_det::{encode, equal_bytes, push_encoding};
-use cborn_model::{Item, ItemList, LengthFirst, Magnitude, Valid, is_valid};
+use cborn_judge::judge;
+use cborn_model::{Bytewise, Item, ItemList, LengthFirst, Limit, Magnitude, Valid, is_valid};
+use cborn_wire::read_one;
 use std::alloc::{AllocError, Global};
 use std::process::Abort;
 use std::test::Fail;
@@ -31,11 +33,29 @@ fn encodes(rt: HostRuntime) -> Result<(), Fail> {
     Ok(())
 }
 
-/// Catches a comparison that never answers.
+/// Two items, and whether they are the same: a map and its turn, and kinds with the same contents.
+const PAIRS: [(&[u8], &[u8], bool); 4] = [
+    (b"\xa2\x01\x02\x03\x04", b"\xa2\x03\x04\x01\x02", true),
+    (b"\x00", b"\xf4", false),
+    (b"\x41\x61", b"\x61\x61", false),
+    (b"\x80", b"\xa0", false),
+];
+
+/// The item of these bytes.
+fn item_of(alloc: Global, bytes: &[u8]) -> Result<Valid, Fail> {
+    let (node, _) = read_one(alloc, Limit::USUAL, bytes, 0)?;
+    Ok(judge(alloc, &node)?)
+}
+
+/// Catches a comparison that never answers, in either order.
 #[test]
 fn compares(rt: HostRuntime) -> Result<(), Fail> {
-    let item = array(&rt, rt.alloc())?;
-    let is_equal = equal_bytes::<LengthFirst>(rt.alloc(), &item, &item)?;
-    assert!(rt; is_equal);
+    for (first, second, is_same) in PAIRS {
+        let a = item_of(rt.alloc(), first)?;
+        let b = item_of(rt.alloc(), second)?;
+        let bytewise = equal_bytes::<Bytewise>(rt.alloc(), &a, &b)?;
+        let length_first = equal_bytes::<LengthFirst>(rt.alloc(), &a, &b)?;
+        assert_eq!(rt; (bytewise, length_first), (is_same, is_same), "{first:?}");
+    }
     Ok(())
 }

@@ -1,8 +1,8 @@
 //! That bytes are read, judged and encoded through trees, which could answer want of memory by their
 //! contracts: one input has each form of a node. Which answer is right is a clause.
 
-use cborn_det::encode_all;
-use cborn_judge::{Defect, DefectReason, Invalid, InvalidReason, first_defect, judge_all};
+use cborn_det::{encode, encode_all};
+use cborn_judge::{Defect, DefectReason, Invalid, InvalidReason, first_defect, judge, judge_all};
 use cborn_model::{Bytewise, Limit};
 use cborn_wire::read_all;
 use std::test::Fail;
@@ -25,15 +25,59 @@ fn means(rt: HostRuntime) -> Result<(), Fail> {
     Ok(())
 }
 
-/// What is not valid, where, and why.
-const REFUSED: [(&[u8], u64, InvalidReason); 3] = [
+/// What is valid, of the kinds that are easily refused, and its encoding: keys of two kinds with the
+/// same bytes, and bignums without bytes.
+const VALID: [(&[u8], &[u8]); 3] = [
+    (
+        b"\xa2\x41\x61\x00\x61\x61\x00",
+        b"\xa2\x41\x61\x00\x61\x61\x00",
+    ),
+    (b"\xc2\x40", b"\x00"),
+    (b"\xc3\x40", b"\x20"),
+];
+
+/// Catches an item that is never judged by itself.
+#[test]
+fn judges(rt: HostRuntime) -> Result<(), Fail> {
+    for (bytes, encoded) in VALID {
+        let nodes = read_all(rt.alloc(), Limit::USUAL, bytes)?;
+        for node in &nodes {
+            let item = judge(rt.alloc(), node)?;
+            let written = encode::<Bytewise>(rt.alloc(), &item)?;
+            assert_eq!(rt; written.as_slice(), encoded, "{bytes:?}");
+        }
+    }
+    Ok(())
+}
+
+/// What is not valid in the last item, where, and why: keys that are turned round, in chunks or a
+/// bignum, and the flaws before that of a repeated key.
+const REFUSED: [(&[u8], u64, InvalidReason); 9] = [
     (b"\x7f\x61\xc3\x61\xbc\xff", 1, InvalidReason::NotUtf8),
+    (b"\xc2\x01", 0, InvalidReason::BadBignum),
     (b"\x81\xc2\x01", 1, InvalidReason::BadBignum),
+    (
+        b"\xa2\xa2\x01\x02\x03\x04\x00\xa2\x03\x04\x01\x02\x00",
+        7,
+        InvalidReason::DuplicateKey,
+    ),
+    (
+        b"\xa2\x41\x61\x00\x5f\x41\x61\xff\x00",
+        4,
+        InvalidReason::DuplicateKey,
+    ),
     (
         b"\xa2\x01\x00\xc2\x41\x01\x00",
         3,
         InvalidReason::DuplicateKey,
     ),
+    (
+        b"\x00\xa2\x01\x00\xc2\x41\x01\x00",
+        4,
+        InvalidReason::DuplicateKey,
+    ),
+    (b"\xa2\xc2\x01\x00\xc2\x01\x00", 1, InvalidReason::BadBignum),
+    (b"\xa2\x01\x61\xff\x01\x00", 2, InvalidReason::NotUtf8),
 ];
 
 /// Catches a flaw that is never told, but want of memory.
@@ -43,6 +87,8 @@ fn refuses(rt: HostRuntime) -> Result<(), Fail> {
         let nodes = read_all(rt.alloc(), Limit::USUAL, bytes)?;
         let wanted = Some(Invalid::Refused { place, reason });
         assert_eq!(rt; judge_all(rt.alloc(), &nodes).err(), wanted, "{bytes:?}");
+        let last = nodes.last().ok_or("no item")?;
+        assert_eq!(rt; judge(rt.alloc(), last).err(), wanted, "{bytes:?}");
     }
     Ok(())
 }

@@ -134,8 +134,8 @@ pub fn number_defect(reason: DefectReason) -> u32
     }
 }
 
-/// Why there is no answer. A slice that is read never fails, and a vector that is written fails for
-/// want of memory alone.
+/// Why there is no answer. The calls have no reader and no writer that could fail, so the faults of
+/// these have no number of their own.
 pub fn number_fault(why: EngineFault) -> u32
     ensures number { result ≡ fault_number why }
     ensures small { result < 65536 }

@@ -213,7 +213,7 @@ fn head_len(first: u8) -> u64 {
     }
 }
 
-/// What a major type is.
+/// What an item of this major type is called where it was named before.
 fn kind_of(major: Major) -> &'static str {
     match major {
         Major::Unsigned | Major::Negative => "the integer",
@@ -226,7 +226,7 @@ fn kind_of(major: Major) -> &'static str {
     }
 }
 
-/// The same of an item that wasn't named before.
+/// What an item of this major type is called where it wasn't named before.
 fn a_kind_of(major: Major) -> &'static str {
     match major {
         Major::Unsigned | Major::Negative => "an integer",

@@ -17,7 +17,7 @@ pub fn explain_fault(
     alloc: Global,
     limit: Limit,
     kind: Kind,
-    input: Option<&[u8]>,
+    input: Result<&[u8], AllocError>,
     fault: OneFault,
     lines: &mut String,
 ) {
@@ -30,7 +30,7 @@ pub fn explain_fault(
 pub fn explain_defect(
     alloc: Global,
     limit: Limit,
-    input: Option<&[u8]>,
+    input: Result<&[u8], AllocError>,
     defect: Defect,
     lines: &mut String,
 ) {
@@ -38,29 +38,36 @@ pub fn explain_defect(
     put(explanation(alloc, limit, input, reason), lines);
 }
 
-/// Adds to `lines` where two inputs differ.
+/// Adds to `lines` where two inputs differ. Nothing, where one is refused, as neither is that was
+/// compared.
 pub fn explain_index<O: KeyOrder>(
     alloc: Global,
     limit: Limit,
     kinds: (Kind, Kind),
-    inputs: (Option<&[u8]>, Option<&[u8]>),
+    inputs: (Result<&[u8], AllocError>, Result<&[u8], AllocError>),
     lines: &mut String,
 ) {
-    put(difference::<O>(alloc, limit, kinds, inputs), lines);
+    match difference::<O>(alloc, limit, kinds, inputs) {
+        Ok(text) => put(Ok(text), lines),
+        Err(EngineFault::OutOfMemory) => put_no_memory(lines),
+        Err(_) => {}
+    }
 }
 
 /// Adds to `lines` what an input looks like that was read as bytes, where it looks like a text.
-pub fn explain_kind(alloc: Global, kind: Kind, input: Option<&[u8]>, lines: &mut String) {
+pub fn explain_kind(
+    alloc: Global,
+    kind: Kind,
+    input: Result<&[u8], AllocError>,
+    lines: &mut String,
+) {
     if kind == Kind::Wire {
         put(hint(alloc, input), lines);
     }
 }
 
-fn hint(alloc: Global, input: Option<&[u8]>) -> Result<String, AllocError> {
-    let Some(input) = input else {
-        return Err(AllocError);
-    };
-    match hint_of(input) {
+fn hint(alloc: Global, input: Result<&[u8], AllocError>) -> Result<String, AllocError> {
+    match hint_of(input?) {
         Some(hint) => format!(in alloc; "  hint  {hint}\n"),
         None => Ok(String::new(alloc)),
     }
@@ -124,12 +131,10 @@ fn of_text(kind: Kind, reason: TextReason, place: u64) -> Reason {
 fn explanation(
     alloc: Global,
     limit: Limit,
-    input: Option<&[u8]>,
+    input: Result<&[u8], AllocError>,
     reason: Reason,
 ) -> Result<String, AllocError> {
-    let Some(input) = input else {
-        return Err(AllocError);
-    };
+    let input = input?;
     match reason {
         Reason::Bytes(reason, place) => explain_bytes(alloc, limit, input, place, reason),
         Reason::Text(profile, reason, place) => {
@@ -138,36 +143,39 @@ fn explanation(
     }
 }
 
-/// Where the items of two inputs differ. An input that is refused is refused by the call before.
+/// Where the items of two inputs differ.
+///
+/// # Errors
+/// `OutOfMemory`, and the fault of an input that is refused.
 fn difference<O: KeyOrder>(
     alloc: Global,
     limit: Limit,
     kinds: (Kind, Kind),
-    inputs: (Option<&[u8]>, Option<&[u8]>),
-) -> Result<String, AllocError> {
-    let (Some(first), Some(second)) = inputs else {
-        return Err(AllocError);
-    };
-    match (
-        normalise_slice::<O>(alloc, limit, kinds.0, Kind::Wire, first),
-        normalise_slice::<O>(alloc, limit, kinds.1, Kind::Wire, second),
-    ) {
-        (Ok(ours), Ok(theirs)) => explain_difference::<O>(alloc, limit, &ours, &theirs),
-        _ => Err(AllocError),
-    }
+    inputs: (Result<&[u8], AllocError>, Result<&[u8], AllocError>),
+) -> Result<String, EngineFault> {
+    let ours = normalise_slice::<O>(alloc, limit, kinds.0, Kind::Wire, inputs.0?)?;
+    let theirs = normalise_slice::<O>(alloc, limit, kinds.1, Kind::Wire, inputs.1?)?;
+    Ok(explain_difference::<O>(alloc, limit, &ours, &theirs)?)
 }
 
 /// The line of an explanation for which memory was refused.
 const OUT_OF_MEMORY: &str = "  out of memory\n";
 
-/// Adds an explanation to `lines`, or that there is no memory for it, which is said once: an input
-/// that wasn't kept has neither an explanation nor a hint.
+/// Adds an explanation to `lines`, or that there is no memory for it.
 fn put(explanation: Result<String, AllocError>, lines: &mut String) {
     let is_put = match explanation {
         Ok(text) => lines.push_str(text.as_str()).is_ok(),
         Err(_) => false,
     };
-    if !is_put && !lines.as_str().ends_with(OUT_OF_MEMORY) {
+    if !is_put {
+        put_no_memory(lines);
+    }
+}
+
+/// Adds to `lines` that there is no memory for an explanation. That is said once: an input that
+/// wasn't kept has neither an explanation nor a hint.
+fn put_no_memory(lines: &mut String) {
+    if !lines.as_str().ends_with(OUT_OF_MEMORY) {
         let _ = lines.push_str(OUT_OF_MEMORY);
     }
 }

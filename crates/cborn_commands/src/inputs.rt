@@ -6,7 +6,7 @@ ghost use Rattle.cborn_streams.specs.Failures.{failures_after};
 
 use cborn_engine::Source;
 use cborn_explain::Look;
-use std::alloc::Global;
+use std::alloc::{AllocError, Global};
 use std::io::{ErrorKind, Read};
 use std::rt::Files;
 use std::{fs, io};
@@ -135,7 +135,8 @@ impl Notes {
 #[derive(Drop)]
 pub struct Kept {
     bytes: Vec<u8>,
-    is_lost: bool,
+    /// The refused growth for which some weren't kept.
+    lost: Option<AllocError>,
 }
 
 impl Kept {
@@ -143,22 +144,24 @@ impl Kept {
     pub fn new(alloc: Global) -> Self {
         Kept {
             bytes: Vec::new(alloc),
-            is_lost: false,
+            lost: None,
         }
     }
 
     fn see(&mut self, bytes: &[u8]) {
-        if self.bytes.extend_from_slice(bytes).is_err() {
-            self.is_lost = true;
+        if let Err(why) = self.bytes.extend_from_slice(bytes) {
+            self.lost = Some(why);
         }
     }
 
-    /// What was read. None: memory for it was refused.
-    pub fn bytes(&self) -> Option<&[u8]> {
-        if self.is_lost {
-            None
-        } else {
-            Some(self.bytes.as_slice())
+    /// What was read.
+    ///
+    /// # Errors
+    /// Where memory for some of it was refused.
+    pub fn bytes(&self) -> Result<&[u8], AllocError> {
+        match self.lost {
+            None => Ok(self.bytes.as_slice()),
+            Some(why) => Err(why),
         }
     }
 }

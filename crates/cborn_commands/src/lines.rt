@@ -114,7 +114,8 @@ pub fn tell_trouble<E: Write>(err: &mut E, trouble: Trouble<'_>) -> u8
     explain_trouble(err, trouble, "")
 }
 
-/// The same, with further lines behind that line.
+/// Prints a trouble on a line and further lines after it, and gives its status. That they can't be
+/// printed is ignored.
 pub fn explain_trouble<E: Write>(err: &mut E, trouble: Trouble<'_>, lines: &str) -> u8
     ensures status { result ≡ status_of_trouble trouble.entry }
     ensures undone { 2 ≤ result }

@@ -59,7 +59,8 @@ fn answer_usage<'a, W: Write, E: Write>(
     }
 }
 
-/// Prints why the command line can't be taken: a word of it isn't UTF-8, or memory was refused.
+/// Prints why the command line can't be taken: a word of it isn't UTF-8, or else the trouble with
+/// it in its own words, as that memory was refused.
 pub fn tell_words<E: Write>(err: &mut E, why: io::Error) -> u8
     ensures { (result ≡ USAGE) ⊎ (result ≡ FAILED) }
 {
@@ -67,5 +68,6 @@ pub fn tell_words<E: Write>(err: &mut E, why: io::Error) -> u8
         let _ = writeln!(err, "error: an argument is not UTF-8");
         return USAGE;
     }
-    tell_trouble(err, Trouble::Engine(EngineFault::OutOfMemory))
+    let _ = writeln!(err, "cborn: {why}");
+    FAILED
 }

@@ -18,7 +18,7 @@ use cborn_streams::Source;
 use std::alloc::Global;
 
 impl CompareFault {
-    /// Why two inputs aren't compared of which the first gave no items for this.
+    /// Why two inputs aren't compared, where the first gave no items for this reason.
     pub fn of_first(why: EngineFault) -> Self
         ensures { result ≡ of_first why }
     {
@@ -28,7 +28,7 @@ impl CompareFault {
         }
     }
 
-    /// Likewise of the second.
+    /// Why two inputs aren't compared, where the second gave no items for this reason.
     pub fn of_second(why: EngineFault) -> Self
         ensures { result ≡ of_second why }
     {

@@ -50,7 +50,7 @@ pub fn canonical_text<O: KeyOrder>()
 {}
 
 /// The headline of two calls. This law has a body: it calls `normalise_slice` twice. It fails only
-/// where one of the inputs is refused.
+/// where one of the calls does.
 ///
 /// # Errors
 /// Those of the calls.

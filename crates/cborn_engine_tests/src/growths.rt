@@ -7,3 +7,4 @@
 
 mod large;
 mod nodes;
+mod worked;

@@ -5,9 +5,13 @@
 #[cfg(test)]
 mod counted;
 #[cfg(test)]
+mod fronts;
+#[cfg(test)]
 mod growths;
 #[cfg(test)]
 mod memory;
+#[cfg(test)]
+mod ones;
 #[cfg(test)]
 mod readers;
 #[cfg(test)]

@@ -41,9 +41,11 @@ pub fn explain_bytes(
     Ok(out)
 }
 
-/// The same of a text of the notation: the path to `place`, line and column and the line itself
-/// with a mark below it, and a sentence. Where the reason is told of a token as a whole, the mark
-/// stands at the character within it that is at fault.
+/// Lines that say where a text of the notation is refused, and why: the path to `place`, line and
+/// column and the line itself with a mark below it, and a sentence. `place` is an offset in bytes
+/// from the start of the text, and stands with `reason` for what another call told of it under the
+/// same limit. Where the reason is told of a token as a whole, the mark stands at the character
+/// within it that is at fault.
 ///
 /// # Errors
 /// Where memory was refused.

@@ -10,7 +10,7 @@ use cborn_model::{ByteString, Width};
 pub enum Profile {
     /// Comments stand between slashes.
     One,
-    /// The same, and a comment may also go from `#` to the end of its line.
+    /// Comments stand between slashes, or go from `#` to the end of their line.
     Two,
 }
 

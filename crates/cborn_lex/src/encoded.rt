@@ -108,7 +108,7 @@ fn is_padded(text: &[u8]) -> bool
     text.iter().any(|c| *c == b'=')
 }
 
-/// The content without white space, in the standard alphabet.
+/// The content without white space, in the standard alphabet, with padding where it had none.
 fn standard_text(alloc: Global, content: &[u8]) -> Result<Vec<u8>, AllocError>
     ensures { IfOk result (λ v. v.items ≡ base64_text content.now) }
 {

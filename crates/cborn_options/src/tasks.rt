@@ -69,6 +69,7 @@ pub enum Format {
     Wire,
     /// Diagnostic notation.
     Notation,
-    /// The same, with comments and a trailing comma.
+    /// Diagnostic notation in which a comment may also begin with `#`, and a comma may follow the last
+    /// item of an array, a map or an embedded sequence.
     Notation2,
 }

@@ -17,7 +17,8 @@
 //!
 //! In the code start with `passes`; `notations` is what the descent over the bytes tells of what it
 //! reads; `leaves` has the strings, `numbers` decimals and indicators, `runs` integers in a row, with
-//! the digits of `digits`.
+//! the digits of `digits`. Where a text grows much longer than its input, `prospects` guesses whether
+//! the rest will be shown; `checks` settles a doubt without writing.
 #![tactic(auto)]
 
 mod checks;

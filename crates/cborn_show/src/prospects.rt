@@ -1,7 +1,8 @@
 //! Whether the rest of an input looks as if it will be shown. A text is several times as long as
 //! small items are, so before one grows much longer than the input, what is left is looked over:
-//! where the text would be thrown away, it is given up early. Nothing is promised: who is refused
-//! goes another way, and is answered rightly there.
+//! where the text would be thrown away, the pass is given up early. Nothing is promised of this
+//! guess: `is_showable` of `checks` settles each doubt, and where there is a text after all, a second
+//! pass writes it without a guess.
 
 ghost use Rattle.std.specs.Prelude.{◌≤◌, length, IfSome};
 

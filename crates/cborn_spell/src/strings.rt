@@ -13,8 +13,8 @@ use crate::scans::stands;
 use cborn_lex::Mark;
 use cborn_model::Major;
 
-/// The text string at the place, where a double quote stands. None where it is left to others, and
-/// then nothing was added.
+/// Appends the text string at the place, whose content has no escapes; answers where it ends. None
+/// where memory was refused: then its head may have been added.
 #[inline(always)]
 pub(crate) fn put_plain(text: &str, at: usize, len: usize, out: &mut Vec<u8>) -> Option<usize>
     requires inside { at < length text.now }

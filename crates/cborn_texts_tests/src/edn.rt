@@ -2,7 +2,7 @@
 //! contracts these calls could answer want of memory each time; which answer is right is a clause,
 //! and the program reads a text so where it has a fault.
 
-use cborn_edn::{read_notation, show};
+use cborn_edn::{EdnFault, EdnReason, read_notation, show};
 use cborn_lex::Profile;
 use cborn_model::Limit;
 use cborn_wire::{read_all, spell_all};
@@ -11,7 +11,7 @@ use std::test::Fail;
 
 /// Each form of a number, a string, an escape, an array, a map, a tag and a simple value that both
 /// profiles have.
-const TEXTS: [&str; 26] = [
+const TEXTS: [&str; 27] = [
     "",
     "\n/ no item / \t//",
     "/a/1, 0x1267, 0o11147, 0b1001001100111, 4711, 0XaB, 0B101, 0O17, -0, 0, -1",
@@ -38,6 +38,7 @@ const TEXTS: [&str; 26] = [
     "18446744073709551615(0), 0x10(1), simple(0), simple(20), simple(32), simple(255)",
     "[1, / two / [2, [3]], \"a\" ], {\"a\": {\"b\": []}}, {[1]: {2: 3}, -1: null}, 1, [2], 3",
     " 1 , 2 /end/, [_0 1, 2], {_0 1: 2}, [_1 ], {_3 }",
+    "{false: 0, [-1]: 0, [100]: 0, \"aa\": 0, \"z\": 0, -1: 0, 100: 0, 10: 0}",
 ];
 
 /// Catches a form that is never read.
@@ -48,6 +49,30 @@ fn reads_each_form(rt: HostRuntime) -> Result<(), Fail> {
         read_notation(rt.alloc(), Limit::USUAL, Profile::Two, text)?;
     }
     Ok(())
+}
+
+/// What notates nothing, where, and why.
+const REFUSED: [(&str, u64, EdnReason); 8] = [
+    ("h'20' \"a\"", 6, EdnReason::MixedString),
+    ("\"\" h'ff'", 0, EdnReason::TextNotUtf8),
+    ("(_ 'a', \"b\")", 8, EdnReason::MixedChunks),
+    ("<<simple(24)>>", 2, EdnReason::BadSimple),
+    ("'a'_0 'b'", 0, EdnReason::IndicatorNotAllowed),
+    ("256_0", 0, EdnReason::IndicatorTooNarrow),
+    ("[1 2]", 3, EdnReason::UnexpectedToken),
+    ("[1, 2", 5, EdnReason::UnexpectedEnd),
+];
+
+/// Catches a fault that is never told, but want of memory.
+#[test]
+fn refuses(rt: HostRuntime) {
+    for (text, place, reason) in REFUSED {
+        let wanted = Some(EdnFault::Refused { place, reason });
+        for profile in [Profile::One, Profile::Two] {
+            let read = read_notation(rt.alloc(), Limit::USUAL, profile, text);
+            assert_eq!(rt; read.err(), wanted, "{text}");
+        }
+    }
 }
 
 /// Comments and commas of profile 2.

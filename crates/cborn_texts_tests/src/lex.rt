@@ -1,7 +1,10 @@
 //! That texts are read token by token: by their contracts these calls could answer want of memory
 //! each time. Which tokens they are is a clause.
 
-use cborn_lex::{BareToken, Kind, LexFault, Mark, Profile, next_token, token_from, tokens};
+use cborn_lex::{
+    BareToken, Class, Kind, LexFault, LexReason, Mark, Profile, Token, next_token, token_from,
+    tokens,
+};
 use cborn_model::Width;
 use std::alloc::Global;
 use std::process::Abort;
@@ -170,4 +173,127 @@ fn gives(
         assert_eq!(rt; found, number, "{token}");
     }
     Ok(())
+}
+
+/// What a token is: where it starts and stops, its integer or the number of its tag, if it has one,
+/// and the bytes of a string.
+type Told<'a> = (u64, u64, Option<(bool, u128, Mark)>, &'a [u8]);
+
+/// What the token is.
+fn told(token: &Token) -> Told<'_> {
+    let (number, content) = match &token.class {
+        Class::Number {
+            negative,
+            magnitude,
+            mark,
+        } => (Some((*negative, *magnitude, *mark)), b"".as_slice()),
+        Class::TagOpen { number, mark } => (Some((false, *number, *mark)), b"".as_slice()),
+        Class::Text { bytes, .. } | Class::Bytes { bytes, .. } => (None, bytes.as_slice()),
+        _ => (None, b"".as_slice()),
+    };
+    (token.start, token.stop, number, content)
+}
+
+/// Texts, and all of their tokens.
+const TOLD: [(&str, &[Told<'static>]); 7] = [
+    (
+        "[_ 1_1]",
+        &[
+            (0, 2, None, b""),
+            (3, 6, Some((false, 1, Mark::Wide(Width::Two))), b""),
+            (6, 7, None, b""),
+        ],
+    ),
+    (
+        "24(h'01')",
+        &[
+            (0, 3, Some((false, 24, Mark::Absent)), b""),
+            (3, 8, None, b"\x01"),
+            (8, 9, None, b""),
+        ],
+    ),
+    (
+        "\"é\" 1",
+        &[
+            (0, 4, None, b"\xc3\xa9"),
+            (5, 6, Some((false, 1, Mark::Absent)), b""),
+        ],
+    ),
+    (
+        "/a/1//2",
+        &[
+            (3, 4, Some((false, 1, Mark::Absent)), b""),
+            (6, 7, Some((false, 2, Mark::Absent)), b""),
+        ],
+    ),
+    (
+        "0x1_1",
+        &[(0, 5, Some((false, 1, Mark::Wide(Width::Two))), b"")],
+    ),
+    (
+        "340282366920938463463374607431768211455",
+        &[(0, 39, Some((false, u128::MAX, Mark::Absent)), b"")],
+    ),
+    ("-0", &[(0, 2, Some((false, 0, Mark::Absent)), b"")]),
+];
+
+/// Catches a list of tokens that has others, or more, than the text.
+#[test]
+fn tells_tokens(rt: HostRuntime) -> Result<(), Fail> {
+    for (text, wanted) in TOLD {
+        for profile in [Profile::One, Profile::Two] {
+            let found = tokens(rt.alloc(), profile, text)?;
+            assert_eq!(rt; found.len(), wanted.len(), "{text}");
+            for (token, right) in found.iter().zip(wanted.iter()) {
+                assert_eq!(rt; told(token), *right, "{text}");
+            }
+        }
+    }
+    Ok(())
+}
+
+/// Texts without tokens, and where and why they stop.
+const STOPS: [(&str, u64, LexReason); 27] = [
+    ("0x1p3", 0, LexReason::FloatLeftOut),
+    ("1e5", 0, LexReason::FloatLeftOut),
+    ("1.5", 0, LexReason::FloatLeftOut),
+    ("-Infinity", 0, LexReason::FloatLeftOut),
+    ("NaN", 0, LexReason::FloatLeftOut),
+    ("0xg", 0, LexReason::BadNumber),
+    ("007", 0, LexReason::BadNumber),
+    ("+1", 0, LexReason::UnexpectedCharacter),
+    ("True", 0, LexReason::UnexpectedCharacter),
+    ("simple (1)", 0, LexReason::UnexpectedCharacter),
+    ("-1(0)", 2, LexReason::UnexpectedCharacter),
+    ("1 (0)", 2, LexReason::UnexpectedCharacter),
+    ("\u{feff}1", 0, LexReason::UnexpectedCharacter),
+    ("\"\\q", 0, LexReason::UnclosedString),
+    ("\"abc", 0, LexReason::UnclosedString),
+    ("h'00", 0, LexReason::UnclosedString),
+    ("\"\\q\"", 0, LexReason::BadEscape),
+    ("\"\\ud800\"", 0, LexReason::BadEscape),
+    (
+        "340282366920938463463374607431768211456",
+        0,
+        LexReason::NumberTooLarge,
+    ),
+    ("7_7", 0, LexReason::BadIndicator),
+    ("h'4'", 0, LexReason::BadHex),
+    ("h'00 / '", 0, LexReason::BadHex),
+    ("h'/'/00'", 0, LexReason::BadHex),
+    ("b64'/+9'", 0, LexReason::BadBase64),
+    ("b32'AA'", 0, LexReason::UnknownPrefix),
+    ("/ x", 0, LexReason::UnclosedComment),
+    ("1 /x", 2, LexReason::UnclosedComment),
+];
+
+/// Catches a stop that is never told, but want of memory.
+#[test]
+fn tells_stops(rt: HostRuntime) {
+    for (text, place, reason) in STOPS {
+        let wanted = Some(LexFault::Refused { place, reason });
+        for profile in [Profile::One, Profile::Two] {
+            assert_eq!(rt; tokens(rt.alloc(), profile, text).err(), wanted, "{text}");
+        }
+    }
 }

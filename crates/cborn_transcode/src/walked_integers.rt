@@ -40,6 +40,8 @@ fn form(first: u8) -> (usize, u32)
         return (0, 0);
     }
     // By the low five bits the wide forms stand side by side, and are looked up rather than branched to.
+    // The least arguments 24, 256, 65536 and 2^32 as they stand in the four bytes: 24 * 2^24, 256 * 2^16,
+    // 65536, and 1 in the upper four of eight.
     match first % 32 {
         0..=23 => (1, 0),
         24 => (2, 402653184),

@@ -172,6 +172,7 @@ fn walk_map<'a, O: KeyOrder>(asked: &mut Asked<'a, O>, room: u64, n: u64, bytes:
     requires { room ≤ 1024 }
     ensures { WalksBehind O.order room Map n bytes.now result }
 {
+    // for the prover: a length in memory is below 2^64
     let _most = bytes.len() as u64;
     if room == 0 {
         return Walked::Unknown;

@@ -18,8 +18,8 @@
 //! and why; what the items of well-formed bytes are is told by `cborn_model`. `specs/SlotFaults.antt`
 //! tells the faults once more, as the reader finds them: by a table over what is open
 //! (`specs/Slots.antt`). `specs/Feeding.antt` is what a feeder is seen as, and `specs/Reading.antt`
-//! is about one item. `Machine`, `Standing`, `StackView` and `Scanning` are devices of the proofs.
-//! [`laws`] has what is proved of the definitions alone.
+//! is about one item. What stands in `specs/devices` and `specs/shared` serves the proofs. [`laws`]
+//! has what is proved of the definitions alone.
 #![tactic(auto)]
 
 mod faults;

@@ -1,0 +1,131 @@
+//! The calls for exactly one item: that each answers, and that each tells of none and of a second.
+//! By their contracts they could answer want of memory each time.
+use super::memory::{Bytes, Taken};
+use cborn_engine::{
+    CompareOneFault, Kind, OneFault, check_one, check_one_slice, compare_one, normalise_one,
+    normalise_one_slice, same_item, show_one, show_one_slice,
+};
+use cborn_judge::{Defect, DefectReason};
+use cborn_model::{Bytewise, Limit};
+use std::alloc::Global;
+use std::process::Abort;
+use std::test::Fail;
+
+/// Inputs, and the encoding of their one item, or why they have none.
+const ONES: [(Kind, &[u8], Result<&[u8], OneFault>); 8] = [
+    (Kind::Wire, b"", Err(OneFault::NoItem(0))),
+    (Kind::Wire, b"\x18\x01", Ok(b"\x01")),
+    (Kind::Wire, b"\x82\x01\x02", Ok(b"\x82\x01\x02")),
+    (Kind::Wire, b"\x01\x02", Err(OneFault::MoreItems(1))),
+    (
+        Kind::Wire,
+        b"\x5f\x41\x01\x40\x41\x02\xff\xf6",
+        Err(OneFault::MoreItems(7)),
+    ),
+    (Kind::Notation, b" //\n", Err(OneFault::NoItem(4))),
+    (Kind::Notation, b"1_0", Ok(b"\x01")),
+    (Kind::Notation2, b"1, #\n2", Err(OneFault::MoreItems(5))),
+];
+
+/// What both calls that encode the one item answer.
+fn encoded(
+    rt: &impl Abort,
+    alloc: Global,
+    kind: Kind,
+    input: &[u8],
+    wanted: Result<&[u8], OneFault>,
+) -> Result<(), Fail> {
+    let slice = normalise_one_slice::<Bytewise>(alloc, Limit::USUAL, kind, Kind::Wire, input);
+    let mut out = Taken::new(alloc)?;
+    let mut reader = Bytes::new(input, 2);
+    let told = normalise_one::<Bytewise, _, _>(
+        alloc,
+        Limit::USUAL,
+        kind,
+        Kind::Wire,
+        &mut reader,
+        &mut out,
+    );
+    assert_eq!(rt; told.err(), wanted.err(), "{input:?}");
+    assert!(rt; out.bytes.as_slice() == wanted.unwrap_or(b""), "{input:?}");
+    match slice {
+        Ok(bytes) => assert!(rt; wanted == Ok(&*bytes), "{input:?}"),
+        Err(why) => assert_eq!(rt; Some(why), wanted.err(), "{input:?}"),
+    }
+    Ok(())
+}
+
+/// What both calls that show the one item as bytes answer, of which each spells itself.
+fn shown(
+    rt: &impl Abort,
+    alloc: Global,
+    kind: Kind,
+    input: &[u8],
+    fault: Option<OneFault>,
+) -> Result<(), Fail> {
+    let slice = show_one_slice(alloc, Limit::USUAL, kind, Kind::Wire, input);
+    let mut out = Taken::new(alloc)?;
+    let mut reader = Bytes::new(input, 2);
+    let told = show_one(alloc, Limit::USUAL, kind, Kind::Wire, &mut reader, &mut out);
+    assert_eq!(rt; told.err(), fault, "{input:?}");
+    match slice {
+        Ok(bytes) => assert!(rt; out.bytes.as_slice() == &*bytes, "{input:?}"),
+        Err(why) => assert_eq!(rt; Some(why), fault, "{input:?}"),
+    }
+    Ok(())
+}
+
+/// What both calls that compare two items answer, of one with itself.
+fn compared(rt: &impl Abort, alloc: Global, kind: Kind, input: &[u8], fault: Option<OneFault>) {
+    let wanted = fault.map(CompareOneFault::First);
+    let same = same_item::<Bytewise>(alloc, Limit::USUAL, kind, input, kind, input);
+    assert_eq!(rt; same.err(), wanted, "{input:?}");
+    assert!(rt; same.unwrap_or(true), "{input:?}");
+    let (mut first, mut second) = (Bytes::new(input, 2), Bytes::new(input, 3));
+    let told = compare_one::<Bytewise, _, _>(
+        alloc,
+        Limit::USUAL,
+        kind,
+        &mut first,
+        kind,
+        &mut second,
+    );
+    assert_eq!(rt; told, same, "{input:?}");
+}
+
+/// Catches a call that never answers, and a second item that is passed over.
+#[test]
+fn one_item(rt: HostRuntime) -> Result<(), Fail> {
+    for (kind, input, wanted) in ONES {
+        encoded(&rt, rt.alloc(), kind, input, wanted)?;
+        shown(&rt, rt.alloc(), kind, input, wanted.err())?;
+        compared(&rt, rt.alloc(), kind, input, wanted.err());
+    }
+    Ok(())
+}
+
+/// Bytes, and the first defect of their one item, or why they have none.
+const CHECKED: [(&[u8], Result<Option<Defect>, OneFault>); 4] = [
+    (b"", Err(OneFault::NoItem(0))),
+    (b"\x01", Ok(None)),
+    (
+        b"\x18\x01",
+        Ok(Some(Defect {
+            place: 0,
+            reason: DefectReason::LongHead,
+        })),
+    ),
+    (b"\x01\x18\x01", Err(OneFault::MoreItems(1))),
+];
+
+/// Catches a check that looks at the first item alone.
+#[test]
+fn one_item_checked(rt: HostRuntime) {
+    for (input, wanted) in CHECKED {
+        let slice = check_one_slice::<Bytewise>(rt.alloc(), Limit::USUAL, input);
+        assert_eq!(rt; slice, wanted, "{input:?}");
+        let mut reader = Bytes::new(input, 1);
+        let told = check_one::<Bytewise, _>(rt.alloc(), Limit::USUAL, &mut reader);
+        assert_eq!(rt; told, wanted, "{input:?}");
+    }
+}
