@@ -58,6 +58,7 @@ pub use faults::{EdnFault, EdnReason, ShowFault};
 pub use readers::{read_notation, recognise_items};
 pub use recognisers::recognise;
 pub use showing::show;
+pub use slips::{Slip, earlier};
 pub use starts::start_at;
 pub use strings::StringKind;
 pub use writing::{push_between, push_escaped, push_indicator, push_simple};

@@ -5,11 +5,11 @@ ghost use Rattle.cborn_edn.specs.devices.Draft as pure;
 
 use crate::EdnReason;
 
-/// A fault of meaning, and where it stands.
+/// A fault of meaning, and where it stands: an offset in bytes from the start of the text.
 #[derive(Clone, Copy)]
-pub(crate) struct Slip {
-    pub(crate) place: u64,
-    pub(crate) reason: EdnReason,
+pub struct Slip {
+    pub place: u64,
+    pub reason: EdnReason,
 }
 
 /// The slip, if any, of what was judged at `place`.
@@ -36,8 +36,8 @@ pub(crate) fn slip_unless(holds: bool, place: u64, reason: EdnReason) -> Option<
     }
 }
 
-/// The first of two slips.
-pub(crate) fn earlier(one: Option<Slip>, other: Option<Slip>) -> Option<Slip>
+/// The first of two slips: the one of the lower place, and at one place the one of the lower number.
+pub fn earlier(one: Option<Slip>, other: Option<Slip>) -> Option<Slip>
     ensures { result ≡ pure.earlier one other }
 {
     match (one, other) {

@@ -1,16 +1,16 @@
 -- Decimal integers at the front of a text.
-use Rattle.std.proofs.Common.{◌≡◌, refl, sym, ap, ◌∙◌, subst, ℕ, zero, suc, ◌+◌, ◌-◌, ◌*◌, ◌<◌, ◌≤◌, ◌^◌, List, [], ◌∷◌, ◌++◌, length, take, drop, get_or, Bool, true, false, ◌||◌, eqb, Ok, inl, inr, arith, append_assoc}
+use Rattle.std.proofs.Common.{◌≡◌, refl, sym, ap, ◌∙◌, subst, ℕ, zero, suc, ◌+◌, ◌-◌, ◌*◌, ◌<◌, ◌≤◌, ◌^◌, List, [], ◌∷◌, ◌++◌, length, take, drop, get_or, Bool, true, false, ◌||◌, ◌⊎◌, not, eqb, Ok, inl, inr, arith, append_assoc}
 use Rattle.std.proofs.Math.Nat.{pow-suc}
-use Rattle.std.proofs.lemmas.Bool.{and_parts, and_from, cond-true, cond-false, lt-ltb, ltb-true, eqb-true, cases_Bool, false≢true}
-use Rattle.std.proofs.lemmas.List.{take_more, take-append-drop}
+use Rattle.std.proofs.lemmas.Bool.{and_parts, and_from, cond-true, cond-false, lt-ltb, ltb-true, eqb-true, cases_Bool, cases_lt, false≢true}
+use Rattle.std.proofs.lemmas.List.{take_more, drop_more, take-append-drop}
 use Rattle.std.proofs.lemmas.List.Folds.{list_all-append}
 use Rattle.std.proofs.lemmas.Str.{digit_value_digit}
 use Rattle.std.proofs.lemmas.Str.Parse.{digit_from_value}
 use Rattle.std.specs.List.{list_all}
 use Rattle.std.specs.Char.{is_digit, digit_value}
-use Rattle.std.specs.Prelude.{codes}
+use Rattle.std.specs.Prelude.{codes, bytes_eq}
 use Rattle.cborn_lex.specs.Tokens.{is_numeral, begins}
-use Rattle.cborn_lex.specs.Numbers.{number, within, integer, has_prefix, are_digits}
+use Rattle.cborn_lex.specs.Numbers.{number, within, integer, has_prefix, are_digits, BeginsDecimal}
 use Rattle.cborn_lex.specs.Tokens.{Front, mark_of}
 use Rattle.cborn_lex.specs.Numbers.{number_front}
 use Rattle.cborn_lex.specs.Forms.{IsRun, IsNumber, ReadsNumber}
@@ -60,6 +60,9 @@ fits_more n len h l =
 digit_passes : (q : ℕ → Bool) (c : ℕ) → passes q 48 10 ≡ true → is_digit c 10 ≡ true → q c ≡ true
 digit_passes q c t h = let r = digit_from_value c (ltb-true (digit_value c) 10 h) in passes_at q 48 10 c t r.0 (omega (arith, r.1))
 
+pub digit_numeral : (c d : ℕ) → c ≡ 48 + d → d ≤ 9 → is_numeral c ≡ true
+digit_numeral c d e l = passes_at is_numeral 48 10 c refl (omega (arith, e)) (omega (arith, e, l))
+
 digits_pass : (q : ℕ → Bool) (ds : List ℕ) → passes q 48 10 ≡ true → list_all (λ d. is_digit d 10) ds ≡ true → list_all q ds ≡ true
 digits_pass q [] t h = refl
 digits_pass q (c ∷ ds) t h = let hs = and_parts (is_digit c 10) (list_all (λ d. is_digit d 10) ds) h in and_from (q c) (list_all q ds) (digit_passes q c t hs.0) (digits_pass q ds t hs.1)
@@ -101,6 +104,49 @@ decimal_run len tail a f = record { pass = digits_pass is_numeral (take len tail
     ends [] (suc l) f = refl
     ends (c ∷ y) zero f = f (omega arith)
     ends (c ∷ y) (suc l) f = ends y l (λ h. f (omega (arith, h)))
+
+-- Where no decimal integer is.
+
+begins_at : (p : ℕ → Bool) (m : ℕ) (x : List ℕ) → m < length x → begins p (drop m x) ≡ p (get_or x m 0)
+begins_at p m x h = ap (begins p) (drop_more x m 0 h)
+
+digit_at : (len m : ℕ) (x : List ℕ) → list_all (λ d. is_digit d 10) (take len x) ≡ true → m < len → m < length x → is_digit (get_or x m 0) 10 ≡ true
+digit_at len m [] a h l = absurd (omega (arith, l))
+digit_at zero m (c ∷ x) a h l = absurd (omega (arith, h))
+digit_at (suc len) zero (c ∷ x) a h l = (and_parts (is_digit c 10) (list_all (λ d. is_digit d 10) (take len x)) a).0
+digit_at (suc len) (suc m) (c ∷ x) a h l = digit_at len m x (and_parts (is_digit c 10) (list_all (λ d. is_digit d 10) (take len x)) a).1 (omega (arith, h)) (omega (arith, l))
+
+not_lone : (len : ℕ) (x : List ℕ) → 1 < len → len ≤ length x → get_or x 0 0 ≡ 48 → (bytes_eq (take len x) (codes "0") || not (has_prefix (codes "0") (take len x))) ≡ true → ⊥
+not_lone zero x h w e l = omega (arith, h)
+not_lone (suc zero) x h w e l = omega (arith, h)
+not_lone (suc (suc len)) [] h w e l = omega (arith, w)
+not_lone (suc (suc len)) (c ∷ []) h w e l = omega (arith, w)
+not_lone (suc (suc len)) (c ∷ d ∷ x) h w e l =
+    let none : (bytes_eq (c ∷ d ∷ take len x) (codes "0") || not (has_prefix (codes "0") (c ∷ d ∷ take len x))) ≡ false = rw e refl in
+    false≢true (sym none ∙ l)
+
+-- len digits are there and no more up to 19, and these are no decimal integer: none, or with a leading zero, or a number that goes on
+pub no_decimal : (len : ℕ) (x : List ℕ) → len ≤ length x → list_all (λ d. is_digit d 10) (take len x) ≡ true → (len < 19 → len < length x → is_digit (get_or x len 0) 10 ≡ false) → (len ≡ 0) ⊎ (((1 < len) × (get_or x 0 0 ≡ 48)) ⊎ ((len < length x) × (is_numeral (get_or x len 0) ≡ true))) → (m : ℕ) → BeginsDecimal x m → ⊥
+no_decimal len x w a s why m d = elim (cases_lt m len) [
+  | inl less ↦
+      let near : m < length x = omega (arith, less, w) in
+      false≢true (sym d.ends ∙ begins_at is_numeral m x near ∙ digit_passes is_numeral (get_or x m 0) refl (digit_at len m x a less near))
+  | inr more ↦ elim (cases_lt len m) [
+    | inl less ↦
+        let near : len < length x = omega (arith, less, d.within) in
+        false≢true (sym (s (omega (arith, less, d.few)) near) ∙ digit_at m len x (and_parts (begins (λ c. true) (take m x)) (list_all (λ c. is_digit c 10) (take m x)) d.digits).1 less near)
+    | inr same ↦
+        let e : m ≡ len = omega (arith, more, same) in
+        same_len (subst (λ (k : ℕ). BeginsDecimal x k) e d) why
+  ]
+]
+  where
+    same_len : BeginsDecimal x len → (len ≡ 0) ⊎ (((1 < len) × (get_or x 0 0 ≡ 48)) ⊎ ((len < length x) × (is_numeral (get_or x len 0) ≡ true))) → ⊥
+    same_len d (inl e) =
+        let none : are_digits 10 (take len x) ≡ false = ap (λ k. are_digits 10 (take k x)) e in
+        false≢true (sym none ∙ d.digits)
+    same_len d (inr (inl (h, e))) = not_lone len x h w e d.lone
+    same_len d (inr (inr (h, n))) = false≢true (sym d.ends ∙ begins_at is_numeral len x h ∙ n)
 
 -- the first digit apart
 

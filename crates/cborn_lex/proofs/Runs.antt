@@ -3,7 +3,7 @@ use Rattle.std.proofs.Common.{◌≡◌, refl, sym, ap, ap₂, ◌∙◌, subst,
 use Rattle.std.proofs.lemmas.Bool.{and_parts, and_from, or_cases, eq-eqb, eqb-true, ne_eqb, cond-true, cond-false, not-true, false≢true, lt-ltb, le-leb, cases_lt}
 use Rattle.std.proofs.lemmas.Bool.Decides.{leb_tells}
 use Rattle.std.proofs.lemmas.List.Sums.{prefix_len-le-length}
-use Rattle.std.proofs.lemmas.List.{take-take, length-map, drop_more, take-append-drop, length-append, length-drop}
+use Rattle.std.proofs.lemmas.List.{take-take, length-take, length-map, drop_more, take-append-drop, length-append, length-drop}
 use Rattle.std.proofs.lemmas.List.Folds.{list_all-append}
 use Rattle.std.proofs.lemmas.List.Concat.{flat_map-append}
 use Rattle.std.proofs.lemmas.Simd.{zip2_splat, zip2_of_maps, map-map, mask_l-mod, first_set_mask_l, length-chunk, run_in_chunk_stops}
@@ -104,6 +104,12 @@ more_plain q tail at n h k = ap (list_all (is_plain q)) (take-add at n tail) ∙
 -- A block that is appended whole, and cut.
 pub block_cut : (tail old block whole cut : List ℕ) (l n : ℕ) → n ≤ 16 → block ≡ take 16 tail → whole ≡ old ++ block → l ≡ length old → cut ≡ take (l + n) whole → cut ≡ old ++ take n tail
 block_cut tail old block whole cut l n h b w e c = c ∙ ap₂ (λ m z. take (m + n) z) e w ∙ take-append-add old block n ∙ ap (λ z. old ++ z) (ap (take n) b ∙ take-take n 16 tail h)
+
+-- what the buffer had first, it has after two steps that each keep what they find
+pub still : (old mid new : List ℕ) → take (length old) mid ≡ old → take (length mid) new ≡ mid → take (length old) new ≡ old
+still old mid new h k =
+    let near : length old ≤ length mid = omega (arith, ap length h, length-take (length old) mid) in
+    sym (take-take (length old) (length mid) new near) ∙ ap (take (length old)) k ∙ h
 
 -- Letters so far.
 

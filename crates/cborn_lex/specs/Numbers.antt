@@ -1,5 +1,5 @@
 -- Integers (RFC 8949 section 8, RFC 8610 appendix G.5), and words.
-use Rattle.std.specs.Prelude.{ℕ, ◌+◌, ◌*◌, ◌^◌, Bool, true, false, ◌||◌, ◌&&◌, not, List, [], ◌∷◌, length, take, drop, ◌==◌, nat_lt, bytes_eq, codes, Option, Result, Ok, Err, if◌then◌else◌}
+use Rattle.std.specs.Prelude.{◌≡◌, ℕ, ◌+◌, ◌*◌, ◌^◌, ◌≤◌, Bool, true, false, ◌||◌, ◌&&◌, not, List, [], ◌∷◌, length, take, drop, ◌==◌, nat_lt, bytes_eq, codes, Option, Result, Ok, Err, if◌then◌else◌}
 use Rattle.std.specs.List.{list_all, list_any}
 use Rattle.std.specs.Char.{is_digit, digit_value, is_ascii_digit}
 use Rattle.cborn_lex.specs.declared.classes.Mark.{Mark}
@@ -7,7 +7,7 @@ use Rattle.cborn_lex.specs.declared.faults.LexReason.{LexReason}
 use Rattle.cborn_lex.specs.declared.faults.LexReason.TheVariants.{UnexpectedCharacter, BadNumber, NumberTooLarge, FloatLeftOut}
 use Rattle.cborn_lex.specs.declared.classes.Class.{Class}
 use Rattle.cborn_lex.specs.declared.classes.Class.TheVariants.{Number, TagOpen, Word}
-use Rattle.cborn_lex.specs.Tokens.{Front, Read, Bad, begins, marked}
+use Rattle.cborn_lex.specs.Tokens.{Front, Read, Bad, begins, is_numeral, marked}
 
 -- one or more digits of the base
 abbrev pub are_digits : ℕ → List ℕ → Bool
@@ -43,6 +43,14 @@ integer negative body =
     else if begins is_ascii_digit body && has_any (codes ".eE") body then Err FloatLeftOut
     else if negative && has_prefix (codes "Infinity") body then Err FloatLeftOut
     else Err BadNumber
+
+-- a decimal integer without a leading zero, of at most 19 digits, is the first len characters of x, and the number ends with them
+pub record BeginsDecimal (x : List ℕ) (len : ℕ) : Type 0 where
+  pub within : len ≤ length x
+  pub few : len ≤ 19
+  pub digits : are_digits 10 (take len x) ≡ true
+  pub lone : (bytes_eq (take len x) (codes "0") || not (has_prefix (codes "0") (take len x))) ≡ true
+  pub ends : begins is_numeral (drop len x) ≡ false
 
 -- -0 is 0
 abbrev pub signed : Bool → ℕ → Mark → Class

@@ -84,7 +84,8 @@ fn unit_at(x: &[u8]) -> Option<(char, usize)>
 
 /// Appends a character in UTF-8.
 fn push_char(bytes: &mut Vec<u8>, c: char) -> Result<(), AllocError>
-    ensures { OnOk result (bytes.new.items ≡ bytes.old.items ++ encode_utf8 c) }
+    ensures written { OnOk result (bytes.new.items ≡ bytes.old.items ++ encode_utf8 c) }
+    ensures before { take (length bytes.old.items) bytes.new.items ≡ bytes.old.items }
 {
     let mut room = [0; 4];
     bytes.extend_from_slice(c.encode_utf8(&mut room).as_bytes())
@@ -95,7 +96,8 @@ fn push_char(bytes: &mut Vec<u8>, c: char) -> Result<(), AllocError>
 /// what follows the first `u`.
 #[inline(never)]
 pub fn push_unit_escape(x: &[u8], out: &mut Vec<u8>) -> Result<Option<usize>, AllocError>
-    ensures { IfOk result (λ r. MatchOption r (unit_from (code_at x.now) (drop 4 x.now) ≡ None) (λ size. (c : ℕ) × (unit_from (code_at x.now) (drop 4 x.now) ≡ Some (c, size)) × (out.new.items ≡ out.old.items ++ encode_utf8 c))) }
+    ensures escape { IfOk result (λ r. MatchOption r (unit_from (code_at x.now) (drop 4 x.now) ≡ None) (λ size. (c : ℕ) × (unit_from (code_at x.now) (drop 4 x.now) ≡ Some (c, size)) × (out.new.items ≡ out.old.items ++ encode_utf8 c))) }
+    ensures before { take (length out.old.items) out.new.items ≡ out.old.items }
 {
     match unit_at(x) {
         Some((c, size)) => {

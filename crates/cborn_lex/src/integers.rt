@@ -1,10 +1,10 @@
 //! Integers and the numbers of tags.
 
-ghost use Rattle.std.specs.Prelude.{◌≡◌, ◌+◌, ◌*◌, ◌<◌, ◌≤◌, MatchOption, length, take, drop, Bool, [], slice_index, OnSome, IfSome, true, Ok, Err, false, ◌==◌, ◌||◌, ◌&&◌, not, ◌^◌, if◌then◌else◌};
+ghost use Rattle.std.specs.Prelude.{◌≡◌, ◌+◌, ◌*◌, ◌<◌, ◌≤◌, MatchOption, length, take, drop, Bool, [], slice_index, OnSome, IfSome, true, Ok, Err, false, ◌==◌, ◌||◌, ◌&&◌, not, ◌^◌, if◌then◌else◌, ℕ, IfNone};
 ghost use Rattle.std.specs.List.{list_all, list_any};
 ghost use Rattle.std.specs.Char.{digit_value, is_digit};
 ghost use Rattle.cborn_lex.specs.Tokens.{begins, is_numeral};
-ghost use Rattle.cborn_lex.specs.Numbers.{integer, within, number, are_digits, number_front};
+ghost use Rattle.cborn_lex.specs.Numbers.{integer, within, number, are_digits, number_front, BeginsDecimal};
 ghost use Rattle.cborn_lex.specs.Forms.{ReadsNumber, IsRun};
 ghost use Rattle.cborn_lex.specs.devices.View.{front_view};
 
@@ -140,28 +140,24 @@ fn any_integer(negative: bool, body: &[u8]) -> (Result<u128, LexReason>, usize)
     (integer(negative, front_of(body, n)), n)
 }
 
-/// The decimal integer that `tail` begins with, and how many digits it has. `None` where `tail`
-/// begins with another form of number or with none, or with more than 19 digits: 19 always fit 64
-/// bits, so no digit needs a test for overflow.
+/// The decimal integer that `tail` begins with, and how many digits it has (RFC 8949 section 8,
+/// RFC 8610 appendix G.5). `None` where `tail` begins with another form of number or with none, or
+/// with more than 19 digits: 19 always fit 64 bits, so no digit needs a test for overflow.
 #[inline(always)]
 pub fn decimal_at(tail: &[u8]) -> Option<(u64, usize)>
     ensures within { IfSome result (λ r. r.1 ≤ length tail.now) }
     ensures some { IfSome result (λ r. 0 < r.1) }
     ensures run { IfSome result (λ r. IsRun is_numeral (take r.1 tail.now) (drop r.1 tail.now)) }
     ensures value { IfSome result (λ r. (negative : Bool) → integer negative (take r.1 tail.now) ≡ Ok r.0) }
+    ensures none { IfNone result ((len : ℕ) → BeginsDecimal tail.now len → ⊥) }
 {
-    let most = if tail.len() < 20 { tail.len() } else { 20 };
     let mut n: u64 = 0;
     let mut len: usize = 0;
-    'digits: while len < most {
-        let c = tail[len];
-        if c < b'0' || c > b'9' {
-            break;
-        }
+    'digits: while let Some(digit) = digit_at(tail, len) {
         if len == 19 {
             return None;
         }
-        n = n * 10 + (c - b'0') as u64;
+        n = n * 10 + digit as u64;
         len += 1;
     }
     if len == 0 || (len > 1 && tail[0] == b'0') {
@@ -171,6 +167,19 @@ pub fn decimal_at(tail: &[u8]) -> Option<(u64, usize)>
         return None;
     }
     Some((n, len))
+}
+
+/// The value of the decimal digit at the offset `at` of `tail`, if one stands there.
+#[inline(always)]
+fn digit_at(tail: &[u8], at: usize) -> Option<u8>
+    ensures digit { IfSome result (λ d. (at < length tail.now) × (slice_index tail.now at ≡ 48 + d) × (d ≤ 9)) }
+    ensures none { IfNone result (at < length tail.now → is_digit (slice_index tail.now at) 10 ≡ false) }
+{
+    if at < tail.len() && tail[at] >= b'0' && tail[at] <= b'9' {
+        Some(tail[at] - b'0')
+    } else {
+        None
+    }
 }
 
 /// The integer of a number after its minus, and how many bytes of `body` the number takes.

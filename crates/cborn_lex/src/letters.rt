@@ -86,11 +86,11 @@ fn special_letters(quote: u8, letters: u8x16) -> u64
 
 /// Appends the bytes that the letters of a string stand for, from the offset `from` of `tail` up to
 /// the closing quote, and answers the offset of that quote (RFC 8259 section 7). `None` where no
-/// quote closes the string, or where a letter before it is a control character or begins no escape;
-/// `out` then holds a part of the bytes.
+/// quote closes the string, or where a letter before it is a control character or begins no escape.
+/// What `out` had stays in any case; after `None` a part of the bytes may follow it.
 ///
 /// # Errors
-/// `AllocError` where `out` couldn't grow.
+/// `AllocError` where `out` couldn't grow; a part of the bytes may follow what it had.
 #[inline(always)]
 pub fn push_letters(
     quote: u8,
@@ -100,7 +100,8 @@ pub fn push_letters(
 ) -> Result<Option<usize>, AllocError>
     requires double_or_single { (quote ≡ 34) ⊎ (quote ≡ 39) }
     requires within { from ≤ length tail.now }
-    ensures { IfOk result (λ r. MatchOption r ((old : List ℕ) → LettersSoFar quote tail.now from old out.old.items → NoText quote tail.now) (λ len. (len < length tail.now) × ((old : List ℕ) → LettersSoFar quote tail.now from old out.old.items → LettersTaken quote tail.now len old out.new.items))) }
+    ensures letters { IfOk result (λ r. MatchOption r ((old : List ℕ) → LettersSoFar quote tail.now from old out.old.items → NoText quote tail.now) (λ len. (len < length tail.now) × ((old : List ℕ) → LettersSoFar quote tail.now from old out.old.items → LettersTaken quote tail.now len old out.new.items))) }
+    ensures before { take (length out.old.items) out.new.items ≡ out.old.items }
 {
     let mut at = from;
     'letters: while at < tail.len() {
@@ -132,6 +133,7 @@ fn push_run(quote: u8, tail: &[u8], at: usize, out: &mut Vec<u8>) -> Result<usiz
     ensures plain { IfOk result (λ n. list_all (is_plain quote) (take n (drop at tail.now)) ≡ true) }
     ensures ends { IfOk result (λ n. at + n < length tail.now → is_plain quote (slice_index tail.now (at + n)) ≡ false) }
     ensures written { IfOk result (λ n. out.new.items ≡ out.old.items ++ take n (drop at tail.now)) }
+    ensures before { take (length out.old.items) out.new.items ≡ out.old.items }
 {
     if tail.len() - at < 16 {
         return push_long_run(quote, &tail[at..], out);
@@ -150,7 +152,8 @@ fn push_run(quote: u8, tail: &[u8], at: usize, out: &mut Vec<u8>) -> Result<usiz
 fn push_block(tail: &[u8], n: usize, out: &mut Vec<u8>) -> Result<(), AllocError>
     requires few { n ≤ 16 }
     requires block { 16 ≤ length tail.now }
-    ensures { OnOk result (out.new.items ≡ out.old.items ++ take n tail.now) }
+    ensures written { OnOk result (out.new.items ≡ out.old.items ++ take n tail.now) }
+    ensures before { take (length out.old.items) out.new.items ≡ out.old.items }
 {
     let end = out.len() + n;
     out.extend_from_slice(&tail[..16])?;
@@ -166,6 +169,7 @@ fn push_long_run(quote: u8, tail: &[u8], out: &mut Vec<u8>) -> Result<usize, All
     ensures plain { IfOk result (λ n. list_all (is_plain quote) (take n tail.now) ≡ true) }
     ensures ends { IfOk result (λ n. n < length tail.now → is_plain quote (slice_index tail.now n) ≡ false) }
     ensures written { IfOk result (λ n. out.new.items ≡ out.old.items ++ take n tail.now) }
+    ensures before { take (length out.old.items) out.new.items ≡ out.old.items }
 {
     let n = plain_run(quote, tail);
     out.extend_from_slice(&tail[..n])?;
@@ -184,7 +188,8 @@ fn push_escape(
     requires double_or_single { (quote ≡ 34) ⊎ (quote ≡ 39) }
     requires inside { at < length tail.now }
     requires backslash { slice_index tail.now at ≡ 92 }
-    ensures { IfOk result (λ r. MatchOption r (escape_of quote (drop (at + 1) tail.now) ≡ None) (λ end. (c : ℕ) × (size : ℕ) × (escape_of quote (drop (at + 1) tail.now) ≡ Some (c, size)) × (end ≡ at + size) × (out.new.items ≡ out.old.items ++ encode_utf8 c))) }
+    ensures escape { IfOk result (λ r. MatchOption r (escape_of quote (drop (at + 1) tail.now) ≡ None) (λ end. (c : ℕ) × (size : ℕ) × (escape_of quote (drop (at + 1) tail.now) ≡ Some (c, size)) × (end ≡ at + size) × (out.new.items ≡ out.old.items ++ encode_utf8 c))) }
+    ensures before { take (length out.old.items) out.new.items ≡ out.old.items }
 {
     if at + 1 == tail.len() {
         return Ok(None);

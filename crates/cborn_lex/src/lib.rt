@@ -19,8 +19,8 @@
 //! where a text stops being tokens. [`tokens`] gives exactly these, and [`token_from`] the same one
 //! by one, for who needs no list of them. Both stand on [`next_token`], which makes no value of its
 //! own: it answers what a token is, and appends what a string stands for to a buffer of the caller's.
-//! [`mark_at`], [`plain_run`] and [`push_letters`] are for a reader that looks for what is common
-//! before it asks for any token. [`laws`] says that each text has tokens or a stop, and that what is
+//! [`decimal_at`], [`mark_at`], [`plain_run`] and [`push_letters`] are for a reader that looks for
+//! what is common before it asks for any token. [`laws`] says that each text has tokens or a stop, and that what is
 //! read one by one is what the text holds.
 #![tactic(auto)]
 
@@ -39,6 +39,7 @@ mod units;
 
 pub use classes::{BareToken, Class, Kind, Mark, Profile, Token};
 pub use faults::{LexFault, LexReason};
+pub use integers::decimal_at;
 pub use letters::{plain_run, push_letters};
 pub use lexer::{next_token, token_from, tokens};
 pub use slices::mark_at;

@@ -9,14 +9,14 @@ use Rattle.cborn_lex.proofs.TwoParts.{string_appended}
 use Rattle.cborn_lex.proofs.escaped.single_quoted.Goals as goal
 
 pub bad_string-reason-requires-clause-none : goal.bad_string-reason-requires-clause-none
-bad_string-reason-requires-clause-none c = let h = rw c.in_default.is at c.in_ok-i.ensures in h c.args.out.now.items (none_yet 39 c.args.tail.now c.args.out.now.items)
+bad_string-reason-requires-clause-none c = let h = rw c.in_default.is at c.in_ok-i.ensures.letters in h c.args.out.now.items (none_yet 39 c.args.tail.now c.args.out.now.items)
 
 pub returns-in_default : goal.returns-in_default
 returns-in_default c = (c.bad_string-reason.ensures.within, (Bad c.bad_string-reason.result.0, c.bad_string-reason.ensures.reads (Bytes true), λ n. refl))
 
 pub returns : goal.returns
 returns c =
-    let h = rw c.in-Some.is at c.in_ok-i.ensures in
+    let h = rw c.in-Some.is at c.in_ok-i.ensures.letters in
     let t = h.1 c.args.out.now.items (none_yet 39 c.args.tail.now c.args.out.now.items) in
     let a = marked (Bytes true t.bytes) c.mark_at-mark.result.0 in
     let s =

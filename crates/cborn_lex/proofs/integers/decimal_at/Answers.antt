@@ -1,9 +1,9 @@
-use Rattle.std.proofs.Common.{sym, ◌∙◌, arith, ◌-◌, ◌<◌, ◌≡◌, false, length, get_or}
-use Rattle.std.proofs.lemmas.Bool.{false≢true, eq-eqb}
+use Rattle.std.proofs.Common.{sym, ap, ◌∙◌, arith, ◌+◌, ◌-◌, ◌*◌, ◌<◌, ◌≡◌, ◌⊎◌, inl, inr, true, false, length, get_or}
+use Rattle.std.proofs.lemmas.Bool.{false≢true, eq-eqb, eqb-true, ltb-true}
 use Rattle.cborn_lex.specs.Tokens.{is_numeral}
-use Rattle.cborn_lex.proofs.Decimals.{digit_more, below_more, fits_more, decimal_value, decimal_run}
+use Rattle.cborn_lex.proofs.Decimals.{digit_more, digit_numeral, below_more, fits_more, decimal_value, decimal_run, no_decimal}
 use Rattle.cborn_lex.proofs.integers.decimal_at.Goals as goal
-use Rattle.cborn_lex.proofs.integers.decimal_at.Goals.{else-len-tail-via-then-len-tail+else-is_numeral, else-len-tail-via-else-len-tail, then-len-gt1, else-len-gt1}
+use Rattle.cborn_lex.proofs.integers.decimal_at.Goals.{then-len-eq0-via-then-len-eq0, then-len-eq0-via-else-len-eq0+then-tail-eq48, else-len-tail-via-then-len-tail+else-is_numeral, else-len-tail-via-else-len-tail, then-len-gt1, else-len-gt1}
 
 pub overflow_mul-n : goal.overflow_mul-n
 overflow_mul-n c =
@@ -13,13 +13,38 @@ overflow_mul-n c =
 pub overflow_add-n : goal.overflow_add-n
 overflow_add-n c =
     let f = fits_more c.digits.n c.digits.len c.digits.invariant.4 (omega (arith, c.if-len-eq19.false, c.digits.invariant.1)) in
-    omega (arith, f, c.if-c-lt48.false, c.if-c-gt57.false)
+    omega (arith, f, c.in-Some.ensures.digit.2)
 
 pub digits-preserved : goal.digits-preserved
 digits-preserved c =
-    let near : c.digits.len < length c.args.tail.now = omega arith in
-    let m = digit_more c.digits.n c.digits.len c.args.tail.now near (omega (arith, c.if-c-lt48.false)) (omega (arith, c.if-c-gt57.false)) c.digits.invariant.2 c.digits.invariant.3 in
-    (omega (arith, near), omega (arith, c.if-len-eq19.false, c.digits.invariant.1), m.0, m.1, below_more c.digits.n c.digits.len (get_or c.args.tail.now c.digits.len 0 - 48) c.digits.invariant.4 (omega (arith, c.if-c-gt57.false)))
+    let h = c.in-Some.ensures.digit in
+    let d = c.in-Some.digit in
+    let n = c.digits.n in
+    let here = get_or c.args.tail.now c.digits.len 0 in
+    let same : here - 48 ≡ d = omega (arith, h.1) in
+    let m = digit_more n c.digits.len c.args.tail.now h.0 (omega (arith, h.1)) (omega (arith, h.1, h.2)) c.digits.invariant.2 c.digits.invariant.3 in
+    (omega (arith, h.0), omega (arith, c.if-len-eq19.false, c.digits.invariant.1), m.0, m.1 ∙ ap (λ k. n * 10 + k) same, below_more n c.digits.len d c.digits.invariant.4 h.2)
+
+pub returns-then-len-eq19-clause-none : goal.returns-then-len-eq19-clause-none
+returns-then-len-eq19-clause-none c =
+    let h = c.in-Some.ensures.digit in
+    no_decimal c.digits.len c.args.tail.now c.digits.invariant.0 c.digits.invariant.2 (λ l k. absurd (omega (arith, l, c.if-len-eq19.true))) (inr (inr (h.0, digit_numeral (get_or c.args.tail.now c.digits.len 0) c.in-Some.digit h.1 h.2)))
+
+pub returns-then-len-eq0-clause-none : goal.returns-then-len-eq0-clause-none
+returns-then-len-eq0-clause-none c = no_decimal c.digits.len c.args.tail.now c.digits.invariant.0 c.digits.invariant.2 (λ l. c.in_default.ensures.none) why
+  where
+    why : (c.digits.len ≡ 0) ⊎ (((1 < c.digits.len) × (get_or c.args.tail.now 0 0 ≡ 48)) ⊎ ((c.digits.len < length c.args.tail.now) × (is_numeral (get_or c.args.tail.now c.digits.len 0) ≡ true)))
+    why = elim c.then-len-eq0.branch [
+      | then-len-eq0-via-then-len-eq0 w ↦ inl w.if-len-eq0.true
+      | then-len-eq0-via-else-len-eq0+then-tail-eq48 w ↦ elim w.if-len-gt1.branch [
+        | then-len-gt1 v ↦ inr (inl (v.if-len-gt1.true, eqb-true (get_or c.args.tail.now 0 0) 48 (sym v.value-is ∙ w.if-tail-eq48.true)))
+        | else-len-gt1 v ↦ absurd (omega (arith, v.if-len-gt1.false, ltb-true 1 c.digits.len (sym v.value-is ∙ w.if-tail-eq48.true)))
+      ]
+    ]
+
+pub returns-then-is_numeral-clause-none : goal.returns-then-is_numeral-clause-none
+returns-then-is_numeral-clause-none c =
+    no_decimal c.digits.len c.args.tail.now c.digits.invariant.0 c.digits.invariant.2 (λ l. c.in_default.ensures.none) (inr (inr (c.if-len-tail.true, sym c.is_numeral.ensures ∙ c.if-is_numeral.true)))
 
 pub returns-clause-run : goal.returns-clause-run
 returns-clause-run c = decimal_run c.digits.len c.args.tail.now c.digits.invariant.2 ends

@@ -1,0 +1,6 @@
+pub mod Slips
+pub mod Laid
+pub mod Noted
+pub mod Kept
+pub mod Shows
+pub mod Steps

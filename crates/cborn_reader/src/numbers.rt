@@ -1,0 +1,257 @@
+//! Integers, tags and simple values of tokens that were read.
+
+ghost use Rattle.std.specs.Prelude.{◌≡◌, ◌++◌, ℕ, Bool, List, length, OnOk, if◌then◌else◌};
+ghost use Rattle.cborn_lex.specs.declared.classes.Mark.{Mark as Indicator};
+ghost use Rattle.cborn_edn.specs.shared.Syntax.{Span as Place, number, word, simple};
+ghost use Rattle.cborn_edn.proofs.Grammar.Machine.{Stack, wants, has, wants_number, has_number};
+ghost use Rattle.cborn_reader.specs.declared.states.Writer.{Writer as Writing};
+ghost use Rattle.cborn_reader.specs.devices.Shows.{Shows, Leads};
+ghost use Rattle.std.specs.Int.Digits.{digits_of};
+ghost use Rattle.cborn_model.specs.Heads.{code, least, Given, head, head_bytes};
+ghost use Rattle.cborn_model.specs.declared.heads.Major.TheVariants.{Tag, Other, ByteString as ByteHead};
+ghost use Rattle.cborn_model.specs.declared.heads.Width.TheVariants.{Direct};
+ghost use Rattle.cborn_model.specs.Tree.{Simple};
+ghost use Rattle.cborn_model.specs.Spelled.{spelled, string};
+ghost use Rattle.cborn_edn.specs.Says as says;
+ghost use Rattle.cborn_reader.specs.devices.Slips.{Notes};
+ghost use Rattle.cborn_reader.specs.devices.Laid.{cut};
+
+use crate::heads::{push_head, set_head};
+use crate::slips::{note, note_unless, note_width};
+use crate::states::{Here, Stand, Writer};
+use cborn_edn::{EdnReason, Slip};
+use cborn_lex::Mark;
+use cborn_model::{Major, Width, is_simple_value, shortest};
+use std::alloc::AllocError;
+
+/// The first number that doesn't fit 64 bits.
+const OUTSIDE: u128 = 18446744073709551616;
+
+/// The width of a head with the argument `n` under an indicator.
+#[inline(always)]
+pub(crate) fn width_for(mark: Mark, n: u64) -> Width
+    ensures { result ≡ says.width mark n }
+{
+    match mark {
+        Mark::Wide(width) => width,
+        _ => shortest(n),
+    }
+}
+
+/// `n` for `n`, and for `-1-n`.
+fn argument_of(negative: bool, magnitude: u128) -> u128
+    ensures { result ≡ says.argument_of negative magnitude }
+{
+    if negative && magnitude > 0 {
+        magnitude - 1
+    } else {
+        magnitude
+    }
+}
+
+/// Whether it is below zero; -0 isn't.
+fn is_below(negative: bool, magnitude: u128) -> bool
+    ensures { result ≡ says.is_below negative magnitude }
+{
+    negative && magnitude > 0
+}
+
+/// Whether an integer is from -2^64 to 2^64-1, so that it needs no tag.
+#[inline(always)]
+pub(crate) fn is_small(negative: bool, magnitude: u128) -> bool
+    ensures { result ≡ says.is_small negative magnitude }
+{
+    argument_of(negative, magnitude) < OUTSIDE
+}
+
+/// Appends an integer: `magnitude`, or `-magnitude`.
+pub(crate) fn push_number(
+    negative: bool,
+    magnitude: u128,
+    mark: Mark,
+    place: usize,
+    out: &mut Vec<u8>,
+    slip: &mut Option<Slip>,
+) -> Result<(), AllocError>
+    ensures added { OnOk result (out.new.items ≡ out.old.items ++ cut (spelled (says.number_node place negative magnitude mark))) }
+    ensures noted { OnOk result (Notes slip.old slip.new (says.number_slips place negative magnitude mark)) }
+{
+    let below = is_below(negative, magnitude);
+    let argument = argument_of(negative, magnitude);
+    if argument >= OUTSIDE {
+        note_unless(is_absent(mark), place, EdnReason::IndicatorNotAllowed, slip);
+        return push_bignum(below, argument, out);
+    }
+    let n = argument as u64;
+    let major = if below {
+        Major::Negative
+    } else {
+        Major::Unsigned
+    };
+    note_width(mark, n, place, slip);
+    push_head(major, width_for(mark, n), n, out)
+}
+
+/// Appends the tag over the shortest bytes of `n`.
+#[cold]
+#[inline(never)]
+fn push_bignum(below: bool, n: u128, out: &mut Vec<u8>) -> Result<(), AllocError>
+    ensures { OnOk result (out.new.items ≡ out.old.items ++ cut (head Tag (Given Direct (if below then 3 else 2)) ++ string ByteHead (least (length (digits_of 256 n))) (digits_of 256 n))) }
+{
+    push_head(Major::Tag, Width::Direct, bignum_tag(below), out)?;
+    let start = out.len();
+    out.push(0)?;
+    push_digits(n, out)?;
+    let len = (out.len() - start - 1) as u64;
+    set_head(Major::ByteString, shortest(len), len, start, out)
+}
+
+/// The tag of a bignum (RFC 8949 section 3.4.3).
+fn bignum_tag(below: bool) -> u64
+    ensures { result ≡ (if below then 3 else 2) }
+{
+    if below { 3 } else { 2 }
+}
+
+/// Appends the bytes of `n`, the highest first, without leading zeros.
+fn push_digits(n: u128, out: &mut Vec<u8>) -> Result<(), AllocError>
+    ensures { OnOk result (out.new.items ≡ out.old.items ++ digits_of 256 n) }
+{
+    if n > 0 {
+        push_digits(n / 256, out)?;
+        out.push((n % 256) as u8)?;
+    }
+    Ok(())
+}
+
+/// Whether there is no indicator.
+#[inline(always)]
+pub(crate) fn is_absent(mark: Mark) -> bool
+    ensures { result ≡ says.is_absent mark }
+{
+    matches!(mark, Mark::Absent)
+}
+
+/// Appends a tag's head. Of a number outside 64 bits its low bits are written.
+pub(crate) fn push_tag(
+    number: u128,
+    mark: Mark,
+    place: usize,
+    out: &mut Vec<u8>,
+    slip: &mut Option<Slip>,
+) -> Result<(), AllocError>
+    ensures added { OnOk result (out.new.items ≡ out.old.items ++ cut (head Tag (Given (says.width mark number) number))) }
+    ensures noted { OnOk result (Notes slip.old slip.new (says.tag_slips place mark number)) }
+{
+    if number < OUTSIDE {
+        let n = number as u64;
+        note_width(mark, n, place, slip);
+        return push_head(Major::Tag, width_for(mark, n), n, out);
+    }
+    note(place, EdnReason::TagTooLarge, slip);
+    let width = match mark {
+        Mark::Wide(width) => width,
+        _ => Width::Eight,
+    };
+    push_low(Major::Tag, width, number, out)
+}
+
+/// Appends a head with the low bits of `n`.
+fn push_low(major: Major, width: Width, n: u128, out: &mut Vec<u8>) -> Result<(), AllocError>
+    ensures { OnOk result (out.new.items ≡ out.old.items ++ cut (head_bytes (code major) width n)) }
+{
+    push_head(major, width, (n % OUTSIDE) as u64, out)
+}
+
+/// Appends the simple value of a number at `place`, after the `simple(` at `opened`. Where there is
+/// no such value its low bits are written.
+pub(crate) fn push_simple(
+    negative: bool,
+    magnitude: u128,
+    mark: Mark,
+    opened: usize,
+    place: usize,
+    out: &mut Vec<u8>,
+    slip: &mut Option<Slip>,
+) -> Result<(), AllocError>
+    ensures added { OnOk result (out.new.items ≡ out.old.items ++ cut (spelled (Simple opened magnitude))) }
+    ensures noted { OnOk result (Notes slip.old slip.new (says.simple_slips opened place negative magnitude mark)) }
+{
+    let good = is_simple(negative, magnitude);
+    note_unless(good, opened, EdnReason::BadSimple, slip);
+    note_unless(is_absent(mark), place, EdnReason::IndicatorNotAllowed, slip);
+    if magnitude < OUTSIDE {
+        let n = magnitude as u64;
+        return push_head(Major::Other, shortest(n), n, out);
+    }
+    push_low(Major::Other, Width::Eight, magnitude, out)
+}
+
+/// Whether there is such a simple value.
+fn is_simple(negative: bool, magnitude: u128) -> bool
+    ensures { result ≡ says.is_simple negative magnitude }
+{
+    !is_below(negative, magnitude) && magnitude < 256 && is_simple_value(magnitude as u64)
+}
+
+/// An integer, as an item.
+pub(crate) fn put_number(
+    negative: bool,
+    magnitude: u128,
+    mark: Mark,
+    place: usize,
+    here: &mut Here,
+    writer: &mut Writer,
+) -> Result<(), AllocError>
+    ensures { OnOk result ((st : Stack) (a : Place) → place ≡ a.start → Leads here.old writer.old here.new writer.new (wants st) (has st (number a negative magnitude mark))) }
+{
+    here.stand = Stand::Has;
+    push_number(
+        negative,
+        magnitude,
+        mark,
+        place,
+        &mut writer.out,
+        &mut writer.slip,
+    )
+}
+
+/// A word for the simple value `n`, as an item.
+pub(crate) fn put_word(n: u8, here: &mut Here, writer: &mut Writer) -> Result<(), AllocError>
+    ensures { OnOk result ((st : Stack) (a : Place) → Leads here.old writer.old here.new writer.new (wants st) (has st (word a n))) }
+{
+    here.stand = Stand::Has;
+    let n = n as u64;
+    push_head(Major::Other, shortest(n), n, &mut writer.out)
+}
+
+/// The number in `simple(..)`.
+pub(crate) fn put_simple(
+    negative: bool,
+    magnitude: u128,
+    mark: Mark,
+    place: usize,
+    here: &mut Here,
+    writer: &mut Writer,
+) -> Result<(), AllocError>
+    ensures { OnOk result ((st : Stack) (s a : Place) → place ≡ a.start → Leads here.old writer.old here.new writer.new (wants_number st s) (has_number st s a negative magnitude mark)) }
+{
+    here.stand = Stand::HasNumber;
+    push_simple(
+        negative,
+        magnitude,
+        mark,
+        writer.simple,
+        place,
+        &mut writer.out,
+        &mut writer.slip,
+    )
+}
+
+/// The end of `simple(..)`.
+#[inline(always)]
+pub(crate) fn close_simple(here: &mut Here)
+    ensures { (w : Writing) (out : List ℕ) (st : Stack) (s b a : Place) (n : Bool) (v : ℕ) (m : Indicator) → Shows here.old w out (has_number st s b n v m) → Shows here.new w out (has st (simple s b n v m a)) }
+{
+    here.stand = Stand::Has;
+}

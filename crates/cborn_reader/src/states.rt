@@ -1,0 +1,204 @@
+//! What the reader keeps.
+
+use cborn_edn::{Slip, StringKind};
+use cborn_lex::Mark;
+use cborn_model::push_doubling;
+use std::alloc::{AllocError, Global};
+use std::marker::Model;
+
+/// A kind of open bracket.
+#[derive(Clone, Copy, PartialEq, Eq)]
+pub(crate) enum Level {
+    Array,
+    /// `<<`
+    Embedded,
+    /// A map where a key is wanted or stands.
+    Key,
+    /// A map after a key and its colon.
+    Value,
+    Tag,
+}
+
+/// What stands right before the next token.
+#[derive(Clone, Copy, PartialEq, Eq)]
+pub(crate) enum Stand {
+    /// An opening bracket, a colon, or nothing: an item is wanted.
+    Wants,
+    /// A comma, after which an item or a key is wanted.
+    WantsMore,
+    /// An item that is no string in pieces.
+    Has,
+    /// Pieces of a string or of a chunk.
+    Builds,
+    /// `(_`, or a comma between chunks.
+    WantsChunk,
+    /// `simple(`
+    WantsNumber,
+    /// `simple(` and a number.
+    HasNumber,
+}
+
+/// Where the reader is: the offset in the text, in bytes; what stands before it; the innermost
+/// bracket, none at the top; and how many items or pairs with their commas stand in it.
+#[derive(Clone, Copy)]
+pub(crate) struct Here {
+    pub(crate) at: usize,
+    pub(crate) count: u64,
+    pub(crate) stand: Stand,
+    pub(crate) level: Option<Level>,
+}
+
+/// An open bracket. `count` and `level` are those around it, `place` is its offset in the text, and
+/// `start` that of the byte in the place of its head in the output.
+#[derive(Clone, Copy)]
+pub(crate) struct Frame {
+    pub(crate) place: usize,
+    pub(crate) start: usize,
+    pub(crate) count: u64,
+    pub(crate) level: Option<Level>,
+    pub(crate) mark: Mark,
+}
+
+/// The pieces of a string so far, as one: the first gives the kind and the place, the last one the
+/// indicator. Its bytes are those of the output after the byte at `start`.
+#[derive(Clone, Copy)]
+pub(crate) struct Joint {
+    pub(crate) kind: StringKind,
+    pub(crate) start: usize,
+    pub(crate) place: usize,
+    pub(crate) mark: Mark,
+    /// The place of the token that carries the indicator.
+    pub(crate) mark_place: usize,
+    /// Whether it is a lone `''` or `""`.
+    pub(crate) lone: bool,
+    /// Whether nothing embedded in it has a fault of meaning.
+    pub(crate) known: bool,
+}
+
+/// The chunks of a string so far. The first gives the kind, and `start` is the offset of the byte in
+/// the place of the string's head in the output.
+#[derive(Clone, Copy)]
+pub(crate) struct Chunks {
+    pub(crate) start: usize,
+    pub(crate) kind: Option<StringKind>,
+}
+
+/// What stands around a `<<`: the pieces before it, the chunks that the string is one of, and the
+/// first fault of meaning before it.
+#[derive(Clone, Copy)]
+pub(crate) struct Around {
+    pub(crate) string: Option<Joint>,
+    pub(crate) chunks: Option<Chunks>,
+    pub(crate) slip: Option<Slip>,
+}
+
+/// What is written, and what is open. A string, or chunks, are there only while they are read.
+#[derive(Drop)]
+pub(crate) struct Writer {
+    pub(crate) out: Vec<u8>,
+    pub(crate) frames: Frames,
+    pub(crate) around: Arounds,
+    pub(crate) string: Option<Joint>,
+    pub(crate) chunks: Option<Chunks>,
+    /// The place of the last `simple(`.
+    pub(crate) simple: usize,
+    /// The first fault of meaning since the innermost `<<`.
+    pub(crate) slip: Option<Slip>,
+}
+
+/// The open brackets. Contracts see the innermost first.
+#[derive(Drop)]
+pub(crate) struct Frames {
+    frames: Vec<Frame>,
+}
+
+impl Model for Frames {
+    ghost use Rattle.std.specs.Prelude.{List};
+    ghost use Rattle.cborn_reader.specs.declared.states.Frame.{Frame as OneFrame};
+    ghost use mathlib.Core.List as lists;
+
+    ghost Value = { List OneFrame };
+
+    ghost view = { λ l. lists.reverse l.frames.items };
+}
+
+impl Frames {
+    ghost use Rattle.std.specs.Prelude.{◌≡◌, ◌<◌, ◌^◌, [], ◌∷◌, length, MatchOption, OnOk};
+
+    /// None are open.
+    pub(crate) fn new(alloc: Global) -> Frames
+        ensures { result ≡ [] }
+    {
+        Frames {
+            frames: Vec::new(alloc),
+        }
+    }
+
+    /// How many are open.
+    #[tactic(auto, using(crate::proofs::Opened::innermost))]
+    pub(crate) fn count(&self) -> u64
+        ensures count { result ≡ length self.now }
+        ensures small { result < 2 ^ 63 }
+    {
+        self.frames.len() as u64
+    }
+
+    /// One more, inside the others.
+    #[tactic(auto, using(crate::proofs::Opened::innermost))]
+    pub(crate) fn open(&mut self, frame: Frame) -> Result<(), AllocError>
+        ensures { OnOk result (self.new ≡ frame ∷ self.old) }
+    {
+        push_doubling(&mut self.frames, frame)
+    }
+
+    /// The innermost is taken off.
+    pub(crate) fn shut(&mut self) -> Option<Frame>
+        ensures { MatchOption result (self.old ≡ []) (λ f. self.old ≡ f ∷ self.new) }
+    {
+        self.frames.pop()
+    }
+}
+
+/// What stands around each open `<<`. Contracts see the innermost first.
+#[derive(Drop)]
+pub(crate) struct Arounds {
+    arounds: Vec<Around>,
+}
+
+impl Model for Arounds {
+    ghost use Rattle.std.specs.Prelude.{List};
+    ghost use Rattle.cborn_reader.specs.declared.states.Around.{Around as OneAround};
+    ghost use mathlib.Core.List as lists;
+
+    ghost Value = { List OneAround };
+
+    ghost view = { λ l. lists.reverse l.arounds.items };
+}
+
+impl Arounds {
+    ghost use Rattle.std.specs.Prelude.{◌≡◌, [], ◌∷◌, MatchOption, OnOk};
+
+    /// None are open.
+    pub(crate) fn new(alloc: Global) -> Arounds
+        ensures { result ≡ [] }
+    {
+        Arounds {
+            arounds: Vec::new(alloc),
+        }
+    }
+
+    /// One more, inside the others.
+    #[tactic(auto, using(crate::proofs::Opened::innermost))]
+    pub(crate) fn open(&mut self, around: Around) -> Result<(), AllocError>
+        ensures { OnOk result (self.new ≡ around ∷ self.old) }
+    {
+        push_doubling(&mut self.arounds, around)
+    }
+
+    /// The innermost is taken off.
+    pub(crate) fn shut(&mut self) -> Option<Around>
+        ensures { MatchOption result (self.old ≡ []) (λ a. self.old ≡ a ∷ self.new) }
+    {
+        self.arounds.pop()
+    }
+}

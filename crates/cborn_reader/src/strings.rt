@@ -1,0 +1,301 @@
+//! Strings, piece by piece, and their chunks.
+
+ghost use Rattle.std.specs.Prelude.{◌≡◌, ℕ, ◌<◌, ◌++◌, ◌∷◌, List, Bool, length, IsSome, None, OnOk, true, ◌&&◌};
+ghost use Rattle.cborn_model.specs.Bytes.{AreBytes};
+ghost use Rattle.cborn_lex.proofs.WholeTexts.Weights.{AreModest};
+ghost use Rattle.cborn_edn.specs.Says as says;
+ghost use Rattle.cborn_edn.specs.declared.strings.StringKind.TheVariants.{Text as OfText};
+ghost use Rattle.cborn_edn.specs.shared.Syntax.{Span as Place, Pieces as Joined, Strings, StringsBefore, strings, string, chunked, also, piece, after_strings, tokens_of_pieces};
+ghost use Rattle.cborn_edn.proofs.Grammar.Machine.{Stack, Home, as_item, as_chunk, has, builds, wants_chunk};
+ghost use Rattle.cborn_edn.proofs.Grammar.Takes.{at_home};
+ghost use Rattle.cborn_edn.proofs.Short.Said.{str};
+ghost use Rattle.cborn_model.specs.Spelled as spells;
+ghost use Rattle.cborn_reader.specs.devices.Laid.{cut, major_of};
+ghost use Rattle.cborn_reader.specs.devices.Kept.{joint, kind_or};
+ghost use Rattle.cborn_reader.specs.devices.Slips.{Notes};
+ghost use Rattle.cborn_reader.specs.declared.states.Here.{Here as Standing};
+ghost use Rattle.cborn_reader.specs.devices.Shows.{Shows, Leads, piece_of};
+
+use crate::heads::set_head;
+use crate::numbers::{is_absent, width_for};
+use crate::slips::{note_unless, note_width};
+use crate::states::{Chunks, Here, Joint, Stand, Writer};
+use cborn_edn::{EdnReason, Slip, StringKind};
+use cborn_lex::Mark;
+use cborn_model::{BREAK, Major};
+use std::alloc::AllocError;
+
+/// The major type of a string.
+#[inline(always)]
+fn major_of(kind: StringKind) -> Major
+    ensures { result ≡ major_of kind }
+{
+    match kind {
+        StringKind::Bytes => Major::ByteString,
+        StringKind::Text => Major::TextString,
+    }
+}
+
+/// Whether both are byte strings, or both text strings.
+#[inline(always)]
+fn are_same(one: StringKind, other: StringKind) -> bool
+    ensures { result ≡ says.same_kind one other }
+{
+    match (one, other) {
+        (StringKind::Bytes, StringKind::Bytes) | (StringKind::Text, StringKind::Text) => true,
+        _ => false,
+    }
+}
+
+/// Whether a piece of the second kind may follow in a string of the first: bytes in a text string,
+/// but no text in a byte string.
+#[inline(always)]
+fn may_join(kind: StringKind, next: StringKind) -> bool
+    ensures { result ≡ says.may_join kind next }
+{
+    match (kind, next) {
+        (StringKind::Bytes, StringKind::Text) => false,
+        _ => true,
+    }
+}
+
+/// Notes what is wrong with a piece at `place` after others.
+pub(crate) fn note_piece(string: Joint, kind: StringKind, place: usize, slip: &mut Option<Slip>)
+    ensures { (s t : says.Str) (start : ℕ) → string ≡ joint start s → kind ≡ t.kind → place ≡ t.place → Notes slip.old slip.new (says.piece_slips s t) }
+{
+    note_unless(
+        is_absent(string.mark),
+        string.mark_place,
+        EdnReason::IndicatorNotAllowed,
+        slip,
+    );
+    note_unless(
+        may_join(string.kind, kind),
+        place,
+        EdnReason::MixedString,
+        slip,
+    );
+}
+
+/// Notes what is wrong with a whole string of `size` bytes, which stand in `content`. `may_end` is
+/// whether it may be of indefinite length without a chunk.
+fn note_string(
+    may_end: bool,
+    string: Joint,
+    content: &[u8],
+    slip: &mut Option<Slip>,
+)
+    ensures { (s : says.Str) (start : ℕ) → string ≡ joint start s → content.now ≡ cut s.bytes → (s.known ≡ true → AreBytes s.bytes) → Notes slip.old slip.new (says.string_slips may_end s) }
+{
+    note_mark(may_end, string, content.len() as u64, slip);
+    if string.known {
+        note_unless(
+            is_good(string.kind, content),
+            string.place,
+            EdnReason::TextNotUtf8,
+            slip,
+        );
+    }
+}
+
+/// Notes what is wrong with the indicator of a whole string of `size` bytes.
+fn note_mark(may_end: bool, string: Joint, size: u64, slip: &mut Option<Slip>)
+    ensures { (s : says.Str) (start : ℕ) → string ≡ joint start s → size ≡ length s.bytes → Notes slip.old slip.new (says.mark_slips may_end s) }
+{
+    if is_endless(string.mark) {
+        note_unless(
+            may_end,
+            string.mark_place,
+            EdnReason::IndicatorNotAllowed,
+            slip,
+        );
+    } else if string.known {
+        note_width(string.mark, size, string.mark_place, slip);
+    }
+}
+
+/// Whether an indicator asks for an indefinite length.
+#[inline(always)]
+pub(crate) fn is_endless(mark: Mark) -> bool
+    ensures { result ≡ says.is_endless mark }
+{
+    matches!(mark, Mark::Endless)
+}
+
+/// Whether a text string is UTF-8.
+fn is_good(kind: StringKind, content: &[u8]) -> bool
+    ensures { result ≡ says.is_good kind content.now }
+{
+    match kind {
+        StringKind::Bytes => true,
+        StringKind::Text => simdutf8::is_utf8(content),
+    }
+}
+
+/// Writes the head of a string with a length in the place of the byte before it.
+fn set_length(major: Major, string: Joint, out: &mut Vec<u8>) -> Result<(), AllocError>
+    requires { string.start < length out.old.items }
+    ensures { OnOk result ((s : says.Str) (base : List ℕ) → string ≡ joint (length base) s → out.old.items ≡ cut (base ++ (0 ∷ s.bytes)) → out.new.items ≡ cut (base ++ spells.string major (says.width s.mark (length s.bytes)) s.bytes)) }
+{
+    let size = (out.len() - string.start - 1) as u64;
+    set_head(
+        major,
+        width_for(string.mark, size),
+        size,
+        string.start,
+        out,
+    )
+}
+
+/// Writes the head of a whole string, and notes what is wrong with it.
+fn close_string(
+    string: Joint,
+    out: &mut Vec<u8>,
+    slip: &mut Option<Slip>,
+) -> Result<(), AllocError>
+    requires { string.start < length out.old.items }
+    ensures added { OnOk result ((s : says.Str) (base : List ℕ) → string ≡ joint (length base) s → out.old.items ≡ cut (base ++ (0 ∷ s.bytes)) → out.new.items ≡ cut (base ++ spells.spelled (says.said_string s))) }
+    ensures noted { OnOk result ((s : says.Str) (base : List ℕ) → string ≡ joint (length base) s → out.old.items ≡ cut (base ++ (0 ∷ s.bytes)) → (s.known ≡ true → AreBytes s.bytes) → Notes slip.old slip.new (says.string_slips s.lone s)) }
+{
+    note_string(string.lone, string, &out[string.start + 1..], slip);
+    if string.lone && is_endless(string.mark) {
+        out.truncate(string.start);
+        return out.extend_from_slice(&[major_of(string.kind).endless_head(), BREAK]);
+    }
+    set_length(major_of(string.kind), string, out)
+}
+
+/// Whether a piece of `size` bytes is a lone `''` or `""`.
+#[inline(always)]
+fn is_lone(quoted: bool, size: usize) -> bool
+    ensures { (x : List ℕ) → size ≡ length x → result ≡ (quoted && says.is_nil x) }
+{
+    quoted && size == 0
+}
+
+/// The first piece of a string, after the byte at `start`.
+#[inline(always)]
+pub(crate) fn begin_string(
+    kind: StringKind,
+    start: usize,
+    place: usize,
+    mark: Mark,
+    quoted: bool,
+    here: &mut Here,
+    writer: &mut Writer,
+)
+    requires { start < length writer.old.out.items }
+    ensures { (h : Home) (a : Place) (x base : List ℕ) → place ≡ a.start → start ≡ length base → writer.old.out.items ≡ base ++ (0 ∷ x) → AreBytes x → (kind ≡ OfText → quoted ≡ true) → Shows here.old writer.old base (at_home h None) → Shows here.new writer.new writer.new.out.items (builds h (piece (piece_of kind a quoted x mark))) }
+{
+    writer.string = Some(Joint {
+        kind,
+        start,
+        place,
+        mark,
+        mark_place: place,
+        lone: is_lone(quoted, writer.out.len() - start - 1),
+        known: true,
+    });
+    here.stand = Stand::Builds;
+}
+
+/// One more piece of a string.
+pub(crate) fn join(kind: StringKind, place: usize, mark: Mark, writer: &mut Writer)
+    requires { IsSome writer.old.string }
+    ensures { (here : Standing) (h : Home) (ps : Joined) (a : Place) (q : Bool) (x base : List ℕ) → place ≡ a.start → writer.old.out.items ≡ base ++ x → AreBytes x → Shows here writer.old base (builds h ps) → Shows here writer.new writer.new.out.items (builds h (also ps (piece_of kind a q x mark))) }
+{
+    let Some(string) = writer.string else {
+        unreachable!();
+    };
+    note_piece(string, kind, place, &mut writer.slip);
+    writer.string = Some(Joint {
+        mark,
+        mark_place: place,
+        lone: false,
+        ..string
+    });
+}
+
+/// The string ends, as an item.
+pub(crate) fn end_item(here: &mut Here, writer: &mut Writer) -> Result<(), AllocError>
+    requires { (st : Stack) × (ps : Joined) × Shows here.old writer.old writer.old.out.items (builds (as_item st) ps) }
+    ensures { OnOk result ((st : Stack) (ps : Joined) → AreModest (tokens_of_pieces ps) → Leads here.old writer.old here.new writer.new (builds (as_item st) ps) (has st (string ps))) }
+{
+    let Some(joint) = writer.string else {
+        unreachable!();
+    };
+    writer.string = None;
+    here.stand = Stand::Has;
+    close_string(joint, &mut writer.out, &mut writer.slip)
+}
+
+/// The string ends, as a chunk.
+pub(crate) fn end_chunk(here: &mut Here, writer: &mut Writer) -> Result<(), AllocError>
+    requires { (st : Stack) × (s : Place) × (b : StringsBefore) × (ps : Joined) × Shows here.old writer.old writer.old.out.items (builds (as_chunk st s b) ps) }
+    ensures { OnOk result ((st : Stack) (s a : Place) (b : StringsBefore) (ps : Joined) → AreModest (tokens_of_pieces ps) → Leads here.old writer.old here.new writer.new (builds (as_chunk st s b) ps) (wants_chunk st s (after_strings (strings b ps) a))) }
+{
+    let Some(joint) = writer.string else {
+        unreachable!();
+    };
+    let Some(chunks) = writer.chunks else {
+        unreachable!();
+    };
+    let kind = kind_or(chunks.kind, joint.kind);
+    writer.string = None;
+    writer.chunks = Some(Chunks {
+        start: chunks.start,
+        kind: Some(kind),
+    });
+    here.stand = Stand::WantsChunk;
+    close_chunk(kind, joint, &mut writer.out, &mut writer.slip)
+}
+
+/// The kind of the first chunk, which `next` is where there is none before it.
+#[inline(always)]
+fn kind_or(first: Option<StringKind>, next: StringKind) -> StringKind
+    ensures { result ≡ kind_or first next }
+{
+    match first {
+        Some(kind) => kind,
+        None => next,
+    }
+}
+
+/// Writes the head of a chunk, and notes what is wrong with it; `kind` is that of the first chunk.
+fn close_chunk(
+    kind: StringKind,
+    string: Joint,
+    out: &mut Vec<u8>,
+    slip: &mut Option<Slip>,
+) -> Result<(), AllocError>
+    requires { string.start < length out.old.items }
+    ensures added { OnOk result ((s : says.Str) (base : List ℕ) → string ≡ joint (length base) s → out.old.items ≡ cut (base ++ (0 ∷ s.bytes)) → out.new.items ≡ cut (base ++ spells.chunk_bytes (major_of kind) (says.chunk s))) }
+    ensures noted { OnOk result ((s : says.Str) (base : List ℕ) → string ≡ joint (length base) s → out.old.items ≡ cut (base ++ (0 ∷ s.bytes)) → (s.known ≡ true → AreBytes s.bytes) → Notes slip.old slip.new (says.chunk_slips kind s)) }
+{
+    note_unless(
+        are_same(kind, string.kind),
+        string.place,
+        EdnReason::MixedChunks,
+        slip,
+    );
+    note_string(false, string, &out[string.start + 1..], slip);
+    set_length(major_of(kind), string, out)
+}
+
+/// The chunks end, of which there is one at least.
+pub(crate) fn end_chunks(here: &mut Here, writer: &mut Writer) -> Result<(), AllocError>
+    requires { (st : Stack) × (s : Place) × (a : Place) × (ss : Strings) × Shows here.old writer.old writer.old.out.items (wants_chunk st s (after_strings ss a)) }
+    ensures { OnOk result ((st : Stack) (s a e : Place) (ss : Strings) → Leads here.old writer.old here.new writer.new (wants_chunk st s (after_strings ss a)) (has st (chunked s ss e))) }
+{
+    let Some(chunks) = writer.chunks else {
+        unreachable!();
+    };
+    let Some(kind) = chunks.kind else {
+        unreachable!();
+    };
+    writer.chunks = None;
+    here.stand = Stand::Has;
+    writer.out[chunks.start] = major_of(kind).endless_head();
+    writer.out.push(BREAK)?;
+    Ok(())
+}
