@@ -1,5 +1,5 @@
 -- What is shown while a string is built, and after it.
-use Rattle.std.proofs.Common.{◌≡◌, refl, sym, ap, ◌∙◌, subst, ℕ, ◌+◌, ◌-◌, ◌*◌, ◌%◌, ◌<◌, List, [], ◌∷◌, ◌++◌, length, Bool, true, false, ◌&&◌, Option, Some, None, append-nil, append_assoc, arith}
+use Rattle.std.proofs.Common.{◌≡◌, refl, sym, ap, ◌∙◌, ℕ, ◌+◌, ◌-◌, ◌*◌, ◌%◌, List, [], ◌∷◌, ◌++◌, length, Bool, true, false, ◌&&◌, Option, Some, None, append-nil, append_assoc, arith}
 use Rattle.std.specs.List.{flat_map}
 use Rattle.std.proofs.Math.ListN.{set}
 use Rattle.std.proofs.Math.Seq.{set-append_seam}
@@ -17,9 +17,9 @@ use Rattle.cborn_edn.specs.Says.{Str, is_nil, chunk, same_kind, unless, said_str
 use Rattle.cborn_edn.specs.declared.faults.EdnReason.TheVariants.{MixedChunks}
 use Rattle.cborn_edn.specs.devices.Draft.{first_slip}
 use Rattle.cborn_edn.specs.shared.Syntax.{Span, Pieces, piece, also, Strings, strings, StringsBefore, no_string, after_strings, string, chunked}
-use Rattle.cborn_edn.proofs.Grammar.Machine.{Stack, Home, as_item, as_chunk, State, has, builds, wants_chunk}
+use Rattle.cborn_edn.proofs.Grammar.Machine.{Stack, Home, as_item, as_chunk, has, builds, wants_chunk}
 use Rattle.cborn_edn.proofs.Grammar.Takes.{at_home}
-use Rattle.cborn_edn.proofs.Short.Said.{str, str_of, kind_in, chunks, chunks_before, faults_of_piece, faults_of_pieces, faults_of_strings}
+use Rattle.cborn_edn.proofs.Short.Said.{str, str_of, kind_in, chunks, faults_of_pieces, faults_of_strings}
 use Rattle.cborn_reader.specs.declared.states.Here.{Here}
 use Rattle.cborn_reader.specs.declared.states.Writer.{Writer}
 use Rattle.cborn_reader.specs.declared.states.Joint.{Joint}
@@ -32,7 +32,7 @@ use Rattle.cborn_reader.specs.devices.Kept.{joint, kind_before, kind_or}
 use Rattle.cborn_reader.specs.devices.Shows.{Shows, piece_of}
 use Rattle.cborn_reader.proofs.Laying.{cut-append, cut-length, laid_more, laid_bytes, laid_length}
 use Rattle.cborn_reader.proofs.Joints.{known_joint}
-use Rattle.cborn_reader.proofs.Showing.{Fresh, fresh, first_joint, piece_bytes, piece_faults}
+use Rattle.cborn_reader.proofs.Showing.{fresh, first_joint, piece_bytes, piece_faults}
 
 pub begun_shown : (here : Here) (w : Writer) (h : Home) (k : StringKind) (start place : ℕ) (m : Mark) (q lone : Bool) (a : Span) (x base : List ℕ) → place ≡ a.start → start ≡ length base → w.out.items ≡ base ++ (0 ∷ x) → AreBytes x → (k ≡ OfText → q ≡ true)
     → ((y : List ℕ) → length w.out.items - start - 1 ≡ length y → lone ≡ (q && is_nil y)) → Shows here w base (at_home h None)
@@ -193,7 +193,7 @@ chunks_shown here w left st s a e ss cs k v mid c-is k-is v-is f r n c l m o sho
     let first : v ≡ 32 * code (major_of (kind_in ss)) + 31 = v-is ∙ ap (λ x. 32 * code (major_of x) + 31) kind in
     let x = flat_map (chunk_bytes (major_of (kind_in ss))) (chunks ss) in
     let begun : mid ≡ cut (laid_stack st ++ ((32 * code (major_of (kind_in ss)) + 31) ∷ x)) =
-        first_set (laid_stack st) x w.out.items mid cs.start (32 * code (major_of (kind_in ss)) + 31) (ap (λ (y : Chunks). y.start) are) shows.out (first_small (kind_in ss)) (m ∙ ap (set w.out.items cs.start) first) in
+    first_set (laid_stack st) x w.out.items mid cs.start (32 * code (major_of (kind_in ss)) + 31) (ap (λ (y : Chunks). y.start) are) shows.out (first_small (kind_in ss)) (m ∙ ap (set w.out.items cs.start) first) in
     record {
       stand = refl;
       level = shows.level;

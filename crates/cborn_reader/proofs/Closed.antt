@@ -1,5 +1,5 @@
 -- What is shown after a bracket that ends.
-use Rattle.std.proofs.Common.{◌≡◌, refl, sym, ap, ◌∙◌, subst, ℕ, ◌+◌, List, [], ◌∷◌, ◌++◌, length, take, drop, Bool, true, false, ◌&&◌, Option, Some, None, append-nil, append_assoc}
+use Rattle.std.proofs.Common.{◌≡◌, refl, sym, ap, ◌∙◌, subst, ℕ, ◌+◌, List, [], ◌∷◌, ◌++◌, length, take, drop, Bool, true, false, Option, Some, None, append-nil, append_assoc}
 use Rattle.cborn_model.specs.declared.heads.Width.{Width}
 use Rattle.cborn_model.specs.declared.heads.Major.{Major}
 use Rattle.cborn_model.specs.declared.heads.Major.TheVariants.{Array as ArrayHead, Map as MapHead}
@@ -23,13 +23,13 @@ use Rattle.cborn_reader.specs.declared.states.Around.{Around}
 use Rattle.cborn_reader.specs.declared.states.Stand.TheVariants.{Has, Builds}
 use Rattle.cborn_reader.specs.devices.Slips.{is_none, Notes}
 use Rattle.cborn_reader.specs.devices.Laid.{cut, place_of, bytes_before, laid_stack, laid_home}
-use Rattle.cborn_reader.specs.devices.Noted.{pieces_noted, noted_stack, noted_home}
-use Rattle.cborn_reader.specs.devices.Kept.{stack_of, frame, frames_of, frames_home, arounds_home, around, joint, string_at, chunks_of}
+use Rattle.cborn_reader.specs.devices.Noted.{noted_stack, noted_home}
+use Rattle.cborn_reader.specs.devices.Kept.{stack_of, frame, frames_of, frames_home, arounds_home, around, joint}
 use Rattle.cborn_reader.specs.devices.Shows.{Shows, content_state, fields_state, entries_at}
 use Rattle.cborn_reader.proofs.Laying.{laid_more, laid_set}
 use Rattle.cborn_reader.proofs.Slipping.{earlier_noted, none_first}
 use Rattle.cborn_reader.proofs.Showing.{frames_same, arounds_same}
-use Rattle.cborn_reader.proofs.Rows.{InContent, in_content, InFields, in_fields}
+use Rattle.cborn_reader.proofs.Rows.{InContent, in_content, in_fields}
 
 bad_endless : {A : Type 0} → true ≡ false → A
 bad_endless e = absurd (let bad : true ≡ false = e in cc)
@@ -136,7 +136,6 @@ pub record Embeds (here next : Here) (w mid left : Writer) (f : Frame) (x : Arou
   pub chunks : left.chunks ≡ x.chunks
   pub string : left.string ≡ Some j
   pub out : left.out.items ≡ mid.out.items
-
 
 module _ (here next last : Here) (w mid left : Writer) (f : Frame) (x : Around) (j : Joint) (sure : Bool) (m : Mark) (place : ℕ) (k : Embeds here next w mid left f x j sure m place) (same : last ≡ record next { stand = Builds }) (h : Home) (s a : Span) (c : Content) (p : place ≡ a.start) where
   -- what is left after the bracket and what stood around it were taken off

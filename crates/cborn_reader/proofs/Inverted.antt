@@ -1,11 +1,10 @@
 -- Which state is shown, by what is kept.
-use Rattle.std.proofs.Common.{◌≡◌, refl, sym, ap, ◌∙◌, ℕ, ◌<◌, List, [], ◌∷◌, length, Bool, true, false, Option, Some, None, arith}
+use Rattle.std.proofs.Common.{◌≡◌, refl, sym, ℕ, true, false, Option, Some, None}
 use Rattle.cborn_lex.specs.declared.classes.Mark.{Mark}
 use Rattle.cborn_lex.specs.declared.classes.Class.TheVariants.{ArrayClose, MapClose, EmbedClose, ParenClose, Comma, Colon}
-use Rattle.cborn_edn.specs.shared.Syntax.{Span, Item, Pieces, row, RowBefore, no_item, after_row, Content, loose, tight, pairs, PairsBefore, no_pair, after_pairs, Fields, loose_fields, tight_fields, array, map, embedded, tag}
+use Rattle.cborn_edn.specs.shared.Syntax.{Span, Item, Pieces, row, RowBefore, no_item, after_row, Content, loose, tight, pairs, PairsBefore, no_pair, after_pairs, Fields, loose_fields, tight_fields, array, map, embedded}
 use Rattle.cborn_edn.proofs.Grammar.Machine.{Stack, in_row, in_key, in_value, in_tag, Nest, at_top, in_array, in_embed, Home, State, wants, has, builds, wants_chunk, wants_number, has_number, with_piece, step_by}
-use Rattle.cborn_reader.specs.declared.states.Stand.TheVariants.{Wants, WantsMore, Has}
-use Rattle.cborn_reader.specs.devices.Kept.{level_of, stack_in, stand_of, frames_of}
+use Rattle.cborn_reader.specs.devices.Kept.{level_of, stack_in, stand_of}
 use Rattle.cborn_reader.specs.devices.Shows.{content_state, fields_state}
 use Rattle.cborn_reader.specs.devices.Steps.{is_array, is_embedded, is_key, is_value, is_tag, is_row, ends_map, MayEnd}
 

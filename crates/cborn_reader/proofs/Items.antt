@@ -18,7 +18,7 @@ use Rattle.cborn_lex.specs.Good as good
 use Rattle.cborn_lex.specs.Good.{IsMark, IsNumeral, Takes}
 use Rattle.cborn_lex.proofs.GoodFronts.{judge}
 use Rattle.cborn_reader.specs.Ahead.{IsTokenAt}
-use Rattle.cborn_reader.proofs.Tokens.{begins_here, token_here, ended}
+use Rattle.cborn_reader.proofs.CommonTokens.{begins_here, token_here, ended}
 
 numeral : (negative : Bool) (x mark z : List ℕ) (n : ℕ) (m : Mark) → integer negative x ≡ Ok n → IsRun is_numeral x (mark ++ z) → IsMark mark z m → IsNumeral x mark z n m
 numeral negative x mark z n m i r k = let j = judge negative x (Ok n) i in record { literal = j.0; bounded = j.1; run = r; indicator = k }

@@ -1,5 +1,4 @@
 -- Strings: their heads, and what is wrong with them.
-use Rattle.std.specs.Int.Digits.{digits_of}
 use Rattle.std.proofs.Math.Seq.{take-append_seam, drop-append-add}
 use Rattle.cborn_model.specs.declared.heads.Major.TheVariants.{ByteString}
 use Rattle.cborn_model.specs.Spelled.{spelled}
@@ -25,7 +24,7 @@ use Rattle.cborn_reader.specs.declared.states.Joint.{Joint}
 use Rattle.cborn_reader.specs.devices.Slips.{Notes}
 use Rattle.cborn_reader.specs.devices.Laid.{cut}
 use Rattle.cborn_reader.specs.devices.Kept.{joint}
-use Rattle.cborn_reader.proofs.Laying.{cut_bytes, cut-length, laid_set, content_length}
+use Rattle.cborn_reader.proofs.Laying.{cut_bytes, laid_set, content_length}
 use Rattle.cborn_reader.proofs.Slipping.{none_noted, both_noted}
 
 -- the head of a string with a length in the place of the byte before it

@@ -11,8 +11,13 @@ pub mod Built
 pub mod Modest
 pub mod Inverted
 pub mod Turning
-pub mod Tokens
+pub mod CommonTokens
 pub mod Items
 pub mod Cutting
 pub mod Utf8
 pub mod NextPieces
+pub mod BareTokens
+pub mod Going
+pub mod Counts
+pub mod Stepping
+pub mod Ending

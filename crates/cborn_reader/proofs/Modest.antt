@@ -1,5 +1,5 @@
 -- What tokens say that are read from a text, where there is no slip, are bytes.
-use Rattle.std.proofs.Common.{◌≡◌, refl, sym, ap, ◌∙◌, subst, ℕ, zero, suc, ◌+◌, ◌*◌, ◌^◌, ◌<◌, ◌≤◌, List, [], ◌∷◌, ◌++◌, length, Bool, true, false, ◌&&◌, cond, ltb, Option, Some, None, arith}
+use Rattle.std.proofs.Common.{◌≡◌, refl, sym, ap, ◌∙◌, subst, ℕ, ◌+◌, ◌*◌, ◌^◌, ◌<◌, ◌≤◌, List, [], ◌∷◌, ◌++◌, length, Bool, true, false, ◌&&◌, ltb, Some, arith}
 use Rattle.std.specs.Prelude.{if◌then◌else◌}
 use Rattle.std.specs.List.{flat_map}
 use Rattle.std.specs.Int.Digits.{digits_of}
@@ -8,19 +8,18 @@ use Rattle.std.proofs.lemmas.Int.Digits.{all_below_base_digits_of}
 use Rattle.std.proofs.lemmas.Grind.{flat_map-append}
 use Rattle.cborn_model.specs.Bytes.{AreBytes}
 use Rattle.cborn_model.proofs.Bytes.{bytes-append}
-use Rattle.cborn_model.specs.declared.heads.Width.{Width}
-use Rattle.cborn_model.specs.declared.heads.Width.TheVariants.{Direct, One, Two, Four, Eight}
+use Rattle.cborn_model.specs.declared.heads.Width.TheVariants.{Direct, Eight}
 use Rattle.cborn_model.specs.declared.heads.Major.{Major}
 use Rattle.cborn_model.specs.declared.heads.Major.TheVariants.{Unsigned, Negative, ByteString, TextString, Array, Map, Tag, Other}
 use Rattle.cborn_model.specs.declared.nodes.Chunk.{Chunk}
-use Rattle.cborn_model.specs.Heads.{code, holds, least, WidthFits, Given, Unbounded, head, argument}
+use Rattle.cborn_model.specs.Heads.{code, holds, least, Given, Unbounded, head, argument}
 use Rattle.cborn_model.specs.Spelled.{ending, string, chunk_bytes, spelled, spelled_all, spelled_entries}
-use Rattle.cborn_model.specs.Tree.{Tree, Uint, Nint, Bytes as ByteNode, Tagged, count, count_entries}
+use Rattle.cborn_model.specs.Tree.{Uint, Nint, Bytes as ByteNode, Tagged, count, count_entries}
 use Rattle.cborn_model.proofs.Numbers.OneHead.{least_holds}
 use Rattle.cborn_wire.proofs.Spelled.AllBytes.{head_bytes}
 use Rattle.cborn_lex.specs.declared.classes.Mark.{Mark}
 use Rattle.cborn_lex.specs.declared.classes.Mark.TheVariants.{Absent, Endless, Wide}
-use Rattle.cborn_lex.specs.declared.classes.Class.TheVariants.{ArrayClose, MapClose, ParenClose, Comma, Colon, EmbedClose}
+use Rattle.cborn_lex.specs.declared.classes.Class.TheVariants.{Comma}
 use Rattle.cborn_lex.specs.declared.classes.Token.{Token}
 use Rattle.cborn_lex.proofs.WholeTexts.Weights.{AreModest}
 use Rattle.cborn_edn.specs.declared.slips.Slip.{Slip}
@@ -33,9 +32,7 @@ use Rattle.cborn_edn.specs.shared.Meaning.{when}
 use Rattle.cborn_edn.specs.shared.Syntax as tree
 use Rattle.cborn_edn.specs.shared.Syntax.{token, Item, Piece, Pieces, piece, also, Strings, strings, StringsBefore, no_string, after_strings, Row, row, RowBefore, no_item, after_row, Content, loose, tight, Pairs, pairs, PairsBefore, no_pair, after_pairs, Fields, loose_fields, tight_fields, Input, nothing, items, tokens_of, tokens_of_piece, tokens_of_pieces, tokens_of_strings, tokens_of_strings_before, tokens_of_row, tokens_of_row_before, tokens_of_content, tokens_of_pairs, tokens_of_pairs_before, tokens_of_fields, tokens_of_input}
 use Rattle.cborn_edn.proofs.Meaning.Fit.{width_holds}
-use Rattle.cborn_edn.proofs.Short.Said.{node, str_of, str, kind_in, chunks, chunks_before, nodes, nodes_before, nodes_in, entries, entries_before, entries_in, faults, faults_of_piece, faults_of_pieces, faults_of_strings, faults_of_row, faults_before, faults_in, faults_of_pairs, faults_before_pairs, faults_of_fields, nodes_of_input, faults_of_input}
-use Rattle.cborn_reader.specs.devices.Laid.{major_of, chunks_laid}
-use Rattle.cborn_reader.specs.devices.Noted.{strings_noted}
+use Rattle.cborn_edn.proofs.Short.Said.{node, str_of, str, kind_in, chunks, nodes, nodes_before, nodes_in, entries, entries_before, entries_in, faults, faults_of_pieces, faults_of_strings, faults_of_row, faults_before, faults_in, faults_of_pairs, faults_before_pairs, faults_of_fields, nodes_of_input, faults_of_input}
 use Rattle.cborn_reader.proofs.Rows.{spelled_snoc, spelled_snoc_entry}
 
 pub modest_left : (x y : List Token) → AreModest (x ++ y) → AreModest x
@@ -161,7 +158,7 @@ right_true : (a b : Bool) → (a && b) ≡ true → b ≡ true
 right_true true b e = e
 right_true false b e = absurd (let bad : false ≡ true = e in cc)
 
-nil_is : (l : List Slip) → is_nil l ≡ true → l ≡ []
+pub nil_is : (l : List Slip) → is_nil l ≡ true → l ≡ []
 nil_is [] e = refl
 nil_is (s ∷ l) e = absurd (let bad : false ≡ true = e in cc)
 

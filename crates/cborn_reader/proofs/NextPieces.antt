@@ -16,7 +16,7 @@ use Rattle.cborn_lex.proofs.OneFront.Alone.{one_front}
 use Rattle.cborn_edn.specs.shared.Syntax.{Span, Pieces, string}
 use Rattle.cborn_edn.proofs.Grammar.Machine.{Stack, as_item, builds, has, step_by}
 use Rattle.cborn_reader.specs.Ahead.{ends_string, NoPieceAt}
-use Rattle.cborn_reader.proofs.Tokens.{begins_here}
+use Rattle.cborn_reader.proofs.CommonTokens.{begins_here}
 
 -- what ends a bracket, or separates items
 abbrev pub is_single : Class → Bool

@@ -1,19 +1,18 @@
 -- What is shown before the bracket that ends a row or a map.
-use Rattle.std.proofs.Common.{◌≡◌, refl, sym, ap, ◌∙◌, subst, ℕ, suc, ◌+◌, List, [], ◌∷◌, ◌++◌, length, Option, Some, None, append-nil, append_assoc, arith}
+use Rattle.std.proofs.Common.{◌≡◌, refl, sym, ap, ◌∙◌, ℕ, ◌+◌, List, ◌∷◌, ◌++◌, length, Some, None, append-nil, append_assoc, arith}
 use Rattle.cborn_model.specs.Tree.{Tree, Trees, no_item as no_node, more, Entries, no_entry, entry, count, count_entries}
 use Rattle.cborn_model.specs.Spelled.{spelled, spelled_all, spelled_entries}
 use Rattle.cborn_model.specs.declared.heads.Major.TheVariants.{Map}
 use Rattle.cborn_lex.specs.declared.classes.Mark.{Mark}
-use Rattle.cborn_edn.specs.declared.slips.Slip.{Slip}
 use Rattle.cborn_edn.specs.devices.Draft.{first_slip}
 use Rattle.cborn_edn.specs.shared.Meaning.{snoc, snoc_entry}
 use Rattle.cborn_edn.specs.shared.Syntax.{Span, Item, row, RowBefore, no_item, after_row, Content, loose, tight, pairs, PairsBefore, no_pair, after_pairs, Fields, loose_fields, tight_fields}
-use Rattle.cborn_edn.proofs.Grammar.Machine.{Stack, in_row, in_key, in_value, Nest, at_top, in_array, in_embed, State, has, wants}
+use Rattle.cborn_edn.proofs.Grammar.Machine.{Stack, in_row, in_key, in_value, Nest, at_top, in_array, in_embed, has, wants}
 use Rattle.cborn_edn.proofs.Meaning.Agree.{count-snoc, count-snoc_entry}
 use Rattle.cborn_edn.proofs.Short.Said.{node, nodes_before, nodes_in, entries_before, entries_in, faults, faults_before, faults_in, faults_before_pairs, faults_of_fields}
 use Rattle.cborn_reader.specs.declared.states.Here.{Here}
 use Rattle.cborn_reader.specs.declared.states.Writer.{Writer}
-use Rattle.cborn_reader.specs.declared.states.Stand.TheVariants.{Wants, WantsMore, Has}
+use Rattle.cborn_reader.specs.declared.states.Stand.TheVariants.{WantsMore}
 use Rattle.cborn_reader.specs.declared.states.Level.TheVariants.{Key}
 use Rattle.cborn_reader.specs.devices.Laid.{cut, place_of, laid_stack, laid_nest}
 use Rattle.cborn_reader.specs.devices.Noted.{noted_stack, noted_nest}

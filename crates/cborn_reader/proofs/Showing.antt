@@ -1,6 +1,5 @@
 -- What is shown, moved from one state of the machine to the next.
-use Rattle.std.proofs.Common.{◌≡◌, refl, sym, ap, ◌∙◌, subst, ℕ, ◌+◌, ◌<◌, List, [], ◌∷◌, ◌++◌, length, Bool, true, false, ◌&&◌, Option, Some, None, append-nil, append_assoc, arith}
-use Rattle.cborn_model.specs.Bytes.{AreBytes}
+use Rattle.std.proofs.Common.{◌≡◌, refl, sym, ap, ◌∙◌, subst, ℕ, List, [], ◌++◌, Bool, true, ◌&&◌, Option, None, append-nil}
 use Rattle.cborn_model.specs.declared.heads.Major.{Major}
 use Rattle.cborn_model.specs.declared.heads.Major.TheVariants.{Unsigned, Negative, ByteString, TextString, Array, Map, Tag, Other}
 use Rattle.cborn_lex.specs.declared.classes.Mark.{Mark}
@@ -8,21 +7,20 @@ use Rattle.cborn_lex.specs.declared.classes.Mark.TheVariants.{Absent, Endless, W
 use Rattle.cborn_edn.specs.declared.slips.Slip.{Slip}
 use Rattle.cborn_edn.specs.declared.strings.StringKind.{StringKind}
 use Rattle.cborn_edn.specs.declared.strings.StringKind.TheVariants.{Bytes as OfBytes, Text as OfText}
-use Rattle.cborn_edn.specs.Says.{Str, is_nil, quoted, joined, piece_slips}
+use Rattle.cborn_edn.specs.Says.{is_nil}
 use Rattle.cborn_edn.specs.devices.Draft.{first_slip}
-use Rattle.cborn_edn.specs.shared.Syntax.{Span, Piece, Pieces, piece, also, no_item, no_pair}
-use Rattle.cborn_edn.proofs.Grammar.Machine.{Stack, in_row, in_key, in_array, in_embed, Home, as_item, as_chunk, State, wants, builds}
+use Rattle.cborn_edn.specs.shared.Syntax.{Span, Pieces, no_item, no_pair}
+use Rattle.cborn_edn.proofs.Grammar.Machine.{Stack, in_row, in_key, in_array, Home, as_item, as_chunk, State, builds}
 use Rattle.cborn_edn.proofs.Grammar.Takes.{at_home}
-use Rattle.cborn_edn.proofs.Short.Said.{str, str_of, faults_of_pieces, faults_of_piece}
+use Rattle.cborn_edn.proofs.Short.Said.{str_of, faults_of_piece}
 use Rattle.cborn_reader.specs.declared.states.Here.{Here}
 use Rattle.cborn_reader.specs.declared.states.Writer.{Writer}
-use Rattle.cborn_reader.specs.declared.states.Frame.{Frame}
 use Rattle.cborn_reader.specs.declared.states.Joint.{Joint}
-use Rattle.cborn_reader.specs.devices.Laid.{cut, place_of, laid_stack, laid_home, laid}
-use Rattle.cborn_reader.specs.devices.Noted.{noted_stack, noted_home, noted}
+use Rattle.cborn_reader.specs.devices.Laid.{cut, place_of, laid_stack, laid_home}
+use Rattle.cborn_reader.specs.devices.Noted.{noted_home}
 use Rattle.cborn_reader.specs.devices.Kept.{stack_of, level_of, count_of, frames_of, frames_home, arounds_of, arounds_home, chunks_of, joint}
 use Rattle.cborn_reader.specs.devices.Shows.{Shows, piece_of}
-use Rattle.cborn_reader.proofs.Laying.{laid_more, laid_bytes}
+use Rattle.cborn_reader.proofs.Laying.{laid_more}
 
 pub moved : (next n : Here) (left l : Writer) (u : State) → next ≡ n → left ≡ l → Shows n l l.out.items u → Shows next left left.out.items u
 moved next n left l u e f h = subst (λ (w : Writer). Shows next w w.out.items u) (sym f) (subst (λ (x : Here). Shows x l l.out.items u) (sym e) h)

@@ -1,5 +1,5 @@
 -- One token by its kind.
-use Rattle.std.proofs.Common.{◌≡◌, refl, sym, ap, ◌∙◌, subst, ℕ, ◌+◌, ◌<◌, List, [], ◌∷◌, ◌++◌, length, Bool, true, false, Option, Some, None, append-nil, arith, ◌⊎◌, inl, inr}
+use Rattle.std.proofs.Common.{◌≡◌, refl, sym, ap, ◌∙◌, subst, ℕ, ◌<◌, List, [], ◌∷◌, ◌++◌, length, Bool, true, false, append-nil, arith, ◌⊎◌, inl, inr}
 use Rattle.std.proofs.lemmas.List.{length-append}
 use Rattle.cborn_lex.specs.declared.classes.Kind.{Kind}
 use Rattle.cborn_lex.specs.declared.classes.Kind.TheVariants as kinds
@@ -17,7 +17,7 @@ use Rattle.cborn_reader.specs.declared.states.Stand.TheVariants as stands
 use Rattle.cborn_reader.specs.declared.states.Stand.{Stand}
 use Rattle.cborn_reader.specs.devices.Kept.{wanting, stand_of, chunks_of}
 use Rattle.cborn_reader.specs.devices.Shows.{Shows}
-use Rattle.cborn_reader.specs.devices.Steps.{appended, begun, Ready, IsReady, Taken, Takes, Turns, EndsAt, EndsPieces, has_chunks, is_piece}
+use Rattle.cborn_reader.specs.devices.Steps.{appended, begun, Ready, Taken, Takes, Turns, EndsPieces, has_chunks, is_piece}
 
 -- what is taken of the class is taken of an equal one
 pub taken_as : (ok : Bool) (s : State) (c k : Class) (a : Span) (next : Here) (left : Writer) → c ≡ k → Taken ok s k a next left → Taken ok s c a next left

@@ -4,3 +4,4 @@ pub mod Noted
 pub mod Kept
 pub mod Shows
 pub mod Steps
+pub mod Reading

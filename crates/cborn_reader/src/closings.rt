@@ -44,13 +44,7 @@ fn set_size(
         return Ok(());
     }
     note_width(frame.mark, count, frame.place, slip);
-    set_head(
-        major,
-        width_for(frame.mark, count),
-        count,
-        frame.start,
-        out,
-    )
+    set_head(major, width_for(frame.mark, count), count, frame.start, out)
 }
 
 /// How many entries stand in the innermost bracket, where it ends.
@@ -106,13 +100,7 @@ pub(crate) fn close_map(here: &mut Here, writer: &mut Writer) -> Result<(), Allo
 {
     let count = all_entries(here);
     let frame = shut(here, writer);
-    set_size(
-        Major::Map,
-        frame,
-        count,
-        &mut writer.out,
-        &mut writer.slip,
-    )
+    set_size(Major::Map, frame, count, &mut writer.out, &mut writer.slip)
 }
 
 /// A tag ends.

@@ -48,6 +48,16 @@ pub(crate) struct Here {
     pub(crate) level: Option<Level>,
 }
 
+impl Here {
+    /// Before the first token.
+    pub(crate) const FIRST: Here = Here {
+        at: 0,
+        count: 0,
+        stand: Stand::Wants,
+        level: None,
+    };
+}
+
 /// An open bracket. `count` and `level` are those around it, `place` is its offset in the text, and
 /// `start` that of the byte in the place of its head in the output.
 #[derive(Clone, Copy)]

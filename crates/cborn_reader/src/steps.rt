@@ -144,7 +144,10 @@ fn more(
             join(StringKind::Text, token.start, mark, writer);
             Ok(true)
         }
-        Kind::Bytes { quoted: _quoted, mark } => {
+        Kind::Bytes {
+            quoted: _quoted,
+            mark,
+        } => {
             join(StringKind::Bytes, token.start, mark, writer);
             Ok(true)
         }

@@ -79,12 +79,7 @@ pub(crate) fn note_piece(string: Joint, kind: StringKind, place: usize, slip: &m
 
 /// Notes what is wrong with a whole string of `size` bytes, which stand in `content`. `may_end` is
 /// whether it may be of indefinite length without a chunk.
-fn note_string(
-    may_end: bool,
-    string: Joint,
-    content: &[u8],
-    slip: &mut Option<Slip>,
-)
+fn note_string(may_end: bool, string: Joint, content: &[u8], slip: &mut Option<Slip>)
     ensures { (s : says.Str) (start : ℕ) → string ≡ joint start s → content.now ≡ cut s.bytes → (s.known ≡ true → AreBytes s.bytes) → Notes slip.old slip.new (says.string_slips may_end s) }
 {
     note_mark(may_end, string, content.len() as u64, slip);
@@ -138,21 +133,11 @@ fn set_length(major: Major, string: Joint, out: &mut Vec<u8>) -> Result<(), Allo
     ensures { OnOk result ((s : says.Str) (base : List ℕ) → string ≡ joint (length base) s → out.old.items ≡ cut (base ++ (0 ∷ s.bytes)) → out.new.items ≡ cut (base ++ spells.string major (says.width s.mark (length s.bytes)) s.bytes)) }
 {
     let size = (out.len() - string.start - 1) as u64;
-    set_head(
-        major,
-        width_for(string.mark, size),
-        size,
-        string.start,
-        out,
-    )
+    set_head(major, width_for(string.mark, size), size, string.start, out)
 }
 
 /// Writes the head of a whole string, and notes what is wrong with it.
-fn close_string(
-    string: Joint,
-    out: &mut Vec<u8>,
-    slip: &mut Option<Slip>,
-) -> Result<(), AllocError>
+fn close_string(string: Joint, out: &mut Vec<u8>, slip: &mut Option<Slip>) -> Result<(), AllocError>
     requires { string.start < length out.old.items }
     ensures added { OnOk result ((s : says.Str) (base : List ℕ) → string ≡ joint (length base) s → out.old.items ≡ cut (base ++ (0 ∷ s.bytes)) → out.new.items ≡ cut (base ++ spells.spelled (says.said_string s))) }
     ensures noted { OnOk result ((s : says.Str) (base : List ℕ) → string ≡ joint (length base) s → out.old.items ≡ cut (base ++ (0 ∷ s.bytes)) → (s.known ≡ true → AreBytes s.bytes) → Notes slip.old slip.new (says.string_slips s.lone s)) }

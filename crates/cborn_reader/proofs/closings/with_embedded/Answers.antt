@@ -1,4 +1,4 @@
-use Rattle.std.proofs.Common.{◌≡◌, sym, ◌∙◌, Some}
+use Rattle.std.proofs.Common.{◌≡◌, sym, ◌∙◌}
 use Rattle.cborn_edn.proofs.Meaning.Agree.{some_is}
 use Rattle.cborn_reader.specs.devices.Kept.{joint}
 use Rattle.cborn_reader.proofs.Joints.{embedded_joint}

@@ -1,4 +1,4 @@
-use Rattle.std.proofs.Common.{◌≡◌, refl, sym, ap, ◌∙◌, subst, Some, true, false}
+use Rattle.std.proofs.Common.{◌≡◌, refl, sym, ap, ◌∙◌, subst, Some}
 use Rattle.cborn_lex.specs.declared.classes.Class.TheVariants.{Colon}
 use Rattle.cborn_edn.proofs.Grammar.Machine.{Stack, in_value, wants, has, step_by}
 use Rattle.cborn_reader.specs.devices.Steps.{is_key}

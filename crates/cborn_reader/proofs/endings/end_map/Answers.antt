@@ -1,4 +1,4 @@
-use Rattle.std.proofs.Common.{◌≡◌, sym, ap, ◌∙◌, subst, Some, true, false}
+use Rattle.std.proofs.Common.{◌≡◌, sym, ap, ◌∙◌, subst, Some}
 use Rattle.cborn_lex.specs.declared.classes.Class.TheVariants.{MapClose}
 use Rattle.cborn_edn.specs.shared.Syntax.{map}
 use Rattle.cborn_edn.proofs.Grammar.Machine.{State, has, step_by}

@@ -2,7 +2,7 @@ use Rattle.std.proofs.Common.{[], ◌+◌, length, sym, subst}
 use Rattle.std.proofs.lemmas.List.{take_rest}
 use Rattle.cborn_lex.specs.declared.classes.Profile.{Profile}
 use Rattle.cborn_lex.specs.Good.{TokensBetween}
-use Rattle.cborn_reader.proofs.Tokens.{line_here, last_line_here}
+use Rattle.cborn_reader.proofs.CommonTokens.{line_here, last_line_here}
 use Rattle.cborn_reader.proofs.gaps.line_end.Goals as goal
 
 pub returns-in-Some-clause-gap : goal.returns-in-Some-clause-gap

@@ -1,5 +1,5 @@
 use Rattle.std.proofs.Common.{[], sym, ◌∙◌, arith, ◌+◌}
-use Rattle.cborn_reader.proofs.Tokens.{nothing, join, white_here}
+use Rattle.cborn_reader.proofs.CommonTokens.{nothing, join, white_here}
 use Rattle.cborn_reader.proofs.gaps.skip_gaps.Goals as goal
 
 pub gaps-init : goal.gaps-init

@@ -1,6 +1,6 @@
 use Rattle.std.proofs.Common.{◌+◌}
 use Rattle.std.proofs.lemmas.List.{take_rest}
-use Rattle.cborn_reader.proofs.Tokens.{comment_here}
+use Rattle.cborn_reader.proofs.CommonTokens.{comment_here}
 use Rattle.cborn_reader.proofs.gaps.slashed_end.Goals as goal
 
 pub returns-clause-gap : goal.returns-clause-gap

@@ -1,7 +1,7 @@
 use Rattle.std.proofs.Common.{◌≡◌, ◌∙◌, arith}
 use Rattle.cborn_lex.specs.declared.classes.Class.TheVariants.{ArrayClose, MapClose, ParenClose, Comma, Colon}
 use Rattle.cborn_lex.specs.Good as good
-use Rattle.cborn_reader.proofs.Tokens.{single_here}
+use Rattle.cborn_reader.proofs.CommonTokens.{single_here}
 use Rattle.cborn_reader.proofs.marks.single_kind.Goals as goal
 
 pub returns-in-44-clause-token : goal.returns-in-44-clause-token

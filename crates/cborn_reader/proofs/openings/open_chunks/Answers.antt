@@ -1,4 +1,4 @@
-use Rattle.std.proofs.Common.{refl, [], ◌∷◌, arith, ◌≡◌, length, rules, ◌∙◌, ap, Some, None}
+use Rattle.std.proofs.Common.{refl, [], ◌∷◌, arith, ◌≡◌, length, rules, ◌∙◌, Some, None}
 use Rattle.cborn_reader.proofs.Laying.{laid_length, laid_bytes}
 use Rattle.cborn_reader.proofs.Showing.{same_slips}
 use Rattle.cborn_reader.specs.devices.Laid.{laid_stack}

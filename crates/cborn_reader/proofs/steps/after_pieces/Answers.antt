@@ -1,4 +1,4 @@
-use Rattle.std.proofs.Common.{◌≡◌, sym, ap, ◌∙◌, subst, Bool}
+use Rattle.std.proofs.Common.{sym, ap, ◌∙◌, subst}
 use Rattle.cborn_edn.specs.shared.Syntax.{string}
 use Rattle.cborn_edn.proofs.Grammar.Machine.{Home, builds, as_item, has}
 use Rattle.cborn_edn.proofs.Reader.Wanting.{if_ok}

@@ -1,6 +1,5 @@
-use Rattle.std.proofs.Common.{◌≡◌, refl, true, None}
+use Rattle.std.proofs.Common.{refl, true, None}
 use Rattle.cborn_lex.specs.declared.classes.Kind.TheVariants as kinds
-use Rattle.cborn_edn.specs.declared.strings.StringKind.TheVariants.{Bytes as OfBytes, Text as OfText}
 use Rattle.cborn_edn.specs.shared.Syntax.{number, word, text, bytes, piece, no_item, no_pair, no_string}
 use Rattle.cborn_edn.proofs.Grammar.Machine.{in_row, in_key, in_tag, in_array, in_embed, as_item, wants, has, builds, wants_chunk, wants_number}
 use Rattle.cborn_reader.proofs.Turning.{arm, bare, not_text}

@@ -1,7 +1,7 @@
-use Rattle.std.proofs.Common.{◌≡◌, sym, ◌∙◌, subst, Bool, inl, inr}
+use Rattle.std.proofs.Common.{sym, ◌∙◌, subst, inl, inr}
 use Rattle.cborn_edn.proofs.Grammar.Machine.{State}
 use Rattle.cborn_edn.proofs.Reader.Wanting.{if_ok}
-use Rattle.cborn_reader.specs.devices.Steps.{Ready, Takes, IsReady}
+use Rattle.cborn_reader.specs.devices.Steps.{Takes, IsReady}
 use Rattle.cborn_reader.proofs.Turning.{is_wants, is_builds, is_wants_chunk}
 use Rattle.cborn_reader.proofs.steps.take.Goals as goal
 

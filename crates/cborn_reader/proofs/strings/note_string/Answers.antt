@@ -1,4 +1,4 @@
-use Rattle.std.proofs.Common.{◌∙◌, ap, length, arith}
+use Rattle.std.proofs.Common.{◌∙◌, ap, length}
 use Rattle.cborn_reader.proofs.Laying.{cut-length}
 use Rattle.cborn_reader.proofs.Joints.{string_noted, string_unknown}
 use Rattle.cborn_reader.proofs.strings.note_string.Goals as goal

@@ -1,4 +1,4 @@
-use Rattle.std.proofs.Common.{refl, arith}
+use Rattle.std.proofs.Common.{arith}
 use Rattle.cborn_reader.proofs.Results.{on_ok}
 use Rattle.cborn_reader.proofs.Joints.{length_set}
 use Rattle.cborn_reader.proofs.strings.set_length.Goals as goal

@@ -1,4 +1,4 @@
-use Rattle.cborn_reader.proofs.Tokens.{nothing}
+use Rattle.cborn_reader.proofs.CommonTokens.{nothing}
 use Rattle.cborn_reader.proofs.texts.end_of_string.Goals as goal
 
 pub returns-then-ends_string-clause-gap : goal.returns-then-ends_string-clause-gap

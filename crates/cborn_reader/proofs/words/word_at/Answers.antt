@@ -2,7 +2,7 @@ use Rattle.std.proofs.Common.{◌≡◌, ◌∙◌, ◌+◌, ◌-◌, ◌++◌, 
 use Rattle.std.proofs.lemmas.List.{take_rest}
 use Rattle.cborn_lex.specs.declared.classes.Class.TheVariants.{Word}
 use Rattle.cborn_lex.specs.Good as good
-use Rattle.cborn_reader.proofs.Tokens.{token_here}
+use Rattle.cborn_reader.proofs.CommonTokens.{token_here}
 use Rattle.cborn_reader.proofs.words.word_at.Goals as goal
 
 pub returns-clause-token : goal.returns-clause-token

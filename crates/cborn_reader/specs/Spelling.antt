@@ -1,0 +1,12 @@
+-- What the reader gives: the bytes that the nodes spell which a text notates.
+use Rattle.std.specs.Prelude.{◌≡◌, ℕ, List}
+use Rattle.cborn_model.specs.Tree.{Trees}
+use Rattle.cborn_model.specs.Spelled.{spelled_all}
+use Rattle.cborn_lex.specs.declared.classes.Profile.{Profile}
+use Rattle.cborn_edn.specs.Grammar.{Notates}
+
+-- the text notates nodes, and the bytes are what they spell
+pub record IsSpelling (profile : Profile) (limit : ℕ) (text bytes : List ℕ) : Type 0 where
+  pub nodes : Trees
+  pub notated : Notates profile limit text nodes
+  pub spells : spelled_all nodes ≡ bytes
