@@ -8,7 +8,7 @@ use Rattle.std.proofs.lemmas.Map.Keys.{IsDistinct-IsPermutation}
 use Rattle.cborn_model.proofs.SameItems.Rearranging.{weaker}
 use Rattle.cborn_model.specs.Orders.{IsKeyOrder, Rising}
 use Rattle.cborn_det.specs.Det.{Entry, keys}
-use Rattle.cborn_det.specs.devices.Writing.{HasDistinctKeys}
+use Rattle.cborn_det.specs.shared.Distinct.{HasDistinctKeys}
 
 module _ (order : List ℕ → List ℕ → Ordering) (laws : IsKeyOrder order) where
   pub total : IsTotalOrder order

@@ -17,7 +17,7 @@ use Rattle.cborn_model.specs.Valid.{IsProper, AreProper, HasProperPairs, IsNew, 
 use Rattle.cborn_model.specs.declared.heads.Width.{Width}
 use Rattle.cborn_model.specs.Heads.{information, following, IsHead, least, IsLeastHead}
 use Rattle.cborn_det.specs.Det.{IsString, IsInteger, Det, DetValues, DetPairs, DetSeq, DetMap, Entry, joined, major_of, bignum_tag}
-use Rattle.cborn_det.specs.devices.Writing.{HasDistinctKeys}
+use Rattle.cborn_det.specs.shared.Distinct.{HasDistinctKeys}
 use Rattle.cborn_model.specs.Orders.{IsKeyOrder}
 
 -- the heads that an item may begin with

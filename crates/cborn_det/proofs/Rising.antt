@@ -5,7 +5,7 @@ use Rattle.std.proofs.lemmas.List.Sorted.{IsPermutation-refl, IsPermutation-sym,
 use Rattle.std.specs.Ordering.{ordering_reverse}
 use Rattle.cborn_model.specs.Orders.{IsKeyOrder, Rising}
 use Rattle.cborn_det.specs.Det.{Entry, keys}
-use Rattle.cborn_det.specs.devices.Writing.{HasDistinctKeys}
+use Rattle.cborn_det.specs.shared.Distinct.{HasDistinctKeys}
 use Rattle.cborn_model.proofs.SameItems.Rearranging.{All_moved, weaker, both, at_member, IsIn, AreIn, are_in_moved}
 
 abbrev bare : List ℕ → Entry

@@ -1,1 +1,2 @@
 pub mod KeyBefore
+pub mod Distinct

@@ -3,7 +3,8 @@
 
 ghost use Rattle.std.specs.Prelude.{◌≡◌, List, ◌++◌, IfOk, OnOk, IsPermutation, IsTrue, ◌≤◌, length, take, drop};
 ghost use Rattle.cborn_model.specs.Orders.{Rising};
-ghost use Rattle.cborn_det.specs.devices.Writing.{BeginsWith, IsWritten, entries_of, HasDistinctKeys};
+ghost use Rattle.cborn_det.specs.devices.Writing.{BeginsWith, IsWritten, entries_of};
+ghost use Rattle.cborn_det.specs.shared.Distinct.{HasDistinctKeys};
 ghost use Rattle.cborn_det.specs.Det.{Entry, joined, keys};
 
 use cborn_model::KeyOrder;

@@ -3,3 +3,5 @@ pub mod Commas
 pub mod Texts
 pub mod Syntax
 pub mod Meaning
+pub mod Machine
+pub mod Said

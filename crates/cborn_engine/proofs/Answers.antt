@@ -9,3 +9,4 @@ pub mod Telling
 pub mod AtHand
 pub mod Malformed
 pub mod Flawed
+pub mod Respelled

@@ -2,3 +2,4 @@
 pub mod Second
 pub mod Answered
 pub mod Compared
+pub mod Refused

@@ -15,7 +15,7 @@ ghost use Rattle.cborn_engine.specs.Whole.{TellsFault};
 use crate::faults::EngineFault;
 use crate::inputs::MOST;
 use crate::kinds::{Kind, profile_of};
-use crate::refusals::{fault_of_text, flaw_of_text};
+use crate::refusals::flaw_of_text;
 use crate::texts::bytes_of_text;
 use cborn_judge::Invalid;
 use cborn_lex::Profile;
@@ -150,9 +150,7 @@ fn encode_text<O: KeyOrder>(
     ensures answers { length input.now ≤ most_bytes → EncodeAnswers O.order (kind_of profile) limit most_bytes input.now result }
     ensures failures { (n : ℕ) → read_failures result n ≡ n }
 {
-    let Some(bytes) = bytes_of_text(alloc, limit, profile, input) else {
-        return Err(fault_of_text(alloc, limit, profile, input));
-    };
+    let bytes = bytes_of_text(alloc, limit, profile, input)?;
     let front = deterministic_front::<O>(limit, &bytes);
     if front == bytes.len() {
         return Ok(bytes);

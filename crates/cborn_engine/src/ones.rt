@@ -58,12 +58,11 @@ fn one_in_bytes(alloc: Global, limit: Limit, input: &[u8]) -> Result<(), OneFaul
 /// What `expect_one` answers of a text: of the bytes that it spells.
 fn one_in_text(alloc: Global, limit: Limit, profile: Profile, input: &[u8]) -> Result<(), OneFault>
     requires short { length input.now ≤ most_bytes }
+    requires spelled { (nodes : List Tree) × Spells (kind_of profile) limit input.now nodes }
     ensures one { OnOk result (SpellsOne (kind_of profile) limit input.now) }
     ensures refused { IfErr result (λ why. (why ≡ one.Engine fault.OutOfMemory) ⊎ IsNotOne (kind_of profile) limit input.now why) }
 {
-    let Some(bytes) = bytes_of_text(alloc, limit, profile, input) else {
-        return Err(OneFault::Engine(EngineFault::OutOfMemory));
-    };
+    let bytes = bytes_of_text(alloc, limit, profile, input)?;
     let most = limit.get();
     prove!(most <= 1024);
     let Some(end) = first_end(alloc, &bytes)? else {
@@ -94,7 +93,7 @@ fn second_in_text(
     ensures { (result ≡ one.Engine fault.OutOfMemory) ⊎ IsNotOne (kind_of profile) limit input.now result }
 {
     let Ok(text) = text_of(input) else {
-        return OneFault::Engine(EngineFault::OutOfMemory);
+        unreachable!();
     };
     match place_in_text(alloc, profile, text, bytes, end as u64) {
         Some(place) => OneFault::MoreItems(place),

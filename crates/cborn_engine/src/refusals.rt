@@ -9,13 +9,11 @@ ghost use Rattle.cborn_spell.specs.Descent.{IsSpelling};
 ghost use Rattle.cborn_engine.specs.devices.Malformed.{IsWireFault};
 ghost use Rattle.cborn_engine.specs.devices.Counting.{read_failures, read_failures_at};
 ghost use Rattle.cborn_engine.specs.devices.Encoding.{kind_of};
-ghost use Rattle.cborn_engine.specs.Loading.{IsNoFlaw};
 ghost use Rattle.cborn_engine.specs.Reading.{most_bytes};
 ghost use Rattle.cborn_engine.specs.Refusing.{IsRefused};
 
 use crate::faults::EngineFault;
 use crate::texts::text_of;
-use cborn_edn::recognise_items;
 use cborn_judge::Invalid;
 use cborn_lex::Profile;
 use cborn_model::Limit;
@@ -46,32 +44,6 @@ pub fn fault_or_refusal(limit: Limit, input: &[u8], refused: AllocError) -> Engi
     }
 }
 
-/// Why a text has no answer for which the pass over it spelled no bytes: the fault of its content;
-/// where it has none, memory was refused.
-pub fn fault_of_text(alloc: Global, limit: Limit, profile: Profile, input: &[u8]) -> EngineFault
-    ensures refused { (most : ℕ) → length input.now ≤ most → IsRefused (kind_of profile) limit most input.now result × IsNoFlaw result }
-    ensures failures { (n : ℕ) → read_failures_at result n ≡ n }
-{
-    match recognise_text(alloc, limit, profile, input) {
-        Ok(()) => EngineFault::OutOfMemory,
-        Err(why) => why,
-    }
-}
-
-/// Refuses a text that notates no items.
-fn recognise_text(
-    alloc: Global,
-    limit: Limit,
-    profile: Profile,
-    input: &[u8],
-) -> Result<(), EngineFault>
-    ensures refused { IfErr result (λ why. (most : ℕ) → length input.now ≤ most → IsRefused (kind_of profile) limit most input.now why × IsNoFlaw why) }
-    ensures failures { (n : ℕ) → read_failures result n ≡ n }
-{
-    let text = text_of(input)?;
-    Ok(recognise_items(alloc, limit, profile, text)?)
-}
-
 /// Why a text has no answer that spells these bytes, for which a pass over bytes had none: the first
 /// flaw of its items; where they have none, memory was refused.
 pub fn flaw_of_text(
@@ -90,7 +62,7 @@ pub fn flaw_of_text(
         return EngineFault::OutOfMemory;
     };
     let Ok(text) = text_of(input) else {
-        return EngineFault::OutOfMemory;
+        unreachable!();
     };
     match place_in_text(alloc, profile, text, bytes, place) {
         Some(place) => EngineFault::Invalid(Invalid::Refused { place, reason }),

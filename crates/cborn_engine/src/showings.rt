@@ -17,7 +17,7 @@ ghost use Rattle.cborn_engine.specs.Whole.{TellsFault};
 use crate::faults::EngineFault;
 use crate::inputs::MOST;
 use crate::kinds::{Kind, profile_of};
-use crate::refusals::{fault_of_bytes, fault_of_text, fault_or_refusal};
+use crate::refusals::{fault_of_bytes, fault_or_refusal};
 use crate::texts::bytes_of_text;
 use cborn_edn::ShowFault;
 use cborn_lex::Profile;
@@ -155,9 +155,7 @@ fn tell_text(
     ensures answers { length input.now ≤ most_bytes → TellAnswers (kind_of profile) out_kind limit most_bytes input.now result }
     ensures failures { (n : ℕ) → read_failures result n ≡ n }
 {
-    let Some(bytes) = bytes_of_text(alloc, limit, profile, input) else {
-        return Err(fault_of_text(alloc, limit, profile, input));
-    };
+    let bytes = bytes_of_text(alloc, limit, profile, input)?;
     match out_kind {
         Kind::Wire => Ok(bytes),
         Kind::Notation | Kind::Notation2 => match show_bytes(alloc, limit, &bytes)? {

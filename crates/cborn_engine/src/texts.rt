@@ -1,5 +1,5 @@
 //! The text that the bytes of an input are.
-ghost use Rattle.std.specs.Prelude.{◌≡◌, ◌≤◌, ℕ, length, IfOk, IfErr, IfSome, IsUtf8};
+ghost use Rattle.std.specs.Prelude.{◌≡◌, ◌≤◌, ℕ, length, IfOk, IfErr, IsUtf8};
 ghost use Rattle.cborn_lex.specs.declared.classes.Profile.{Profile as ProfileSpec};
 ghost use Rattle.cborn_spell.specs.Descent.{IsSpelling};
 ghost use Rattle.cborn_engine.specs.devices.Encoding.{kind_of};
@@ -10,6 +10,7 @@ ghost use Rattle.cborn_engine.specs.Refusing.{IsRefused};
 use crate::faults::EngineFault;
 use cborn_lex::Profile;
 use cborn_model::Limit;
+use cborn_reader::read_text;
 use cborn_spell::spell_text;
 use simdutf8::compat::from_utf8;
 use std::alloc::Global;
@@ -21,6 +22,7 @@ use std::alloc::Global;
 pub fn text_of(bytes: &[u8]) -> Result<&str, EngineFault>
     ensures text { IfOk result (λ text. (text.now ≡ bytes.now) × IsUtf8 bytes.now) }
     ensures refused { IfErr result (λ why. (profile : ProfileSpec) (limit most : ℕ) → length bytes.now ≤ most → IsRefused (kind_of profile) limit most bytes.now why × IsNoFlaw why) }
+    ensures none { IfErr result (λ _. IsUtf8 bytes.now → ⊥) }
     ensures failures { (n : ℕ) → read_failures result n ≡ n }
 {
     match from_utf8(bytes) {
@@ -29,13 +31,25 @@ pub fn text_of(bytes: &[u8]) -> Result<&str, EngineFault>
     }
 }
 
-/// The bytes that a text spells which notates nodes, by a pass that keeps none. None promises
-/// nothing.
-pub fn bytes_of_text(alloc: Global, limit: Limit, profile: Profile, input: &[u8]) -> Option<Vec<u8>>
-    ensures { IfSome result (λ bytes. IsUtf8 input.now × IsSpelling profile limit input.now bytes.items) }
+/// The bytes that the nodes spell which a text notates. The quick pass says of no text why it leaves
+/// it; the reader takes each, and says why it notates no nodes.
+///
+/// # Errors
+/// `TextInput` where the text isn't UTF-8, `Edn` with the fault of its tokens, of its syntax or of its
+/// meaning, and `OutOfMemory`.
+pub fn bytes_of_text(
+    alloc: Global,
+    limit: Limit,
+    profile: Profile,
+    input: &[u8],
+) -> Result<Vec<u8>, EngineFault>
+    ensures spelled { IfOk result (λ bytes. IsUtf8 input.now × IsSpelling profile limit input.now bytes.items) }
+    ensures refused { IfErr result (λ why. (most : ℕ) → length input.now ≤ most → IsRefused (kind_of profile) limit most input.now why × IsNoFlaw why) }
+    ensures failures { (n : ℕ) → read_failures result n ≡ n }
 {
-    match text_of(input) {
-        Ok(text) => spell_text(alloc, limit, profile, text),
-        Err(_) => None,
+    let text = text_of(input)?;
+    match spell_text(alloc, limit, profile, text) {
+        Some(bytes) => Ok(bytes),
+        None => Ok(read_text(alloc, limit, profile, text)?),
     }
 }

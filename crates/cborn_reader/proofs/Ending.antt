@@ -5,7 +5,7 @@ use Rattle.cborn_lex.specs.Lex.{Lex}
 use Rattle.cborn_lex.specs.declared.classes.Profile.{Profile}
 use Rattle.cborn_lex.proofs.GoodTexts.{has_tokens}
 use Rattle.cborn_lex.proofs.WholeTexts.Progress.{whole_text}
-use Rattle.cborn_lex.proofs.WholeTexts.Weights.{AreModest}
+use Rattle.cborn_reader.specs.devices.Modest.{AreModest}
 use Rattle.cborn_edn.specs.declared.slips.Slip.{Slip}
 use Rattle.cborn_edn.specs.declared.faults.EdnReason.TheVariants.{UnexpectedEnd}
 use Rattle.cborn_edn.specs.declared.faults.EdnFault.TheVariants.{Refused}

@@ -13,7 +13,8 @@ use Rattle.cborn_lex.specs.declared.classes.Token.{Token}
 use Rattle.cborn_lex.specs.declared.faults.LexFault.{LexFault}
 use Rattle.cborn_lex.proofs.GoodTexts.{through}
 use Rattle.cborn_lex.proofs.WholeTexts.Progress.{inside, few}
-use Rattle.cborn_lex.proofs.WholeTexts.Weights.{IsModest, AreModest, between_modest}
+use Rattle.cborn_lex.proofs.WholeTexts.Weights.{between_modest, IsModest as IsModestThere}
+use Rattle.cborn_reader.specs.devices.Modest.{IsModest, AreModest}
 use Rattle.cborn_edn.specs.declared.faults.EdnReason.{EdnReason}
 use Rattle.cborn_edn.specs.declared.faults.EdnReason.TheVariants.{UnexpectedToken, UnexpectedEnd, TooDeep, IndicatorTooNarrow, IndicatorNotAllowed, MixedString, MixedChunks, TextNotUtf8, BadSimple, TagTooLarge}
 use Rattle.cborn_edn.specs.declared.faults.EdnFault.{EdnFault}
@@ -37,6 +38,12 @@ recontent : (k : Kind) (n : ℕ) (x : List ℕ) → class_of k n x ≡ class_of 
 recontent (kinds.Text m) n x = refl
 recontent (kinds.Bytes q m) n x = refl
 recontent _ n x = refl
+
+modest_here : (c : Class) → IsModestThere c → IsModest c
+modest_here (classes.Number n v m) h = h
+modest_here (classes.Text x m) h = h
+modest_here (classes.Bytes q x m) h = h
+modest_here _ h = tt
 
 plain_content : (c : Class) → IsModest c → AreBytes (content_of c)
 plain_content (classes.Text x m) h = h
@@ -110,7 +117,8 @@ module _ (p : Profile) (limit : ℕ) (text : List ℕ) (are : AreBytes text) (he
           let y = content_of c in
           let same : c ≡ class_of t.kind n y = class ∙ recontent t.kind n x ∙ ap (λ (k : Class). class_of t.kind n (content_of k)) (sym class) in
           let here-is : Between p text here.at t.stop (record { start = t.start; stop = t.stop; class = class_of t.kind n y } ∷ []) = subst (λ (k : Class). Between p text here.at t.stop (record { start = t.start; stop = t.stop; class = k } ∷ [])) same (through p between) in
-          let modest = between_modest p text here.at t.stop (record { start = t.start; stop = t.stop; class = class_of t.kind n y } ∷ []) are here-is in
+          let there = between_modest p text here.at t.stop (record { start = t.start; stop = t.stop; class = class_of t.kind n y } ∷ []) are here-is in
+          let modest : AreModest (record { start = t.start; stop = t.stop; class = class_of t.kind n y } ∷ []) = (modest_here (class_of t.kind n y) there.0, tt) in
           record {
             content = y;
             between = here-is;

@@ -1,3 +1,4 @@
+pub mod Modest
 pub mod Slips
 pub mod Laid
 pub mod Noted

@@ -4,7 +4,7 @@ ghost use Rattle.std.specs.Prelude.{◌≡◌, ℕ, ◌<◌, ◌^◌, ◌++◌, 
 ghost use Rattle.cborn_lex.specs.declared.classes.Mark.{Mark as Indicator};
 ghost use Rattle.cborn_edn.specs.declared.strings.StringKind.TheVariants.{Bytes as OfBytes};
 ghost use Rattle.cborn_edn.specs.shared.Syntax.{Span as Place, Item, Content, Fields, Pieces as Joined, array, map, tag, embedded, row, RowBefore, after_row, pairs, PairsBefore, after_pairs};
-ghost use Rattle.cborn_edn.proofs.Grammar.Machine.{Stack, Nest, in_row, in_key, in_value, in_tag, in_array, in_embed, Home, with_piece, wants, has, builds};
+ghost use Rattle.cborn_edn.specs.shared.Machine.{Stack, Nest, in_row, in_key, in_value, in_tag, in_array, in_embed, Home, with_piece, wants, has, builds};
 ghost use Rattle.cborn_reader.specs.devices.Shows.{Shows, Leads, content_state, fields_state, entries_at};
 ghost use Rattle.cborn_reader.specs.declared.states.Frame.{Frame as Opened};
 ghost use Rattle.cborn_reader.specs.declared.states.Writer.{Writer as Writing};

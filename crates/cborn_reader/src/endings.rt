@@ -3,7 +3,7 @@
 ghost use Rattle.std.specs.Prelude.{◌≡◌, ◌<◌, ◌^◌, IfOk};
 ghost use Rattle.cborn_lex.specs.declared.classes.Class.TheVariants.{ArrayClose, MapClose, EmbedClose, ParenClose, Comma, Colon};
 ghost use Rattle.cborn_edn.specs.shared.Syntax.{Span as Place, Item};
-ghost use Rattle.cborn_edn.proofs.Grammar.Machine.{Stack, State, has};
+ghost use Rattle.cborn_edn.specs.shared.Machine.{Stack, State, has};
 ghost use Rattle.cborn_reader.specs.devices.Shows.{Shows};
 ghost use Rattle.cborn_reader.specs.devices.Steps as pure;
 ghost use Rattle.cborn_reader.specs.devices.Steps.{MayEnd, Taken};

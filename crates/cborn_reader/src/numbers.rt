@@ -3,7 +3,7 @@
 ghost use Rattle.std.specs.Prelude.{◌≡◌, ◌++◌, ℕ, Bool, List, length, OnOk, if◌then◌else◌};
 ghost use Rattle.cborn_lex.specs.declared.classes.Mark.{Mark as Indicator};
 ghost use Rattle.cborn_edn.specs.shared.Syntax.{Span as Place, number, word, simple};
-ghost use Rattle.cborn_edn.proofs.Grammar.Machine.{Stack, wants, has, wants_number, has_number};
+ghost use Rattle.cborn_edn.specs.shared.Machine.{Stack, wants, has, wants_number, has_number};
 ghost use Rattle.cborn_reader.specs.declared.states.Writer.{Writer as Writing};
 ghost use Rattle.cborn_reader.specs.devices.Shows.{Shows, Leads};
 ghost use Rattle.std.specs.Int.Digits.{digits_of};

@@ -2,8 +2,8 @@
 
 ghost use Rattle.std.specs.Prelude.{◌≡◌, ℕ, ◌++◌, ◌∷◌, [], List, length, Some, None, OnOk};
 ghost use Rattle.cborn_edn.specs.shared.Syntax.{Span as Place, Pieces as Joined, no_item, no_pair, no_string};
-ghost use Rattle.cborn_edn.proofs.Grammar.Machine.{Stack, in_row, in_key, in_tag, in_array, in_embed, Home, wants, builds, wants_chunk, wants_number};
-ghost use Rattle.cborn_edn.proofs.Grammar.Takes.{at_home};
+ghost use Rattle.cborn_edn.specs.shared.Machine.{Stack, in_row, in_key, in_tag, in_array, in_embed, Home, wants, builds, wants_chunk, wants_number};
+ghost use Rattle.cborn_edn.specs.shared.Machine.{at_home};
 ghost use Rattle.cborn_reader.specs.declared.states.Stand.TheVariants.{Wants};
 ghost use Rattle.cborn_reader.specs.devices.Laid.{place_of};
 ghost use Rattle.cborn_reader.specs.devices.Shows.{Shows, Leads};

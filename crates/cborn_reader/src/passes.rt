@@ -2,13 +2,13 @@
 
 ghost use Rattle.std.specs.Prelude.{◌≡◌, ◌≤◌, ◌<◌, ◌^◌, length, IfOk, IfErr, OnOk};
 ghost use Rattle.cborn_edn.specs.Faults.{IsNoNotation};
-ghost use Rattle.cborn_edn.proofs.Grammar.Machine.{State, start};
+ghost use Rattle.cborn_edn.specs.shared.Machine.{State, start};
 ghost use Rattle.cborn_reader.specs.Spelling.{IsSpelling};
 ghost use Rattle.cborn_reader.specs.devices.Reading as pure;
 ghost use Rattle.cborn_reader.specs.devices.Reading.{IsReading, Judged, Last, AtEnd};
-ghost use Rattle.cborn_lex.proofs.WholeTexts.Weights.{AreModest};
+ghost use Rattle.cborn_reader.specs.devices.Modest.{AreModest};
 ghost use Rattle.cborn_edn.specs.shared.Syntax.{Input};
-ghost use Rattle.cborn_edn.proofs.Grammar.Held.{held};
+ghost use Rattle.cborn_edn.specs.shared.Machine.{held};
 ghost use Rattle.cborn_reader.specs.devices.Shows.{Shows};
 
 use crate::endings::has_chunks;

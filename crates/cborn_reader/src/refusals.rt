@@ -5,7 +5,7 @@ ghost use Rattle.cborn_lex.specs.Lex.{Between, IsStopFrom};
 ghost use Rattle.cborn_lex.specs.declared.classes.Token.{Token};
 ghost use Rattle.cborn_lex.specs.declared.faults.LexFault.{LexFault as LexStop};
 ghost use Rattle.cborn_edn.specs.declared.faults.EdnFault.TheVariants.{Refused};
-ghost use Rattle.cborn_edn.specs.devices.Draft.{lexical};
+ghost use Rattle.cborn_edn.specs.shared.Machine.{lexical};
 
 use cborn_edn::{EdnFault, EdnReason};
 use cborn_lex::{Profile, next_token};

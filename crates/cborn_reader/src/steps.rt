@@ -2,9 +2,9 @@
 
 ghost use Rattle.std.specs.Prelude.{◌≡◌, ℕ, ◌<◌, ◌^◌, Bool, IfOk};
 ghost use Rattle.cborn_edn.specs.shared.Syntax.{Span as Place, Item, Pieces as Joined, StringsBefore, tokens_of_pieces};
-ghost use Rattle.cborn_edn.proofs.Grammar.Machine.{Stack, Home, as_chunk, State, wants, has, builds, wants_chunk, wants_number, has_number};
+ghost use Rattle.cborn_edn.specs.shared.Machine.{Stack, Home, as_chunk, State, wants, has, builds, wants_chunk, wants_number, has_number};
 ghost use Rattle.cborn_lex.specs.declared.classes.Mark.{Mark as Indicator};
-ghost use Rattle.cborn_lex.proofs.WholeTexts.Weights.{AreModest};
+ghost use Rattle.cborn_reader.specs.devices.Modest.{AreModest};
 ghost use Rattle.cborn_reader.specs.devices.Shows.{Shows};
 ghost use Rattle.cborn_reader.specs.devices.Steps.{is_piece, IsReady, Takes, Turns, EndsAt};
 

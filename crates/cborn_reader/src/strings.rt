@@ -2,13 +2,13 @@
 
 ghost use Rattle.std.specs.Prelude.{◌≡◌, ℕ, ◌<◌, ◌++◌, ◌∷◌, List, Bool, length, IsSome, None, OnOk, true, ◌&&◌};
 ghost use Rattle.cborn_model.specs.Bytes.{AreBytes};
-ghost use Rattle.cborn_lex.proofs.WholeTexts.Weights.{AreModest};
+ghost use Rattle.cborn_reader.specs.devices.Modest.{AreModest};
 ghost use Rattle.cborn_edn.specs.Says as says;
 ghost use Rattle.cborn_edn.specs.declared.strings.StringKind.TheVariants.{Text as OfText};
 ghost use Rattle.cborn_edn.specs.shared.Syntax.{Span as Place, Pieces as Joined, Strings, StringsBefore, strings, string, chunked, also, piece, after_strings, tokens_of_pieces};
-ghost use Rattle.cborn_edn.proofs.Grammar.Machine.{Stack, Home, as_item, as_chunk, has, builds, wants_chunk};
-ghost use Rattle.cborn_edn.proofs.Grammar.Takes.{at_home};
-ghost use Rattle.cborn_edn.proofs.Short.Said.{str};
+ghost use Rattle.cborn_edn.specs.shared.Machine.{Stack, Home, as_item, as_chunk, has, builds, wants_chunk};
+ghost use Rattle.cborn_edn.specs.shared.Machine.{at_home};
+ghost use Rattle.cborn_edn.specs.shared.Said.{str};
 ghost use Rattle.cborn_model.specs.Spelled as spells;
 ghost use Rattle.cborn_reader.specs.devices.Laid.{cut, major_of};
 ghost use Rattle.cborn_reader.specs.devices.Kept.{joint, kind_or};

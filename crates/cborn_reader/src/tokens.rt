@@ -3,7 +3,7 @@
 ghost use Rattle.std.specs.Prelude.{◌≡◌, ◌≤◌, ◌<◌, ◌^◌, ◌++◌, ℕ, List, length, IfOk, IfErr};
 ghost use Rattle.cborn_lex.specs.Bad.{HasNoTokenFrom};
 ghost use Rattle.cborn_lex.specs.Kinds.{class_of};
-ghost use Rattle.cborn_edn.specs.devices.Levels.{reach};
+ghost use Rattle.cborn_edn.specs.shared.Machine.{reach};
 ghost use Rattle.cborn_reader.specs.devices.Reading as pure;
 ghost use Rattle.cborn_reader.specs.devices.Reading.{WasRead};
 ghost use Rattle.cborn_reader.specs.declared.states.Stand.TheVariants as stands;

@@ -8,7 +8,7 @@ use Rattle.cborn_model.specs.Heads.{Given, head, WidthFits}
 use Rattle.cborn_model.specs.Meaning.{Means, ChunksAreText}
 use Rattle.cborn_model.specs.Spelled.{spelled, spelled_entries, Fits}
 use Rattle.cborn_model.specs.Tree.{Tree, Pairs, Tagged, entries, depth_entries}
-use Rattle.cborn_det.specs.devices.Writing.{HasDistinctKeys}
+use Rattle.cborn_det.specs.shared.Distinct.{HasDistinctKeys}
 use Rattle.cborn_wire.specs.Parts.{Pair}
 use Rattle.cborn_wire.proofs.Parts.Openings.{opening, contents, opened}
 use Rattle.cborn_wire.proofs.Parts.Pairs.{pairs_as}

@@ -6,7 +6,7 @@ use Rattle.std.proofs.lemmas.List.{take_all, take_more, map-append, append_assoc
 use Rattle.cborn_model.specs.Orders.{Rising}
 use Rattle.std.specs.List.{AllByRecursion}
 use Rattle.cborn_det.specs.Det.{Entry, keys, joined}
-use Rattle.cborn_det.specs.devices.Writing.{HasDistinctKeys}
+use Rattle.cborn_det.specs.shared.Distinct.{HasDistinctKeys}
 use Rattle.cborn_det.proofs.Cutting.{rise_more}
 use Rattle.cborn_det.specs.shared.KeyBefore.{EndsIn, Below}
 use Rattle.cborn_transcode.specs.declared.entries.Span.{Span}

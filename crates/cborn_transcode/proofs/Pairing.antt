@@ -19,7 +19,7 @@ use Rattle.cborn_wire.specs.Parts.{Pair}
 use Rattle.cborn_wire.proofs.Parts.Pairs.{no_pair, entry_more, map_read}
 use Rattle.cborn_judge.proofs.Meaning.Meanings.{Short, left, entries_valid}
 use Rattle.cborn_det.specs.Det.{Det, DetPairs, Entry, joined, keys}
-use Rattle.cborn_det.specs.devices.Writing.{HasDistinctKeys}
+use Rattle.cborn_det.specs.shared.Distinct.{HasDistinctKeys}
 use Rattle.cborn_det.specs.Appending.{Appends}
 use Rattle.cborn_det.proofs.Arranging.{Tied, tied_turned}
 use Rattle.cborn_det.proofs.Canon.{one_of_same}

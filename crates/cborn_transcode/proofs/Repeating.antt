@@ -21,7 +21,7 @@ use Rattle.cborn_wire.proofs.Parts.Heads.{fixed_split, endless_split}
 use Rattle.cborn_wire.proofs.Spelled.OneReading.{one_spelling}
 use Rattle.cborn_judge.proofs.Meaning.Meanings.{Short, entries_mean_once, entries_valid}
 use Rattle.cborn_det.specs.Det.{Det, DetPairs, Entry}
-use Rattle.cborn_det.specs.devices.Writing.{HasDistinctKeys}
+use Rattle.cborn_det.specs.shared.Distinct.{HasDistinctKeys}
 use Rattle.cborn_det.proofs.Canon.{same_of_one}
 use Rattle.cborn_det.proofs.Rising.{arranged}
 use Rattle.cborn_transcode.specs.declared.entries.Span.{Span}

@@ -3,7 +3,7 @@
 ghost use Rattle.std.specs.Prelude.{◌≡◌, ℕ, ◌+◌, ◌≤◌, ◌++◌, List, map, length, take, drop, false, IsTrue, IsPermutation, IfOk, OnOk, IsErrOf};
 ghost use Rattle.cborn_model.specs.Orders.{Rising};
 ghost use Rattle.cborn_det.specs.Det.{Entry, joined, keys};
-ghost use Rattle.cborn_det.specs.devices.Writing.{HasDistinctKeys};
+ghost use Rattle.cborn_det.specs.shared.Distinct.{HasDistinctKeys};
 ghost use Rattle.cborn_transcode.specs.declared.entries.Unarranged.TheVariants.{RepeatedKey};
 ghost use Rattle.cborn_transcode.specs.Transcoding.{spanned, all_spanned, AreSpans, AreLaid};
 ghost use Rattle.cborn_transcode.specs.devices.Laying.{unhinted, AreApart, Follow};

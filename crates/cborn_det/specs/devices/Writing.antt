@@ -1,7 +1,6 @@
 -- A device of the proofs: what the parts of the encoder leave at the end of a buffer. No definition and no public contract cites it; the contracts of the crate's own functions do.
-use Rattle.std.specs.Prelude.{◌≡◌, ℕ, List, [], ◌∷◌, ◌++◌, map, length, Result, MatchResult, ⊤}
+use Rattle.std.specs.Prelude.{◌≡◌, ℕ, List, ◌++◌, map, length, Result, MatchResult}
 use Rattle.std.specs.declared.cmp.Ordering.{Ordering}
-use Rattle.std.specs.List.{AllByRecursion}
 use Rattle.std.proofs.Common.{Bor}
 use Rattle.cborn_model.specs.Value.{Value}
 use Rattle.cborn_det.specs.Appending.{Appends}
@@ -31,8 +30,3 @@ IsWritten es lengths b = (lengths ≡ map lengths_of es) × (b ≡ joined es)
 -- entries that lie in a buffer
 abbrev pub entries_of : List (Bor (List ℕ) × Bor (List ℕ)) → List Entry
 entries_of = map (λ e. (e.0.now, e.1.now))
-
--- no two of the keys are equal
-abbrev pub HasDistinctKeys : List Entry → Type 0
-HasDistinctKeys [] = ⊤
-HasDistinctKeys (e ∷ es) = AllByRecursion (λ (g : Entry). e.0 ≡ g.0 → ⊥) es × HasDistinctKeys es

@@ -7,10 +7,7 @@ use Rattle.cborn_lex.specs.declared.classes.Token.{Token}
 use Rattle.cborn_edn.specs.shared.Syntax.{Span, token, Piece, embedded, Pieces, Content, tokens_of, tokens_of_piece, tokens_of_pieces, tokens_of_strings_before, tokens_of_row_before, tokens_of_content, tokens_of_pairs_before, depth_of_number, depth, depth_of_piece, depth_of_pieces, depth_of_strings_before, depth_of_row_before, depth_of_content, depth_of_pairs_before}
 use Rattle.cborn_edn.specs.shared.Commas.{last_comma, last_pair_comma, commas, commas_of_piece, commas_of_pieces, commas_of_strings_before, commas_of_row_before, commas_of_content, commas_of_pairs_before}
 use Rattle.cborn_edn.proofs.Grammar.Machine.{Stack, in_row, in_key, in_value, in_tag, Nest, at_top, in_array, in_embed, Home, as_item, as_chunk, State, wants, has, builds, wants_chunk, wants_number, has_number, with_piece, ends}
-
-abbrev pub tokens_before : Option Pieces → List Token
-tokens_before None = []
-tokens_before (Some ps) = tokens_of_pieces ps
+pub use Rattle.cborn_edn.specs.shared.Machine.{tokens_before, held_stack, held_nest, held_home, held, levels, levels_nest, levels_home, open_levels, row_comma, pair_comma, comma_in, comma_at}
 
 abbrev pub depth_before : Option Pieces → ℕ
 depth_before None = 0
@@ -19,55 +16,6 @@ depth_before (Some ps) = depth_of_pieces ps
 abbrev pub commas_before : Option Pieces → ℕ
 commas_before None = 0
 commas_before (Some ps) = commas_of_pieces ps
-
-abbrev mutual
-  pub held_stack : Stack → List Token
-  held_stack (in_row n b) = held_nest n ++ tokens_of_row_before b
-  held_stack (in_key st s m b) = held_stack st ++ (token s (MapOpen m) ∷ tokens_of_pairs_before b)
-  held_stack (in_value st s m b k c) = held_stack st ++ (token s (MapOpen m) ∷ (tokens_of_pairs_before b ++ (tokens_of k ++ (token c Colon ∷ []))))
-  held_stack (in_tag st s n m) = held_stack st ++ (token s (TagOpen n m) ∷ [])
-
-  pub held_nest : Nest → List Token
-  held_nest at_top = []
-  held_nest (in_array st s m) = held_stack st ++ (token s (ArrayOpen m) ∷ [])
-  held_nest (in_embed h b s) = held_home h ++ (tokens_before b ++ (token s EmbedOpen ∷ []))
-
-  pub held_home : Home → List Token
-  held_home (as_item st) = held_stack st
-  held_home (as_chunk st s b) = held_stack st ++ (token s ChunkOpen ∷ tokens_of_strings_before b)
-
-abbrev pub held : State → List Token
-held (wants st) = held_stack st
-held (has st i) = held_stack st ++ tokens_of i
-held (builds h ps) = held_home h ++ tokens_of_pieces ps
-held (wants_chunk st s b) = held_stack st ++ (token s ChunkOpen ∷ tokens_of_strings_before b)
-held (wants_number st s) = held_stack st ++ (token s SimpleOpen ∷ [])
-held (has_number st s b n v m) = held_stack st ++ (token s SimpleOpen ∷ token b (Number n v m) ∷ [])
-
--- how many arrays, maps, tags and embedded items are open
-abbrev mutual
-  pub levels : Stack → ℕ
-  levels (in_row n b) = levels_nest n
-  levels (in_key st s m b) = suc (levels st)
-  levels (in_value st s m b k c) = suc (levels st)
-  levels (in_tag st s n m) = suc (levels st)
-
-  pub levels_nest : Nest → ℕ
-  levels_nest at_top = 0
-  levels_nest (in_array st s m) = suc (levels st)
-  levels_nest (in_embed h b s) = suc (levels_home h)
-
-  pub levels_home : Home → ℕ
-  levels_home (as_item st) = levels st
-  levels_home (as_chunk st s b) = levels st
-
-abbrev pub open_levels : State → ℕ
-open_levels (wants st) = levels st
-open_levels (has st i) = levels st
-open_levels (builds h ps) = levels_home h
-open_levels (wants_chunk st s b) = levels st
-open_levels (wants_number st s) = levels st
-open_levels (has_number st s b n v m) = levels st
 
 abbrev mutual
   pub deep_stack : Stack → ℕ
@@ -116,26 +64,6 @@ commas_held (builds h ps) = commas_home h + commas_of_pieces ps
 commas_held (wants_chunk st s b) = commas_stack st + commas_of_strings_before b
 commas_held (wants_number st s) = commas_stack st
 commas_held (has_number st s b n v m) = commas_stack st
-
--- whether a comma stands behind the items, or the pairs
-abbrev pub row_comma : Stack → ℕ
-row_comma (in_row n b) = last_comma b
-row_comma _ = 0
-
-abbrev pub pair_comma : Stack → ℕ
-pair_comma (in_key st s m b) = last_pair_comma b
-pair_comma _ = 0
-
--- whether a comma stands before a bracket
-abbrev pub comma_in : Stack → Class → ℕ
-comma_in st ArrayClose = row_comma st
-comma_in st (EmbedClose m) = row_comma st
-comma_in st MapClose = pair_comma st
-comma_in st _ = 0
-
-abbrev pub comma_at : State → Class → ℕ
-comma_at (wants st) c = comma_in st c
-comma_at _ c = 0
 
 abbrev pub After : Option State → (State → Type 0) → Type 0
 After None P = Unit {0}

@@ -17,30 +17,9 @@ use Rattle.cborn_edn.proofs.Grammar.Held.{held, open_levels, deep, commas_held, 
 use Rattle.cborn_edn.proofs.Grammar.Grows.{grows}
 use Rattle.cborn_edn.proofs.Grammar.Trailing.{parse_of}
 use Rattle.cborn_edn.proofs.Grammar.OneTree.{Leads, Ended, IfTree, ends_tree, held_by, good, goes_on, nothing_goes, no_tree, leads_on, same_end, stops}
-
 -- The parser that the code is: each test looks at the token and at what is open, and at nothing else.
 
-pub data Answer : Type 0 where
-  Whole : Input → Answer
-  Jams : ℕ → EdnReason → Answer
-
-abbrev pub forbids : Profile → ℕ → Bool
-forbids ProfileOne zero = false
-forbids ProfileOne (suc n) = true
-forbids ProfileTwo n = false
-
-abbrev pub at_end : ℕ → Option Input → Answer
-at_end end None = Jams end UnexpectedEnd
-at_end end (Some t) = Whole t
-
--- the step, by the profile and the limit
-abbrev pub checked : Profile → ℕ → State → Token → Option State → Option State
-checked p limit s t None = None
-checked p limit s t (Some u) = cond (forbids p (comma_at s t.class)) None (Some u)
-
-abbrev pub parse : Profile → ℕ → ℕ → List Token → State → Answer
-parse p limit end [] s = at_end end (finish s)
-parse p limit end (t ∷ ts) s = elim (checked p limit s t (step s t)) [ None ↦ Jams t.start UnexpectedToken | Some u ↦ cond (leb (reach (open_levels s) t.class) limit) (parse p limit end ts u) (Jams t.start TooDeep) ]
+pub use Rattle.cborn_edn.specs.shared.Machine.{Answer, forbids, at_end, checked, parse, Whole, Jams}
 
 -- what an answer promises
 abbrev pub Meets : Profile → ℕ → ℕ → List Token → Answer → Type 0

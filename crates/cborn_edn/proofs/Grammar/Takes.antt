@@ -6,6 +6,7 @@ use Rattle.cborn_lex.specs.declared.classes.Class.TheVariants.{ArrayOpen, MapOpe
 use Rattle.cborn_lex.specs.declared.classes.Token.{Token}
 use Rattle.cborn_edn.specs.shared.Syntax.{Span, token, Item, number, word, tag, simple, string, chunked, array, map, Piece, text, bytes, embedded, Pieces, piece, also, Strings, strings, StringsBefore, no_string, after_strings, Row, row, RowBefore, no_item, after_row, Content, loose, tight, Pairs, pairs, PairsBefore, no_pair, after_pairs, Fields, loose_fields, tight_fields, Input, nothing, items, tokens_of, tokens_of_piece, tokens_of_pieces, tokens_of_strings, tokens_of_strings_before, tokens_of_row, tokens_of_row_before, tokens_of_content, tokens_of_pairs, tokens_of_pairs_before, tokens_of_fields, tokens_of_input}
 use Rattle.cborn_edn.proofs.Grammar.Machine.{Stack, in_row, in_key, in_value, in_tag, Nest, at_top, in_array, in_embed, Home, as_item, as_chunk, State, wants, has, builds, wants_chunk, start, with_piece, ends, after, step_by, run}
+pub use Rattle.cborn_edn.specs.shared.Machine.{at_home, finish}
 
 -- an item stands complete
 abbrev pub landed : Stack → Item → State
@@ -26,12 +27,6 @@ landed_pairs st s m (pairs b k c v) = landed (in_value st s m b k c) v
 
 abbrev pub landed_strings : Stack → Span → Strings → State
 landed_strings st s (strings b ps) = builds (as_chunk st s b) ps
-
-abbrev pub at_home : Home → Option Pieces → State
-at_home (as_item st) None = wants st
-at_home (as_chunk st s b) None = wants_chunk st s b
-at_home (as_item st) (Some ps) = builds (as_item st) ps
-at_home (as_chunk st s b) (Some ps) = builds (as_chunk st s b) ps
 
 -- what ends an item and begins no piece
 pub data Ender : Type 0 where
@@ -192,13 +187,6 @@ whole (items r) = landed_row at_top r
 pub takes_input : (t : Input) (y : List Token) → then (tokens_of_input t ++ y) start ≡ then y (whole t)
 takes_input nothing y = refl
 takes_input (items r) y = takes_row r at_top y
-
--- the tree of a state at the end of a text
-abbrev pub finish : State → Option Input
-finish (wants (in_row at_top no_item)) = Some nothing
-finish (has (in_row at_top b) i) = Some (items (row b i))
-finish (builds (as_item (in_row at_top b)) ps) = Some (items (row b (string ps)))
-finish _ = None
 
 pub finish-whole : (t : Input) → finish (whole t) ≡ Some t
 finish-whole nothing = refl

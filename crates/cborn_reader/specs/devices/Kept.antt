@@ -4,11 +4,11 @@ use Rattle.cborn_model.specs.Tree.{count, count_entries}
 use Rattle.cborn_lex.specs.declared.classes.Mark.{Mark}
 use Rattle.cborn_lex.specs.declared.classes.Mark.TheVariants.{Absent}
 use Rattle.cborn_edn.specs.declared.strings.StringKind.{StringKind}
-use Rattle.cborn_edn.specs.devices.Draft.{first_slip}
+use Rattle.cborn_edn.specs.shared.Machine.{first_slip}
 use Rattle.cborn_edn.specs.Says.{Str}
 use Rattle.cborn_edn.specs.shared.Syntax.{Pieces, StringsBefore, no_string, after_strings, after_row, after_pairs}
-use Rattle.cborn_edn.proofs.Grammar.Machine.{Stack, in_row, in_key, in_value, in_tag, Nest, at_top, in_array, in_embed, Home, as_item, as_chunk, State, wants, has, builds, wants_chunk, wants_number, has_number}
-use Rattle.cborn_edn.proofs.Short.Said.{str, kind_in, nodes_before, entries_before}
+use Rattle.cborn_edn.specs.shared.Machine.{Stack, in_row, in_key, in_value, in_tag, Nest, at_top, in_array, in_embed, Home, as_item, as_chunk, State, wants, has, builds, wants_chunk, wants_number, has_number}
+use Rattle.cborn_edn.specs.shared.Said.{str, kind_in, nodes_before, entries_before}
 use Rattle.cborn_reader.specs.declared.states.Level.{Level}
 use Rattle.cborn_reader.specs.declared.states.Level.TheVariants as levels
 use Rattle.cborn_reader.specs.declared.states.Stand.{Stand}

@@ -12,8 +12,8 @@ use Rattle.cborn_edn.specs.declared.strings.StringKind.{StringKind}
 use Rattle.cborn_edn.specs.declared.strings.StringKind.TheVariants.{Bytes as OfBytes, Text as OfText}
 use Rattle.cborn_edn.specs.Says.{width}
 use Rattle.cborn_edn.specs.shared.Syntax.{Pieces, StringsBefore, no_string, after_strings}
-use Rattle.cborn_edn.proofs.Grammar.Machine.{Stack, in_row, in_key, in_value, in_tag, Nest, at_top, in_array, in_embed, Home, as_item, as_chunk, State, wants, has, builds, wants_chunk, wants_number, has_number}
-use Rattle.cborn_edn.proofs.Short.Said.{node, str, kind_in, chunks, nodes_before, entries_before}
+use Rattle.cborn_edn.specs.shared.Machine.{Stack, in_row, in_key, in_value, in_tag, Nest, at_top, in_array, in_embed, Home, as_item, as_chunk, State, wants, has, builds, wants_chunk, wants_number, has_number}
+use Rattle.cborn_edn.specs.shared.Said.{node, str, kind_in, chunks, nodes_before, entries_before}
 
 -- each number cut to a byte
 abbrev pub cut : List ℕ → List ℕ

@@ -3,8 +3,8 @@ use Rattle.std.specs.Prelude.{List, [], ◌++◌, Option, Some, None}
 use Rattle.cborn_edn.specs.declared.slips.Slip.{Slip}
 use Rattle.cborn_edn.specs.Says.{tag_slips, simple_slips}
 use Rattle.cborn_edn.specs.shared.Syntax.{Pieces, StringsBefore, no_string, after_strings}
-use Rattle.cborn_edn.proofs.Grammar.Machine.{Stack, in_row, in_key, in_value, in_tag, Nest, at_top, in_array, in_embed, Home, as_item, as_chunk, State, wants, has, builds, wants_chunk, wants_number, has_number}
-use Rattle.cborn_edn.proofs.Short.Said.{faults, faults_of_pieces, faults_of_strings, faults_before, faults_before_pairs}
+use Rattle.cborn_edn.specs.shared.Machine.{Stack, in_row, in_key, in_value, in_tag, Nest, at_top, in_array, in_embed, Home, as_item, as_chunk, State, wants, has, builds, wants_chunk, wants_number, has_number}
+use Rattle.cborn_edn.specs.shared.Said.{faults, faults_of_pieces, faults_of_strings, faults_before, faults_before_pairs}
 
 abbrev pub strings_noted : StringsBefore → List Slip
 strings_noted no_string = []

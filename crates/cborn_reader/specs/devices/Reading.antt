@@ -10,17 +10,17 @@ use Rattle.cborn_lex.specs.declared.classes.Class.{Class}
 use Rattle.cborn_lex.specs.declared.classes.Profile.{Profile}
 use Rattle.cborn_lex.specs.declared.classes.Profile.TheVariants.{One}
 use Rattle.cborn_lex.specs.declared.classes.Token.{Token}
-use Rattle.cborn_lex.proofs.WholeTexts.Weights.{AreModest}
+use Rattle.cborn_reader.specs.devices.Modest.{AreModest}
 use Rattle.cborn_model.specs.Spelled.{spelled_all}
 use Rattle.cborn_edn.specs.shared.Syntax.{Item, Pieces, string, RowBefore, row, Input, nothing, items}
-use Rattle.cborn_edn.specs.devices.Draft.{first_slip}
-use Rattle.cborn_edn.proofs.Short.Said.{nodes_of_input, faults_of_input}
-use Rattle.cborn_edn.proofs.Grammar.Machine.{in_row, at_top, as_item, State, has, builds, start}
+use Rattle.cborn_edn.specs.shared.Machine.{first_slip}
+use Rattle.cborn_edn.specs.shared.Said.{nodes_of_input, faults_of_input}
+use Rattle.cborn_edn.specs.shared.Machine.{in_row, at_top, as_item, State, has, builds, start}
 use Rattle.cborn_reader.specs.declared.states.Level.{Level}
 use Rattle.cborn_reader.specs.declared.states.Chunks.{Chunks}
 use Rattle.cborn_reader.specs.devices.Laid.{cut}
-use Rattle.cborn_edn.proofs.Grammar.Held.{held}
-use Rattle.cborn_edn.proofs.Grammar.Parser.{parse}
+use Rattle.cborn_edn.specs.shared.Machine.{held}
+use Rattle.cborn_edn.specs.shared.Machine.{parse}
 use Rattle.cborn_edn.specs.declared.faults.EdnReason.{EdnReason}
 use Rattle.cborn_edn.specs.declared.faults.EdnReason.TheVariants.{UnexpectedToken, TooDeep}
 use Rattle.cborn_reader.specs.declared.states.Stand.{Stand}

@@ -4,8 +4,8 @@ use Rattle.cborn_lex.specs.declared.classes.Mark.{Mark}
 use Rattle.cborn_edn.specs.declared.strings.StringKind.{StringKind}
 use Rattle.cborn_edn.specs.declared.strings.StringKind.TheVariants.{Bytes as OfBytes, Text as OfText}
 use Rattle.cborn_edn.specs.shared.Syntax.{Span, Piece, text, bytes, row, Content, loose, tight, pairs, Fields, loose_fields, tight_fields}
-use Rattle.cborn_edn.specs.devices.Draft.{first_slip}
-use Rattle.cborn_edn.proofs.Grammar.Machine.{Stack, in_row, in_key, in_value, Nest, State, wants, has, wants_number}
+use Rattle.cborn_edn.specs.shared.Machine.{first_slip}
+use Rattle.cborn_edn.specs.shared.Machine.{Stack, in_row, in_key, in_value, Nest, State, wants, has, wants_number}
 use Rattle.cborn_reader.specs.declared.states.Stand.{Stand}
 use Rattle.cborn_reader.specs.declared.states.Stand.TheVariants.{Has}
 use Rattle.cborn_reader.specs.declared.states.Here.{Here}

@@ -1,7 +1,7 @@
 -- A device of the proofs: the first fault of meaning, as the reader keeps it. No definition cites it.
 use Rattle.std.specs.Prelude.{◌≡◌, List, ◌++◌, Bool, true, false, Option, Some, None}
 use Rattle.cborn_edn.specs.declared.slips.Slip.{Slip}
-use Rattle.cborn_edn.specs.devices.Draft.{first_slip}
+use Rattle.cborn_edn.specs.shared.Machine.{first_slip}
 
 -- what was the first of some slips is the first of these and of l
 abbrev pub Notes : Option Slip → Option Slip → List Slip → Type 0

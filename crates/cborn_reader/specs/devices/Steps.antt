@@ -6,10 +6,10 @@ use Rattle.cborn_lex.specs.declared.classes.Kind.TheVariants as kinds
 use Rattle.cborn_lex.specs.declared.classes.Class.{Class}
 use Rattle.cborn_lex.specs.declared.classes.Class.TheVariants.{EmbedOpen, Text, Bytes}
 use Rattle.cborn_lex.specs.Kinds.{class_of, content_of}
-use Rattle.cborn_lex.proofs.WholeTexts.Weights.{AreModest}
+use Rattle.cborn_reader.specs.devices.Modest.{AreModest}
 use Rattle.cborn_edn.specs.shared.Syntax.{Span, Pieces}
-use Rattle.cborn_edn.proofs.Grammar.Machine.{Home, State, wants, has, builds, wants_chunk, step_by}
-use Rattle.cborn_edn.proofs.Grammar.Held.{held}
+use Rattle.cborn_edn.specs.shared.Machine.{Home, State, wants, has, builds, wants_chunk, step_by}
+use Rattle.cborn_edn.specs.shared.Machine.{held}
 use Rattle.cborn_reader.specs.declared.states.Level.{Level}
 use Rattle.cborn_reader.specs.declared.states.Level.TheVariants.{Array, Embedded, Key, Value, Tag}
 use Rattle.cborn_reader.specs.declared.states.Stand.{Stand}

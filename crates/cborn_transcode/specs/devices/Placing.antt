@@ -3,7 +3,7 @@ use Rattle.std.specs.Prelude.{◌≡◌, ℕ, List, ◌++◌, IsPermutation, Res
 use Rattle.std.specs.declared.cmp.Ordering.{Ordering}
 use Rattle.cborn_model.specs.Orders.{Rising}
 use Rattle.cborn_det.specs.Det.{Entry, joined, keys}
-use Rattle.cborn_det.specs.devices.Writing.{HasDistinctKeys}
+use Rattle.cborn_det.specs.shared.Distinct.{HasDistinctKeys}
 use Rattle.cborn_transcode.specs.declared.entries.Unarranged.{Unarranged}
 use Rattle.cborn_transcode.specs.declared.entries.Unarranged.TheVariants.{RepeatedKey, OutOfMemory}
 use Rattle.cborn_transcode.specs.declared.places.Great.{Great}

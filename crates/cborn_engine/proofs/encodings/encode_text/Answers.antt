@@ -2,20 +2,24 @@ use Rattle.std.proofs.Common.{rules, ◌≡◌, ◌≤◌, ◌∙◌, ℕ, List,
 use Rattle.cborn_transcode.specs.Transcoding.{IsTranscoded}
 use Rattle.cborn_transcode.proofs.Fronting.{whole_front}
 use Rattle.cborn_transcode.proofs.Outcomes.{of_some}
+use Rattle.cborn_engine.specs.Reading.{most_bytes}
+use Rattle.cborn_engine.specs.devices.Encoding.{EncodeAnswers, kind_of}
+use Rattle.cborn_engine.proofs.Answers.Told.{told}
 use Rattle.cborn_engine.proofs.Answers.Noted.{encoded}
 use Rattle.cborn_engine.proofs.encodings.encode_text.Goals as goal
 
-pub returns-in_default-clause-answers : goal.returns-in_default-clause-answers
-returns-in_default-clause-answers g c within = (c.fault_of_text.ensures.refused _ within).0
+pub returns-in_err-bytes-clause-answers : goal.returns-in_err-bytes-clause-answers
+returns-in_err-bytes-clause-answers g c within =
+    told (EncodeAnswers g.O.KeyOrder.order (kind_of c.args.profile) c.args.limit most_bytes c.args.input.now) _ _ c.from_residual.ensures.1 (c.in_err-bytes.ensures.refused _ within).0
 
 pub returns-then-front-len-clause-answers : goal.returns-then-front-len-clause-answers
 returns-then-front-len-clause-answers g c within =
     let order = g.O.KeyOrder.order in
-    let read = c.in-Some in
+    let read = c.in_ok-bytes in
     let front = c.deterministic_front-front in
     let all : front.result ≡ length c.deref.result.now = search rules in (
       within,
-      encoded c.args.profile c.args.limit c.args.input.now read.bytes.items read.ensures.0 read.ensures.1 order read.bytes.items
+      encoded c.args.profile c.args.limit c.args.input.now read.bytes.items read.ensures.spelled.0 read.ensures.spelled.1 order read.bytes.items
           (subst (λ (x : List ℕ). IsTranscoded order c.args.limit x x) c.deref.ensures.value (whole_front order c.args.limit front.result c.deref.result.now all front.ensures.front.1)) within,
     )
 
@@ -30,12 +34,12 @@ transcode_after-requires-clause-own g c =
     let same : c.deref.result.now ≡ c.deref-2.result.now = c.deref.ensures.value ∙ sym c.deref-2.ensures.value in
     subst (λ (x : List ℕ). IsTranscoded g.O.KeyOrder.order c.args.limit (take n x) (take n x)) same c.deterministic_front-front.ensures.front.1
 
-pub returns-in-Some-2-clause-answers : goal.returns-in-Some-2-clause-answers
-returns-in-Some-2-clause-answers g c within =
+pub returns-in-Some-clause-answers : goal.returns-in-Some-clause-answers
+returns-in-Some-clause-answers g c within =
     let order = g.O.KeyOrder.order in
-    let read = c.in-Some in
-    let answer = c.in-Some-2.encodings.items in (
+    let read = c.in_ok-bytes in
+    let answer = c.in-Some.encodings.items in (
       within,
-      encoded c.args.profile c.args.limit c.args.input.now read.bytes.items read.ensures.0 read.ensures.1 order answer
-          (subst (λ (x : List ℕ). IsTranscoded order c.args.limit x answer) c.deref-2.ensures.value (of_some _ _ c.in_ok-encodings.field-0 c.in-Some-2.encodings c.in-Some-2.is c.in_ok-encodings.ensures)) within,
+      encoded c.args.profile c.args.limit c.args.input.now read.bytes.items read.ensures.spelled.0 read.ensures.spelled.1 order answer
+          (subst (λ (x : List ℕ). IsTranscoded order c.args.limit x answer) c.deref-2.ensures.value (of_some _ _ c.in_ok-encodings.field-0 c.in-Some.encodings c.in-Some.is c.in_ok-encodings.ensures)) within,
     )

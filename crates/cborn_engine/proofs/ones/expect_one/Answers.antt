@@ -14,6 +14,11 @@ one_in_bytes-requires c =
     let s = c.requires.spelled in
     record { spelled = (s.0, subst (λ (k : Kind). Spells k c.args.limit c.args.input.now s.0) wire s.1) }
 
+pub one_in_text-requires-clause-spelled : goal.one_in_text-requires-clause-spelled
+one_in_text-requires-clause-spelled c =
+    let s = c.requires.spelled in
+    (s.0, subst (λ (k : Kind). Spells k c.args.limit c.args.input.now s.0) c.in-Some.ensures s.1)
+
 pub returns-in-None-clause-one : goal.returns-in-None-clause-one
 returns-in-None-clause-one c =
     let wire : c.args.kind ≡ kind.Wire = search rules in

@@ -1,25 +1,41 @@
-use Rattle.std.proofs.Common.{◌≡◌, ◌≤◌, List, [], ◌∷◌, ℕ, length, take, inr, refl, sym, ap, subst, arith}
+use Rattle.std.specs.Prelude.{IfErr, ◌⊎◌}
+use Rattle.std.proofs.Common.{◌≡◌, ◌≤◌, List, [], ◌∷◌, ℕ, length, take, inl, inr, refl, sym, ap, subst, arith}
 use Rattle.cborn_model.specs.Tree.{trees}
 use Rattle.cborn_model.specs.Spelled.{Wellformed}
 use Rattle.cborn_paths.specs.Paths.{EndsAt}
 use Rattle.cborn_paths.specs.declared.paths.Step.TheVariants.{Item}
+use Rattle.cborn_engine.specs.declared.faults.EngineFault.TheVariants as fault
+use Rattle.cborn_engine.specs.declared.one_faults.OneFault.TheVariants as one
+use Rattle.cborn_engine.specs.devices.Encoding.{kind_of}
+use Rattle.cborn_engine.specs.OneItem.{IsNotOne}
+use Rattle.cborn_engine.specs.Reading.{most_bytes}
+use Rattle.cborn_engine.proofs.Answers.Told.{told}
+use Rattle.cborn_engine.proofs.OneItem.Refused.{refused_memory}
 use Rattle.cborn_engine.proofs.OneItem.Second.{spelled_well, none_in_text, one_in_text}
 use Rattle.cborn_engine.proofs.ones.one_in_text.Goals as goal
 
-pub returns-in_default-2-clause-refused : goal.returns-in_default-2-clause-refused
-returns-in_default-2-clause-refused c =
-    let read = c.in-Some in
-    let s = read.ensures.1 in
+pub returns-in_default-clause-refused : goal.returns-in_default-clause-refused
+returns-in_default-clause-refused c =
+    let read = c.in_ok-bytes in
+    let s = read.ensures.spelled.1 in
     let low : c.args.limit ≤ 1024 = omega (arith, c.get-most.ensures.value, c.get-most.ensures.most) in
-    let well = spelled_well c.args.profile c.args.limit c.args.input.now read.bytes.items c.requires.short read.ensures.0 s in
+    let well = spelled_well c.args.profile c.args.limit c.args.input.now read.bytes.items c.requires.short read.ensures.spelled.0 s in
     let here : Wellformed c.args.limit (trees s.nodes) c.deref.result.now = subst (λ (x : List ℕ). Wellformed c.args.limit (trees s.nodes) x) (sym c.deref.ensures.value) well in
-    inr (none_in_text c.args.profile c.args.limit c.args.input.now read.bytes.items c.requires.short read.ensures.0 s (c.in_ok-end.ensures.none c.in_default-2.is c.args.limit (trees s.nodes) low here), refl)
+    inr (none_in_text c.args.profile c.args.limit c.args.input.now read.bytes.items c.requires.short read.ensures.spelled.0 s (c.in_ok-end.ensures.none c.in_default.is c.args.limit (trees s.nodes) low here), refl)
 
 pub returns-then-end-len-clause-one : goal.returns-then-end-len-clause-one
 returns-then-end-len-clause-one c =
-    let read = c.in-Some in
-    let at = rw c.in-Some-2.is at c.in_ok-end.ensures.item in
+    let read = c.in_ok-bytes in
+    let at = rw c.in-Some.is at c.in_ok-end.ensures.item in
     let items = read.bytes.items in
-    let there : (c.in-Some-2.end ≤ length items) × EndsAt (take c.in-Some-2.end items) (Item 1 ∷ []) = subst (λ (x : List ℕ). (c.in-Some-2.end ≤ length x) × EndsAt (take c.in-Some-2.end x) (Item 1 ∷ [])) c.deref.ensures.value at in
-    let all : c.in-Some-2.end ≡ length items = omega (arith, c.if-end-len.true, c.len.ensures, c.deref.ensures.len, ap length c.deref.ensures.value) in
-    one_in_text c.args.profile c.args.limit c.args.input.now items c.requires.short read.ensures.0 read.ensures.1 c.in-Some-2.end there.0 there.1 all
+    let there : (c.in-Some.end ≤ length items) × EndsAt (take c.in-Some.end items) (Item 1 ∷ []) = subst (λ (x : List ℕ). (c.in-Some.end ≤ length x) × EndsAt (take c.in-Some.end x) (Item 1 ∷ [])) c.deref.ensures.value at in
+    let all : c.in-Some.end ≡ length items = omega (arith, c.if-end-len.true, c.len.ensures, c.deref.ensures.len, ap length c.deref.ensures.value) in
+    one_in_text c.args.profile c.args.limit c.args.input.now items c.requires.short read.ensures.spelled.0 read.ensures.spelled.1 c.in-Some.end there.0 there.1 all
+
+pub returns-in_err-bytes-clause-refused : goal.returns-in_err-bytes-clause-refused
+returns-in_err-bytes-clause-refused c =
+    let k = kind_of c.args.profile in
+    let why = c.in_err-bytes in
+    let nodes = c.requires.spelled in
+    let e = refused_memory k c.args.limit most_bytes c.args.input.now nodes.0 why.field-0.0 c.requires.short nodes.1 (why.ensures.refused most_bytes c.requires.short) (why.ensures.failures 0) in
+    told (λ r. IfErr r (λ w. (w ≡ one.Engine fault.OutOfMemory) ⊎ IsNotOne k c.args.limit c.args.input.now w)) _ _ c.from_residual.ensures.1 (inl (ap one.Engine e))

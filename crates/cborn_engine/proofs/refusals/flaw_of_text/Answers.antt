@@ -7,3 +7,6 @@ returns-in-Some-clause-refused c =
     let input = c.args.input.now in
     flawed c.args.profile c.args.limit input c.args.bytes.now c.requires.text c.requires.spelled c.in-Flaw.place c.in-Some.place c.in-Flaw.reason c.in-Flaw.ensures
     (subst (λ (x : List ℕ). IsCarried c.args.profile x c.args.bytes.now c.in-Flaw.place c.in-Some.place) c.in-Ok.ensures.text.0 c.in-Some.ensures.flaw)
+
+pub unreachable-requires : goal.unreachable-requires
+unreachable-requires c = c.in_default-text_of.ensures.none c.requires.text

@@ -1,5 +1,5 @@
 use Rattle.std.proofs.Common.{sym, ap, ◌∙◌, subst}
-use Rattle.cborn_lex.proofs.WholeTexts.Weights.{AreModest}
+use Rattle.cborn_reader.specs.devices.Modest.{AreModest}
 use Rattle.cborn_edn.specs.shared.Syntax.{Input, string, tokens_of_pieces}
 use Rattle.cborn_edn.proofs.Grammar.Machine.{in_row, at_top, as_item, State}
 use Rattle.cborn_edn.proofs.Grammar.Held.{held, held_home}

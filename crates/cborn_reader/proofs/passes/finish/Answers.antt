@@ -1,5 +1,5 @@
 use Rattle.std.proofs.Common.{sym, ◌∙◌, subst}
-use Rattle.cborn_lex.proofs.WholeTexts.Weights.{AreModest}
+use Rattle.cborn_reader.specs.devices.Modest.{AreModest}
 use Rattle.cborn_edn.specs.Faults.{IsNoNotation}
 use Rattle.cborn_reader.specs.devices.Reading.{Reached}
 use Rattle.cborn_reader.proofs.Ending.{may_end_at, no_end_at, same_end, cut_short, slipped, spelled_text}

@@ -4,7 +4,7 @@ use Rattle.std.proofs.lemmas.List.{take-append-drop}
 use Rattle.std.proofs.lemmas.List.Sorted.{IsPermutation-refl}
 use Rattle.cborn_model.specs.Orders.{Rising}
 use Rattle.cborn_det.specs.Det.{Entry, keys, joined}
-use Rattle.cborn_det.specs.devices.Writing.{HasDistinctKeys}
+use Rattle.cborn_det.specs.shared.Distinct.{HasDistinctKeys}
 use Rattle.cborn_transcode.specs.declared.entries.Span.{Span}
 use Rattle.cborn_transcode.specs.Transcoding.{all_spanned}
 use Rattle.cborn_transcode.proofs.Keying.{spanned_behind}

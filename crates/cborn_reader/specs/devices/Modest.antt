@@ -1,0 +1,16 @@
+-- A device of the proofs: what tokens of a text stand for: contents of bytes, and numbers below 2^128. No definition cites it.
+use Rattle.std.specs.Prelude.{◌^◌, ◌<◌, List, [], ◌∷◌}
+use Rattle.cborn_model.specs.Bytes.{AreBytes}
+use Rattle.cborn_lex.specs.declared.classes.Class.{Class}
+use Rattle.cborn_lex.specs.declared.classes.Class.TheVariants.{Number, Text, Bytes}
+use Rattle.cborn_lex.specs.declared.classes.Token.{Token}
+
+abbrev pub IsModest : Class → Type 0
+IsModest (Number n v m) = v < 2 ^ 128
+IsModest (Text x m) = AreBytes x
+IsModest (Bytes q x m) = AreBytes x
+IsModest _ = Unit {0}
+
+abbrev pub AreModest : List Token → Type 0
+AreModest [] = Unit {0}
+AreModest (t ∷ ts) = IsModest t.class × AreModest ts
