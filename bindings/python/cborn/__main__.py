@@ -105,7 +105,9 @@ def with_options(parser: argparse.ArgumentParser, kinds: typing.Sequence[str], t
 def parser() -> Parser:
     how: dict[str, typing.Any] = {"allow_abbrev": False, "formatter_class": argparse.RawDescriptionHelpFormatter}
     program = Parser(prog="cborn", description=ABOUT, epilog=NOTES, **how)
-    program.add_argument("-V", "--version", action="version", version=f"cborn {cborn.__version__}")
+    # as the program writes it; Python's packages have a form of their own for what follows a release
+    version = cborn.__version__.replace(".dev0", "-dev")
+    program.add_argument("-V", "--version", action="version", version=f"cborn {version}")
     commands = program.add_subparsers(dest="command", required=True, metavar="COMMAND")
     show = commands.add_parser("show", help="write the input's items as they are encoded, as notation or bytes", **how)
     with_options(show, ["from"], "notation", has_order=False)
