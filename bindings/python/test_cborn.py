@@ -352,7 +352,7 @@ class Program(unittest.TestCase):
         return done.stdout, done.stderr, done.returncode
 
     def test_help_and_version(self):
-        self.assertEqual(self.run_on("--version"), (b"cborn 0.5.0.dev0\n", b"", 0))
+        self.assertEqual(self.run_on("--version"), (b"cborn 0.5.0-dev\n", b"", 0))
         for command in ("show", "normalise", "compare", "check"):
             out, err, status = self.run_on(command, "--help")
             self.assertEqual((err, status), (b"", 0))
