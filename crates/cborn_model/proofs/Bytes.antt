@@ -1,4 +1,4 @@
--- Bytes one behind another are bytes.
+-- Bytes one after another are bytes.
 use Rattle.std.proofs.Common.{ℕ, List, [], ◌∷◌, ◌++◌}
 use Rattle.cborn_model.specs.Bytes.{AreBytes}
 

@@ -6,7 +6,7 @@ use Rattle.std.specs.List.{AllByRecursion}
 abbrev pub AreBytes : List ℕ → Type 0
 AreBytes = AllByRecursion (λ b. b < 256)
 
--- the number of which these are the bytes, the highest first
+-- the number with these big-endian bytes
 abbrev pub big_endian : List ℕ → ℕ
 big_endian [] = 0
 big_endian (b ∷ bs) = b * 256 ^ length bs + big_endian bs

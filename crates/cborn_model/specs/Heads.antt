@@ -38,7 +38,7 @@ WidthFits Two n = n < 2 ^ 16
 WidthFits Four n = n < 2 ^ 32
 WidthFits Eight n = n < 2 ^ 64
 
--- the same, as a test
+-- whether a head of this width has room for the argument n
 abbrev pub holds : Width → ℕ → Bool
 holds Direct n = nat_lt n 24
 holds One n = nat_lt n 256
@@ -54,7 +54,7 @@ information Two n = 25
 information Four n = 26
 information Eight n = 27
 
--- the bytes of the argument behind the initial byte, the highest first
+-- the bytes of the argument after the initial byte, the highest first
 abbrev pub following : Width → ℕ → List ℕ
 following Direct n = []
 following One n = n ∷ []
@@ -83,11 +83,11 @@ least n =
 abbrev pub IsLeastHead : ℕ → ℕ → List ℕ → Type 0
 IsLeastHead major n x = IsHead major (least n) n x
 
--- whether n is a simple value: 0 to 23 stand in the initial byte, 32 to 255 in the byte behind it, and there are no others (RFC 8949 section 3.3)
+-- whether n is a simple value: 0 to 23, in the initial byte, or 32 to 255, in the byte after it (RFC 8949 section 3.3)
 abbrev pub is_simple_value : ℕ → Bool
 is_simple_value n = nat_lt n 24 || (nat_le 32 n && nat_lt n 256)
 
--- what a head says beside its major type: an argument, or that the length is indefinite
+-- what a head says besides its major type: an argument, or that the length is indefinite
 pub data Argument : Type 0 where
   Given : Width → ℕ → Argument
   Unbounded : Argument
@@ -96,7 +96,7 @@ abbrev pub head : Major → Argument → List ℕ
 head m (Given w n) = head_bytes (code m) w n
 head m Unbounded = (32 * code m + 31) ∷ []
 
--- of an array or a map of n entries
+-- the argument of an array or a map of n entries
 abbrev pub argument : Size → ℕ → Argument
 argument (Fixed w) n = Given w n
 argument Endless n = Unbounded

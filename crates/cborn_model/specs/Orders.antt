@@ -5,7 +5,7 @@ use Rattle.std.specs.declared.cmp.Ordering.TheVariants.{Less, Equal}
 use Rattle.std.specs.Ordering.{nat_cmp, ordering_then, ordering_reverse}
 use Rattle.std.specs.Cmp.Lexicographic.{slice_cmp}
 
--- what any order of keys has
+-- the laws of an order of keys
 pub record IsKeyOrder (order : List ℕ → List ℕ → Ordering) : Type 0 where
   pub exact : (a b : List ℕ) → order a b ≡ Equal → a ≡ b
   pub itself : (a : List ℕ) → order a a ≡ Equal
@@ -16,7 +16,7 @@ pub record IsKeyOrder (order : List ℕ → List ℕ → Ordering) : Type 0 wher
 abbrev pub bytewise : List ℕ → List ℕ → Ordering
 bytewise = slice_cmp nat_cmp
 
--- the shorter first, and equal lengths bytewise
+-- the shorter first, and those of equal length bytewise
 abbrev pub length_first : List ℕ → List ℕ → Ordering
 length_first a b = ordering_then (nat_cmp (length a) (length b)) (bytewise a b)
 

@@ -1,4 +1,4 @@
--- Where a node and the parts of it stand in the bytes that it spells.
+-- The offsets of a node and of its parts in the bytes that it spells.
 use Rattle.std.specs.Prelude.{◌≡◌, ℕ, suc, ◌+◌, List, [], ◌∷◌, length}
 use Rattle.cborn_model.specs.declared.nodes.Chunk.{Chunk}
 use Rattle.cborn_model.specs.declared.heads.Major.{Major}
@@ -11,7 +11,7 @@ abbrev pub ChunksPlaced : Major → ℕ → List Chunk → Type 0
 ChunksPlaced m p [] = Unit {0}
 ChunksPlaced m p (c ∷ cs) = (c.place ≡ p) × ChunksPlaced m (p + length (chunk_bytes m c)) cs
 
--- The node's place is p, and each part's is p and the length of all that the node spells before it.
+-- The node is at the offset p, and each part at p plus the length of all that the node spells before it.
 abbrev mutual
   pub Placed : ℕ → Tree → Type 0
   Placed p (Uint q w n) = q ≡ p

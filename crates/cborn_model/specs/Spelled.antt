@@ -11,7 +11,7 @@ use Rattle.cborn_model.specs.declared.heads.Major.TheVariants.{Unsigned, Negativ
 use Rattle.cborn_model.specs.Heads.{WidthFits, least, is_simple_value, Given, Unbounded, head, argument, SizeFits}
 use Rattle.cborn_model.specs.Tree.{Tree, Uint, Nint, Bytes, Text, ByteChunks, TextChunks, Items, Pairs, Tagged, Simple, Trees, no_item, more, Entries, no_entry, entry, count, count_entries, depth, depth_all}
 
--- what stands behind the contents of an array or a map: the break, where its length is indefinite
+-- what follows the contents of an array or a map: the break, if its length is indefinite
 abbrev pub ending : Size → List ℕ
 ending (Fixed w) = []
 ending Endless = head Other Unbounded
@@ -51,7 +51,7 @@ abbrev pub ChunksFit : List Chunk → Type 0
 ChunksFit [] = Unit {0}
 ChunksFit (c ∷ cs) = (WidthFits c.width (length c.bytes) × AreBytes c.bytes) × ChunksFit cs
 
--- The node spells bytes: each argument, length and count fits its width, and each simple value is one that there is.
+-- The node spells bytes: each argument, length and count fits its width, and no simple value is from 24 to 31.
 abbrev mutual
   pub Fits : Tree → Type 0
   Fits (Uint p w n) = WidthFits w n

@@ -1,4 +1,4 @@
--- Nodes as pure trees: what stands in the bytes, each head with the width that it has, and where it stands. A chunk is a definite string inside an indefinite one (RFC 8949 section 3.2.3).
+-- Nodes as pure trees: each data item as it is spelled, with its offset and the width of each head. A chunk is a definite string inside an indefinite one (RFC 8949 section 3.2.3).
 use Rattle.std.specs.Prelude.{ℕ, suc, max, List, [], ◌∷◌}
 use Rattle.cborn_model.specs.declared.heads.Width.{Width}
 use Rattle.cborn_model.specs.declared.heads.Size.{Size}
@@ -55,7 +55,7 @@ place (Pairs p s es) = p
 place (Tagged p w n t) = p
 place (Simple p n) = p
 
--- A leaf is 0, a chunked string included; an array, a map or a tag is one more than its deepest child.
+-- The nesting depth: 0 for a leaf, a string in chunks included; for an array, a map or a tag one more than its deepest child.
 abbrev mutual
   pub depth : Tree → ℕ
   depth (Items p s ts) = suc (depth_all ts)

@@ -33,7 +33,7 @@ abbrev mutual
   HasProperPairs no_pairs = ⊤
   HasProperPairs (pair k v ps) = IsProper k × IsProper v × HasProperPairs ps
 
--- How deep an item is. An integer outside 64 bits counts as the tag that it is.
+-- The nesting depth of an item. An integer outside 64 bits counts as the tag that it is.
 abbrev mutual
   pub value_depth : Value → ℕ
   value_depth (integer s m) = if nat_lt (big_endian m) (2 ^ 64) then 0 else 1

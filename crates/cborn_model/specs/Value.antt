@@ -70,7 +70,7 @@ abbrev mutual
   SamePairs (pair k v ps) (r ∷ rs) = Same k r.0 × Same v r.1 × SamePairs ps rs
   SamePairs _ _ = ⊥
 
--- How deep items are nested, integers aside: what a recursion over an item goes down by.
+-- The nesting depth with every integer at 0, by which recursions over an item go down.
 abbrev mutual
   pub height : Value → ℕ
   height (integer s m) = 0

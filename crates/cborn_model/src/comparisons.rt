@@ -1,4 +1,5 @@
-//! When items are the same (RFC 8949 sections 2, 3.4.3 and 5.6.1).
+//! Sameness of items (RFC 8949 sections 2, 3.4.3 and 5.6.1). Pairs of maps are looked for one by
+//! one, first at their own index, since most maps that are the same are written in one order.
 
 ghost use Rattle.std.specs.Prelude.{◌≡◌, ◌<◌, ◌≤◌, ◌↔◌, map, length, IsTrue, MatchOption};
 ghost use Rattle.cborn_model.specs.Bytes.{AreBytes, IsShortest, big_endian};
@@ -9,9 +10,9 @@ ghost use Rattle.cborn_model.specs.Value.{Same, SameValues, dict, values_of, pai
 
 use crate::{Item, Magnitude, Number, Valid};
 
-/// Whether two items are the same: integers by their number, arrays item by item, and maps in
-/// whatever order their pairs were written. Takes no memory. Maps that were written in one order
-/// cost a pass over them; others cost up to the product of their sizes.
+/// Whether two items are the same: integers by their number, arrays by their elements in order,
+/// maps by their pairs in any order (RFC 8949 sections 2, 3.4.3 and 5.6.1). Takes no memory. Maps
+/// that were written in one order take one pass; others take up to the product of their sizes.
 pub fn same(a: &Valid, b: &Valid) -> bool
     ensures { IsTrue result ↔ Same a.now b.now }
 {
@@ -45,7 +46,7 @@ pub(crate) fn same_items(a: &Item, b: &Item) -> bool
     }
 }
 
-/// Whether two magnitudes without leading zeros are of one number.
+/// Whether two magnitudes without leading zeros are the same number.
 fn same_magnitudes(a: &Magnitude, b: &Magnitude) -> bool
     requires first { IsShortest a.now }
     requires second { IsShortest b.now }
@@ -75,8 +76,7 @@ fn same_arrays(a: &[Item], b: &[Item]) -> bool
     true
 }
 
-/// Whether maps of distinct keys are the same: as many pairs, and each pair of the one among those
-/// of the other.
+/// Whether two maps of distinct keys are the same: as many pairs, and each of `a` in `b`.
 #[cycle(same_items)]
 fn same_maps(a: &[(Item, Item)], b: &[(Item, Item)]) -> bool
     requires first { HasProperPairs (pairs_of (map pair_value a.now)) }
@@ -98,7 +98,7 @@ fn same_maps(a: &[(Item, Item)], b: &[(Item, Item)]) -> bool
 }
 
 /// Whether the pair of this key and this value is among `pairs`, of distinct keys. The search
-/// begins at `start`, where it stands if both maps were written in one order.
+/// begins at the index `start`.
 #[cycle(same_items)]
 fn has_pair(pairs: &[(Item, Item)], start: usize, key: &Item, value: &Item) -> bool
     requires start { start ≤ length pairs.now }
@@ -114,7 +114,8 @@ fn has_pair(pairs: &[(Item, Item)], start: usize, key: &Item, value: &Item) -> b
     }
 }
 
-/// The value of a pair whose key is the same as `key`. The search begins at `start` and goes round.
+/// The value at a key that is the same as `key`. The search begins at the index `start`, and wraps
+/// around.
 #[cycle(same_items)]
 fn value_from<'a>(pairs: &'a [(Item, Item)], start: usize, key: &Item) -> Option<&'a Item>
     requires start { start ≤ length pairs.now }

@@ -1,15 +1,15 @@
-//! Lists that grow by doubling.
+//! How lists grow.
 
 ghost use Rattle.std.specs.Prelude.{◌≡◌, ◌<◌, ◌≤◌, ◌+◌, ◌*◌, max, [], ◌∷◌, ◌++◌, OnOk, OnErr, vec_len, vec_capacity};
 
 use std::alloc::AllocError;
 
-/// Appends one more. A list takes room for one at its first, and then for twice as many as it has:
-/// most lists of parts of items are short, and in a deep nest most have one part, and that is all
-/// that they hold.
+/// Appends `one`. The capacity starts at one and doubles: most lists of elements, pairs and chunks
+/// are short, and in a deep nest most have a single entry, which then takes no more memory than it
+/// needs.
 ///
 /// # Errors
-/// `AllocError` where memory was refused; the list is as it was.
+/// `AllocError` if memory is refused; the list is unchanged.
 #[inline]
 pub fn push_doubling<T: Drop>(list: &mut Vec<T>, one: T) -> Result<(), AllocError>
     ensures added { OnOk result (list.new.items ≡ list.old.items ++ one ∷ []) }
@@ -23,7 +23,7 @@ pub fn push_doubling<T: Drop>(list: &mut Vec<T>, one: T) -> Result<(), AllocErro
     Ok(())
 }
 
-/// Makes room in a full list for as many parts again, and at least one.
+/// Doubles the capacity of a full list, from 0 to 1.
 #[cold]
 #[inline(never)]
 fn double<T>(list: &mut Vec<T>) -> Result<(), AllocError>

@@ -1,4 +1,6 @@
-//! Major types and widths of heads (RFC 8949 section 3).
+//! The parts of a head (RFC 8949 section 3). The initial byte has the [`Major`] type in its high
+//! three bits, and the additional information in its low five: the argument up to 23, for 24 to 27
+//! the [`Width`] of an argument that follows, for 31 an indefinite length.
 
 ghost use Rattle.std.specs.Prelude.{◌≡◌, ◌+◌, ◌*◌, ◌/◌, ◌<◌};
 ghost use Rattle.cborn_model.specs.Heads.{code, major_at, least, is_simple_value};
@@ -68,7 +70,7 @@ impl Major {
         Major::at(byte / 32)
     }
 
-    /// The initial byte of a head with this additional information, at most 31.
+    /// The initial byte of a head with this additional information, from 0 to 31.
     #[inline(always)]
     pub fn initial_byte(self, information: u8) -> u8
         requires { information < 32 }
@@ -77,7 +79,7 @@ impl Major {
         32 * self.number() + information
     }
 
-    /// The head of an indefinite length, one byte (RFC 8949 section 3.2); of `Other` it is the
+    /// The head of an item of indefinite length, one byte (RFC 8949 section 3.2); of `Other` the
     /// break.
     #[inline(always)]
     pub fn endless_head(self) -> u8
@@ -87,13 +89,13 @@ impl Major {
     }
 }
 
-/// The break, which ends what is of indefinite length (RFC 8949 section 3.2.1).
+/// The break, which ends an item of indefinite length (RFC 8949 section 3.2.1).
 pub const BREAK: u8 = 0xff;
 
-/// How many bytes the argument of a head takes beside the initial byte.
+/// How many bytes the argument of a head takes after the initial byte (RFC 8949 section 3).
 #[derive(Clone, Copy, PartialEq, Eq, Debug)]
 pub enum Width {
-    /// None: the argument, at most 23, stands in the initial byte.
+    /// None: the argument, at most 23, is in the initial byte.
     Direct,
     /// One byte: an argument of at most 255.
     One,
@@ -110,7 +112,7 @@ pub enum Width {
 pub enum Size {
     /// By a count in its head, of this width.
     Fixed(Width),
-    /// By a break behind its contents.
+    /// By a break after its contents: the length is indefinite.
     Endless,
 }
 
@@ -142,8 +144,8 @@ impl Width {
         least <= n && n <= most
     }
 
-    /// The least and the greatest number for which it is the shortest. Numbers of mixed sizes are
-    /// looked up, where `shortest` would compare one after another.
+    /// The least and the greatest number for which this width is the shortest. A look-up, since
+    /// numbers of mixed sizes make the comparisons of `shortest` slow.
     #[inline(always)]
     fn shortest_range(self) -> (u64, u64)
         ensures { (n : ℕ) → n < 2 ^ 64 → (result.0 ≤ n) × (n ≤ result.1) ↔ (self ≡ least n) }
@@ -175,8 +177,8 @@ pub fn shortest(n: u64) -> Width
     }
 }
 
-/// Whether there is a simple value `n`: 0 to 23 stand in the initial byte, 32 to 255 in the byte
-/// behind it, and there are no others (RFC 8949 section 3.3).
+/// Whether `n` is a simple value: 0 to 23, in the initial byte, or 32 to 255, in the next one (RFC
+/// 8949 section 3.3).
 #[inline]
 pub fn is_simple_value(n: u64) -> bool
     ensures { result ≡ is_simple_value n }

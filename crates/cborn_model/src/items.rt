@@ -1,4 +1,5 @@
-//! Items: what nodes mean.
+//! Items: data items without widths, chunks and offsets, valid or not. Elements, pairs and contents
+//! are wrapped, so that contracts see what they mean, and no vectors and boxes.
 
 use crate::{ByteString, Magnitude};
 use std::alloc::{AllocError, Global};
@@ -8,12 +9,11 @@ use std::marker::Model;
 #[derive(Drop)]
 #[cycle(item)]
 pub enum Item {
-    /// An integer: n, or -1 - n if negative, n being the number of the magnitude. A bignum is one
-    /// too.
+    /// An integer or a bignum: n, or -1 - n if negative, n being the number of the magnitude.
     Int {
         /// Whether the integer is below 0.
         negative: bool,
-        /// The bytes of n, the highest first. A valid item has no leading zero here.
+        /// The bytes of n, most significant first. A valid item has no leading zero here.
         magnitude: Magnitude,
     },
     /// A byte string: its bytes, of all chunks joined.
@@ -24,10 +24,10 @@ pub enum Item {
     Items(ItemList),
     /// A map: its pairs of a key and a value. A valid item has no two keys that are the same.
     Pairs(PairList),
-    /// A tag: its number and its content. A valid item has no tag 2 or 3 here, since these are
+    /// A tag: its number and its content. A valid item has no tag 2 or 3 here, since bignums are
     /// integers.
     Tagged(u64, ItemBox),
-    /// A simple value, by its number: up to 23, or from 32 on in a valid item.
+    /// A simple value, by its number: 0 to 23 or 32 to 255 in a valid item.
     Simple(u8),
 }
 
@@ -56,21 +56,21 @@ impl ItemList {
     ghost use Rattle.std.specs.Prelude.{◌≡◌, map};
     ghost use Rattle.cborn_model.specs.ItemView.{item_value};
 
-    /// These items. Takes no memory.
+    /// The elements of an array, in order. Takes no memory.
     pub fn new(items: Vec<Item>) -> ItemList
         ensures { result ≡ map item_value items.items }
     {
         ItemList { items }
     }
 
-    /// The items, in order.
+    /// The elements, in order.
     pub fn as_slice(&self) -> &[Item]
         ensures { map item_value result.now ≡ self.now }
     {
         self.items.as_slice()
     }
 
-    /// Gives the items back. Takes no memory.
+    /// The elements, in order. Takes no memory.
     pub fn into_vec(self) -> Vec<Item>
         ensures { map item_value result.items ≡ self }
     {
@@ -82,7 +82,7 @@ impl PairList {
     ghost use Rattle.std.specs.Prelude.{◌≡◌, map};
     ghost use Rattle.cborn_model.specs.ItemView.{pair_value};
 
-    /// These pairs. Takes no memory.
+    /// The pairs of a map, each a key and its value. Takes no memory.
     pub fn new(pairs: Vec<(Item, Item)>) -> PairList
         ensures { result ≡ map pair_value pairs.items }
     {
@@ -96,7 +96,7 @@ impl PairList {
         self.pairs.as_slice()
     }
 
-    /// Gives the pairs back. Takes no memory.
+    /// The pairs, in order. Takes no memory.
     pub fn into_vec(self) -> Vec<(Item, Item)>
         ensures { map pair_value result.items ≡ self }
     {
@@ -108,7 +108,10 @@ impl ItemBox {
     ghost use Rattle.std.specs.Prelude.{◌≡◌, IfOk};
     ghost use Rattle.cborn_model.specs.ItemView.{item_value};
 
-    /// This item, on the heap. An error says that memory was refused; the item is then freed.
+    /// Moves the content of a tag to the heap.
+    ///
+    /// # Errors
+    /// `AllocError` if memory is refused; the item is then freed.
     pub fn new(alloc: Global, item: Item) -> Result<ItemBox, AllocError>
         ensures { IfOk result (λ b. b ≡ item_value item) }
     {
@@ -116,14 +119,14 @@ impl ItemBox {
         Ok(ItemBox { item })
     }
 
-    /// The item.
+    /// The content of the tag.
     pub fn get(&self) -> &Item
         ensures { item_value result.now ≡ self.now }
     {
         &self.item
     }
 
-    /// Gives the item back. Takes no memory.
+    /// The content of the tag. Takes no memory.
     pub fn into_inner(self) -> Item
         ensures { item_value result ≡ self }
     {

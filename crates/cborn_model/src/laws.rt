@@ -1,4 +1,4 @@
-//! Laws of the definitions. Each function's contract is the law, and its body says nothing more.
+//! Laws of the definitions: the contract of each function is a theorem.
 
 ghost use Rattle.std.specs.Prelude.{◌≡◌};
 ghost use Rattle.cborn_model.specs.Value.{Value, Values, Same, SameValues};
@@ -11,13 +11,13 @@ pub fn same_itself()
     ensures sequences { (a : Values) → SameValues a a }
 {}
 
-/// If one item is the same as another, that is the same as the one.
+/// If an item is the same as another, the other is the same as it.
 pub fn same_turned()
     ensures items { (a b : Value) → Same a b → Same b a }
     ensures sequences { (a b : Values) → SameValues a b → SameValues b a }
 {}
 
-/// Items that are the same as one between them are the same.
+/// Items that are the same as a third are the same.
 pub fn same_chained()
     ensures items { (a b c : Value) → Same a b → Same b c → Same a c }
     ensures sequences { (a b c : Values) → SameValues a b → SameValues b c → SameValues a c }

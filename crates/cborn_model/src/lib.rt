@@ -3,7 +3,7 @@
 //! ```text
 //! 82     18 64    5f     41   61        ff
 //! head   head     head   head content   break
-//! │      │        │      └── chunk      behind the last chunk
+//! │      │        │      └── chunk      after the last chunk
 //! │      │        └── node: ByteChunks, one chunk of width Direct
 //! │      └── node: Uint(One, 100); the argument 100 follows the initial byte
 //! └── node: Items(Fixed(Direct), ..), an array of the two nodes above
@@ -11,7 +11,7 @@
 //!
 //! - A *head* is an initial byte, with the major type in its high three bits, and the bytes that
 //!   follow it. Its *argument* is a number: an integer, a length, a count or a tag.
-//! - The [`Width`] of a head is the number of bytes that its argument takes behind the initial
+//! - The [`Width`] of a head is the number of bytes that its argument takes after the initial
 //!   byte. Most numbers can be written in several widths; [`shortest`] tells the narrowest.
 //! - A [`Chunk`] is a definite string inside an indefinite one.
 //! - A [`Node`] is a data item as it is spelled: its place, which is the offset of its head in
@@ -21,14 +21,14 @@
 //!
 //! The crate has two halves. *Spelled*: [`fits`] tells whether a node spells any bytes, and a
 //! [`Spelled`] is one that does, at most 1,024 deep. *Meant*: [`is_valid`] tells whether an item is
-//! valid, a [`Valid`] is one that is, and [`same`] tells whether two of these are the same. Beside
-//! them stand the orders of keys ([`KeyOrder`]) and the nesting limit ([`Limit`]).
+//! valid, a [`Valid`] is one that is, and [`same`] tells whether two of these are the same.
+//! [`Limit`] is the nesting depth that a caller allows, and [`KeyOrder`] an order of map keys.
 //!
-//! The definitions stand in `specs/`, each by itself and without the code: `Bytes` and `Heads`;
-//! `Tree` (the pure node), `Spelled` (its bytes, and when it fits) and `Placed`; `Value` (the pure
-//! item, and `Same`), `Valid` and `Meaning` (which item a node means); `Orders`; `First` (the first
-//! of several faults). Devices of the proofs stand in `specs/devices/`. [`laws`] has what is proved
-//! of the definitions alone.
+//! The definitions are in `specs/`, apart from the code: `Bytes` and `Heads`; `Tree` (the pure
+//! node), `Spelled` (its bytes, and when it fits) and `Placed`; `Value` (the pure item, and `Same`),
+//! `Valid` and `Meaning` (which item a node means); `Orders`; `First` (the first of several faults).
+//! Devices of the proofs are in `specs/devices/`. [`laws`] has what is proved of the definitions
+//! alone.
 #![tactic(auto)]
 
 mod comparisons;

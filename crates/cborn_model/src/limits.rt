@@ -1,11 +1,11 @@
-//! The nesting limit.
+//! The nesting limit, which bounds the stack of recursions.
 
 ghost use Rattle.std.specs.Prelude.{◌≡◌, ◌≤◌};
 ghost use Rattle.std.specs.Option.{SomeIff};
 
 use std::marker::Model;
 
-/// How many arrays, maps and tags may stand around one another: from 1 to 1,024.
+/// The maximum nesting depth of arrays, maps and tags, from 1 to 1,024.
 #[derive(Clone, Copy, Debug)]
 pub struct Limit {
     most: u64,
@@ -27,7 +27,7 @@ impl Limit {
     /// The usual limit, 128.
     pub const USUAL: Limit = Limit { most: 128 };
 
-    /// The limit `most`, if it is from 1 to 1,024.
+    /// The limit `most`; `None` unless it is from 1 to 1,024.
     pub fn new(most: u64) -> Option<Limit>
         ensures { SomeIff result ((1 ≤ most) × (most ≤ 1024)) most }
     {
@@ -38,7 +38,7 @@ impl Limit {
         }
     }
 
-    /// The number.
+    /// The maximum nesting depth, from 1 to 1,024.
     pub fn get(&self) -> u64
         ensures value { result ≡ self.now }
         ensures least { 1 ≤ result }

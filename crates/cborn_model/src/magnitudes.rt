@@ -1,4 +1,5 @@
-//! Magnitudes of integers.
+//! Magnitudes of integers. Nearly all are below 2^64: these are kept as a `u64`, which needs no
+//! memory. Contracts see bytes in either case.
 
 ghost use Rattle.std.specs.Prelude.{◌≡◌, ◌<◌, ◌≤◌, ◌^◌, length, ◌↔◌, IsTrue, IfOk, MatchOption};
 ghost use Rattle.std.specs.Int.Digits.{digits_of};
@@ -20,12 +21,12 @@ enum Digits {
     Long(Vec<u8>),
 }
 
-/// The number that a magnitude is.
+/// The value of a magnitude.
 #[derive(Clone, Copy)]
 pub enum Number<'a> {
     /// A number below 2^64.
     Word(u64),
-    /// The bytes of a number that isn't, the highest first.
+    /// The big-endian bytes of a number from 2^64 on, with the leading zeros that it has.
     Long(&'a [u8]),
 }
 
@@ -43,7 +44,7 @@ impl Model for Magnitude {
 }
 
 impl Magnitude {
-    /// These bytes, the highest first. Takes no memory.
+    /// The magnitude with these bytes, most significant first. Takes no memory.
     pub fn new(bytes: Vec<u8>) -> Magnitude
         ensures { result ≡ bytes.items }
     {
@@ -63,7 +64,7 @@ impl Magnitude {
         }
     }
 
-    /// The number, or where it has more than 64 bits its bytes. Takes no memory.
+    /// The number if it is below 2^64, else its bytes. Takes no memory.
     pub fn number(&self) -> Number<'_>
         ensures number { IsNumberOf self.now result }
         ensures bytes { AreBytes self.now }
@@ -78,7 +79,7 @@ impl Magnitude {
         }
     }
 
-    /// Whether the first byte isn't 0. Takes no memory.
+    /// Whether there is no leading zero. Takes no memory.
     pub fn is_shortest(&self) -> bool
         ensures { IsTrue result ↔ IsShortest self.now }
     {
@@ -91,11 +92,10 @@ impl Magnitude {
         }
     }
 
-    /// Gives the bytes back, the highest first. Takes memory only where the number was kept without
-    /// any.
+    /// The bytes, most significant first. Takes memory only if the number was kept as a `u64`.
     ///
     /// # Errors
-    /// Where memory was refused.
+    /// `AllocError` if memory is refused.
     pub fn into_vec(self, alloc: Global) -> Result<Vec<u8>, AllocError>
         ensures { IfOk result (λ v. v.items ≡ self) }
     {
@@ -106,14 +106,14 @@ impl Magnitude {
     }
 }
 
-/// The bytes of `n` without leading zeros.
+/// The big-endian bytes of `n` without leading zeros.
 fn word_bytes(alloc: Global, n: u64) -> Result<Vec<u8>, AllocError>
     ensures { IfOk result (λ v. v.items ≡ digits_of 256 n) }
 {
     Vec::from_slice(alloc, without_zeros(&n.to_be_bytes()))
 }
 
-/// The number of these bytes, if it is below 2^64.
+/// The number with these big-endian bytes; `None` from 2^64 on.
 fn word_of(bytes: &[u8]) -> Option<u64>
     ensures number { MatchOption result (2 ^ 64 ≤ big_endian bytes.now) (λ n. big_endian bytes.now ≡ n) }
     ensures bytes { AreBytes bytes.now }
@@ -128,7 +128,7 @@ fn word_of(bytes: &[u8]) -> Option<u64>
     Some(n)
 }
 
-/// The bytes behind the leading zeros, which are of the same number.
+/// Big-endian bytes without their leading zeros, which leaves the number the same.
 pub fn without_zeros(bytes: &[u8]) -> &[u8]
     ensures bytes { AreBytes result.now }
     ensures shortest { IsShortest result.now }

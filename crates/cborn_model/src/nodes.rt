@@ -1,4 +1,5 @@
-//! Nodes: data items as they are spelled.
+//! Nodes: data items as they are spelled, or as they would be, if an argument doesn't fit its
+//! width.
 
 use crate::{ByteString, Size, Width};
 use std::marker::Model;
@@ -10,7 +11,7 @@ pub struct Chunk {
     pub place: u64,
     /// The width of its head.
     pub width: Width,
-    /// Its content.
+    /// The content, without the head.
     pub bytes: ByteString,
 }
 
@@ -20,7 +21,7 @@ pub struct Chunk {
 pub struct Node {
     /// The offset of its head, in bytes from the start of the input.
     pub place: u64,
-    /// What stands there.
+    /// What is spelled at that offset.
     pub form: Form,
 }
 
@@ -43,8 +44,7 @@ pub enum Form {
     TextChunks(Vec<Chunk>),
     /// An array (major type 4): its elements, in order.
     Items(Size, Vec<Node>),
-    /// A map (major type 5): its pairs of a key and a value, in the order in which they are
-    /// written.
+    /// A map (major type 5): its pairs of a key and a value, in the order of the bytes.
     Pairs(Size, Vec<(Node, Node)>),
     /// A tag (major type 6): the width of its head, its number and its content.
     Tagged(Width, u64, Box<Node>),

@@ -1,4 +1,6 @@
-//! Orders of keys by their encodings (RFC 8949 sections 4.2.1 and 4.2.3).
+//! Orders of map keys by their encodings (RFC 8949 sections 4.2.1 and 4.2.3). An order is a type
+//! without values: generic code is compiled for each. A caller may add one, with a proof of its
+//! laws.
 
 ghost use Rattle.std.specs.Prelude.{◌≡◌, ℕ, List};
 ghost use Rattle.std.proofs.Common.{Ordering};
@@ -7,16 +9,16 @@ ghost use Rattle.cborn_model.specs.shared.OrderLaws.{bytewise_order, length_firs
 
 use std::cmp::Ordering;
 
-/// An order of keys by their encodings.
+/// An order of map keys by their encodings.
 pub trait KeyOrder {
-    /// How two lists of bytes compare.
+    /// How two encodings compare, as contracts see it.
     ghost order: { List ℕ → List ℕ → Ordering };
 
-    /// How `a` compares with `b`. Takes no memory.
+    /// How the encoding `a` compares with the encoding `b`. Takes no memory.
     fn compare(a: &[u8], b: &[u8]) -> Ordering
         ensures { result ≡ order a.now b.now };
 
-    /// Only equal lists tie; turning the arguments round turns the answer round; less than is
+    /// Only equal encodings tie; swapping the arguments reverses the answer; less than is
     /// transitive.
     ghost laws: { IsKeyOrder order };
 }
@@ -34,7 +36,7 @@ impl KeyOrder for Bytewise {
     ghost laws = { bytewise_order };
 }
 
-/// The shorter first, and equal lengths bytewise (RFC 8949 section 4.2.3).
+/// The shorter first, and those of equal length bytewise (RFC 8949 section 4.2.3).
 pub struct LengthFirst;
 
 impl KeyOrder for LengthFirst {

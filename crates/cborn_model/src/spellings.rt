@@ -1,4 +1,4 @@
-//! Nodes that spell bytes.
+//! Which nodes spell bytes, and [`Spelled`], a node that does.
 
 ghost use Rattle.std.specs.Prelude.{◌≡◌, ◌-◌, ◌^◌, ◌↔◌, min, length, IsTrue};
 ghost use Rattle.cborn_model.specs.Heads.{WidthFits, SizeFits};
@@ -8,7 +8,7 @@ ghost use Rattle.cborn_model.specs.Spelled.{Fits, FitsAll, FitsEntries, ChunksFi
 use crate::{Chunk, Form, Node, Size, Width, is_simple_value};
 use std::marker::Model;
 
-/// A node that spells some bytes and is at most 1,024 deep.
+/// A node that spells bytes, with a nesting depth of at most 1,024.
 #[derive(Drop)]
 pub struct Spelled {
     node: Node,
@@ -30,8 +30,8 @@ impl Model for Spelled {
 }
 
 impl Spelled {
-    /// Keeps `node`, which has to spell bytes and to be at most 1,024 deep: [`fits`] tells whether
-    /// it is so. Takes no memory.
+    /// Wraps `node`, which must spell bytes and be at most 1,024 deep ([`fits`] checks). Takes no
+    /// memory.
     pub fn new(node: Node) -> Spelled
         requires { IsSpelled node }
         ensures { result ≡ node }
@@ -47,7 +47,7 @@ impl Spelled {
         &self.node
     }
 
-    /// Gives the node back.
+    /// Unwraps the node.
     pub fn into_node(self) -> Node
         ensures same { result ≡ self }
         ensures spelled { IsSpelled self }
@@ -56,8 +56,8 @@ impl Spelled {
     }
 }
 
-/// How many arrays, maps and tags stand around the deepest part of `node`, or `u64::MAX` where that
-/// is more. Takes no memory.
+/// The nesting depth of `node`, in arrays, maps and tags, or `u64::MAX` if it is more. Takes no
+/// memory.
 #[cycle(depth)]
 pub fn depth(node: &Node) -> u64
     ensures { result ≡ min (depth node.now) (2 ^ 64 - 1) }
@@ -154,7 +154,7 @@ fn chunks_fit(chunks: &[Chunk]) -> bool
     true
 }
 
-/// Whether an array or a map of `n` entries may have this size.
+/// Whether the head of an array or a map of `n` entries can have this size.
 fn size_fits(size: Size, n: u64) -> bool
     ensures { IsTrue result ↔ SizeFits size n }
 {

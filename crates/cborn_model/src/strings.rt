@@ -1,11 +1,11 @@
-//! Lists of bytes as values.
+//! Byte strings as values.
 
 ghost use Rattle.std.specs.Prelude.{◌≡◌};
 ghost use Rattle.cborn_model.specs.Bytes.{AreBytes};
 
 use std::marker::Model;
 
-/// A list of bytes, which contracts see as that list.
+/// A list of bytes. Contracts see no capacity.
 #[derive(Drop)]
 pub struct ByteString {
     bytes: Vec<u8>,
@@ -20,7 +20,7 @@ impl Model for ByteString {
 }
 
 impl ByteString {
-    /// These bytes. Takes no memory.
+    /// Wraps these bytes. Takes no memory.
     pub fn new(bytes: Vec<u8>) -> ByteString
         ensures { result ≡ bytes.items }
     {
@@ -36,7 +36,7 @@ impl ByteString {
         bytes
     }
 
-    /// Gives the bytes back. Takes no memory.
+    /// Unwraps the bytes. Takes no memory.
     pub fn into_vec(self) -> Vec<u8>
         ensures { result.items ≡ self }
     {

@@ -1,4 +1,4 @@
-//! Items that are valid.
+//! Which items are valid, and [`Valid`], an item that is. Texts are UTF-8 by their type.
 
 ghost use Rattle.std.specs.Prelude.{◌≡◌, ◌-◌, ◌^◌, ◌<◌, ◌↔◌, min, map, length, string_bytes, IsTrue, IsUtf8};
 ghost use Rattle.cborn_model.specs.Bytes.{AreBytes, IsShortest};
@@ -10,7 +10,7 @@ use crate::comparisons::value_of;
 use crate::{ByteString, Item, Magnitude, Number, is_simple_value};
 use std::marker::Model;
 
-/// A valid item (RFC 8949 section 5.3), at most 1,024 deep.
+/// A valid item (RFC 8949 section 5.3), with a nesting depth of at most 1,024.
 #[derive(Drop)]
 pub struct Valid {
     item: Item,
@@ -33,8 +33,8 @@ impl Model for Valid {
 }
 
 impl Valid {
-    /// Keeps `item`, which has to be valid, and so at most 1,024 deep: [`is_valid`] tells whether
-    /// it is. Takes no memory.
+    /// Wraps `item`, which must be valid and at most 1,024 deep ([`is_valid`] checks). Takes no
+    /// memory.
     pub fn new(item: Item) -> Valid
         requires { IsValid (item_value item) }
         ensures { result ≡ item_value item }
@@ -50,7 +50,7 @@ impl Valid {
         &self.item
     }
 
-    /// Gives the item back.
+    /// Unwraps the item.
     pub fn into_item(self) -> Item
         ensures same { item_value result ≡ self }
         ensures valid { IsValid self }
@@ -61,15 +61,15 @@ impl Valid {
 
 /// Whether `item` is valid and at most 1,024 deep: magnitudes without leading zeros, no tag 2 or 3,
 /// no simple value from 24 to 31, and no two keys of a map the same (RFC 8949 sections 3.4.3 and
-/// 5.3). An integer outside 64 bits counts as one deep. Takes no memory. The keys of a map are
-/// compared each with each.
+/// 5.3). An integer outside 64 bits counts as one deep. Takes no memory. Compares the keys of a map
+/// each with each.
 pub fn is_valid(item: &Item) -> bool
     ensures { IsTrue result ↔ IsValid (item_value item.now) }
 {
     is_proper(item) && item_depth(item) <= 1024
 }
 
-/// Whether `item` is valid, however deep.
+/// Whether `item` is valid, at any depth.
 #[cycle(is_proper)]
 fn is_proper(item: &Item) -> bool
     ensures { IsTrue result ↔ IsProper (item_value item.now) }
@@ -127,7 +127,7 @@ fn has_new_keys(pairs: &[(Item, Item)]) -> bool
     true
 }
 
-/// Whether there is no leading zero: the type has the bounds.
+/// Whether there is no leading zero. Reading the number gives the prover the type's bounds.
 fn is_proper_magnitude(magnitude: &Magnitude) -> bool
     ensures { IsTrue result ↔ AreBytes magnitude.now × IsShortest magnitude.now × (length magnitude.now < 2 ^ 64) }
 {
@@ -135,7 +135,7 @@ fn is_proper_magnitude(magnitude: &Magnitude) -> bool
     magnitude.is_shortest()
 }
 
-/// Always: the type has the bounds.
+/// Always true. Reading the length gives the prover the type's bounds.
 fn is_proper_string(bytes: &ByteString) -> bool
     ensures { IsTrue result ↔ AreBytes bytes.now × (length bytes.now < 2 ^ 64) }
 {
@@ -143,7 +143,7 @@ fn is_proper_string(bytes: &ByteString) -> bool
     true
 }
 
-/// Always: the type has the bounds.
+/// Always true. Reading the length gives the prover the type's bounds.
 fn is_proper_text(text: &String) -> bool
     ensures { IsTrue result ↔ IsUtf8 (string_bytes text.now) × (length (string_bytes text.now) < 2 ^ 64) }
 {
@@ -151,7 +151,7 @@ fn is_proper_text(text: &String) -> bool
     true
 }
 
-/// How deep `item` is, or `u64::MAX` where that is more.
+/// The nesting depth of `item`, or `u64::MAX` if it is more.
 #[cycle(item_depth)]
 fn item_depth(item: &Item) -> u64
     ensures { result ≡ min (value_depth (item_value item.now)) (2 ^ 64 - 1) }

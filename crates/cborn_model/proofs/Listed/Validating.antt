@@ -56,7 +56,7 @@ given_in_front k v zero ps g = absurd g
 given_in_front k v (suc n) [] g = g
 given_in_front k v (suc n) (p ∷ ps) g = elim g [ inl s ↦ inl s | inr s ↦ inr (given_in_front k v n ps s) ]
 
--- so no key has a value that is given behind it
+-- so no key has a value that is given after it
 pub given_behind_head : (v : Value) (n : ℕ) (ps : List (Item × Item)) (x : Item × Item) → 0 < length ps → x ≡ get_or ps 0 x → HasNewKeys (pairs_of (pairs ps)) → Gives (item_value x.0) v (pairs (take n (drop 1 ps))) → ⊥
 given_behind_head v n [] x l e h g = absurd (omega arith)
 given_behind_head v n (p ∷ ps) x l e h g =

@@ -12,7 +12,7 @@ abbrev pub AllHave : Couples → List (Value × Value) → Type 0
 AllHave no_pairs qs = Unit {0}
 AllHave (pair k v ps) qs = HasPair (k, v) qs × AllHave ps qs
 
--- the pair that is found, and what stands before and behind it
+-- the pair that is found, and what is before and after it
 record Found (p : Value × Value) (qs : List (Value × Value)) : Type 0 where
   pub front : List (Value × Value)
   pub back : List (Value × Value)

@@ -71,7 +71,7 @@ leaf (inr (inr (inr n))) = simple n
 abbrev value_first : List Value → Value
 value_first a = first (simple 0) a
 
--- the item that marks make, beside the items, lists and pairs that were made before
+-- the item that marks make, next to the items, lists and pairs that were made before
 abbrev made : List Mark → List Value → List Values → List Couples → Value
 made [] a b c = value_first a
 made (inl l ∷ ms) a b c = made ms (leaf l ∷ a) b c

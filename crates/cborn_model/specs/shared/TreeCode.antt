@@ -93,7 +93,7 @@ leaf p (inr (inr (inr (inr (inr (inr x)))))) = Simple p x
 abbrev tree_first : List Tree → Tree
 tree_first a = first (Simple 0 0) a
 
--- the tree that marks make, beside the trees, lists and pairs that were made before
+-- the tree that marks make, next to the trees, lists and pairs that were made before
 abbrev made : List Mark → List Tree → List Trees → List Entries → Tree
 made [] a b c = tree_first a
 made (inl m ∷ ms) a b c = made ms (leaf m.0 m.1 ∷ a) b c
