@@ -8,11 +8,11 @@ use Rattle.cborn_wire.specs.declared.faults.WireReason.TheVariants.{ReservedInfo
 abbrev pub IsWellformed : ℕ → List ℕ → Type 0
 IsWellformed limit x = (ts : Trees) × Wellformed limit ts x
 
--- some bytes behind f make it well-formed
+-- some bytes after f make it well-formed
 abbrev pub GoesOn : ℕ → List ℕ → Type 0
 GoesOn limit f = (y : List ℕ) × IsWellformed limit (f ++ y)
 
--- A head begins behind f: 0xfc may stand anywhere in an argument and in a string, but begins no head, since its additional information 28 is reserved (RFC 8949 section 3).
+-- A head begins after f: 0xfc can be in an argument and in a string, but begins no head, since its additional information 28 is reserved (RFC 8949 section 3).
 abbrev pub BeginsHead : ℕ → List ℕ → Type 0
 BeginsHead limit f = GoesOn limit f × (GoesOn limit (f ++ 0xfc ∷ []) → ⊥)
 
@@ -20,7 +20,7 @@ BeginsHead limit f = GoesOn limit f × (GoesOn limit (f ++ 0xfc ∷ []) → ⊥)
 abbrev pub judged : ℕ → List ℕ → List ℕ
 judged b y = b ∷ (if b == 0xf8 then take 1 y else [])
 
--- Why a head may not stand where it stands: the first line that applies to its major type m and its additional information i, the high three and the low five bits of its initial byte. `chunk`: it stands in a string of indefinite length, which has definite strings of its kind alone (section 3.2.3). Integers and tags have no indefinite length (section 3.2).
+-- Why a head isn't allowed where it is: the first line that applies to its major type m and its additional information i, the high three and the low five bits of its initial byte. `chunk`: it is in a string of indefinite length, which has definite strings of its kind alone (section 3.2.3). Integers and tags have no indefinite length (section 3.2).
 abbrev pub reason_of : Bool → ℕ → ℕ → WireReason
 reason_of chunk m i =
     if nat_le 28 i && nat_le i 30 then ReservedInfo
@@ -31,13 +31,13 @@ reason_of chunk m i =
     else if nat_le 7 m && i == 24 then BadSimple
     else TooDeep
 
--- A chunk stands behind f exactly if no integer may: 0x00 is one, and stands wherever another item does.
+-- A chunk is next after f exactly if no integer may be: 0x00 is one, and is allowed wherever another item is.
 abbrev pub IsReason : ℕ → List ℕ → ℕ → WireReason → Type 0
 IsReason limit f b r =
     (GoesOn limit (f ++ 0x00 ∷ []) × (r ≡ reason_of false (b / 32) (b % 32)))
     ⊎ ((GoesOn limit (f ++ 0x00 ∷ []) → ⊥) × (r ≡ reason_of true (b / 32) (b % 32)))
 
--- the head at p may not stand there
+-- the head at p isn't allowed there
 abbrev pub Refused : ℕ → List ℕ → ℕ → WireReason → Type 0
 Refused limit x p r =
     (f : List ℕ) × (b : ℕ) × (y : List ℕ) × (x ≡ f ++ b ∷ y) × (length f ≡ p)

@@ -1,4 +1,4 @@
--- What a reader that is fed by pieces has to give.
+-- What a reader that is fed in pieces has to give.
 use Rattle.std.specs.Prelude.{◌≡◌, ℕ, ◌+◌, ◌≤◌, List, [], ◌++◌, length, Option, Some, None, Result, Ok, Err}
 use Rattle.cborn_model.specs.Tree.{Tree, trees}
 use Rattle.cborn_model.specs.Spelled.{Wellformed}
@@ -8,7 +8,7 @@ use Rattle.cborn_wire.specs.declared.faults.WireFault.TheVariants as faults
 use Rattle.cborn_wire.specs.declared.faults.WireReason.{WireReason}
 use Rattle.cborn_wire.specs.Faults.{Refused}
 
--- The items are those of the longest front of x that is well-formed, and stand one after another from p on. What follows them in x is the rest.
+-- The items are those of the longest front of x that is well-formed, one after another from p on. What follows them in x is the rest.
 pub record AreComplete (limit p : ℕ) (items : List Tree) (x : List ℕ) : Type 0 where
   pub front : List ℕ
   pub rest : List ℕ
@@ -17,7 +17,7 @@ pub record AreComplete (limit p : ℕ) (items : List Tree) (x : List ℕ) : Type
   pub placed : PlacedAll p (trees items)
   pub longest : (f y : List ℕ) (others : List Tree) → x ≡ f ++ y → Wellformed limit (trees others) f → length f ≤ length front
 
--- What a feeder tells: its limit, how many bytes it accepted, the bytes that it holds, which are those from the first item on that was not taken, the items to take, and the fault for which it refused a piece. What it holds counts until then.
+-- What contracts see of a feeder: its limit, the number of bytes that it accepted, the bytes from the first item on that wasn't taken, the items to take, and the fault for which it refused a piece. After that the bytes mean nothing.
 pub record Feeding : Type 0 where
   pub limit : ℕ
   pub fed : ℕ
@@ -25,11 +25,11 @@ pub record Feeding : Type 0 where
   pub items : List Tree
   pub fault : Option WireFault
 
--- a feeder that was handed nothing
+-- a feeder that was fed nothing
 abbrev pub fresh : ℕ → Feeding
 fresh limit = record { limit = limit; fed = 0; held = []; items = []; fault = None }
 
--- The bytes held are the last of those that were accepted, and the items to take are those that stand whole at their front.
+-- The bytes held are the last of those that were accepted, and the items to take are those that are complete at their front.
 abbrev pub IsFed : Feeding → Type 0
 IsFed f = (base : ℕ) × (f.fed ≡ base + length f.held) × AreComplete f.limit base f.items f.held
 
@@ -51,7 +51,7 @@ RunsShort piece f g =
     (base : ℕ) × (new : List Tree) × (lost : List Tree) × (f.fed ≡ base + length f.held)
     × (g.items ≡ f.items ++ new) × AreComplete f.limit base (g.items ++ lost) (f.held ++ piece)
 
--- f, which has refused no piece, is handed this one, and is then g.
+-- f, which has refused no piece, is fed this one, and is then g.
 abbrev pub Feeds : List ℕ → Feeding → Result (Unit {0}) WireFault → Feeding → Type 0
 Feeds piece f (Ok _) g = Accepts piece f g
 Feeds piece f (Err (faults.Refused p r)) g =

@@ -1,4 +1,4 @@
--- What stands at the front of some bytes, read as a head (RFC 8949 section 3).
+-- What is at the front of some bytes, read as a head (RFC 8949 section 3).
 use Rattle.std.specs.Prelude.{◌≡◌, ℕ, ◌<◌, List, ◌++◌, length, Option, Some, None}
 use Rattle.cborn_model.specs.declared.heads.Size.{Size}
 use Rattle.cborn_model.specs.declared.heads.Size.TheVariants.{Fixed, Endless}
@@ -28,7 +28,7 @@ abbrev pub ArgumentFits : heads.Argument → Type 0
 ArgumentFits (Given w n) = WidthFits w n
 ArgumentFits Unbounded = Unit {0}
 
--- The first line of the table of faults that applies to these bytes wherever an item or a break may stand: a reserved information, an indefinite length that isn't allowed, a float, a bad simple value.
+-- The first line of the table of faults that applies to these bytes wherever an item or a break is allowed: a reserved information, an indefinite length that isn't allowed, a float, a bad simple value.
 abbrev pub reason_alone : List ℕ → Option WireReason
 reason_alone = reason_at 1 element_or_end 0
 
@@ -51,7 +51,7 @@ pub record IsFrontOfHead (x : List ℕ) : Type 0 where
   pub some : 0 < length missing
   pub free : reason_alone x ≡ None
 
--- this is what stands at the front of x
+-- this is at the front of x
 abbrev pub ReadsHead : List ℕ → HeadRead → Type 0
 ReadsHead x (Full h n) = IsHeadOf x h n
 ReadsHead x Short = IsFrontOfHead x

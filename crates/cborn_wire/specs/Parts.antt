@@ -73,6 +73,6 @@ pub record PairsRead (P : List Pair → Type 0) (room n : ℕ) (input rest : Lis
   pub holds : P nodes
   pub count : length nodes ≡ n
 
--- P holds of some rest, which has so many bytes
+-- P holds of some rest, which has this many bytes
 abbrev pub Leaves : (List ℕ → Type 0) → ℕ → Type 0
 Leaves P len = (rest : List ℕ) × (length rest ≡ len) × P rest

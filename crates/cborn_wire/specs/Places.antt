@@ -1,4 +1,4 @@
--- Nodes as they would stand at a place: two lists of nodes are the same, places aside, exactly if they are the same at each place.
+-- Nodes moved to an offset. Two lists of nodes are equal but for their offsets exactly if they are equal once moved to one offset.
 use Rattle.std.specs.Prelude.{ℕ, suc, ◌+◌, List, [], ◌∷◌, length}
 use Rattle.cborn_model.specs.declared.nodes.Chunk.{Chunk}
 use Rattle.cborn_model.specs.declared.heads.Major.{Major}

@@ -1,4 +1,4 @@
--- Faults by slots: at which heads bytes stop being well-formed, told by a table over what is open where a head stands. `Refused` in `Faults` says the same without slots: that is the law `faults_by_slots`.
+-- Faults by slots: at which heads bytes stop being well-formed, by a table over what is open around a head. `Refused` in `Faults` says it without slots: that both agree is the law `faults_by_slots`.
 use Rattle.std.specs.Prelude.{◌≡◌, ℕ, ◌/◌, ◌%◌, List, [], ◌∷◌, ◌++◌, length, Bool, true, false, ◌&&◌, ◌||◌, not, if◌then◌else◌, nat_lt, nat_le, ◌==◌, Option, Some, None}
 use Rattle.cborn_model.specs.Heads.{code}
 use Rattle.cborn_wire.specs.declared.faults.WireReason.{WireReason}
@@ -15,7 +15,7 @@ abbrev pub is_bad_chunk : Slot → ℕ → ℕ → Bool
 is_bad_chunk (chunk k) m i = not (is_break m i || (m == code (major_of k) && not (i == 31)))
 is_bad_chunk _ m i = false
 
--- an item has to stand here, and no break
+-- an item is needed here, and no break is allowed
 abbrev pub needs_item : Slot → Bool
 needs_item item = true
 needs_item value = true
@@ -25,7 +25,7 @@ abbrev pub begins_low : List ℕ → Bool
 begins_low [] = false
 begins_low (b ∷ y) = nat_lt b 32
 
--- The table of faults: the first line that applies to an initial byte in the slot s, with y behind it. `full`: as many arrays, maps and tags are open around the slot as the limit allows. Integers and tags have no indefinite form (RFC 8949 section 3.2), and a simple value below 32 none of two bytes (section 3.3).
+-- The table of faults: the first line that applies to an initial byte in the slot s, with y after it. `full`: as many arrays, maps and tags are open around the slot as the limit allows. Integers and tags have no indefinite form (RFC 8949 section 3.2), and a simple value below 32 none of two bytes (section 3.3).
 abbrev pub reason_of : Slot → Bool → ℕ → ℕ → List ℕ → Option WireReason
 reason_of s full m i y =
     if nat_le 28 i && nat_le i 30 then Some ReservedInfo
@@ -37,11 +37,11 @@ reason_of s full m i y =
     else if nat_le 4 m && nat_le m 6 && full then Some TooDeep
     else None
 
--- the same for the head at the front of these bytes, in the slot s inside k arrays, maps and tags
+-- the reason for the head at the front of these bytes, in the slot s inside k arrays, maps and tags
 abbrev pub reason_at : ℕ → Slot → ℕ → List ℕ → Option WireReason
 reason_at limit s k [] = None
 reason_at limit s k (b ∷ y) = reason_of s (nat_le limit k) (b / 32) (b % 32) y
 
--- the head at p may not stand in its slot
+-- the head at p isn't allowed in its slot
 abbrev pub SlotRefused : ℕ → List ℕ → ℕ → WireReason → Type 0
 SlotRefused limit x p r = (f : List ℕ) × (y : List ℕ) × (s : Slot) × (k : ℕ) × (x ≡ f ++ y) × (length f ≡ p) × Open limit f s k × (reason_at limit s k y ≡ Some r)

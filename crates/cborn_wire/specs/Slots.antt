@@ -1,4 +1,4 @@
--- Where the next head may stand: the slots, and the fronts of inputs that end at one.
+-- What may come next: the slots, and the fronts of inputs that end at one.
 use Rattle.std.specs.Prelude.{◌≡◌, ℕ, suc, ◌+◌, ◌<◌, ◌≤◌, List, [], ◌∷◌, ◌++◌}
 use Rattle.cborn_model.specs.declared.heads.Width.{Width}
 use Rattle.cborn_model.specs.declared.nodes.Chunk.{Chunk}
@@ -16,12 +16,12 @@ abbrev pub major_of : StringKind → Major
 major_of OfBytes = ByteString
 major_of OfText = TextString
 
--- Where a head stands. `item`: at the top, in a definite array, as a key of a definite map, as a tag's content. `value`: a map's value, in either kind of map. `element_or_end`: in an indefinite array. `key_or_end`: a key of an indefinite map. `chunk`: in an indefinite string.
+-- Where a head is. `item`: at the top, in a definite array, as a key of a definite map, as a tag's content. `value`: a map's value, in either kind of map. `element_or_end`: in an indefinite array. `key_or_end`: a key of an indefinite map. `chunk`: in an indefinite string.
 pub data Slot : Type 0 where
   item value element_or_end key_or_end : Slot
   chunk : StringKind → Slot
 
--- What has begun and not ended, with the whole parts that it has so far. The first number of each is its place.
+-- An open container with its complete parts so far: its head was read, and its end wasn't. The first number of each is the offset of its head.
 pub data Begun : Type 0 where
   begun_items : ℕ → Argument → Trees → Begun
   begun_pairs : ℕ → Argument → Entries → Begun
@@ -85,6 +85,6 @@ abbrev pub AreBegun : ℕ → List Begun → Type 0
 AreBegun limit [] = Unit {0}
 AreBegun limit (o ∷ os) = MayBegin limit (open_depth os) o × IsNoChunk (slot os) × AreBegun limit os
 
--- The front f of some input ends at the slot s inside k open arrays, maps and tags: it is whole items, and the beginnings of what is open at its end.
+-- The front f of some input ends at the slot s inside k open arrays, maps and tags: it is complete items, and the beginnings of what is open at its end.
 abbrev pub Open : ℕ → List ℕ → Slot → ℕ → Type 0
 Open limit f s k = (ts : Trees) × (os : List Begun) × FitsAll ts × (depth_all ts ≤ limit) × AreBegun limit os × (f ≡ spelled_all ts ++ beginnings os) × (s ≡ slot os) × (k ≡ open_depth os)

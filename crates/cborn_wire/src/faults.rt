@@ -1,4 +1,4 @@
-//! Why bytes are not well-formed.
+//! Why bytes are not well-formed (RFC 8949 section 3 and appendix C).
 
 ghost use Rattle.std.specs.Prelude.{◌≡◌};
 ghost use Rattle.cborn_wire.specs.declared.faults.WireFault.TheVariants.{OutOfMemory};
@@ -6,40 +6,40 @@ ghost use Rattle.cborn_wire.specs.declared.faults.WireFault.TheVariants.{OutOfMe
 use std::alloc::{AllocError, AllocFailed};
 use thiserror::Error;
 
-/// Why a head may not stand where it stands, or what is missing. docs/LIBRARY.md numbers the
-/// reasons in this order, and no number ever changes: a new one stands last.
+/// What is wrong with a head, or that more must follow. docs/LIBRARY.md numbers the reasons in this
+/// order. No number ever changes: a new reason goes last.
 #[derive(Clone, Copy, PartialEq, Eq, Debug, Error)]
 pub enum WireReason {
-    /// The additional information is 28, 29 or 30.
+    /// The additional information is 28, 29 or 30, which is reserved.
     #[error("reserved additional information")]
     ReservedInfo,
-    /// An indefinite length at an integer or a tag.
+    /// An integer or a tag of indefinite length.
     #[error("indefinite length not allowed")]
     EndlessNotAllowed,
-    /// Neither a break nor a definite string of the same kind, in an indefinite string.
+    /// In an indefinite string, neither a break nor a definite string of the same kind.
     #[error("bad chunk")]
     BadChunk,
-    /// A break where an item has to stand.
+    /// A break where an item is needed.
     #[error("unexpected break")]
     UnexpectedBreak,
-    /// A float.
+    /// A float, which is never accepted.
     #[error("float left out")]
     FloatLeftOut,
-    /// A simple value below 32 in two bytes.
+    /// A simple value below 32 in two bytes (RFC 8949 section 3.3).
     #[error("bad simple")]
     BadSimple,
     /// An array, a map or a tag inside as many as the limit allows.
     #[error("too deep")]
     TooDeep,
-    /// The input ends where something must still follow.
+    /// The input ends where more must follow.
     #[error("truncated")]
     Truncated,
 }
 
-/// Why no items were read.
+/// Why items could not be read.
 #[derive(Clone, Copy, PartialEq, Eq, Debug, Error)]
 pub enum WireFault {
-    /// The bytes are not well-formed. `place` is the offset of the head that may not stand there,
+    /// The bytes are not well-formed. `place` is the offset of the head that isn't allowed there,
     /// in bytes from the start of the input; for `Truncated` it is the input's length.
     #[error("offset {place}: {reason}")]
     Refused { place: u64, reason: WireReason },

@@ -1,4 +1,4 @@
-//! A reader that is fed by pieces.
+//! The [`Feeder`], a reader of input that comes in pieces.
 
 use crate::stacks::Stack;
 use crate::{WireFault, WireReason};
@@ -6,10 +6,10 @@ use cborn_model::{Limit, Spelled};
 use std::alloc::Global;
 use std::marker::Model;
 
-/// Reads a sequence of items (RFC 8742) that comes in pieces, cut anywhere. What it keeps of the
-/// bytes is the items to take and the unfinished item; nothing is reserved by a length or a count
-/// that the bytes declare. A piece costs time in proportion to its length, and to take an item
-/// costs no more than moving it.
+/// Reads a sequence of items (RFC 8742) that comes in pieces, cut anywhere. Keeps only the
+/// unfinished item and the complete ones that weren't taken, and reserves nothing by a length or a
+/// count that the bytes declare. Feeding takes time in proportion to a piece's length, and taking
+/// an item costs no more than moving it.
 #[derive(Drop)]
 pub struct Feeder {
     fed: u64,
@@ -43,8 +43,7 @@ impl Feeder {
     ghost use Rattle.cborn_wire.specs.Faults.{Fault};
     ghost use Rattle.cborn_wire.specs.Feeding.{fresh, IsFed, Feeds};
 
-    /// A feeder to which nothing was fed, and which allows `limit` arrays, maps and tags around one
-    /// another. Takes no memory.
+    /// A feeder that was fed nothing, for the maximum nesting depth `limit`. Takes no memory.
     pub fn new(alloc: Global, limit: Limit) -> Feeder
         ensures { result ≡ fresh limit }
     {
@@ -54,22 +53,22 @@ impl Feeder {
         }
     }
 
-    /// The number of bytes in the pieces that were accepted.
+    /// The number of bytes in all pieces that were accepted.
     pub fn fed(&self) -> u64
         ensures { result ≡ self.now.fed }
     {
         self.fed
     }
 
-    /// Takes a piece, the next bytes of the input: all that were fed with it may be at most 2^64-1
+    /// Reads `piece`, the next bytes of the input. All pieces together may have at most 2^64-1
     /// bytes.
     ///
     /// # Errors
     ///
-    /// The piece is refused, at the offset of the head in the whole input, where a head in it may
-    /// stand in no well-formed input that begins so; `OutOfMemory` where memory was. After either,
-    /// this and each later call answers that same fault, `fed` stays as it is, and the items that
-    /// were complete before the fault's place are still to take (where memory was refused, some of
+    /// `Refused` if a head in the piece isn't allowed where it is (no well-formed input begins so),
+    /// at its offset from the start of the input. `OutOfMemory` if memory is refused. After either,
+    /// this and each later call answers the same fault, [`Feeder::fed`] stays as it is, and the
+    /// items that were complete before the fault can still be taken (after `OutOfMemory` some of
     /// them).
     pub fn feed(&mut self, piece: &[u8]) -> Result<(), WireFault>
         requires { self.old.fed + length piece.now < 2 ^ 64 }
@@ -84,7 +83,7 @@ impl Feeder {
         Ok(())
     }
 
-    /// The first complete item that was not yet taken. Takes no memory.
+    /// The first complete item that wasn't yet taken, if there is one. Takes no memory.
     pub fn take(&mut self) -> Option<Spelled>
         ensures first { self.old.items ≡ option_to_list result ++ self.new.items }
         ensures none { result ≡ None → self.old.items ≡ [] }
@@ -95,12 +94,12 @@ impl Feeder {
         self.stack.pop_item()
     }
 
-    /// The complete items that were not yet taken, where the input ends here. Takes no memory.
+    /// Ends the input, and gives the complete items that weren't yet taken. Takes no memory.
     ///
     /// # Errors
     ///
-    /// `Truncated`, at the input's length, where an item is unfinished, and the fault of an earlier
-    /// refusal.
+    /// `Truncated`, at the input's length, if an item is unfinished; the fault of an earlier
+    /// refusal, if there was one.
     pub fn finish(self) -> Result<Vec<Spelled>, WireFault>
         ensures items { self.fault ≡ None → IfOk result (λ v. (v.items ≡ self.items) × Wellformed self.limit (trees self.items) self.held) }
         ensures cut { self.fault ≡ None → OnErr result ((result ≡ Err (Refused self.fed Truncated)) × Fault self.limit self.held (length self.held) Truncated) }

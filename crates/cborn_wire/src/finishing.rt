@@ -1,6 +1,6 @@
-//! What becomes of a whole item. The commonest cases are inlined where an item is read, and the
-//! others stand apart: a function pays at its start for all its locals, also for those of a case
-//! that does not come.
+//! What becomes of a complete item. The commonest cases are inlined where an item is read. The
+//! others are functions of their own, since a function pays at its start for the locals of all its
+//! cases.
 
 ghost use Rattle.std.specs.Prelude.{◌≡◌, IsSome, vec_len};
 ghost use Rattle.cborn_model.specs.Tree.{no_item};
@@ -13,8 +13,8 @@ use crate::nests::{Nest, Outcome};
 use cborn_model::{Node, push_doubling};
 
 impl Nest {
-    /// Puts a whole item, which ends at `at`, into what is open. The most stand in an array that
-    /// goes on, or have nothing around them: those are put away here, and the others apart.
+    /// Puts a complete item, which ends at the offset `at`, into the innermost open container. Most
+    /// are outside of any, or in an array that goes on: those are dealt with here.
     #[inline(always)]
     pub(crate) fn put_in(&mut self, at: u64, node: Node) -> Result<Outcome, WireFault>
         ensures { Gives (finished at no_item (opened self.old) node) at self.new result }
@@ -36,7 +36,8 @@ impl Nest {
         self.settle(at, node)
     }
 
-    /// Any whole item. Where what it stands in is whole with it, that is an item too.
+    /// Puts a complete item into the innermost open container. If that completes the container, it
+    /// is put into the next one, and so on.
     #[inline(never)]
     fn settle(&mut self, at: u64, node: Node) -> Result<Outcome, WireFault>
         ensures { Gives (finished at no_item (opened self.old) node) at self.new result }
@@ -51,8 +52,8 @@ impl Nest {
         Ok(Outcome::Whole(node))
     }
 
-    /// Puts a whole item into the innermost of what is open: none where that stays open, else the
-    /// node that it is, which is taken off.
+    /// Puts a complete item into the innermost open container. If that completes the container, it
+    /// is removed and given back as a node; else `None`.
     fn put_in_innermost(&mut self, at: u64, node: Node) -> Result<Option<Node>, WireFault>
         requires { IsSome self.old.top }
         ensures { PutLeaves (finished at no_item (opened self.old) node) at self.old self.new result }
@@ -69,7 +70,7 @@ impl Nest {
         }
     }
 
-    /// Takes the innermost of what is open off.
+    /// Removes the innermost open container.
     #[inline(never)]
     pub(crate) fn leave(&mut self)
         ensures open { opened self.new ≡ around self.old }

@@ -1,4 +1,5 @@
-//! What a reader has begun and not ended.
+//! What is open while an input is read. An *open container* is an array, a map, a tag or an
+//! indefinite string whose head was read and whose end wasn't.
 
 ghost use Rattle.std.specs.Prelude.{ℕ, ◌≡◌};
 ghost use Rattle.cborn_wire.specs.Slots.{levels, slot_in};
@@ -9,15 +10,14 @@ use crate::{Argument, WireFault, WireReason};
 use cborn_model::{Chunk, Form, Node, Size, Width, push_doubling};
 use std::alloc::Global;
 
-/// The two kinds of string.
+/// Byte strings and text strings.
 #[derive(Clone, Copy)]
 pub(crate) enum StringKind {
     Bytes,
     Text,
 }
 
-/// An array, a map, a tag or an indefinite string that has begun, with its whole parts so far.
-/// `place` is the offset of its head.
+/// An open container with its complete parts so far. `place` is the offset of its head.
 #[derive(Drop)]
 pub(crate) enum Frame {
     Items {
@@ -25,7 +25,7 @@ pub(crate) enum Frame {
         argument: Argument,
         items: Vec<Node>,
     },
-    /// `key` is one whose value is missing.
+    /// `key` is a key whose value is missing.
     Pairs {
         place: u64,
         argument: Argument,
@@ -44,11 +44,11 @@ pub(crate) enum Frame {
     },
 }
 
-/// A head or a string of which a part came. `place` is the offset of its head.
+/// A head or a definite string that came in part. `place` is the offset of its head.
 #[derive(Drop)]
 pub(crate) enum Partial {
     Nothing,
-    /// The first `len` of `bytes` follow the initial byte.
+    /// The initial byte came, and after it the first `len` of `bytes`.
     Argument {
         place: u64,
         major: u8,
@@ -56,7 +56,7 @@ pub(crate) enum Partial {
         bytes: [u8; 8],
         len: usize,
     },
-    /// A string of `len` bytes, and those that came.
+    /// The head of a string of `len` bytes came, and these bytes of its content.
     Content {
         place: u64,
         kind: StringKind,
@@ -67,8 +67,8 @@ pub(crate) enum Partial {
 }
 
 impl Frame {
-    /// Puts a whole item that ends at `at` into what is open: the node that is whole with it, or
-    /// none where the frame stays open.
+    /// Puts a complete item that ends at the offset `at` into this container: the container's node
+    /// if that completes it, `None` if it stays open.
     pub(crate) fn put(
         &mut self,
         alloc: Global,
@@ -106,7 +106,7 @@ impl Frame {
         }
     }
 
-    /// The node that a break makes whole, or none where a break may not stand.
+    /// The node that a break completes; `None` if no break is allowed.
     pub(crate) fn close(self) -> Option<Node>
         ensures { Closes self result }
     {
@@ -149,7 +149,7 @@ impl Frame {
         }
     }
 
-    /// How many arrays, maps and tags it is.
+    /// How much it adds to the nesting depth: an indefinite string adds nothing.
     pub(crate) fn levels(&self) -> u64
         ensures { result ≡ levels (seen_frame self.now) }
     {
@@ -159,7 +159,6 @@ impl Frame {
         }
     }
 
-    /// Where its next part stands.
     pub(crate) fn slot(&self) -> Slot
         ensures { seen_slot result ≡ plain (slot_in (seen_frame self.now)) }
     {
@@ -176,7 +175,7 @@ impl Frame {
     }
 }
 
-/// Puts an item into an open array at `place`: the array, where it is whole with that.
+/// Appends an item to an open array at `place`: the array's node if that completes it.
 fn put_item(
     alloc: Global,
     place: u64,
@@ -195,8 +194,8 @@ fn put_item(
     Ok(Some(Node { place, form }))
 }
 
-/// Puts a key, or the value of `key`, into an open map at `place`: the map, where it is whole with
-/// that.
+/// Adds a key, or the value of `key`, to an open map at `place`: the map's node if that completes
+/// it.
 fn put_key_or_value(
     alloc: Global,
     place: u64,

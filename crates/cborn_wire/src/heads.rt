@@ -1,5 +1,5 @@
-//! Heads: an initial byte, with the major type in its high three bits and the additional
-//! information in its low five, and the bytes of an argument behind it (RFC 8949 section 3).
+//! Reading and writing heads (RFC 8949 section 3): an initial byte, with the major type in its high
+//! three bits and the additional information in its low five, and then the bytes of the argument.
 
 ghost use Rattle.std.specs.Prelude.{◌≡◌, ◌≤◌, ◌<◌, ◌++◌, ◌+◌, ◌*◌, ◌%◌, [], ◌∷◌, ◌/◌, ℕ, List, length, ◌&&◌, take, MatchOption, OnOk, OnErr};
 ghost use Rattle.std.specs.Int.{w64, from_be_bytes};
@@ -17,17 +17,17 @@ use crate::refusals::Slot;
 use cborn_model::{Major, Size, Width};
 use std::alloc::AllocError;
 
-/// What a head says beside its major type.
+/// What a head says besides its major type.
 #[derive(Clone, Copy, PartialEq, Eq, Debug)]
 pub enum Argument {
     /// An argument, and the width of the head that holds it.
     Given(Width, u64),
-    /// That the length is indefinite.
+    /// An indefinite length.
     Endless,
 }
 
 impl Argument {
-    /// The array or the map that this announces is whole with `count` items or pairs.
+    /// Whether an array or a map with this argument is complete with `count` elements or pairs.
     pub(crate) fn is_met(&self, count: usize) -> bool
         ensures { result ≡ is_full (seen_argument self.now) count }
     {
@@ -37,7 +37,7 @@ impl Argument {
         }
     }
 
-    /// Where an item of the array, or a key of the map, that this announces stands.
+    /// What may come next as an element of an array, or a key of a map, with this argument.
     pub(crate) fn slot(&self) -> Slot
         ensures { seen_slot result ≡ element_slot (seen_argument self.now) }
     {
@@ -63,7 +63,7 @@ impl Argument {
 pub struct Head {
     /// The major type, from 0 to 7.
     pub major: u8,
-    /// What the head says beside it.
+    /// What the head says besides the major type.
     pub argument: Argument,
 }
 
@@ -77,20 +77,20 @@ impl Head {
     }
 }
 
-/// What stands at the front of some bytes.
+/// What is read at the front of some bytes.
 #[derive(Clone, Copy, PartialEq, Eq, Debug)]
 pub enum HeadRead {
     /// A head, and its length in bytes, from 1 to 9.
     Full(Head, usize),
-    /// The front of a head, or nothing.
+    /// The front of a head, or no byte at all.
     Short,
     /// No head of a data item, whatever follows.
     Bad(WireReason),
 }
 
 /// The head at the front of `bytes`; what follows it isn't looked at. It is `Bad` for the reasons
-/// that hold wherever an item or a break may stand: `ReservedInfo`, `EndlessNotAllowed`,
-/// `FloatLeftOut` and `BadSimple` (RFC 8949 sections 3, 3.2.1 and 3.3).
+/// that hold whatever is around the head: `ReservedInfo`, `EndlessNotAllowed`, `FloatLeftOut` and
+/// `BadSimple` (RFC 8949 sections 3, 3.2.1 and 3.3).
 #[inline]
 pub fn read_head(bytes: &[u8]) -> HeadRead
     ensures { ReadsHead bytes.now result }
@@ -98,9 +98,9 @@ pub fn read_head(bytes: &[u8]) -> HeadRead
     read_head_by(false, bytes)
 }
 
-/// The head at the front of `bytes`, as `read_head` answers it. Quicker where heads of several
-/// widths follow one another, as in an array of integers of mixed sizes, and slower elsewhere: it
-/// shifts the argument out of eight bytes, where `read_head` branches by its width.
+/// The head at the front of `bytes`, with the answers of [`read_head`]. Quicker where widths vary
+/// from head to head, as in an array of integers of mixed sizes, and slower elsewhere: the argument
+/// is shifted out of eight bytes, where `read_head` branches by its width.
 #[inline]
 pub fn read_mixed_head(bytes: &[u8]) -> HeadRead
     ensures { ReadsHead bytes.now result }
@@ -108,7 +108,7 @@ pub fn read_mixed_head(bytes: &[u8]) -> HeadRead
     read_head_by(true, bytes)
 }
 
-/// Both of them. `mixed` is a constant where it is called.
+/// `read_mixed_head` or `read_head`. `mixed` is a constant at each call.
 #[inline(always)]
 fn read_head_by(mixed: bool, bytes: &[u8]) -> HeadRead
     ensures { ReadsHead bytes.now result }
@@ -137,7 +137,6 @@ fn read_head_by(mixed: bool, bytes: &[u8]) -> HeadRead
     }
 }
 
-/// The head of this major type.
 #[inline(always)]
 fn head_of(major: Major, argument: Argument) -> Head
     ensures { result ≡ record { major = code major; argument = argument } }
@@ -146,7 +145,7 @@ fn head_of(major: Major, argument: Argument) -> Head
     Head { major, argument }
 }
 
-/// A head whose argument is the first `len` bytes of `rest`.
+/// Reads a head whose argument is the first `len` bytes of `rest`.
 #[inline(always)]
 fn read_wide(mixed: bool, major: Major, width: Width, len: usize, rest: &[u8]) -> HeadRead
     requires { len ≡ width_bytes width }
@@ -161,8 +160,8 @@ fn read_wide(mixed: bool, major: Major, width: Width, len: usize, rest: &[u8]) -
     }
 }
 
-/// A head of major type 7 whose argument follows the initial byte: of a float, or of a simple
-/// value.
+/// Reads a head of major type 7, of a float or a simple value, whose argument follows the initial
+/// byte.
 fn read_other(information: u8, rest: &[u8]) -> HeadRead
     requires least { 24 ≤ information }
     requires most { information ≤ 27 }
@@ -174,7 +173,8 @@ fn read_other(information: u8, rest: &[u8]) -> HeadRead
     read_simple(rest)
 }
 
-/// A simple value of two bytes, the second of which is `rest`'s first (RFC 8949 section 3.3).
+/// Reads a simple value of two bytes, the second of which is the first of `rest` (RFC 8949 section
+/// 3.3).
 fn read_simple(rest: &[u8]) -> HeadRead
     ensures { (first : ℕ) → first / 32 ≡ 7 → info_at (first % 32) ≡ Next One → ReadsHead (first ∷ rest.now) result }
 {
@@ -184,7 +184,7 @@ fn read_simple(rest: &[u8]) -> HeadRead
     }
 }
 
-/// A head of an indefinite length, or the break (RFC 8949 section 3.2).
+/// Reads a head of indefinite length, or the break (RFC 8949 section 3.2).
 fn read_endless(major: Major) -> HeadRead
     ensures { (first : ℕ) (rest : List ℕ) → first / 32 ≡ code major → info_at (first % 32) ≡ Unended → ReadsHead (first ∷ rest) result }
 {
@@ -208,7 +208,7 @@ fn width_len(width: Width) -> usize
     }
 }
 
-/// The information has no meaning (RFC 8949 section 3).
+/// Whether this additional information is reserved (RFC 8949 section 3).
 pub(crate) fn is_reserved(information: u8) -> bool
     requires { information < 32 }
     ensures { result ≡ is_reserved (info_at information) }
@@ -216,7 +216,7 @@ pub(crate) fn is_reserved(information: u8) -> bool
     information > 27 && information < 31
 }
 
-/// The information of an indefinite length and of the break.
+/// Whether this is the additional information of an indefinite length or the break.
 pub(crate) fn is_endless(information: u8) -> bool
     requires { information < 32 }
     ensures { result ≡ is_unended (info_at information) }
@@ -224,14 +224,13 @@ pub(crate) fn is_endless(information: u8) -> bool
     information == 31
 }
 
-/// The major types that have no indefinite form.
+/// Whether this major type has no indefinite length (RFC 8949 section 3.2).
 pub(crate) fn is_always_bounded(major: Major) -> bool
     ensures { result ≡ is_always_bounded major }
 {
     matches!(major, Major::Unsigned | Major::Negative | Major::Tag)
 }
 
-/// The break.
 pub(crate) fn is_break(major: Major, information: u8) -> bool
     requires { information < 32 }
     ensures { result ≡ is_break major (info_at information) }
@@ -239,7 +238,7 @@ pub(crate) fn is_break(major: Major, information: u8) -> bool
     major == Major::Other && is_endless(information)
 }
 
-/// A float (RFC 8949 section 3.3).
+/// Whether a head is that of a float (RFC 8949 section 3.3).
 pub(crate) fn is_float(major: Major, information: u8) -> bool
     requires { information < 32 }
     ensures { result ≡ (is_other major && is_float (info_at information)) }
@@ -247,7 +246,7 @@ pub(crate) fn is_float(major: Major, information: u8) -> bool
     major == Major::Other && matches!(information, 25..=27)
 }
 
-/// Arrays, maps and tags.
+/// Whether this is an array, a map or a tag.
 pub(crate) fn is_container(major: Major) -> bool
     ensures { result ≡ is_container major }
 {
@@ -278,8 +277,8 @@ fn wide_len(information: u8) -> usize
     1 << (information - 24)
 }
 
-/// The number that the first bytes make, as many as a head of this width has behind its initial
-/// byte; `None` if there are fewer.
+/// The number that the first bytes make, as many as the argument of a head of this width has;
+/// `None` if there are fewer.
 pub(crate) fn read_number(width: Width, bytes: &[u8]) -> Option<u64>
     ensures { MatchOption result (length bytes.now < width_bytes width) (λ n. (width_bytes width ≤ length bytes.now) × (n ≡ number width (take (width_bytes width) bytes.now))) }
 {
@@ -293,7 +292,7 @@ pub(crate) fn read_number(width: Width, bytes: &[u8]) -> Option<u64>
 }
 
 /// The number that the first `len` bytes make, which are those of this width; `None` if there are
-/// fewer. Where widths are mixed, it is cut out of eight bytes if there are so many.
+/// fewer. With `mixed` it is shifted out of eight bytes, if there are eight.
 #[inline(always)]
 fn argument_of(mixed: bool, width: Width, len: usize, bytes: &[u8]) -> Option<u64>
     requires { len ≡ width_bytes width }
@@ -308,8 +307,8 @@ fn argument_of(mixed: bool, width: Width, len: usize, bytes: &[u8]) -> Option<u6
     }
 }
 
-/// The number that the first `len` of eight bytes make, of which `word` is the number: shifted and
-/// not branched to, since widths of integers can't be foretold.
+/// The number that the first `len` of eight bytes make, `word` being that of all eight. A shift,
+/// since branches on the widths of integers can't be predicted.
 #[inline(always)]
 fn front_number(width: Width, len: usize, word: u64) -> u64
     requires { len ≡ width_bytes width }
@@ -321,8 +320,8 @@ fn front_number(width: Width, len: usize, word: u64) -> u64
     word >> (64 - 8 * len)
 }
 
-/// The head of major type `major`, from 0 to 6, with the argument `n`, which fits the width: its
-/// bytes stand first in the array, and the number is their count.
+/// The head of major type `major`, from 0 to 6, with the argument `n`, which must fit the width:
+/// its bytes come first in the array, and the number is their count (RFC 8949 section 3).
 pub fn head_bytes(major: u8, width: Width, n: u64) -> ([u8; 9], usize)
     requires major { major ≤ 6 }
     requires fits { WidthFits width n }
@@ -332,7 +331,7 @@ pub fn head_bytes(major: u8, width: Width, n: u64) -> ([u8; 9], usize)
     first_bytes(Major::at(major), width, n)
 }
 
-/// The head, of any major type.
+/// The head of any major type.
 fn first_bytes(major: Major, width: Width, n: u64) -> ([u8; 9], usize)
     requires { WidthFits width n }
     ensures len { result.1 ≤ 9 }
@@ -361,11 +360,11 @@ fn first_bytes(major: Major, width: Width, n: u64) -> ([u8; 9], usize)
     (bytes, 1 + width_len(width))
 }
 
-/// Appends the head of the major type with the argument `n`, which fits the width (RFC 8949 section
-/// 3).
+/// Appends the head of the major type with the argument `n`, which must fit the width (RFC 8949
+/// section 3).
 ///
 /// # Errors
-/// Where memory was refused; `out` then stays as it was.
+/// `AllocError` if memory is refused; `out` is then unchanged.
 pub fn push_head(out: &mut Vec<u8>, major: Major, width: Width, n: u64) -> Result<(), AllocError>
     requires { WidthFits width n }
     ensures added { OnOk result (out.new.items ≡ out.old.items ++ head_bytes (code major) width n) }

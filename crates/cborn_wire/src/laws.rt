@@ -1,5 +1,4 @@
-//! Laws of the bytes of data items. Each function does nothing; its contract is a theorem over the
-//! definitions in `specs/`.
+//! Laws of the bytes of data items: the contract of each function is a theorem.
 
 ghost use Rattle.std.specs.Prelude.{◌≡◌, ℕ, ◌<◌, ◌≤◌, List, [], ◌++◌, length, ◌⊎◌};
 ghost use Rattle.cborn_model.specs.Bytes.{AreBytes};
@@ -13,16 +12,16 @@ ghost use Rattle.cborn_wire.specs.Slots.{Slot, Open};
 ghost use Rattle.cborn_wire.specs.Faults.{IsWellformed, Refused, Fault};
 ghost use Rattle.cborn_wire.specs.SlotFaults.{SlotRefused};
 
-/// Bytes have at most one reading: two lists of nodes that both spell them are one list where both
-/// stand at the same place (`placed`), and else one list but for their places (`aside`: they are
-/// the same list once moved to any one place).
+/// Bytes have at most one reading: two lists of nodes that both spell them are equal if both begin
+/// at the same offset (`placed`), and else equal but for offsets (`aside`: they are equal once
+/// moved to any one offset).
 pub fn one_reading()
     ensures placed { (limit p : ℕ) (ts us : Trees) (x : List ℕ) → Wellformed limit ts x → Wellformed limit us x → PlacedAll p ts → PlacedAll p us → ts ≡ us }
     ensures aside { (ts us : Trees) → FitsAll ts → FitsAll us → spelled_all ts ≡ spelled_all us → (p : ℕ) → all_from p ts ≡ all_from p us }
 {}
 
-/// No item begins another: where the bytes of one begin with those of another, both are the same
-/// item, and nothing follows.
+/// No item begins another: if the bytes of one begin with those of another, both are the same item,
+/// and nothing follows.
 pub fn no_item_begins_another()
     ensures { (t u : Tree) (y : List ℕ) → Fits t → Fits u → spelled t ++ y ≡ spelled u → (y ≡ []) × ((p : ℕ) → placed_from p t ≡ placed_from p u) }
 {}
@@ -45,7 +44,7 @@ pub fn one_fault()
     ensures not_two { (limit : ℕ) (x : List ℕ) (p q : ℕ) (r s : WireReason) → Fault limit x p r → Fault limit x q s → (p ≡ q) × (r ≡ s) }
 {}
 
-/// A fault stands inside the bytes, at a head that is there; only `Truncated` stands at their end.
+/// A fault is at the offset of a head inside the bytes; only `Truncated` is at their end.
 pub fn place_of_fault()
     ensures inside { (limit : ℕ) (x : List ℕ) (p : ℕ) (r : WireReason) → Fault limit x p r → (r ≡ Truncated → ⊥) → p < length x }
     ensures end { (limit : ℕ) (x : List ℕ) (p : ℕ) → Fault limit x p Truncated → p ≡ length x }
@@ -64,7 +63,7 @@ pub fn faults_stay()
     ensures fault { (limit : ℕ) (x y : List ℕ) (p : ℕ) (r : WireReason) → Fault limit x p r → (r ≡ Truncated → ⊥) → Fault limit (x ++ y) p r }
 {}
 
-/// Where a head may not stand is told by slots too: by what is open around it, and one table.
+/// Which heads aren't allowed is told by slots too: by what is open around a head, and one table.
 pub fn faults_by_slots()
     ensures told { (limit : ℕ) (x : List ℕ) (p : ℕ) (r : WireReason) → AreBytes x → SlotRefused limit x p r → Refused limit x p r }
     ensures found { (limit : ℕ) (x : List ℕ) (p : ℕ) (r : WireReason) → AreBytes x → Refused limit x p r → SlotRefused limit x p r }

@@ -1,4 +1,5 @@
-//! What a scan has open. No item is kept.
+//! The open containers of a scan, of which only what is missing is kept. They are an array, large
+//! enough for the highest nesting limit, so that a scan takes no memory.
 
 ghost use Rattle.std.specs.Prelude.{◌≡◌, ◌∷◌, ◌+◌, ◌<◌, ◌≤◌, [], length};
 ghost use Rattle.cborn_wire.specs.HeadReading.{seen_argument};
@@ -9,15 +10,15 @@ use crate::Argument;
 use crate::frames::StringKind;
 use crate::refusals::Slot;
 
-/// An array, a map, a tag or an indefinite string that has begun, and what is missing.
+/// An open container, and what it is missing.
 #[derive(Clone, Copy)]
 pub(crate) enum Level {
-    /// An array in which so many items are missing.
+    /// An array that is missing this many items.
     Array(u64),
     EndlessArray,
-    /// A map in which so many pairs are missing. A key comes next.
+    /// A map that is missing this many pairs. A key comes next.
     Map(u64),
-    /// A map in which so many values are missing. A value comes next.
+    /// A map that is missing this many values. A value comes next.
     MapValue(u64),
     /// A map of indefinite length. A key comes next, or the break.
     EndlessMap,
@@ -27,7 +28,7 @@ pub(crate) enum Level {
 }
 
 impl Level {
-    /// What is missing once an item was put in; none where it is whole with that. An item of an
+    /// What is missing after one more item; `None` if that completes the container. An item of an
     /// indefinite string is a chunk.
     #[inline(always)]
     pub(crate) fn with_item(self) -> Option<Level>
@@ -57,7 +58,6 @@ impl Level {
         }
     }
 
-    /// Where its next part stands.
     pub(crate) fn slot(self) -> Slot
         ensures { seen_slot result ≡ plain (slot_of self) }
     {
@@ -69,18 +69,17 @@ impl Level {
     }
 }
 
-/// What is open, one inside another.
+/// The open containers, one inside another.
 #[derive(Drop)]
 pub(crate) struct Levels {
     /// The innermost.
     pub(crate) top: Option<Level>,
-    /// The first `len` are what is around it, the innermost last.
+    /// The first `len` are those around it, the innermost last.
     pub(crate) outer: [Level; 1025],
     pub(crate) len: usize,
 }
 
 impl Levels {
-    /// Nothing is open.
     pub(crate) fn new() -> Levels
         ensures open { levels result ≡ [] }
         ensures kept { result.len ≤ 1025 }
@@ -92,7 +91,7 @@ impl Levels {
         }
     }
 
-    /// How much is open.
+    /// How many containers are open.
     pub(crate) fn count(&self) -> u64
         requires { self.now.len ≤ 1025 }
         ensures { result ≡ length (levels self.now) }
@@ -103,7 +102,7 @@ impl Levels {
         }
     }
 
-    /// Opens a level inside what is open.
+    /// Opens a container inside the innermost one.
     pub(crate) fn begin(&mut self, level: Level)
         requires kept { self.old.len ≤ 1025 }
         requires room { length (levels self.old) ≤ 1025 }
@@ -120,7 +119,7 @@ impl Levels {
         self.top = Some(level);
     }
 
-    /// Takes the innermost of what is open off.
+    /// Removes the innermost open container.
     pub(crate) fn leave(&mut self)
         requires kept { self.old.len ≤ 1025 }
         ensures open { levels self.new ≡ leave (levels self.old) }
@@ -134,8 +133,9 @@ impl Levels {
         }
     }
 
-    /// Puts a whole item into what is open. Where that is whole with it, that is an item too. The
-    /// commonest, an array that goes on, comes first.
+    /// Counts a complete item in the innermost open container. If that completes the container, it
+    /// is counted in the next one, and so on. The commonest case, an array that goes on, comes
+    /// first.
     #[inline(always)]
     pub(crate) fn finish(&mut self)
         requires kept { self.old.len ≤ 1025 }
@@ -151,7 +151,6 @@ impl Levels {
         self.finish_any();
     }
 
-    /// Puts a whole item into whatever is open.
     #[inline(always)]
     fn finish_any(&mut self)
         requires kept { self.old.len ≤ 1025 }
@@ -167,7 +166,7 @@ impl Levels {
         }
     }
 
-    /// Puts a whole item into what is open, where the innermost is whole with it.
+    /// Counts a complete item, and each container that is completed by that.
     #[inline(never)]
     fn settle(&mut self)
         requires kept { self.old.len ≤ 1025 }
@@ -185,7 +184,7 @@ impl Levels {
         }
     }
 
-    /// An array with this argument begins.
+    /// Begins an array with this argument; an empty one is complete at once.
     pub(crate) fn begin_items(&mut self, argument: Argument)
         requires kept { self.old.len ≤ 1025 }
         requires room { length (levels self.old) ≤ 1025 }
@@ -204,7 +203,7 @@ impl Levels {
         }
     }
 
-    /// A map with this argument begins.
+    /// Begins a map with this argument; an empty one is complete at once.
     pub(crate) fn begin_pairs(&mut self, argument: Argument)
         requires kept { self.old.len ≤ 1025 }
         requires room { length (levels self.old) ≤ 1025 }

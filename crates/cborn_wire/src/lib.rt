@@ -1,25 +1,22 @@
-//! The bytes of data items: read and written (RFC 8949 section 3).
+//! The bytes of data items: read, checked and written (RFC 8949 section 3).
 //!
-//! The reader is the [`Feeder`], which is fed an input by pieces, cut anywhere, and gives its items
-//! as they become whole; [`read_all`] feeds it an input that is held whole, and [`read_one`] reads
-//! a single item from an offset on. All keep what was read on one stack (`stacks`), which has no
-//! recursion and takes a head, a string or a part of one at a time. Contracts see a stack as what
-//! it holds, and until a call fails that is what some bytes make. What is open is its nest (`nests`),
-//! which knows neither the items that are whole nor where the input began: `refusals` tells where a
-//! head may not stand, `frames` has what an open array, map, tag or indefinite string is made of,
-//! and `finishing` puts what is whole into what stands around it. The writer is [`spell`], which
-//! writes what a node was read from. Below both stand single heads, in `heads`. [`scan`] tells
-//! whether an input that is held whole is well-formed, or its one fault, and keeps nothing of the
-//! items (`scanning`): of what is open only how much is missing (`levels`). What other walks over
-//! bytes ask at each step is in `walks`, and what they read, whatever they find of it, is told by
-//! `specs/Parts.antt`.
+//! - A [`Feeder`] is fed an input in pieces, cut anywhere, and gives items as they are completed.
+//!   [`read_all`] feeds it an input that is in memory; [`read_one`] reads one item from an offset
+//!   on. All keep a stack (`stacks`) in the place of recursion. What is open on it is a nest
+//!   (`nests`): `frames` has the kinds of open containers, `refusals` tells where a head isn't
+//!   allowed, and `finishing` puts a completed item into the container around it.
+//! - [`scan`] tells whether an input in memory is well-formed, or its one fault (`scanning`). Of
+//!   open containers it keeps only what is missing (`levels`).
+//! - [`spell`] writes the bytes that a node spells.
+//! - `heads` reads and writes single heads. `walks` has what walks of other crates over bytes ask
+//!   at each step, and `specs/Parts.antt` what they read.
 //!
-//! A reader of the definitions starts at `specs/Faults.antt`, which tells where bytes are no items,
-//! and why; what the items of well-formed bytes are is told by `cborn_model`. `specs/SlotFaults.antt`
-//! tells the faults once more, as the reader finds them: by a table over what is open
-//! (`specs/Slots.antt`). `specs/Feeding.antt` is what a feeder is seen as, and `specs/Reading.antt`
-//! is about one item. What stands in `specs/devices` and `specs/shared` serves the proofs. [`laws`]
-//! has what is proved of the definitions alone.
+//! A reader of the definitions starts at `specs/Faults.antt`: where bytes are not well-formed, and
+//! why. `cborn_model` defines which nodes well-formed bytes spell. `specs/SlotFaults.antt` has the
+//! faults again, as the reader finds them: by a table over what is open (`specs/Slots.antt`).
+//! `specs/Feeding.antt` is what contracts see of a feeder, and `specs/Reading.antt` is about one
+//! item. `specs/devices` and `specs/shared` serve the proofs. [`laws`] has what is proved of the
+//! definitions alone.
 #![tactic(auto)]
 
 mod faults;

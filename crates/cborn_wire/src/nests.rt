@@ -1,4 +1,4 @@
-//! What is open around the next byte, and what a head there comes to.
+//! The open containers around the next byte, and what becomes of a head there.
 
 ghost use Rattle.std.specs.Prelude.{◌≡◌, ◌∷◌, ◌+◌, ◌<◌, ◌≤◌, ◌^◌, ℕ, [], length, take};
 ghost use Rattle.cborn_model.specs.Tree.{no_item, no_entry};
@@ -14,16 +14,16 @@ use crate::{Argument, Head, HeadRead, WireFault, WireReason, read_head};
 use cborn_model::{ByteString, Chunk, Form, Major, Node, Width, push_doubling};
 use std::alloc::Global;
 
-/// What is open, one inside another.
+/// The open containers, one inside another.
 pub(crate) struct Nest {
     pub(crate) alloc: Global,
     /// The innermost.
     pub(crate) top: Option<Frame>,
-    /// What is open around it, the innermost last.
+    /// The containers around it, the innermost last.
     pub(crate) outer: Vec<Frame>,
 }
 
-/// By hand, since what is derived is written out, and proved, at each way out of each function.
+/// By hand, since a derived one is written out, and proved, at each exit of each function.
 impl Drop for Nest {
     fn drop(self) {
         let Nest {
@@ -37,16 +37,15 @@ impl Drop for Nest {
 /// What became of a head, or of bytes of a string.
 #[derive(Drop)]
 pub(crate) enum Outcome {
-    /// It stands in what is open, or is open.
+    /// It was put into an open container, or opened one.
     Open,
-    /// An item is whole, and nothing is open.
+    /// An item is complete, and nothing is open.
     Whole(Node),
-    /// A head or a string of which a part came.
+    /// A head or a string came in part.
     Part(Partial),
 }
 
 impl Nest {
-    /// Nothing is open.
     pub(crate) fn new(alloc: Global) -> Nest
         ensures { opened result ≡ [] }
     {
@@ -57,8 +56,8 @@ impl Nest {
         }
     }
 
-    /// Takes what stands at the front of `piece`, behind the part that came before, and answers how
-    /// many bytes that was. The part is then used up.
+    /// Takes the front of `piece`, which goes on with `part` if there is one. Gives the number of
+    /// bytes taken, and leaves no part in `part`.
     #[inline(always)]
     pub(crate) fn take(
         &mut self,
@@ -80,8 +79,8 @@ impl Nest {
         self.take_more(limit, at, part, piece)
     }
 
-    /// Takes what goes on with a part of a head or a string. Out of line, so that the frame of the
-    /// common heads stays small.
+    /// Goes on with a part of a head or a string. Out of line, so that common heads need little
+    /// stack.
     #[inline(never)]
     fn take_more(
         &mut self,
@@ -116,8 +115,8 @@ impl Nest {
         }
     }
 
-    /// A head, or the initial byte of one that ends behind the piece. The commonest, an integer
-    /// that is its initial byte, is taken here, and any other apart.
+    /// Takes a head, or the initial byte of one that ends after the piece. The commonest, an
+    /// integer that is its initial byte, is dealt with here.
     #[inline(always)]
     fn take_head(
         &mut self,
@@ -139,7 +138,7 @@ impl Nest {
         self.take_any_head(limit, at, piece)
     }
 
-    /// Takes whatever head stands at the front of `piece`.
+    /// Takes any head at the front of `piece`.
     #[inline(always)]
     fn take_any_head(
         &mut self,
@@ -179,8 +178,8 @@ impl Nest {
         }
     }
 
-    /// A head of a string, the first `len` bytes of `piece`, and the content with it where all of
-    /// that stands in the piece. Such a string is never kept as a part.
+    /// Takes the head of a string, the first `len` bytes of `piece`, and its content if all of it
+    /// is in the piece. Such a string is never kept as a part.
     #[inline(never)]
     fn take_string(
         &mut self,
@@ -208,8 +207,8 @@ impl Nest {
         Ok((len, outcome))
     }
 
-    /// The next byte of an argument whose head began in an earlier piece: the first `len` of
-    /// `bytes` came before.
+    /// Takes the next byte of an argument whose initial byte was in an earlier piece: the first
+    /// `len` of `bytes` came before.
     #[inline(never)]
     fn take_argument(
         &mut self,
@@ -243,7 +242,7 @@ impl Nest {
         Ok((1, outcome))
     }
 
-    /// The next bytes of a string of `len` bytes, of which these came before.
+    /// Takes the next bytes of a string of `len` bytes, of which `bytes` came before.
     #[inline(never)]
     fn take_content(
         &mut self,
@@ -277,7 +276,7 @@ impl Nest {
         Ok((taken, outcome))
     }
 
-    /// A whole head that stands at `place`, and ends at `at`.
+    /// Takes a whole head, from the offset `place` to the offset `at`.
     #[inline(always)]
     fn put_head(&mut self, at: u64, place: u64, head: Head) -> Result<Outcome, WireFault>
         requires { ArgumentFits (seen_argument head.argument) }
@@ -297,8 +296,8 @@ impl Nest {
         self.put_in(at, Node { place, form })
     }
 
-    /// A head of no integer. It stands apart, so that the integers, which are the most, pay nothing
-    /// for it.
+    /// Takes a head of anything but an integer. Out of line, so that integers, the most frequent,
+    /// don't pay for it.
     #[inline(never)]
     fn put_further_head(&mut self, at: u64, place: u64, head: Head) -> Result<Outcome, WireFault>
         requires further { 1 < head.major }
@@ -336,7 +335,7 @@ impl Nest {
         }
     }
 
-    /// A head of major type 7: a simple value or the break.
+    /// Takes a head of major type 7: a simple value or the break.
     fn put_simple_or_break(
         &mut self,
         at: u64,
@@ -367,7 +366,7 @@ impl Nest {
         }
     }
 
-    /// Opens `frame` inside what is open.
+    /// Opens `frame` inside the innermost open container.
     fn begin(&mut self, at: u64, frame: Frame) -> Result<Outcome, WireFault>
         ensures { Gives (Live at no_item (seen_frame frame ∷ opened self.old) nothing) at self.new result }
     {
@@ -447,7 +446,7 @@ impl Nest {
         )
     }
 
-    /// A break.
+    /// Takes a break, which completes the innermost open container.
     fn close(&mut self, at: u64) -> Result<Outcome, WireFault>
         ensures { Gives (ended at no_item (opened self.old)) at self.new result }
     {
@@ -467,7 +466,7 @@ impl Nest {
         }
     }
 
-    /// A whole definite string: a chunk, or an item.
+    /// Puts a whole definite string: as a chunk into an indefinite string, else as an item.
     fn put_string(
         &mut self,
         at: u64,

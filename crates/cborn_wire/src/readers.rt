@@ -1,4 +1,4 @@
-//! Reading input that is held whole.
+//! Reading input that is in memory.
 
 ghost use Rattle.std.specs.Prelude.{◌≡◌, ◌+◌, ◌≤◌, ℕ, length, drop, Err, IfOk};
 ghost use Rattle.cborn_model.specs.Tree.{trees};
@@ -14,13 +14,12 @@ use crate::{Feeder, WireFault, WireReason};
 use cborn_model::{Limit, Spelled};
 use std::alloc::Global;
 
-/// The items of `bytes`, a sequence (RFC 8742) in which at most `limit` arrays, maps and tags stand
-/// around one another.
+/// The items of `bytes`, a sequence (RFC 8742) within the nesting limit.
 ///
 /// # Errors
 ///
-/// Where the bytes are no such sequence, the one fault that they have (RFC 8949 section 3), at its
-/// offset in bytes from their start; `OutOfMemory` where memory was refused.
+/// `Refused` if the bytes are no such sequence, with the one fault that they have (RFC 8949 section
+/// 3), at its offset in bytes from their start. `OutOfMemory` if memory is refused.
 pub fn read_all(alloc: Global, limit: Limit, bytes: &[u8]) -> Result<Vec<Spelled>, WireFault>
     ensures items { IfOk result (λ v. Wellformed limit (trees v.items) bytes.now × PlacedAll 0 (trees v.items)) }
     ensures fault { (p : ℕ) (r : WireReason) → result ≡ Err (Refused p r) → Fault limit bytes.now p r }
@@ -30,15 +29,15 @@ pub fn read_all(alloc: Global, limit: Limit, bytes: &[u8]) -> Result<Vec<Spelled
     feeder.finish()
 }
 
-/// The item that stands in `bytes` from the offset `start` on, and the offset of what follows it,
-/// which isn't judged. `start` is at most the length of `bytes`. Places and offsets are in bytes
-/// from the start of `bytes`.
+/// The item that begins in `bytes` at the offset `start`, which is at most their length, and the
+/// offset where it ends. What follows isn't checked. Offsets are in bytes from the start of
+/// `bytes`.
 ///
 /// # Errors
 ///
-/// Where no item within the limit stands there, the one fault that is met (RFC 8949 section 3):
-/// where the bytes end before the item does, or at `start`, it is `Truncated` at their length.
-/// `OutOfMemory` where memory was refused.
+/// `Refused` if no item within the nesting limit begins there, with the one fault that is met (RFC
+/// 8949 section 3): `Truncated`, at the length of `bytes`, if they end before the item does.
+/// `OutOfMemory` if memory is refused.
 pub fn read_one(
     alloc: Global,
     limit: Limit,

@@ -1,4 +1,4 @@
-//! Which initial bytes may stand where a reader is.
+//! Which initial bytes are allowed next, by what is open.
 
 ghost use Rattle.std.specs.Prelude.{◌≡◌, ◌<◌, ◌%◌, ◌/◌, [], nat_le};
 ghost use Rattle.cborn_wire.specs.Slots.{slot, open_depth, AreBegun};
@@ -13,19 +13,19 @@ use crate::heads::{is_always_bounded, is_break, is_container, is_endless, is_flo
 use crate::nests::Nest;
 use cborn_model::Major;
 
-/// Where a head stands, as far as that tells which may stand there.
+/// What may come next, by the innermost open container.
 #[derive(Clone, Copy)]
 pub(crate) enum Slot {
-    /// Where an item has to stand.
+    /// An item.
     Item,
-    /// Where an item or a break may stand.
+    /// An item or a break.
     ItemOrBreak,
-    /// In an indefinite string of this kind.
+    /// A chunk of an indefinite string of this kind, or a break.
     Chunk(StringKind),
 }
 
 impl Slot {
-    /// Why a head with this initial byte may not stand here, as far as that byte tells. `is_full`:
+    /// Why a head with this initial byte isn't allowed here, as far as that byte tells. `is_full`:
     /// as many arrays, maps and tags are open around it as the limit allows.
     #[inline(always)]
     pub(crate) fn refusal(self, is_full: bool, first: u8) -> Option<WireReason>
@@ -33,15 +33,15 @@ impl Slot {
     {
         let major = Major::at(first / 32);
         let information = first % 32;
-        // An integer, or a string of a definite length, is a bad chunk if it is anything.
+        // An integer, or a string of definite length, can only be a bad chunk.
         if first / 32 < 4 && information < 28 && !self.is_bad_chunk(major, information) {
             return None;
         }
         self.refusal_in_order(is_full, major, information)
     }
 
-    /// Why a head with this initial byte may not stand here, for any byte. The tests stand in the
-    /// order of the reasons.
+    /// Why a head with this initial byte isn't allowed here, for any byte. The first reason that
+    /// holds is given.
     #[inline(never)]
     fn refusal_in_order(self, is_full: bool, major: Major, information: u8) -> Option<WireReason>
         requires { information < 32 }
@@ -68,7 +68,8 @@ impl Slot {
         None
     }
 
-    /// In an indefinite string, neither a break nor a definite string of its kind.
+    /// Whether an indefinite string is open, and this is neither a break nor a definite string of
+    /// its kind.
     fn is_bad_chunk(self, major: Major, information: u8) -> bool
         requires { information < 32 }
         ensures { result ≡ is_bad_chunk (seen_slot self) major (info_at information) }
@@ -81,7 +82,7 @@ impl Slot {
         }
     }
 
-    /// An item has to stand here, and no break.
+    /// Whether an item is needed here, and a break isn't allowed.
     fn needs_item(self) -> bool
         ensures { result ≡ needs_item (seen_slot self) }
     {
@@ -90,7 +91,7 @@ impl Slot {
 }
 
 impl StringKind {
-    /// It is the kind of the strings of this major type.
+    /// Whether it is the kind of the strings of this major type.
     fn is_of(self, major: Major) -> bool
         ensures { result ≡ is_of_kind (seen_kind self) major }
     {
@@ -102,7 +103,7 @@ impl StringKind {
 }
 
 impl Nest {
-    /// Why a head with this initial byte may not stand here, as far as that byte tells.
+    /// Why a head with this initial byte isn't allowed next, as far as that byte tells.
     #[inline(always)]
     pub(crate) fn refusal(&self, limit: u64, first: u8) -> Option<WireReason>
         requires { AreBegun limit (opened self.now) }
@@ -112,7 +113,6 @@ impl Nest {
         slot.refusal(self.is_full(limit), first)
     }
 
-    /// Where the next head stands.
     fn slot(&self) -> Slot
         ensures { seen_slot result ≡ plain (slot (opened self.now)) }
     {
@@ -122,7 +122,7 @@ impl Nest {
         }
     }
 
-    /// As many arrays, maps and tags are open as the limit allows.
+    /// Whether as many arrays, maps and tags are open as the limit allows.
     fn is_full(&self, limit: u64) -> bool
         requires { AreBegun limit (opened self.now) }
         ensures { result ≡ nat_le limit (open_depth (opened self.now)) }

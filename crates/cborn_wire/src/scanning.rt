@@ -1,4 +1,4 @@
-//! Whether bytes are well-formed, and if not where and why, with nothing kept of the items.
+//! Whether bytes are well-formed, and if not, where and why. No item is kept.
 
 ghost use Rattle.std.specs.Prelude.{ℕ, take, slice_index_or as get_or, ◌≡◌, false, ◌/◌, ◌%◌, ◌<◌, ◌≤◌, List, [], length, nat_le, MatchOption};
 ghost use Rattle.cborn_model.specs.Tree.{Trees};
@@ -18,21 +18,20 @@ use crate::refusals::Slot;
 use crate::{Argument, Head, HeadRead, WireReason, read_head};
 use cborn_model::{Limit, Major};
 
-/// What a step of a scan came to.
+/// What became of a step of a scan.
 #[derive(Clone, Copy)]
 pub(crate) enum Step {
-    /// So many bytes were taken.
+    /// This many bytes were taken.
     Taken(usize),
     /// The bytes end within a head or a string.
     Cut,
-    /// A head may not stand where it stands.
+    /// A head isn't allowed there.
     Refused(WireReason),
 }
 
-/// The one fault of bytes that are no sequence of items (RFC 8742) in which at most `limit` arrays,
-/// maps and tags stand around one another (RFC 8949 section 3): its offset in bytes from their
-/// start, and its reason. None where they are such a sequence. Takes no memory, and keeps nothing
-/// of the items.
+/// The one fault of `bytes` if they are no sequence of items (RFC 8742) within the nesting limit:
+/// its offset in bytes from their start, and the reason (RFC 8949 section 3). `None` if they are
+/// one. Takes no memory.
 pub fn scan(limit: Limit, bytes: &[u8]) -> Option<(u64, WireReason)>
     ensures { MatchOption result ((ts : Trees) × Wellformed limit ts bytes.now × PlacedAll 0 ts) (λ f. Fault limit bytes.now f.0 f.1) }
 {
@@ -53,7 +52,7 @@ pub fn scan(limit: Limit, bytes: &[u8]) -> Option<(u64, WireReason)>
 }
 
 impl Levels {
-    /// Takes the head at the front of `piece`, and the bytes of a string with it.
+    /// Takes the head at the front of `piece`, and the content of a definite string with it.
     #[inline(always)]
     fn take(&mut self, limit: u64, piece: &[u8]) -> Step
         requires kept { self.old.len ≤ 1025 }
@@ -69,7 +68,8 @@ impl Levels {
         self.take_any(limit, piece)
     }
 
-    /// Takes the integer at the front of `piece`, which is its initial byte.
+    /// Takes the integer at the front of `piece`, which is its initial byte, and perhaps others
+    /// like it.
     #[inline(always)]
     fn take_small(&mut self, limit: u64, piece: &[u8]) -> Step
         requires kept { self.old.len ≤ 1025 }
@@ -91,8 +91,8 @@ impl Levels {
         Step::Taken(1)
     }
 
-    /// Takes integers that are their initial bytes, where nothing is open, or an array that goes on
-    /// behind them. Answers how many they are.
+    /// Takes integers that are their initial bytes, if nothing is open, or an array that goes on
+    /// after them. Gives their number, which may be 0.
     #[inline(always)]
     fn take_run(&mut self, piece: &[u8]) -> usize
         requires kept { self.old.len ≤ 1025 }
@@ -112,7 +112,7 @@ impl Levels {
         }
     }
 
-    /// An indefinite string is open.
+    /// Whether an indefinite string is open.
     #[inline(always)]
     fn is_chunked(&self) -> bool
         ensures { result ≡ false → IsNoChunk (slot_at (levels self.now)) }
@@ -120,7 +120,7 @@ impl Levels {
         matches!(self.top, Some(Level::Chunks(_)))
     }
 
-    /// Takes whatever head stands at the front of `piece`, and the bytes of a string with it.
+    /// Takes any head at the front of `piece`, and the content of a definite string with it.
     #[inline(never)]
     fn take_any(&mut self, limit: u64, piece: &[u8]) -> Step
         requires kept { self.old.len ≤ 1025 }
@@ -147,7 +147,7 @@ impl Levels {
         }
     }
 
-    /// Why a head with this initial byte may not stand here, as far as that byte tells.
+    /// Why a head with this initial byte isn't allowed next, as far as that byte tells.
     #[inline(always)]
     fn refusal(&self, limit: u64, first: u8) -> Option<WireReason>
         requires { self.now.len ≤ 1025 }
@@ -157,7 +157,6 @@ impl Levels {
         slot.refusal(self.count() >= limit, first)
     }
 
-    /// Where the next head stands.
     #[inline(always)]
     fn slot(&self) -> Slot
         ensures { seen_slot result ≡ plain (slot_at (levels self.now)) }
@@ -168,7 +167,7 @@ impl Levels {
         }
     }
 
-    /// A whole head, and the bytes of a string with it.
+    /// Counts a whole head, and the content of a definite string with it.
     #[inline(always)]
     fn take_head(&mut self, head: Head)
         requires kept { self.old.len ≤ 1025 }
@@ -191,7 +190,7 @@ impl Levels {
     }
 }
 
-/// How many bytes of a string follow its head.
+/// How many bytes of a string's content follow its head.
 #[inline(always)]
 fn content_len(head: Head) -> u64
     ensures { result ≡ content_of (major_at head.major) (seen_argument head.argument) }
@@ -202,7 +201,7 @@ fn content_len(head: Head) -> u64
     }
 }
 
-/// How many integers that are their initial bytes stand at the front, fewer than `below` if any.
+/// How many integers that are their initial bytes are at the front, counted up to `below` - 1.
 #[inline(always)]
 fn small_run(bytes: &[u8], below: u64) -> usize
     ensures len { result ≤ length bytes.now }

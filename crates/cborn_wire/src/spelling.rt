@@ -1,4 +1,4 @@
-//! The bytes that nodes spell (RFC 8949 sections 3.1 to 3.4).
+//! Writing the bytes that nodes spell (RFC 8949 sections 3.1 to 3.4).
 
 ghost use Rattle.std.specs.Prelude.{◌≡◌, ◌≤◌, ◌++◌, length, IfOk, OnOk};
 ghost use Rattle.cborn_model.specs.Heads.{code, WidthFits, SizeFits, head_bytes, head, argument};
@@ -10,10 +10,10 @@ use crate::push_head;
 use cborn_model::{BREAK, ByteString, Chunk, Form, Major, Node, Size, Spelled, Width, shortest};
 use std::alloc::{AllocError, Global};
 
-/// The bytes that `item` spells.
+/// The bytes that `item` spells, each head in its width.
 ///
 /// # Errors
-/// Where memory was refused.
+/// `AllocError` if memory is refused.
 pub fn spell(alloc: Global, item: &Spelled) -> Result<Vec<u8>, AllocError>
     ensures { IfOk result (λ v. v.items ≡ spelled item.now) }
 {
@@ -25,7 +25,7 @@ pub fn spell(alloc: Global, item: &Spelled) -> Result<Vec<u8>, AllocError>
 /// The bytes that the items spell, one after another: a sequence (RFC 8742).
 ///
 /// # Errors
-/// Where memory was refused.
+/// `AllocError` if memory is refused.
 pub fn spell_all(alloc: Global, items: &[Spelled]) -> Result<Vec<u8>, AllocError>
     ensures { IfOk result (λ v. v.items ≡ spelled_all (trees items.now)) }
 {
@@ -76,7 +76,6 @@ fn push_node(out: &mut Vec<u8>, node: &Node) -> Result<(), AllocError>
     }
 }
 
-/// Appends a definite string.
 fn push_string(
     out: &mut Vec<u8>,
     major: Major,
@@ -91,7 +90,6 @@ fn push_string(
     out.extend_from_slice(slice)
 }
 
-/// Appends an indefinite string.
 fn push_chunks(out: &mut Vec<u8>, major: Major, parts: &Vec<Chunk>) -> Result<(), AllocError>
     requires { ChunksFit parts.now.items }
     ensures { OnOk result (out.new.items ≡ out.old.items ++ (chunks major parts.now.items ++ ending Endless)) }
@@ -104,7 +102,7 @@ fn push_chunks(out: &mut Vec<u8>, major: Major, parts: &Vec<Chunk>) -> Result<()
     Ok(())
 }
 
-/// Appends what stands before `count` items or pairs.
+/// Appends the head of an array or a map of `count` items or pairs.
 fn push_opening(out: &mut Vec<u8>, major: Major, size: Size, count: usize) -> Result<(), AllocError>
     requires { SizeFits size count }
     ensures { OnOk result (out.new.items ≡ out.old.items ++ head major (argument size count)) }
@@ -118,7 +116,7 @@ fn push_opening(out: &mut Vec<u8>, major: Major, size: Size, count: usize) -> Re
     }
 }
 
-/// Appends what stands behind items or pairs.
+/// Appends the break that ends an array or a map of indefinite length.
 fn push_ending(out: &mut Vec<u8>, size: Size) -> Result<(), AllocError>
     ensures { OnOk result (out.new.items ≡ out.old.items ++ ending size) }
 {

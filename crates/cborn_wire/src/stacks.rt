@@ -1,4 +1,4 @@
-//! The stack that a reader keeps.
+//! The stack that a reader keeps in the place of recursion.
 
 ghost use Rattle.std.specs.Prelude.{◌≤◌, ◌<◌, length, IfSome};
 ghost use Rattle.cborn_wire.specs.devices.StackView.{Added, StandsFirst};
@@ -11,19 +11,18 @@ use std::alloc::{AllocError, Global};
 use std::collections::VecDeque;
 use std::marker::Model;
 
-/// What was read of some bytes: the whole items, what is open, and the part of a head or of a
-/// string at the end. It is what those bytes make of it until a call fails; then only the whole
-/// items count.
+/// What was read of some bytes: the complete items, what is open, and a head or a string that came
+/// in part. After a call failed only the complete items count.
 #[derive(Drop)]
 pub(crate) struct Stack {
     limit: u64,
     /// The offset of the next byte.
     at: u64,
-    /// The whole items that were not taken.
+    /// The complete items that weren't taken.
     ready: VecDeque<Spelled>,
     nest: Nest,
     partial: Partial,
-    /// What the call that failed answered.
+    /// The error of the call that failed.
     fault: Option<WireFault>,
 }
 
@@ -47,8 +46,7 @@ impl Stack {
     ghost use Rattle.cborn_wire.specs.shared.Machine.{start, nothing};
     ghost use Rattle.cborn_wire.specs.devices.StackView.{seen, opened, seen_partial, IsMade, StandsFirst, Advances, Runs};
 
-    /// Nothing read, of bytes that stand at `at`, in which at most `limit` arrays, maps and tags
-    /// may stand around one another.
+    /// A stack for bytes from the offset `at` on, with the maximum nesting depth `limit`.
     pub(crate) fn new(alloc: Global, limit: Limit, at: u64) -> Stack
         ensures start { seen result ≡ start at }
         ensures ready { result.items ≡ [] }
@@ -66,7 +64,6 @@ impl Stack {
         }
     }
 
-    /// What the call that failed answered, if one did.
     pub(crate) fn fault(&self) -> Option<WireFault>
         ensures fault { result ≡ self.now.fault }
         ensures made { self.now.fault ≡ None → IsMade self.now }
@@ -74,7 +71,7 @@ impl Stack {
         self.fault
     }
 
-    /// Nothing is open, and no part is left.
+    /// Whether nothing is open, and no head or string came in part.
     pub(crate) fn is_whole(&self) -> bool
         ensures whole { result ≡ true → (opened self.now.nest ≡ []) × (seen_partial self.now.partial ≡ nothing) }
         ensures unfinished { result ≡ false → opened self.now.nest ≡ [] → seen_partial self.now.partial ≡ nothing → ⊥ }
@@ -85,7 +82,7 @@ impl Stack {
         }
     }
 
-    /// The first whole item, which is taken off.
+    /// Removes the first complete item.
     pub(crate) fn pop_item(&mut self) -> Option<Spelled>
         ensures first { self.old.items ≡ option_to_list result ++ self.new.items }
         ensures none { result ≡ None → self.old.items ≡ [] }
@@ -95,7 +92,6 @@ impl Stack {
         self.ready.pop_front()
     }
 
-    /// The whole items.
     pub(crate) fn into_items(self) -> Vec<Spelled>
         ensures { result.items ≡ self.items }
     {
@@ -103,7 +99,7 @@ impl Stack {
         ready.into_vec()
     }
 
-    /// Takes the whole of `piece`.
+    /// Reads the whole of `piece`.
     pub(crate) fn read_piece(&mut self, piece: &[u8]) -> Result<(), WireFault>
         requires live { self.old.fault ≡ None }
         requires room { self.old.at + length piece.now < 2 ^ 64 }
@@ -117,9 +113,9 @@ impl Stack {
         Ok(())
     }
 
-    /// Takes what stands at the front of `piece`, a head, a string or a part of either, and
-    /// answers how many bytes that was. The commonest, an integer, is read here: what a `Nest`
-    /// answers goes through memory, which costs more than such an item.
+    /// Reads a head, a string or a part of either at the front of `piece`, and gives the number of
+    /// bytes. The commonest, an integer, is read here: what a `Nest` answers goes through memory,
+    /// which costs more than such an item.
     #[inline(always)]
     pub(crate) fn advance(&mut self, piece: &[u8]) -> Result<usize, WireFault>
         requires live { self.old.fault ≡ None }
@@ -149,7 +145,7 @@ impl Stack {
     }
 
     /// Reads the integer `node` at the front of `piece`, whose head is `len` bytes. The commonest
-    /// places are dealt with here: with nothing around it, or in an array that goes on.
+    /// cases are dealt with here: nothing is open, or an array that goes on.
     #[inline(always)]
     fn advance_integer(&mut self, node: Node, len: usize, piece: &[u8]) -> Result<usize, WireFault>
         requires live { self.old.fault ≡ None }
@@ -186,8 +182,7 @@ impl Stack {
         self.advance_any(piece)
     }
 
-    /// `advance_any` out of line, for strings and parts, so that the frame of the common heads stays
-    /// small.
+    /// `advance_any` out of line, for strings and parts, so that common heads need little stack.
     #[inline(never)]
     fn advance_apart(&mut self, piece: &[u8]) -> Result<usize, WireFault>
         requires live { self.old.fault ≡ None }
@@ -198,7 +193,7 @@ impl Stack {
         self.advance_any(piece)
     }
 
-    /// Reads whatever stands at the front of `piece`.
+    /// Reads any head, string or part at the front of `piece`.
     #[inline(always)]
     fn advance_any(&mut self, piece: &[u8]) -> Result<usize, WireFault>
         requires live { self.old.fault ≡ None }
@@ -234,8 +229,8 @@ impl Stack {
     }
 }
 
-/// The integer at the front of `piece`, which stands at `at`, and the length of its head. None
-/// where no whole head of an integer stands there.
+/// The integer at the front of `piece`, which is at the offset `at`, and the length of its head.
+/// `None` if that is no whole head of an integer.
 #[inline(always)]
 fn integer_at(at: u64, piece: &[u8]) -> Option<(Node, usize)>
     ensures within { IfSome result (λ r. r.1 ≤ length piece.now) }
@@ -257,7 +252,7 @@ fn integer_at(at: u64, piece: &[u8]) -> Option<(Node, usize)>
     }
 }
 
-/// Puts an item behind those that are ready. The most find room, and the others stand apart.
+/// Appends an item to those that are complete. Growing is out of line, since most find room.
 #[inline(always)]
 fn keep(ready: &mut VecDeque<Spelled>, item: Spelled) -> Result<(), AllocError>
     ensures { Added ready.old.items item ready.new.items result }
@@ -269,7 +264,7 @@ fn keep(ready: &mut VecDeque<Spelled>, item: Spelled) -> Result<(), AllocError>
     Ok(())
 }
 
-/// Appends an item to those that are ready, where there may be no room for it.
+/// Appends an item to those that are complete, which may have to grow.
 #[inline(never)]
 fn keep_growing(ready: &mut VecDeque<Spelled>, item: Spelled) -> Result<(), AllocError>
     ensures { Added ready.old.items item ready.new.items result }

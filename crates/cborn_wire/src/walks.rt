@@ -2,7 +2,8 @@
 
 ghost use Rattle.std.specs.Prelude.{◌≡◌, ◌≢◌, ◌⊎◌, ◌<◌, ◌∷◌, ◌++◌, ℕ, List, length, true, None, IfSome, MatchBool, MatchOption};
 
-/// Whether no more is to be taken: all that there may be is taken, or a break ends it.
+/// Whether a walk is done: `count` is `most`, or a break at the front of `bytes` ends it, if
+/// `may_end`.
 #[inline(always)]
 pub fn is_done(count: u64, most: u64, may_end: bool, bytes: &[u8]) -> bool
     ensures { MatchBool result ((count ≡ most) ⊎ (may_end ≡ true) × ((rest : List ℕ) × (bytes.now ≡ 255 ∷ rest))) ((count ≢ most) × (may_end ≡ true → (rest : List ℕ) → bytes.now ≢ 255 ∷ rest)) }
@@ -10,7 +11,7 @@ pub fn is_done(count: u64, most: u64, may_end: bool, bytes: &[u8]) -> bool
     count == most || (may_end && matches!(bytes, [255, ..]))
 }
 
-/// What follows the break at the front, if one stands there.
+/// What follows the break at the front of `bytes`; `None` if there is no break.
 #[inline(always)]
 pub fn behind_break(bytes: &[u8]) -> Option<&[u8]>
     ensures { MatchOption result ((rest : List ℕ) → bytes.now ≢ 255 ∷ rest) (λ rest. bytes.now ≡ 255 ∷ rest.now) }
@@ -21,7 +22,7 @@ pub fn behind_break(bytes: &[u8]) -> Option<&[u8]>
     }
 }
 
-/// The last `left` bytes, if there are so many.
+/// The last `left` bytes; `None` if there are fewer.
 #[inline(always)]
 pub fn last(bytes: &[u8], left: usize) -> Option<&[u8]>
     ensures found { IfSome result (λ rest. (front back : List ℕ) → bytes.now ≡ front ++ back → length back ≡ left → rest.now ≡ back) }

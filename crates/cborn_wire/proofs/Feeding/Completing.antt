@@ -83,7 +83,7 @@ module _ (limit base : ℕ) where
         longest = λ f y others is w. subst (λ l. length f ≤ length l) same (no_longer x f y (trees others) is w);
       }
 
-  -- No item is whole: none stands at the front.
+  -- No item is whole: none is at the front.
   pub no_first : (x : List ℕ) (t : Tree) (y : List ℕ) → ready_in (run limit (start base) x) ≡ no_item → x ≡ spelled t ++ y → Fits t → depth t ≤ limit → ⊥
   no_first x t y e is fits deep =
       let w : Wellformed limit (more t no_item) (spelled t) = record { spells = append-nil (spelled t); fit = (fits, tt); shallow = omega arith } in

@@ -108,7 +108,7 @@ taken limit base at None items left os part e h = (base, subst (λ ts. IsReached
 taken limit base at (Some t) items left os part e h =
     (base + length (spelled t), (feeds_taken limit base at t (trees left) os part (subst (λ ts. IsReached limit base (Live at (trees ts) os part)) e h)).4)
 
--- The same in the words of what a feeder tells, of states that are live.
+-- That in the words of what a feeder tells, of states that are live.
 
 module _ (limit base at fed : ℕ) (items : List Tree) (os : List Begun) (part : Partial) (h : IsReached limit base (Live at (trees items) os part)) (same : at ≡ fed) where
   abbrev pub told : Option WireFault → Feeding

@@ -65,7 +65,7 @@ module _ (limit at : ℕ) (ready : Trees) (os : List Begun) where
       ∙ ap (λ k. after_head k p ready os m (Given w (number w (got ++ get_or piece 0 0 ∷ [])))) (sym (add-one at))
       ∙ ap (λ k. after_head (at + 1) p ready os m (Given w k)) (sym (value ∙ ap (number w) (whole ∙ is)))
 
-  -- An initial byte that may not stand there.
+  -- An initial byte that isn't allowed there.
   pub first_refused : (piece : List ℕ) (r : WireReason) → 0 < length piece → Some r ≡ head_reason (slot os) (leb limit (open_depth os)) (major_at (get_or piece 0 0 / 32)) (info_at (get_or piece 0 0 % 32)) []
       → run limit (Live at ready os nothing) piece ≡ Failed ready at r
   first_refused [] r some e = absurd (omega arith)

@@ -89,6 +89,6 @@ pub same_reason : (limit : ℕ) (s : Slot) (k : ℕ) (y : List ℕ) → reason_a
 same_reason limit s k [] = refl
 same_reason limit s k (b ∷ y) = reason_is s (leb limit k) (b / 32) (b % 32) (info_at (b % 32)) y (info_says (b % 32) (omega arith))
 
--- wherever an item or a break may stand
+-- wherever an item or a break is allowed
 pub same_alone : (b : ℕ) (y : List ℕ) → reason_alone (b ∷ y) ≡ head_reason element_or_end false (major_at (b / 32)) (info_at (b % 32)) y
 same_alone b y = same_reason 1 element_or_end 0 (b ∷ y)

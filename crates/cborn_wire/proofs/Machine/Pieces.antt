@@ -57,7 +57,7 @@ module _ (limit fed : ℕ) (ready : Trees) (os : List Begun) where
       ∙ ap (λ i. head_reason (slot os) (leb limit (open_depth os)) (major_at (b / 32)) i []) (sym (info_of_head m a b z y fits e)) ∙ none in
       ap (run limit (Live fed ready os nothing)) e ∙ takes_head limit fed ready os m a y fits suits
 
-  -- An initial byte that may not stand in the slot.
+  -- An initial byte that isn't allowed in the slot.
   pub refuses_first : (b : ℕ) (y : List ℕ) (r : WireReason) → head_reason (slot os) (leb limit (open_depth os)) (major_at (b / 32)) (info_at (b % 32)) [] ≡ Some r
       → run limit (Live fed ready os nothing) (b ∷ y) ≡ Failed ready fed r
   refuses_first b y r e =
@@ -90,7 +90,7 @@ module _ (limit fed : ℕ) (ready : Trees) (os : List Begun) where
       ∙ ap (λ c. run limit (cond c (string_done (fed + length y) p ready os k w (got ++ y)) (Live (fed + length y) ready os (gathering p (content_of k w) n (got ++ y)))) x)
       (le-leb n (length (got ++ y)) (omega (arith, length-append got y)))
 
-  -- All of a string's content, behind its head.
+  -- All of a string's content, after its head.
   pub content_whole : (p : ℕ) (k : StringKind) (w : Width) (n : ℕ) (y : List ℕ) → length y ≡ n → run limit (content_at fed p ready os k w n []) y ≡ string_done (fed + length y) p ready os k w y
   content_whole p k w n y all =
       ap (run limit (content_at fed p ready os k w n [])) (sym (append-nil y))

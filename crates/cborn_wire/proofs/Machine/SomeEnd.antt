@@ -52,7 +52,7 @@ module _ (limit : ℕ) where
       go true e = failed_run limit y ready fed BadSimple ∙ ap (Failed ready fed) (some_is BadSimple r e)
       go false e = cc
 
-  -- What may not stand at a slot fails there, for that reason.
+  -- What isn't allowed at a slot fails there, for that reason.
   pub refused_run : (y : List ℕ) (fed : ℕ) (ready : Trees) (os : List Begun) (r : WireReason) → front_reason limit (slot os) (open_depth os) y ≡ Some r
       → run limit (Live fed ready os nothing) y ≡ Failed ready fed r
   refused_run [] fed ready os r e = cc
@@ -227,7 +227,7 @@ module _ (limit : ℕ) where
   none_there key_or_end full free = refl
   none_there (chunk k) full free = absurd free
 
-  -- An integer may stand wherever no chunk has to.
+  -- An integer is allowed wherever no chunk has to be.
   pub takes_integer : (fed : ℕ) (ready : Trees) (os : List Begun) → AreBegun limit os → IsNoChunk (slot os) → Closable limit (step limit (Live fed ready os nothing) 0)
   takes_integer fed ready os h free =
       subst (λ o. Closable limit (unless o ready fed (finished (suc fed) ready os (Uint fed Direct 0)))) (sym (none_there (slot os) (leb limit (open_depth os)) free))

@@ -72,7 +72,7 @@ pub chunk_bytes-snoc : (m : Major) (cs : List Chunk) (c : Chunk) → flat_map (c
 chunk_bytes-snoc m [] c = append-nil (chunk_bytes m c)
 chunk_bytes-snoc m (d ∷ cs) c = ap (λ l. chunk_bytes m d ++ l) (chunk_bytes-snoc m cs c) ∙ sym (append_assoc (chunk_bytes m d) (flat_map (chunk_bytes m) cs) (chunk_bytes m c))
 
--- A part is what the bytes that came make of a head or a string that may stand here.
+-- A part is what the bytes that came make of a head or a string that is allowed here.
 abbrev pub PartFits : ℕ → List Begun → ℕ → Partial → Type 0
 PartFits limit os at nothing = Unit {0}
 PartFits limit os at (gathering p (argument_of m w) n got) = (p ≡ at) × (n ≡ width_bytes w) × (length got < n) × (head_reason (slot os) (leb limit (open_depth os)) m (Next w) [] ≡ None) × AreBytes got

@@ -56,7 +56,7 @@ wide limit fed ready os m w i n y x h e r l is =
     ∙ (let count : suc fed + length y ≡ fed + suc (length y) = omega arith in
     ap (λ k. run limit (after_head k fed ready os m (Given w n)) x) count)
 
--- The machine takes a head where it may stand.
+-- The machine takes a head where it is allowed.
 pub takes_head : (limit fed : ℕ) (ready : Trees) (os : List Begun) (m : Major) (a : Argument) (x : List ℕ) → ArgumentFits a
     → head_reason (slot os) (leb limit (open_depth os)) m (info_for a) [] ≡ None
     → run limit (Live fed ready os nothing) (head m a ++ x) ≡ run limit (after_head (fed + length (head m a)) fed ready os m a) x

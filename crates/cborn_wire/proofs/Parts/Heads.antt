@@ -1,4 +1,4 @@
--- A head that was read at the front of bytes, and what stands behind it.
+-- A head that was read at the front of bytes, and what is after it.
 use Rattle.std.proofs.Common.{◌≡◌, ℕ, ◌+◌, ◌-◌, ◌≤◌, List, ◌∷◌, ◌++◌, length, drop, sym, ap, ◌∙◌, subst, arith, append_assoc, append-nil, length-append, drop_at}
 use Rattle.cborn_model.specs.declared.heads.Major.{Major}
 use Rattle.cborn_model.specs.declared.heads.Size.TheVariants.{Fixed, Endless}
@@ -19,13 +19,13 @@ head_split x h n i =
 pub head_read : {x tail : List ℕ} {h : Head} {n : ℕ} {m : Major} {a : Argument} → tail ≡ drop n x → IsHeadOf x h n → major_at h.major ≡ m → h.argument ≡ a → x ≡ head m (seen_argument a) ++ tail
 head_read {x} {tail} {h} {n} {m} {a} t i e f = head_split x h n i ∙ (λ j. head (e j) (seen_argument (f j)) ++ sym t j)
 
--- what holds of the head and the bytes behind it
+-- what holds of the head and the bytes after it
 pub read_from : (F : List ℕ → Type 0) {x tail : List ℕ} {h : Head} {n : ℕ} {m : Major} {a : Argument} → tail ≡ drop n x → IsHeadOf x h n → major_at h.major ≡ m → h.argument ≡ a → (ArgumentFits (seen_argument a) → F (head m (seen_argument a) ++ tail)) → F x
 read_from F t i e f done = subst F (sym (head_read t i e f)) (done (subst (λ (b : Argument). ArgumentFits (seen_argument b)) f i.fits))
 
--- R x rest: something stands at the front of x, and rest behind it
+-- R x rest: something is at the front of x, and rest after it
 module _ (R : List ℕ → List ℕ → Type 0) where
-  -- it goes on behind its head
+  -- it goes on after its head
   pub head_before : {x tail : List ℕ} {h : Head} {n left : ℕ} {m : Major} {a : Argument} → tail ≡ drop n x → IsHeadOf x h n → major_at h.major ≡ m → h.argument ≡ a → (ArgumentFits (seen_argument a) → Leaves (R (head m (seen_argument a) ++ tail)) left) → Leaves (R x) left
   head_before {left = left} t i e f done = read_from (λ (y : List ℕ). Leaves (R y) left) t i e f done
 
@@ -33,7 +33,7 @@ module _ (R : List ℕ → List ℕ → Type 0) where
   pub head_alone : {x tail : List ℕ} {h : Head} {n left : ℕ} {m : Major} {a : Argument} → tail ≡ drop n x → IsHeadOf x h n → major_at h.major ≡ m → h.argument ≡ a → length tail ≡ left → (ArgumentFits (seen_argument a) → R (head m (seen_argument a) ++ tail) tail) → Leaves (R x) left
   head_alone {tail = tail} t i e f l done = head_before t i e f (λ fits. (tail, l, done fits))
 
--- ---- contents behind a head, and the end of them
+-- ---- contents after a head, and the end of them
 
 pub fixed_split : (m : Major) (w : Width) (body rest : List ℕ) {n count : ℕ} {input : List ℕ} → count ≡ n → input ≡ body ++ rest → head m (Given w n) ++ input ≡ ((head m (Given w count) ++ body) ++ ending (Fixed w)) ++ rest
 fixed_split m w body rest {count = count} c e =

@@ -39,7 +39,7 @@ node_within l x = record { node = x.node; read = x.read; fits = x.fits; shallow 
 pub node_left : {P : Tree → Type 0} {room : ℕ} {input rest : List ℕ} → NodeRead P room input rest → length rest ≤ length input
 node_left {rest = rest} x = omega (arith, ap length x.read ∙ length-append (spelled x.node) rest)
 
--- the bytes that are left are those behind the node
+-- the bytes that are left are those after the node
 pub node_last : {P : Tree → Type 0} {room left : ℕ} {input rest : List ℕ} → Leaves (NodeRead P room input) left → ((front back : List ℕ) → input ≡ front ++ back → length back ≡ left → rest ≡ back) → NodeRead P room input rest
 node_last {P} {room} {input = input} s last = subst (NodeRead P room input) (sym (last (spelled s.2.node) s.0 s.2.read s.1)) s.2
 
@@ -66,7 +66,7 @@ one_node {rest = rest} x q = record {
   count = refl;
 }
 
--- those behind others
+-- those after others
 pub nodes_more : {P R Q : List Tree → Type 0} {room n m : ℕ} {input mid rest : List ℕ} (x : NodesRead P room n input mid) (y : NodesRead R room m mid rest) → Q (x.nodes ++ y.nodes) → NodesRead Q room (n + m) input rest
 nodes_more {room = room} {rest = rest} x y q =
     let laid : spelled_all (trees (x.nodes ++ y.nodes)) ≡ spelled_all (trees x.nodes) ++ spelled_all (trees y.nodes) = ap spelled_all (trees-append x.nodes y.nodes) ∙ spelled_all-append (trees x.nodes) (trees y.nodes) in

@@ -54,7 +54,7 @@ one_argument m k Unbounded Unbounded x y f g e =
     let low : 32 * code m + 31 ≡ 32 * code k + 31 = first_byte _ _ _ _ e in
     (same_major m k (omega (arith, low)), refl, (append_same ((32 * code m + 31) ∷ []) ((32 * code k + 31) ∷ []) x y refl e).1)
 
--- ---- the head of a node, and what stands behind it
+-- ---- the head of a node, and what is after it
 
 abbrev pub opening : Tree → Major × Argument
 opening (Uint q w n) = (Unsigned, Given w n)

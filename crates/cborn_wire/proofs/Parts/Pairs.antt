@@ -22,7 +22,7 @@ depth_more : (ns : List Pair) (p : Pair) (d : ℕ) → depth_entries (entries ns
 depth_more [] p d f g h = omega arith
 depth_more (n ∷ ns) p d f g h = omega (arith, depth_more ns p d (omega (arith, f)) g h, f)
 
--- a key, and its value behind it
+-- a key, and its value after it
 pub pair_read : {K V : Tree → Type 0} {Q : Pair → Type 0} {room : ℕ} {input half rest : List ℕ} (k : NodeRead K room input half) (v : NodeRead V room half rest) → Q (k.node, v.node) → PairRead Q room input rest
 pair_read {rest = rest} k v q = record {
   pair = (k.node, v.node);

@@ -29,7 +29,7 @@ string_front n input l bytes = record {
   bytes = bytes-left (take n input) (drop n input) (subst AreBytes (sym (take-append-drop n input)) bytes);
 }
 
--- the head of a string, and its content behind it
+-- the head of a string, and its content after it
 pub string_split : (m : Major) (w : Width) {n : ℕ} {input content rest : List ℕ} → StringRead n input content rest → head m (Given w n) ++ input ≡ string m w content ++ rest
 string_split m w {content = content} {rest} s = (λ i. head m (Given w (sym s.len i)) ++ s.read i) ∙ sym (append_assoc (head m (Given w (length content))) content rest)
 

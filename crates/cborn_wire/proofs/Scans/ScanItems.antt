@@ -36,7 +36,7 @@ pub levels_most : (limit : ℕ) (os : List Begun) → AreBegun limit os → leng
 levels_most limit [] h = omega arith
 levels_most limit (o ∷ os) h = omega (arith, levels_length os, depth_is_length limit os h.2 h.1, depth_most limit os h.2)
 
--- which heads may stand
+-- which heads are allowed
 
 kind_same : (k : StringKind) → slot_of (level_of (begun_chunks 0 k [])) ≡ chunk k
 kind_same OfBytes = refl

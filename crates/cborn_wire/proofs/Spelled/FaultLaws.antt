@@ -107,7 +107,7 @@ pub fault_stays : (limit : ℕ) (x z : List ℕ) (p : ℕ) (r : WireReason) → 
 fault_stays limit x z p r (inl h) n = inl (refused_stays limit x z p r h)
 fault_stays limit x z p r (inr h) n = absurd (n h.0)
 
--- A head that may not stand where it stands is there.
+-- A head that isn't allowed is there.
 pub fault_inside : (limit : ℕ) (x : List ℕ) (p : ℕ) (r : WireReason) → Fault limit x p r → (r ≡ Truncated → ⊥) → p < length x
 fault_inside limit x p r (inl (f, b, y, is, at, begins, bad, why)) n = omega (arith, at, ap length is, length-append f (b ∷ y))
 fault_inside limit x p r (inr h) n = absurd (n h.0)

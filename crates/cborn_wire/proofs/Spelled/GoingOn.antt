@@ -1,4 +1,4 @@
--- Which bytes go on: what the machine is at where a head begins, and which heads may stand there.
+-- Which bytes go on: what the machine is at where a head begins, and which heads are allowed there.
 use Rattle.std.proofs.Common.{◌≡◌, refl, sym, ap, ◌∙◌, subst, ℕ, suc, ◌+◌, ◌/◌, ◌%◌, ◌<◌, List, [], ◌∷◌, ◌++◌, length, take, drop, Bool, true, false, cond, leb, eqb, Option, Some, None, inl, inr, arith, append_assoc, append-nil}
 use Rattle.std.proofs.lemmas.Bool.{eqb-true}
 use Rattle.std.proofs.lemmas.List.{take-append-drop}
@@ -33,7 +33,7 @@ module _ (limit : ℕ) where
   pub well_goes : (x : List ℕ) → IsWellformed limit x → GoesOn limit x
   well_goes x w = ([], subst (IsWellformed limit) (sym (append-nil x)) w)
 
-  -- a byte behind a front that the machine may take goes on
+  -- a byte after a front that the machine may take goes on
   byte_goes : (f : List ℕ) (c : ℕ) (s : State) → AreBytes f → c < 256 → run limit (start 0) f ≡ s → Closable limit (step limit s c) → GoesOn limit (f ++ c ∷ [])
   byte_goes f c s bytes byte e h =
       closable_goes limit 0 (f ++ c ∷ []) (bytes-append f (c ∷ []) bytes (byte, tt))
@@ -59,7 +59,7 @@ module _ (limit : ℕ) where
           absurd (free (byte_goes f 0xfc (Live fed ready os (gathering p g n got)) bytes (omega arith) e (takes_part limit 0 f fed ready os p g n got 0xfc (omega arith) h)))
       go (Failed ready p r) e = absurd (fails_ends limit 0 f p r ready e goes)
 
-  -- behind the first byte of a simple value of two bytes it isn't
+  -- after the first byte of a simple value of two bytes it isn't
   amid_simple : (f : List ℕ) → Between f → Between (f ++ 0xf8 ∷ []) → ⊥
   amid_simple f a b =
       go (head_reason (slot a.os) (leb limit (open_depth a.os)) Other (Next One) [])
@@ -96,7 +96,7 @@ module _ (limit : ℕ) where
           let two : take 1 y ≡ d ∷ [] = ap (take 1) rest in
           bad (subst (λ l. GoesOn limit (f ++ b ∷ l)) (sym two) (goes_front (f ++ b ∷ d ∷ []) w (subst (GoesOn limit) (front ∙ sym (append_assoc f (b ∷ d ∷ []) w)) after.0)))
 
-  -- What the table refuses may not stand behind its front.
+  -- What the table refuses isn't allowed after its front.
   stands_not : (f y : List ℕ) (s : Slot) (k : ℕ) (r : WireReason) → Open limit f s k → reason_at limit s k y ≡ Some r → GoesOn limit (f ++ y) → ⊥
   stands_not f y s k r opens reason = slot_ends limit (f ++ y) (length f) r (f, y, s, k, refl, refl, opens, reason)
 

@@ -33,7 +33,7 @@ reads limit p ts x h =
     ∙ takes_sequence us limit p no_item [] (fits_all-from ts p h.fit) deep (placed_all-from ts p)
     ∙ ap (λ l. Live (p + length l) us [] nothing) same
 
--- places aside
+-- but for offsets
 pub one_reading : (limit : ℕ) (ts us : Trees) (x : List ℕ) → Wellformed limit ts x → Wellformed limit us x → (p : ℕ) → all_from p ts ≡ all_from p us
 one_reading limit ts us x h k p = ap ready_in (sym (reads limit p ts x h) ∙ reads limit p us x k)
 

@@ -58,7 +58,7 @@ not_simple low full m i r h e =
     = subst (λ b. cond (b && false) (Some FloatLeftOut) (cond ((b && false) && low) (Some BadSimple) (deep full m)) ≡ Some r) last (subst (λ i. simple low full m i ≡ Some r) (eqb-true i 31 is) e) in
     not_deep full m r last none
 
--- where no chunk stands
+-- where no chunk is
 reason_of_item : (s : Slot) (full : Bool) (m i : ℕ) (y : List ℕ) (r : WireReason) → table.is_bad_chunk s m i ≡ false → table.reason_of s full m i y ≡ Some r → r ≡ reason_of false m i
 reason_of_item s full m i y r free e =
     first (leb 28 i && leb i 30) _ _ _ r e (λ e.
@@ -72,7 +72,7 @@ not_string : (k : StringKind) (low full : Bool) (i : ℕ) (r : WireReason) → s
 not_string OfBytes low full i r e = cc
 not_string OfText low full i r e = cc
 
--- where a chunk may stand
+-- where a chunk is allowed
 not_chunk : (k : StringKind) (low full : Bool) (m i : ℕ) (r : WireReason) → table.is_bad_chunk (chunk k) m i ≡ false → cond ((leb 7 m && eqb i 31) && false) (Some UnexpectedBreak) (simple low full m i) ≡ Some r → ⊥
 not_chunk k low full m i r free e = go (leb 7 m && eqb i 31) (eqb m (code (major_of k))) refl refl free e
   where

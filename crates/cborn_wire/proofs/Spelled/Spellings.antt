@@ -52,7 +52,7 @@ map_fits p n f t s v is e many h =
     let g : Fits (Pairs p s (entries v.items)) = subst Fits (sym is ∙ ap (tree_of p) e) h in
     (subst (SizeFits s) (count_entries-entries v.items ∙ sym many) g.0, g.1, ap depth (sym is ∙ ap (tree_of p) e))
 
--- what a loop over the parts leaves, with what stands before and behind them
+-- what a loop over the parts leaves, with what is before and after them
 pub items_spelled : (p : ℕ) (s : Size) (xs ys : List Tree) (n i : ℕ) (old opened all closed : List ℕ) → ys ≡ xs → n ≡ length xs → length ys ≤ i → opened ≡ old ++ head Array (argument s n) → all ≡ opened ++ flat_map spelled (take i ys) → closed ≡ all ++ ending s → closed ≡ old ++ spelled (Items p s (trees xs))
 items_spelled p s xs ys n i old opened all closed e hn hi ho ha hc =
     rw (spelled_all-trees xs, count-trees xs, ← e, hc, ha, ho, hn, ← e, take_all i ys hi) (simp append_assoc)

@@ -30,7 +30,7 @@ use Rattle.cborn_wire.proofs.Stacked.Advancing.{took}
 use Rattle.cborn_wire.proofs.Stacked.Putting.{items_room}
 use Rattle.cborn_wire.proofs.Stacked.Settling.{settles_finished}
 
--- A whole head that stands at the front, where no chunk is wanted.
+-- A whole head that is at the front, where no chunk is wanted.
 module _ (at : ℕ) (piece : List ℕ) (h : Head) (n : ℕ) (i : IsHeadOf piece h n) where
   goes : (m : Major) (w : Width) (v : ℕ) → major_at h.major ≡ m → h.argument ≡ arguments.Given w v → is_other m ≡ false → is_container m ≡ false
       → (limit : ℕ) (os : List Begun) → IsNoChunk (slot os) → run limit (Live at no_item os nothing) (take n piece) ≡ after_head (at + n) at no_item os m (heads.Given w v)

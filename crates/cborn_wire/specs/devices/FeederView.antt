@@ -8,6 +8,6 @@ use Rattle.cborn_wire.specs.devices.StackView.{seen}
 abbrev pub told : Inside → Feeding
 told f = record { limit = f.stack.limit; fed = f.fed; held = held (seen f.stack); items = f.stack.items; fault = f.stack.fault }
 
--- Until a piece is refused, the stack stands where the accepted bytes end.
+-- Until a piece is refused, the stack is at the end of the accepted bytes.
 abbrev pub Keeps : Inside → Type 0
 Keeps f = f.stack.fault ≡ None → f.fed ≡ f.stack.at

@@ -34,13 +34,13 @@ seen_slot Item = item
 seen_slot ItemOrBreak = element_or_end
 seen_slot (Chunk k) = chunk (seen_kind k)
 
--- the slot that what may stand here is the same in, if it isn't this one
+-- the slot in which the same heads are allowed, for a slot that the code doesn't tell apart
 abbrev pub plain : slots.Slot → slots.Slot
 plain value = item
 plain key_or_end = element_or_end
 plain s = s
 
--- where an item of an array, or a key of a map, with this argument stands
+-- the slot of an item of an array, or a key of a map, with this argument
 abbrev pub element_slot : heads.Argument → slots.Slot
 element_slot (heads.Given w n) = item
 element_slot heads.Unbounded = element_or_end
@@ -87,22 +87,22 @@ IsShort partials.Nothing = Unit {0}
 IsShort (partials.Argument p m w bytes n) = length (take n bytes) < width_bytes w
 IsShort (partials.Content p k w n bytes) = length bytes.items < n
 
--- What the machine then is, up to `at`. Here and below it is told where no item was whole before: a nest knows of none.
+-- The machine after that, up to `at`. Here and below no item was complete before: a nest knows of none.
 abbrev pub left : ℕ → List Begun → Outcome → State
 left at os Open = Live at no_item os nothing
 left at os (Whole t) = Live at (more t no_item) os nothing
 left at os (Part p) = Live at no_item os (seen_partial p)
 
--- what the machine comes to where a call failed: that fault, or memory was refused
+-- the state of the machine after a call that failed: that fault, or memory was refused
 abbrev pub FailsAs : State → WireFault → Type 0
 FailsAs s (Refused p r) = s ≡ Failed no_item p r
 FailsAs s OutOfMemory = Unit {0}
 
--- the nest and the outcome are what the machine comes to, up to `at`, or the call failed
+-- the nest and the outcome are the machine's state up to `at`, or the call failed
 abbrev pub Gives : State → ℕ → Nest → Result Outcome WireFault → Type 0
 Gives s at new r = MatchResult r (λ o. s ≡ left at (opened new) o) (FailsAs s)
 
--- Of the piece, which stands at `at` behind the part, so many bytes were taken, at least one, with no more than one item that is whole now.
+-- From the piece, which follows the part at `at`, this many bytes were taken, at least one, and at most one more item is complete.
 pub record Took (limit at : ℕ) (part : machine.Partial) (piece : List ℕ) (old new : Nest) (n : ℕ) (o : Outcome) : Type 0 where
   pub some : 0 < n
   pub within : n ≤ length piece
@@ -113,13 +113,13 @@ abbrev pub Takes : ℕ → ℕ → machine.Partial → List ℕ → Nest → Nes
 Takes limit at part piece old new r =
     MatchResult r (λ t. Took limit at part piece old new t.0 t.1) (FailsAs (run limit (Live at no_item (opened old) part) piece))
 
--- This item stands first in the piece, which is at `at`, and its head is n bytes: the machine takes it wherever no chunk is wanted.
+-- This item is first in the piece, which is at `at`, and its head is n bytes: the machine takes it wherever no chunk is wanted.
 pub record StandsFirst (at : ℕ) (piece : List ℕ) (t : Tree) (n : ℕ) : Type 0 where
   pub some : 0 < n
   pub within : n ≤ length piece
   pub goes : (limit : ℕ) (os : List Begun) → IsNoChunk (slot os) → run limit (Live at no_item os nothing) (take n piece) ≡ finished (at + n) no_item os t
 
--- What the machine comes to where a whole item is put into the frame f and the call answers this: f is then g, or is whole.
+-- The state of the machine after a complete item is put into the frame f, if the call answers this: f is then g, or is complete.
 abbrev pub PutGives : State → ℕ → Trees → List Begun → Frame → Result (Option Tree) WireFault → Type 0
 PutGives s at ready os g (Ok None) = s ≡ Live at ready (seen_frame g ∷ os) nothing
 PutGives s at ready os g (Ok (Some t)) = s ≡ finished at ready os t
@@ -129,13 +129,13 @@ PutGives s at ready os g (Err OutOfMemory) = Unit {0}
 abbrev pub Puts : ℕ → Frame → Frame → Tree → Result (Option Tree) WireFault → Type 0
 Puts at f g t r = (ready : Trees) (os : List Begun) → PutGives (finished at ready (seen_frame f ∷ os) t) at ready os g r
 
--- The same of the nest: the innermost of what is open stays open, or it is whole and taken off.
+-- The state of the machine after a complete item is put into the nest: its innermost frame stays open, or it is complete and removed.
 abbrev pub PutLeaves : State → ℕ → Nest → Nest → Result (Option Tree) WireFault → Type 0
 PutLeaves s at old new (Ok None) = s ≡ Live at no_item (opened new) nothing
 PutLeaves s at old new (Ok (Some t)) = (s ≡ finished at no_item (opened new) t) × (open_len new + 1 ≡ open_len old)
 PutLeaves s at old new (Err e) = FailsAs s e
 
--- what the machine comes to at a break in the frame f, where closing it answers this
+-- the state of the machine after a break in the frame f, if closing it answers this
 abbrev pub Closes : Frame → Option Tree → Type 0
 Closes f None = (at : ℕ) (ready : Trees) (os : List Begun) → ended at ready (seen_frame f ∷ os) ≡ Failed ready at UnexpectedBreak
 Closes f (Some t) = (at : ℕ) (ready : Trees) (os : List Begun) → ended at ready (seen_frame f ∷ os) ≡ finished at ready os t
@@ -147,11 +147,11 @@ seen s = Live s.at (trees s.items) (opened s.nest) (seen_partial s.partial)
 abbrev pub IsMade : Standing → Type 0
 IsMade s = (base : ℕ) × IsReached s.limit base (seen s)
 
--- the item stands behind the others, or memory was refused
+-- the item follows the others, or memory was refused
 abbrev pub Added : List Tree → Tree → List Tree → Result (Unit {0}) AllocError → Type 0
 Added old t new r = MatchResult r (λ _. new ≡ old ++ t ∷ []) (λ _. new ≡ old)
 
--- What a call leaves that failed where the machine comes to this state: the fault is the machine's, or memory was refused. The whole items are as they were.
+-- What a call that failed leaves, if the machine comes to this state: the fault is the machine's, or memory was refused. The complete items are as they were.
 abbrev pub Fails : State → List Tree → List Tree → WireFault → Type 0
 Fails s before now (Refused p r) = (now ≡ before) × (s ≡ Failed (trees now) p r)
 Fails s before now OutOfMemory = now ≡ before
@@ -161,14 +161,14 @@ pub record IsFailed (old new : Standing) (e : WireFault) : Type 0 where
   pub fault : new.fault ≡ Some e
   pub limit : new.limit ≡ old.limit
 
--- What it is after one that took these bytes.
+-- What a stack is after a call that took these bytes.
 pub record IsMoved (old new : Standing) (x : List ℕ) : Type 0 where
   pub fault : new.fault ≡ None
   pub limit : new.limit ≡ old.limit
   pub at : new.at ≡ old.at + length x
   pub goes : run old.limit (seen old) x ≡ seen new
 
--- So many bytes of the piece are taken, at least one, with no more than one item that is whole now; or the call failed.
+-- This many bytes of the piece are taken, at least one, and at most one more item is complete; or the call failed.
 abbrev pub Advances : List ℕ → Standing → Standing → Result ℕ WireFault → Type 0
 Advances piece old new r =
     MatchResult r (λ n. (0 < n) × (n ≤ length piece) × IsMoved old new (take n piece) × Settles (trees old.items) (seen new))

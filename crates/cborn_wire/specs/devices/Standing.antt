@@ -10,7 +10,7 @@ use Rattle.cborn_wire.specs.contracts.faults.WireFault as of_fault
 use Rattle.cborn_wire.specs.contracts.frames.Partial as of_partial
 use Rattle.cborn_wire.specs.contracts.nests.Nest as of_nest
 
--- How many arrays, maps and tags may stand around one another, the offset of the next byte, the whole items, what is open, the part of a head or of a string, and what a call answered that failed.
+-- The maximum nesting depth, the offset of the next byte, the complete items, what is open, the part of a head or of a string, and the error of a call that failed.
 pub record Standing : Type 0 where
   pub limit : ℕ
   pub at : ℕ

@@ -1,4 +1,4 @@
--- A device of the proofs: whole items, and what is open behind them, as the machine finds them in what it took; each says where it stands. No definition cites it.
+-- A device of the proofs: complete items, and what is open after them, as the machine finds them in what it took; each with its offset. No definition cites it.
 use Rattle.std.specs.Prelude.{◌≡◌, ℕ, suc, ◌+◌, ◌≤◌, List, [], ◌∷◌, length}
 use Rattle.cborn_model.specs.declared.heads.Major.TheVariants.{Array, Map}
 use Rattle.cborn_model.specs.Heads.{head}
@@ -7,7 +7,7 @@ use Rattle.cborn_model.specs.Spelled.{spelled_all, spelled_entries, FitsAll}
 use Rattle.cborn_model.specs.Placed.{ChunksPlaced, Placed, PlacedAll, PlacedEntries}
 use Rattle.cborn_wire.specs.Slots.{major_of, Begun, begun_items, begun_pairs, begun_value, begun_tag, begun_chunks, beginnings, AreBegun}
 
--- where what is open stands
+-- the offsets of what is open
 abbrev pub BegunPlaced : ℕ → Begun → Type 0
 BegunPlaced p (begun_items q a ts) = (q ≡ p) × PlacedAll (p + length (head Array a)) ts
 BegunPlaced p (begun_pairs q a es) = (q ≡ p) × PlacedEntries (p + length (head Map a)) es
@@ -19,7 +19,7 @@ abbrev pub OpenPlaced : ℕ → List Begun → Type 0
 OpenPlaced p [] = Unit {0}
 OpenPlaced p (o ∷ os) = BegunPlaced (p + length (beginnings os)) o × OpenPlaced p os
 
--- the whole items and what is open stand from base on, and are within the limit
+-- the complete items and what is open begin at base, and are within the limit
 pub record Ground (limit base : ℕ) (ready : Trees) (os : List Begun) : Type 0 where
   pub fit : FitsAll ready
   pub shallow : depth_all ready ≤ limit

@@ -59,7 +59,7 @@ pub data Partial : Type 0 where
   nothing : Partial
   gathering : ℕ → Goal → ℕ → List ℕ → Partial
 
--- `Live`: the offset of the next byte, the whole items, what is open, the innermost first, and a part. `Failed`: the items that were whole before the fault, its place and its reason.
+-- `Live`: the offset of the next byte, the complete items, what is open, the innermost first, and a part. `Failed`: the items that were complete before the fault, its offset and its reason.
 pub data State : Type 0 where
   Live : ℕ → Trees → List Begun → Partial → State
   Failed : Trees → ℕ → WireReason → State
@@ -76,7 +76,7 @@ abbrev pub ready_in : State → Trees
 ready_in (Live fed ready os part) = ready
 ready_in (Failed ready p r) = ready
 
--- the bytes of whole items and of what is open
+-- the bytes of complete items and of what is open
 abbrev pub front : Trees → List Begun → List ℕ
 front ready os = spelled_all ready ++ beginnings os
 
@@ -85,7 +85,7 @@ part_bytes nothing = []
 part_bytes (gathering p (argument_of m w) n got) = (32 * code m + information w 0) ∷ got
 part_bytes (gathering p (content_of k w) n got) = head (major_of k) (Given w n) ++ got
 
--- the bytes that a live state stands for
+-- the bytes that make a live state
 abbrev pub held : State → List ℕ
 held (Live fed ready os part) = front ready os ++ part_bytes part
 held (Failed ready p r) = []
@@ -111,7 +111,7 @@ abbrev pub chunks_tree : ℕ → StringKind → List Chunk → Tree
 chunks_tree p OfBytes cs = ByteChunks p cs
 chunks_tree p OfText cs = TextChunks p cs
 
--- a whole item, at what is open around it
+-- a complete item, with what is open around it
 abbrev pub finished : ℕ → Trees → List Begun → Tree → State
 finished fed ready [] t = Live fed (snoc ready t) [] nothing
 finished fed ready (begun_items p a ts ∷ os) t = if is_full a (count (snoc ts t)) then finished fed ready os (items_tree p a (snoc ts t)) else Live fed ready (begun_items p a (snoc ts t) ∷ os) nothing
@@ -174,7 +174,7 @@ gathered fed p ready os (content_of k w) got = string_done fed p ready os k w go
 abbrev pub gather : ℕ → ℕ → Trees → List Begun → Goal → ℕ → List ℕ → State
 gather fed p ready os g n got = if nat_le n (length got) then gathered fed p ready os g got else Live fed ready os (gathering p g n got)
 
--- an initial byte that may stand in the slot
+-- an initial byte that is allowed in the slot
 abbrev pub begin_head : ℕ → Trees → List Begun → Major → Info → State
 begin_head fed ready os m (Now n) = after_head (suc fed) fed ready os m (Given Direct n)
 begin_head fed ready os m (Next w) = gather (suc fed) fed ready os (argument_of m w) (width_bytes w) []
@@ -204,11 +204,11 @@ run limit s (b ∷ x) = run limit (step limit s b) x
 abbrev pub IsReached : ℕ → ℕ → State → Type 0
 IsReached limit base s = (x : List ℕ) × AreBytes x × (run limit (start base) x ≡ s)
 
--- The whole items are as they were, or one more is whole and nothing is left open.
+-- The complete items are as they were, or one more is complete and nothing is open.
 abbrev pub Settles : Trees → State → Type 0
 Settles ready s = (ready_in s ≡ ready) ⊎ ((fed : ℕ) × (t : Tree) × (s ≡ Live fed (snoc ready t) [] nothing))
 
--- A reader that is handed the bytes x in the state s stops with this fault, and then has these whole items: the machine fails, or memory was refused after some front of x.
+-- A reader that is fed the bytes x in the state s stops with this fault, and then has these complete items: the machine fails, or memory was refused after some front of x.
 abbrev pub Stops : ℕ → State → List ℕ → WireFault → Trees → Type 0
 Stops limit s x (faults.Refused p r) ready = run limit s x ≡ Failed ready p r
 Stops limit s x faults.OutOfMemory ready = (y : List ℕ) × (z : List ℕ) × (x ≡ y ++ z) × (ready_in (run limit s y) ≡ ready)

@@ -62,7 +62,7 @@ abbrev pub begin_pairs : List Level → heads.Argument → List Level
 begin_pairs ls (Given w n) = if nat_le n 0 then finish ls else Map n ∷ ls
 begin_pairs ls Unbounded = EndlessMap ∷ ls
 
--- a whole head, and a string's bytes with it
+-- a whole head, and a definite string's content with it
 abbrev pub take_head : List Level → Major → heads.Argument → List Level
 take_head ls Unsigned a = finish ls
 take_head ls Negative a = finish ls
@@ -131,7 +131,7 @@ IsAmid (Failed ready p r) = ⊥
 abbrev pub HasFailed : ℕ → WireReason → State → Type 0
 HasFailed at r s = (ready : Trees) × (s ≡ Failed ready at r)
 
--- what the machine comes to from this state over the piece, where a step over its front answers this
+-- the state of the machine after the piece, from this state, if a step over its front answers this
 abbrev pub Comes : ℕ → State → List ℕ → ℕ → List Level → Step → Type 0
 Comes limit s piece at ls (Taken n) = (0 < n) × (n ≤ length piece) × IsScanned (at + n) ls (run limit s (take n piece))
 Comes limit s piece at ls Cut = IsAmid (run limit s piece)
