@@ -1,4 +1,4 @@
--- No encoding begins another: what stands at the front of a list is one encoding at most.
+-- No encoding begins another: what is at the front of a list is one encoding at most.
 use Rattle.std.proofs.Common.{◌≡◌, ℕ, suc, ◌<◌, ◌⊎◌, inl, inr, List, [], ◌∷◌, ◌++◌, length, refl, sym, ap, ◌∙◌, subst, arith, true, false, Bool, append_assoc, append-nil, IsPermutation, Ordering}
 use Rattle.std.specs.List.{AllByRecursion}
 use Rattle.std.proofs.lemmas.List.Sorted.{length_permutation}

@@ -59,7 +59,7 @@ least_is_least Two n h = by_least (λ v. bytes_in v ≤ 2) n (λ _. omega arith)
 least_is_least Four n h = by_least (λ v. bytes_in v ≤ 4) n (λ _. omega arith) (λ a b. omega arith) (λ a b. omega arith) (λ a b. omega arith) (λ a. omega (arith, h, a))
 least_is_least Eight n h = by_least (λ v. bytes_in v ≤ 8) n (λ _. omega arith) (λ a b. omega arith) (λ a b. omega arith) (λ a b. omega arith) (λ a. omega arith)
 
--- the least head of a length or a count is short beside it
+-- the least head of a length or a count is short compared with it
 least_is_short : (n : ℕ) → 3 * bytes_in (least n) ≤ n
 unfolding bytes_in
 least_is_short n = by_least (λ v. 3 * bytes_in v ≤ n) n (λ _. omega arith) (λ a b. omega (arith, a)) (λ a b. omega (arith, a)) (λ a b. omega (arith, a)) (λ a. omega (arith, a))
@@ -89,7 +89,7 @@ length_of_head m w n = ap suc (length-following w n)
 
 -- ---- strings
 
--- the encoding of a string, beside its length
+-- the encoding of a string, besides its length
 string_room : (j : ℕ) (b x : List ℕ) → IsString j b x → 3 * length x ≤ 3 + 4 * length b
 string_room j b x d =
     let e : length x ≡ length d.0 + length b = ap length d.2 ∙ length-append d.0 b in

@@ -66,7 +66,7 @@ begins_more a b c p q = (p.0 ++ q.0, q.1 ∙ ap (λ z. z ++ q.0) p.1 ∙ append_
 pub begins_take : (n : ℕ) (xs : List ℕ) → BeginsWith (take n xs) xs
 begins_take n xs = (drop n xs, sym (take-append-drop n xs))
 
--- what was written behind the front, and the front
+-- what was written after the front, and the front
 pub record Laid (es : List Entry) (lengths : List (ℕ × ℕ)) (start : ℕ) (front out : List ℕ) : Type 0 where
   pub inside : start ≤ length out
   pub written : IsWritten es lengths (drop start out)
@@ -117,7 +117,7 @@ module _ (order : List ℕ → List ℕ → Ordering) where
   items_step xs i x start old new l e s d =
       subst (λ vs. Appends (DetSeq order vs) start new) (sym (more item_value xs i x l e)) (items_more (map item_value (take i xs)) (item_value x) start old new s d)
 
-  -- the entries of the pairs, and how they lie behind what was there
+  -- the entries of the pairs, and how they lie after what was there
   abbrev pub AppendsPairs : List (Value × Value) → List (ℕ × ℕ) → List ℕ → List ℕ → Type 0
   AppendsPairs ps lengths old new = (es : List Entry) × DetPairs order (pairs_of ps) es × Appends (IsWritten es lengths) old new
 

@@ -5,6 +5,6 @@ use Rattle.std.specs.Prelude.{◌≡◌, ℕ, ◌+◌, List, ◌++◌, take, dro
 abbrev pub Appends : (List ℕ → Type 0) → List ℕ → List ℕ → Type 0
 Appends P old new = (x : List ℕ) × P x × (new ≡ old ++ x)
 
--- new is old, but for the byte at start, in whose place stands a list of which P holds
+-- new is old with a list of which P holds in the place of the byte at start
 abbrev pub Replaces : (List ℕ → Type 0) → ℕ → List ℕ → List ℕ → Type 0
 Replaces P start old new = (x : List ℕ) × P x × (new ≡ (take start old ++ x) ++ drop (start + 1) old)

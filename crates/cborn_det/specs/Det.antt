@@ -20,12 +20,12 @@ joined = flat_map (λ e. e.0 ++ e.1)
 abbrev pub IsString : ℕ → List ℕ → List ℕ → Type 0
 IsString major b x = (h : List ℕ) × IsLeastHead major (length b) h × (x ≡ h ++ b)
 
--- the major type of an integer within 64 bits: 1 where it is negative
+-- the major type of an integer within 64 bits: 1 if it is negative
 abbrev pub major_of : Bool → ℕ
 major_of false = 0
 major_of true = 1
 
--- the tag of another integer: 3 where it is negative
+-- the tag of another integer: 3 if it is negative
 abbrev pub bignum_tag : Bool → ℕ
 bignum_tag false = 2
 bignum_tag true = 3
@@ -65,7 +65,7 @@ abbrev pub DetSeq : (List ℕ → List ℕ → Ordering) → List Value → List
 DetSeq order [] x = x ≡ []
 DetSeq order (v ∷ vs) x = (a : List ℕ) × (b : List ℕ) × Det order v a × DetSeq order vs b × (x ≡ a ++ b)
 
--- The encoding of a map by a rearrangement of its pairs: its head, and the encodings of the rearranged pairs, the keys' rising. It says what Det says of a map.
+-- The encoding of a map by its pairs: its head, and the encodings of the pairs, rearranged so that those of the keys rise. The law `by_pairs` says that Det agrees.
 abbrev pub DetMap : (List ℕ → List ℕ → Ordering) → Couples → List ℕ → Type 0
 DetMap order ps x =
     (h : List ℕ) × (qs : List (Value × Value)) × (es : List Entry) × IsLeastHead 5 (pair_count ps) h

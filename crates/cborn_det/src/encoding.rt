@@ -1,4 +1,4 @@
-//! The encoder.
+//! The deterministic encoder of items.
 
 ghost use Rattle.std.specs.Prelude.{◌≡◌, ℕ, List, ◌↔◌, IfOk, OnOk, OnErr, IsTrue, MatchResult, map};
 ghost use Rattle.cborn_model.specs.ItemView.{item_value, pair_value};
@@ -14,21 +14,21 @@ use crate::parts::{push_integer, push_simple, push_string};
 use cborn_model::{Item, KeyOrder, Major, Valid};
 use std::alloc::{AllocError, Global};
 
-/// The deterministic encoding of `valid`, the keys of its maps in the order `O` (RFC 8949 section
-/// 4.2).
+/// The deterministic encoding of `valid` (RFC 8949 section 4.2), with the keys of its maps in the
+/// order `O`.
 ///
 /// # Errors
-/// Where memory was refused.
+/// `AllocError` if memory is refused.
 pub fn encode<O: KeyOrder>(alloc: Global, valid: &Valid) -> Result<Vec<u8>, AllocError>
     ensures { IfOk result (λ bytes. Det O.order valid.now bytes.items) }
 {
     encode_item::<O>(alloc, valid.item())
 }
 
-/// The deterministic encodings of `items`, one after another.
+/// The deterministic encodings of `items` (RFC 8949 section 4.2), one after another.
 ///
 /// # Errors
-/// Where memory was refused.
+/// `AllocError` if memory is refused.
 pub fn encode_all<O: KeyOrder>(alloc: Global, items: &[Valid]) -> Result<Vec<u8>, AllocError>
     ensures { IfOk result (λ bytes. DetSeq O.order items.now bytes.items) }
 {
@@ -39,10 +39,11 @@ pub fn encode_all<O: KeyOrder>(alloc: Global, items: &[Valid]) -> Result<Vec<u8>
     Ok(out)
 }
 
-/// Whether `a` and `b` have one deterministic encoding, which is exactly if they are the same item.
+/// Whether `a` and `b` have equal deterministic encodings, which is exactly if they are the same
+/// item.
 ///
 /// # Errors
-/// Where memory was refused.
+/// `AllocError` if memory is refused.
 pub fn equal_bytes<O: KeyOrder>(alloc: Global, a: &Valid, b: &Valid) -> Result<bool, AllocError>
     ensures same { IfOk result (λ equal. IsTrue equal ↔ Same a.now b.now) }
     ensures bytes { IfOk result (λ equal. (x y : List ℕ) → Det O.order a.now x → Det O.order b.now y → IsTrue equal ↔ x ≡ y) }
@@ -52,7 +53,6 @@ pub fn equal_bytes<O: KeyOrder>(alloc: Global, a: &Valid, b: &Valid) -> Result<b
     Ok(first == second)
 }
 
-/// The deterministic encoding of `item`.
 fn encode_item<O: KeyOrder>(alloc: Global, item: &Item) -> Result<Vec<u8>, AllocError>
     requires { IsProper (item_value item.now) }
     ensures { IfOk result (λ bytes. Det O.order (item_value item.now) bytes.items) }
@@ -62,12 +62,11 @@ fn encode_item<O: KeyOrder>(alloc: Global, item: &Item) -> Result<Vec<u8>, Alloc
     Ok(out)
 }
 
-/// Appends the deterministic encoding of `item` to `out`, the keys of its maps in the order `O`
-/// (RFC 8949 section 4.2). The item has to be valid but for its depth, as each item is that stands
-/// inside a `Valid`.
+/// Appends the deterministic encoding of `item` to `out`, with the keys of its maps in the order
+/// `O` (RFC 8949 section 4.2). The item must be valid, but may be of any depth.
 ///
 /// # Errors
-/// Where memory was refused; `out` then stays as it was.
+/// `AllocError` if memory is refused; `out` is then unchanged.
 pub fn push_encoding<O: KeyOrder>(
     alloc: Global,
     item: &Item,
@@ -85,7 +84,7 @@ pub fn push_encoding<O: KeyOrder>(
     pushed
 }
 
-/// Appends the encoding of `item`. Where memory is refused a front of it may stay behind.
+/// Appends the encoding of `item`. If memory is refused, a front of it may be left in `out`.
 #[cycle(encoder)]
 fn push_item<O: KeyOrder>(alloc: Global, item: &Item, out: &mut Vec<u8>) -> Result<(), AllocError>
     requires { IsProper (item_value item.now) }
@@ -117,7 +116,6 @@ fn push_item<O: KeyOrder>(alloc: Global, item: &Item, out: &mut Vec<u8>) -> Resu
     }
 }
 
-/// Appends the encodings of `items`, one after another.
 #[cycle(encoder)]
 fn push_items<O: KeyOrder>(
     alloc: Global,
@@ -133,7 +131,8 @@ fn push_items<O: KeyOrder>(
     Ok(())
 }
 
-/// Appends the encoding of a map: its pairs as they stand, which are then arranged where they lie.
+/// Appends the encoding of a map: its pairs in the order of the item, which are then arranged in
+/// the buffer.
 #[cycle(encoder)]
 fn push_map<O: KeyOrder>(
     alloc: Global,
@@ -151,7 +150,8 @@ fn push_map<O: KeyOrder>(
     Ok(())
 }
 
-/// Appends the pairs as they stand, and gives the lengths of each key and value.
+/// Appends the pairs in the order of the item, and gives the lengths in bytes of each key and
+/// value.
 #[cycle(encoder)]
 fn push_pairs<O: KeyOrder>(
     alloc: Global,
@@ -169,7 +169,7 @@ fn push_pairs<O: KeyOrder>(
     Ok(lengths)
 }
 
-/// Appends a pair, and gives the lengths of its key and its value.
+/// Appends a pair, and gives the lengths in bytes of its key and its value.
 #[cycle(encoder)]
 fn push_pair<O: KeyOrder>(
     alloc: Global,

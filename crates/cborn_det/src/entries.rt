@@ -1,5 +1,5 @@
-//! The entries of a map, each the bytes of a key and of its value, as they lie one after another in
-//! a buffer.
+//! Arranging the entries of a map in a buffer, in which they follow one another. An entry is the
+//! bytes of a key and of its value.
 
 ghost use Rattle.std.specs.Prelude.{◌≡◌, List, ◌++◌, IfOk, OnOk, IsPermutation, IsTrue, ◌≤◌, length, take, drop};
 ghost use Rattle.cborn_model.specs.Orders.{Rising};
@@ -10,8 +10,8 @@ ghost use Rattle.cborn_det.specs.Det.{Entry, joined, keys};
 use cborn_model::KeyOrder;
 use std::alloc::{AllocError, Global};
 
-/// Arranges the entries that `out` has from `start` on, so that their keys rise. `lengths` are
-/// those of each key and value. Where the keys rise as they stand, nothing is moved.
+/// Arranges the entries that `out` has from the offset `start` on, so that their keys rise.
+/// `lengths` are those of each key and value in bytes. Moves nothing if the keys rise already.
 pub(crate) fn arrange<O: KeyOrder>(
     alloc: Global,
     lengths: &[(usize, usize)],
@@ -31,7 +31,7 @@ pub(crate) fn arrange<O: KeyOrder>(
     Ok(())
 }
 
-/// Whether the keys rise as they stand. `lengths` are those of each key and value in `written`.
+/// Whether the keys of the entries in `written` rise. `lengths` are those of each key and value.
 fn rise<O: KeyOrder>(lengths: &[(usize, usize)], written: &[u8]) -> bool
     requires { (es : List Entry) × IsWritten es lengths.now written.now }
     ensures { IsTrue result → (es : List Entry) → IsWritten es lengths.now written.now → Rising O.order (keys es) }
@@ -52,7 +52,7 @@ fn rise<O: KeyOrder>(lengths: &[(usize, usize)], written: &[u8]) -> bool
     true
 }
 
-/// The bytes of the entries, so arranged that the keys rise.
+/// The bytes of the entries in `written`, arranged so that the keys rise.
 fn arranged<O: KeyOrder>(
     alloc: Global,
     lengths: &[(usize, usize)],
@@ -68,7 +68,7 @@ fn arranged<O: KeyOrder>(
     Ok(out)
 }
 
-/// The entries, as they lie in the bytes.
+/// The entries in `written`, in their order, as slices of it.
 fn entries_in<'a>(
     alloc: Global,
     lengths: &[(usize, usize)],
@@ -97,7 +97,6 @@ fn sort<O: KeyOrder>(entries: &mut Vec<(&[u8], &[u8])>)
     entries.sort_unstable_by(|a, b| O::compare(a.0, b.0));
 }
 
-/// Appends entries one after another.
 fn push_entries(entries: &[(&[u8], &[u8])], out: &mut Vec<u8>) -> Result<(), AllocError>
     ensures { OnOk result (out.new.items ≡ out.old.items ++ joined (entries_of entries.now)) }
 {

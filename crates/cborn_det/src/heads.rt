@@ -1,5 +1,5 @@
-//! The shortest head, at the end of a buffer or in the place of a byte. The passes of the crates
-//! above write by these, whose every width is a branch of its own.
+//! The shortest head, at the end of a buffer or in the place of a byte. Other crates' passes use it
+//! too. Each width is a branch of its own, where the length of what is copied is known.
 
 ghost use Rattle.std.specs.Prelude.{◌≡◌, ◌<◌, ◌++◌, ◌∷◌, ℕ, List, length, take, OnOk, OnErr};
 ghost use Rattle.std.specs.Int.{w16, w32, w64, to_be_bytes};
@@ -12,7 +12,7 @@ use std::alloc::{AllocError, Global};
 /// Appends the shortest head of the major type with the argument `n` (RFC 8949 section 4.2.1).
 ///
 /// # Errors
-/// Where memory was refused; `out` is then as it was.
+/// `AllocError` if memory is refused; `out` is then unchanged.
 #[inline]
 pub fn put_head(major: Major, n: u64, out: &mut Vec<u8>) -> Result<(), AllocError>
     ensures appended { OnOk result (Appends (IsLeastHead (code major) n) out.old.items out.new.items) }
@@ -62,11 +62,11 @@ fn push_eight(first: u8, n: u64, out: &mut Vec<u8>) -> Result<(), AllocError>
     out.extend_from_slice(&[first, a, b, c, d, e, f, g, h])
 }
 
-/// Puts the shortest head of the major type with the argument `n` in the place of the byte at
-/// `start`.
+/// Puts the shortest head of the major type with the argument `n` in the place of the byte at the
+/// offset `start` of `out` (RFC 8949 section 4.2.1).
 ///
 /// # Errors
-/// Where memory was refused; `out` then begins with what stood before that byte.
+/// `AllocError` if memory is refused; `out` then still begins with what precedes that byte.
 #[inline(always)]
 pub fn set_head(
     alloc: Global,
@@ -86,7 +86,7 @@ pub fn set_head(
     widen_head(alloc, major, n, start, out)
 }
 
-/// Puts a head that takes more than the byte in its place.
+/// Puts a head of more than one byte in the place of the byte at `start`.
 #[inline(never)]
 fn widen_head(
     alloc: Global,

@@ -1,5 +1,5 @@
-//! The head that an integer within 64 bits is: its major type, and its argument where bytes tell
-//! the number (RFC 8949 sections 3.1 and 3.4.3).
+//! What an integer within 64 bits is encoded by: its major type and its argument (RFC 8949 sections
+//! 3.1 and 3.4.3).
 
 ghost use Rattle.std.specs.Prelude.{◌≡◌, ◌≤◌, length};
 ghost use Rattle.cborn_model.specs.Bytes.{big_endian};
@@ -8,7 +8,7 @@ ghost use Rattle.cborn_det.specs.Det.{major_of};
 
 use cborn_model::Major;
 
-/// The major type of an integer within 64 bits.
+/// The major type of an integer within 64 bits (RFC 8949 section 3.1).
 #[inline]
 pub fn integer_major(negative: bool) -> Major
     ensures { code result ≡ major_of negative }
@@ -20,7 +20,8 @@ pub fn integer_major(negative: bool) -> Major
     }
 }
 
-/// The big-endian number of at most eight bytes.
+/// The big-endian number of at most eight bytes, such as the content of a bignum (RFC 8949 section
+/// 3.4.3).
 #[inline]
 pub fn number_of(bytes: &[u8]) -> u64
     requires { length bytes.now ≤ 8 }

@@ -1,5 +1,5 @@
-//! Laws of the deterministic encoding (RFC 8949 section 4.2), over the definitions alone. Each
-//! function does nothing: its contract is the law, for any order of keys.
+//! Laws of the deterministic encoding (RFC 8949 section 4.2): the contract of each function is a
+//! theorem for any order of keys.
 
 ghost use Rattle.std.specs.Prelude.{◌≡◌, ℕ, ◌+◌, ◌*◌, ◌≤◌, List, [], ◌++◌, ◌↔◌, All, IsPermutation, length};
 ghost use Rattle.std.specs.List.{AllZip};
@@ -13,7 +13,7 @@ ghost use Rattle.cborn_det.specs.Det.{Det, DetSeq, DetMap, Entry, keys};
 
 use cborn_model::KeyOrder;
 
-/// Two valid items, however deep, have one encoding exactly if they are the same.
+/// Two valid items, however deep, have equal encodings exactly if they are the same.
 pub fn one_encoding<O: KeyOrder>()
     ensures { (a b : Value) (x y : List ℕ) → IsProper a → IsProper b → Det O.order a x → Det O.order b y → (x ≡ y) ↔ Same a b }
 {}
@@ -37,12 +37,12 @@ pub fn one_arrangement<O: KeyOrder>()
     ensures entries { (es fs gs : List Entry) → IsPermutation es fs → IsPermutation es gs → Rising O.order (keys fs) → Rising O.order (keys gs) → fs ≡ gs }
 {}
 
-/// The encoding of a map may be said by a rearrangement of its pairs as well.
+/// `Det` and `DetMap` agree on the encoding of a map.
 pub fn by_pairs<O: KeyOrder>()
     ensures { (ps : Couples) (x : List ℕ) → Det O.order (dict ps) x ↔ DetMap O.order ps x }
 {}
 
-/// Two sequences of valid items have one encoding exactly if they are the same, item by item.
+/// Two sequences of valid items have equal encodings exactly if they are the same, item by item.
 pub fn one_sequence<O: KeyOrder>()
     ensures { (vs ws : List Value) (x y : List ℕ) → All IsProper vs → All IsProper ws → DetSeq O.order vs x → DetSeq O.order ws y → (x ≡ y) ↔ AllZip Same vs ws }
 {}

@@ -1,4 +1,4 @@
-//! What an encoding is made of, at the end of a buffer: strings, integers and simple values.
+//! The parts of an encoding, at the end of a buffer: strings, integers and simple values.
 
 ghost use Rattle.std.specs.Prelude.{ℕ, List, IsTrue};
 ghost use Rattle.std.specs.declared.cmp.Ordering.{Ordering};
@@ -12,7 +12,6 @@ use crate::integers::integer_major;
 use cborn_model::{Magnitude, Major, Number};
 use std::alloc::AllocError;
 
-/// Appends a string of the major type.
 pub(crate) fn push_string(major: Major, bytes: &[u8], out: &mut Vec<u8>) -> Result<(), AllocError>
     ensures { Writes result (IsString (code major) bytes.now) out.old.items out.new.items }
 {
@@ -21,7 +20,7 @@ pub(crate) fn push_string(major: Major, bytes: &[u8], out: &mut Vec<u8>) -> Resu
     Ok(())
 }
 
-/// Appends an integer: a head alone within 64 bits, and otherwise tag 2 or 3 over its magnitude.
+/// Appends an integer: a head alone within 64 bits, else tag 2 or 3 and its magnitude.
 pub(crate) fn push_integer(
     negative: bool,
     magnitude: &Magnitude,
@@ -43,7 +42,6 @@ pub(crate) fn push_integer(
     }
 }
 
-/// Appends a simple value.
 pub(crate) fn push_simple(n: u8, out: &mut Vec<u8>) -> Result<(), AllocError>
     requires { IsTrue (is_simple_value n) }
     ensures { (order : List ℕ → List ℕ → Ordering) → Writes result (Det order (simple n)) out.old.items out.new.items }
