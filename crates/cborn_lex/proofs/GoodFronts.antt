@@ -51,7 +51,7 @@ assoc x y z = simp append_assoc refl
 three : IsMark (codes "_3") [] (Wide Eight)
 three = ((refl, record { pass = refl; ends = refl }), refl)
 
--- f and an indicator behind it, where f would be a token with any
+-- f and an indicator after it, where f would be a token with any
 marks : (p : Profile) (k : Mark → Class) (f s z : List ℕ) → IsIndicator s z → ((m : Mark) → IsMark s z m → Takes p (f ++ s) z (Some (k m))) → Takes p (f ++ codes "_3") [] (Some (k (Wide Eight))) → Good p (f ++ s) z (marked k (mark_of s))
 marks p k f s z i h w = go (mark_of s) refl
   where

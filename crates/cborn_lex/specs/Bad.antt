@@ -1,4 +1,4 @@
--- What is wrong with a text of the notation where no white space, comment or token stands (RFC 8949 section 8, RFC 8610 appendix G).
+-- What is wrong with a text of the notation where no white space, comment or token begins (RFC 8949 section 8, RFC 8610 appendix G).
 use Rattle.std.specs.Prelude.{◌≡◌, ℕ, ◌+◌, ◌≤◌, ◌^◌, Bool, true, false, ◌||◌, ◌&&◌, List, [], ◌∷◌, ◌++◌, ◌==◌, bytes_eq, drop, codes, Option, Some, None}
 use Rattle.std.specs.List.{list_all, list_any}
 use Rattle.std.specs.Str.{byte}
@@ -35,7 +35,7 @@ pub record IsWord (w z : List ℕ) : Type 0 where
 abbrev pub is_float_word : List ℕ → Bool
 is_float_word w = has_prefix (codes "NaN") w || has_prefix (codes "Infinity") w
 
--- the prefix of a string in hexadecimal or base64, and the reason that is told of a content which is neither
+-- the prefix of a string in hexadecimal or base64, and the reason if its content is neither
 pub data IsPrefix : List ℕ → LexReason → Type 0 where
   hex : IsPrefix (codes "h") BadHex
   base64 : IsPrefix (codes "b64") BadBase64
@@ -72,7 +72,7 @@ pub data Fails (profile : Profile) : List ℕ → LexReason → Type 0 where
   unclosed : (w x : List ℕ) (r : LexReason) → IsPrefix w r → list_all (is_not (byte "'")) x ≡ true → Fails profile (w ++ byte "'" ∷ x) UnclosedString
   -- a content between quotes that stands for no bytes in the alphabet of its prefix
   content : (w x z : List ℕ) (r : LexReason) → IsPrefix w r → list_all (is_not (byte "'")) x ≡ true → ((b : List ℕ) → IsCoded w x b → ⊥) → Fails profile (w ++ (byte "'" ∷ x ++ byte "'" ∷ z)) r
-  -- a token but for what stands in the place of its indicator: with _3 there it would be one (RFC 8949 section 8.1)
+  -- a token but for its indicator: with _3 in its place it would be one (RFC 8949 section 8.1)
   indicator : (s m z : List ℕ) (k : Class) → Takes profile (s ++ codes "_3") [] (Some k) → IsIndicator m z → mark_of m ≡ None → Fails profile (s ++ (m ++ z)) BadIndicator
   -- a string in chunks begins with `(_`, and no other indicator
   chunks : (z : List ℕ) → begins is_word z ≡ true → Fails profile (codes "(_" ++ z) BadIndicator

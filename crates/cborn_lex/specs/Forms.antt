@@ -22,7 +22,7 @@ pub record IsRun (p : ℕ → Bool) (s z : List ℕ) : Type 0 where
   pub pass : list_all p s ≡ true
   pub ends : begins p z ≡ false
 
--- An encoding indicator (RFC 8949 section 8.1): s is the longest run of word characters from an underscore, or nothing where no underscore stands.
+-- An encoding indicator (RFC 8949 section 8.1): s is the longest run of word characters from an underscore, or nothing if there is no underscore.
 abbrev pub IsIndicator : List ℕ → List ℕ → Type 0
 IsIndicator [] z = begins (λ c. c == byte "_") z ≡ false
 IsIndicator (c ∷ s) z = ((c == byte "_") ≡ true) × IsRun is_word s z
@@ -97,7 +97,7 @@ pub record IsNumber (negative tagged : Bool) (body mark tag s z : List ℕ) : Ty
   pub tagging : IsTag negative tagged tag z
   pub whole : s ≡ body ++ (mark ++ tag)
 
--- A number; first is its first digit, or nothing behind a minus.
+-- A number; first is its first digit, or nothing after a minus.
 abbrev pub ReadsNumber : Bool → List ℕ → List ℕ → List ℕ → Front → Type 0
 ReadsNumber negative first s z a =
     (tagged : Bool) × (body : List ℕ) × (mark : List ℕ) × (tag : List ℕ) × IsNumber negative tagged body mark tag s z × (a ≡ number_front negative tagged (mark_of mark) (integer negative (first ++ body)))
@@ -130,7 +130,7 @@ start_of c =
     else if is_ascii_alphabetic c then letter
     else other
 
--- a `(` that isn't behind a number or `simple`: a string in chunks begins with `(_` (RFC 8949 section 8.1)
+-- a `(` that follows no number and no `simple`: a string in chunks begins with `(_` (RFC 8949 section 8.1)
 abbrev pub paren_front : List ℕ → Front
 paren_front mark =
     if bytes_eq mark [] then Bad UnexpectedCharacter

@@ -1,4 +1,4 @@
--- What may stand at the front of a text of the notation: white space, a comment or a token (RFC 8949 section 8, RFC 8610 appendix G).
+-- What may be at the front of a text of the notation: white space, a comment or a token (RFC 8949 section 8, RFC 8610 appendix G).
 -- A text is a list of bytes in UTF-8. Each character that means something is ASCII, so no definition decodes. In what follows s is the part that is described, and z is all that follows it.
 use Rattle.std.specs.Prelude.{◌≡◌, ℕ, ◌+◌, ◌<◌, length, ◌^◌, true, false, ◌||◌, not, List, [], ◌∷◌, ◌++◌, ◌==◌, bytes_eq, drop, codes, Option, Some, None}
 use Rattle.std.specs.List.{list_all}
@@ -14,7 +14,7 @@ use Rattle.cborn_lex.specs.Numbers.{are_digits, has_prefix, number, signed}
 use Rattle.cborn_lex.specs.Forms.{IsRun, IsIndicator}
 use Rattle.cborn_lex.specs.Strings.{is_content, IsText, IsHex, IsBase64}
 
--- s is the whole encoding indicator in front of z, or nothing where there is none, and means m (RFC 8949 section 8.1)
+-- s is the whole encoding indicator in front of z, or nothing if there is none, and means m (RFC 8949 section 8.1)
 abbrev pub IsMark : List ℕ → List ℕ → Mark → Type 0
 IsMark s z m = IsIndicator s z × (mark_of s ≡ Some m)
 
@@ -76,13 +76,13 @@ pub data Takes (profile : Profile) : List ℕ → List ℕ → Option Class → 
   positive : (x s z : List ℕ) (v : ℕ) (m : Mark) → IsNumeral x s z v m → begins (λ c. c == byte "(") z ≡ false → Takes profile (x ++ s) z (Some (signed false v m))
   tag : (x s z : List ℕ) (n : ℕ) (m : Mark) → IsNumeral x s (byte "(" ∷ z) n m → Takes profile (x ++ (s ++ byte "(" ∷ [])) z (Some (TagOpen n m))
 
--- White space, comments and these tokens, from the place n, after which x stands, up to the place m, after which y stands.
+-- White space, comments and these tokens, from the offset n, where x begins, up to the offset m, where y begins.
 pub data Covers (profile : Profile) : ℕ → List ℕ → List Token → ℕ → List ℕ → Type 0 where
   end : (n : ℕ) (x : List ℕ) → Covers profile n x [] n x
   gap : (n m : ℕ) (s x y : List ℕ) (ts : List Token) → Takes profile s x None → Covers profile (n + length s) x ts m y → Covers profile n (s ++ x) ts m y
   token : (n m : ℕ) (k : Class) (s x y : List ℕ) (ts : List Token) → Takes profile s x (Some k) → Covers profile (n + length s) x ts m y → Covers profile n (s ++ x) (record { start = n; stop = n + length s; class = k } ∷ ts) m y
 
--- The tokens of a text, in their order. Nothing else stands in it but white space and comments.
+-- The tokens of a text, in their order. Nothing else is in it but white space and comments.
 abbrev pub HasTokens : Profile → List ℕ → List Token → Type 0
 HasTokens profile x ts = Covers profile 0 x ts (length x) []
 

@@ -9,7 +9,7 @@ use Rattle.cborn_lex.specs.declared.faults.LexReason.{LexReason}
 use Rattle.cborn_lex.specs.Tokens.{Blank, Read, Bad}
 use Rattle.cborn_lex.specs.Forms.{Reads}
 
--- from the place n on, behind which x stands, up to m, behind which y stands, there are white space, comments and these tokens
+-- white space, comments and these tokens, from the offset n, where x begins, up to m, where y begins
 pub data Through (profile : Profile) : ℕ → List ℕ → List Token → ℕ → List ℕ → Type 0 where
   here : (n : ℕ) (x : List ℕ) → Through profile n x [] n x
   gap : (n m : ℕ) (s x y : List ℕ) (ts : List Token) → Reads profile s x Blank → Through profile (n + length s) x ts m y → Through profile n (s ++ x) ts m y
@@ -19,7 +19,7 @@ pub data Through (profile : Profile) : ℕ → List ℕ → List Token → ℕ �
 abbrev pub Lex : Profile → List ℕ → List Token → Type 0
 Lex profile text ts = Through profile 0 text ts (length text) []
 
--- at n, behind tokens, stands what the reason r is told of
+-- at n, after tokens, the text goes on with something bad, for the reason r
 abbrev pub Stop : Profile → List ℕ → ℕ → LexReason → Type 0
 Stop profile text n r = (ts : List Token) × (s : List ℕ) × (x : List ℕ) × Through profile 0 text ts n (s ++ x) × Reads profile s x (Bad r)
 
@@ -37,7 +37,7 @@ abbrev pub IsStopAt : Profile → List ℕ → LexFault → Type 0
 IsStopAt profile text (Refused n r) = Stop profile text n r
 IsStopAt profile text OutOfMemory = Unit {0}
 
--- the tokens from n up to m, as the text goes on behind m
+-- the tokens from n up to m, if the text goes on after m
 abbrev pub Between : Profile → List ℕ → ℕ → ℕ → List Token → Type 0
 Between profile text n m ts = Through profile n (drop n text) ts m (drop m text)
 

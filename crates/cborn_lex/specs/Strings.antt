@@ -15,7 +15,7 @@ is_content q [] = true
 is_content q (c ∷ []) = not (c == byte "\\") && is_not q c
 is_content q (c ∷ d ∷ x) = if c == byte "\\" then is_content q x else is_not q c && is_content q (d ∷ x)
 
--- the same of a content that may end in a backslash, since no quote follows
+-- the rest of a text that no quote q closes: it may end in a backslash
 abbrev pub is_unclosed : ℕ → List ℕ → Bool
 is_unclosed q [] = true
 is_unclosed q (c ∷ []) = is_not q c

@@ -1,32 +1,31 @@
-//! What a text of the notation is made of.
+//! Tokens: what they are, and what they mean.
 
 ghost use Rattle.std.specs.Prelude.{◌≡◌};
 ghost use Rattle.cborn_lex.specs.Kinds.{class_of};
 
 use cborn_model::{ByteString, Width};
 
-/// Which notation a text is written in.
+/// Which comments a text may have.
 #[derive(Clone, Copy, PartialEq, Eq, Debug)]
 pub enum Profile {
-    /// Comments stand between slashes.
+    /// Comments between slashes (RFC 8610 appendix G.6).
     One,
-    /// Comments stand between slashes, or go from `#` to the end of their line.
+    /// Comments between slashes, and comments from `#` to the end of their line.
     Two,
 }
 
-/// The encoding indicator of a token (RFC 8949 section 8.1), which ends it.
+/// The encoding indicator that ends a token (RFC 8949 section 8.1).
 #[derive(Clone, Copy, PartialEq, Eq, Debug)]
 pub enum Mark {
     /// None.
     Absent,
-    /// `_`, an indefinite length.
+    /// `_`: an indefinite length.
     Endless,
-    /// `_0`, `_1`, `_2` or `_3`, a head with an argument of 1, 2, 4 or 8 bytes. Never `Direct`.
+    /// `_0`, `_1`, `_2` or `_3`: a head whose argument takes 1, 2, 4 or 8 bytes. Never `Direct`.
     Wide(Width),
 }
 
-/// What a token is, without what it stands for: without the content of a string, and without the
-/// number of an integer or a tag.
+/// What a token is, without the content of a string, and without the number of an integer or a tag.
 #[derive(Clone, Copy, PartialEq, Eq, Debug)]
 pub enum Kind {
     /// `[`
@@ -49,7 +48,7 @@ pub enum Kind {
     EmbedClose(Mark),
     /// `(_`, the start of a string in chunks.
     ChunkOpen,
-    /// An integer, or minus it where `negative` is set. It isn't set at 0.
+    /// An integer, below 0 if `negative` is set.
     Number { negative: bool, mark: Mark },
     /// The number of a tag, with its indicator and its `(`.
     TagOpen(Mark),
@@ -64,8 +63,8 @@ pub enum Kind {
 }
 
 impl Kind {
-    /// The class of a token of this kind: with this number if it is an integer or a tag, and with
-    /// this content if it is a string.
+    /// The class of a token of this kind: with `number` if it is an integer or a tag, and with
+    /// `content` if it is a string.
     #[inline(always)]
     pub(crate) fn into_class(self, number: u128, content: Vec<u8>) -> Class
         ensures { result ≡ class_of self number content.items }
@@ -102,8 +101,8 @@ impl Kind {
     }
 }
 
-/// What a token is, without what it stands for, and the slice of the text that it is, from `start`
-/// up to `stop`, in bytes from the start of the text.
+/// What a token is, without its number or content, and its slice of the text: from `start` up to
+/// `stop`, in bytes from the start of the text.
 #[derive(Clone, Copy, PartialEq, Eq, Debug)]
 pub struct BareToken {
     pub start: usize,
@@ -111,7 +110,7 @@ pub struct BareToken {
     pub kind: Kind,
 }
 
-/// What a token is, and what it stands for.
+/// What a token is, with its number or content.
 #[derive(Drop)]
 pub enum Class {
     /// `[`
@@ -134,7 +133,7 @@ pub enum Class {
     EmbedClose(Mark),
     /// `(_`, the start of a string in chunks.
     ChunkOpen,
-    /// An integer: `magnitude`, or `-magnitude` where `negative` is set. It isn't set at 0.
+    /// An integer: `magnitude`, or `-magnitude` if `negative` is set, which it isn't at 0.
     Number {
         negative: bool,
         magnitude: u128,
@@ -163,8 +162,8 @@ pub enum Class {
     },
 }
 
-/// A token, and the slice of the text that it is, from `start` up to `stop`, in bytes from the
-/// start of the text.
+/// A token, and its slice of the text: from `start` up to `stop`, in bytes from the start of the
+/// text.
 #[derive(Drop)]
 pub struct Token {
     pub start: u64,

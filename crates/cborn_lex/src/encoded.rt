@@ -1,4 +1,4 @@
-//! Strings with the prefix `h` or `b64`.
+//! Byte strings with the prefix `h` or `b64` (RFC 8949 section 8, RFC 4648).
 
 ghost use Rattle.std.specs.Prelude.{◌≡◌, ℕ, ◌≤◌, List, true, length, take, drop, map, filter, replicate, OnOk, MatchOption, IfOk, false, ◌==◌, not, ◌++◌};
 ghost use Rattle.std.specs.List.{list_any};
@@ -17,15 +17,14 @@ use base64::DecodeAllocError;
 use base64::engine::general_purpose::STANDARD;
 use std::alloc::{AllocError, Global};
 
-/// Appends the bytes that a content in hexadecimal stands for, and answers whether it stands for
-/// any: digits, with white space and comments alone between them. Where it doesn't, a part of the
-/// content has been appended.
+/// Appends the bytes that a content in hexadecimal encodes: digits, with nothing but white space
+/// and comments between them. False if it is anything else; a part of it may then be appended.
 fn push_hex(content: &[u8], out: &mut Vec<u8>) -> Result<bool, AllocError>
     ensures yes { IfOk result (λ b. b ≡ true → (bytes : List ℕ) × IsHex content.now bytes × (out.new.items ≡ out.old.items ++ bytes)) }
     ensures no { IfOk result (λ b. b ≡ false → (bytes : List ℕ) → IsHex content.now bytes → ⊥) }
 {
     let mut inside = false;
-    // the first digit of a byte, and 16 where none is waiting for its second
+    // the first digit of a byte; 16 if none is waiting for its second
     let mut high: u8 = 16;
     for c in content {
         let digit = digit_of(*c);
@@ -49,7 +48,8 @@ fn push_hex(content: &[u8], out: &mut Vec<u8>) -> Result<bool, AllocError>
     Ok(!inside && high == 16)
 }
 
-/// The string that `h'` begins, which `tail` follows, and how many bytes of `tail` it takes.
+/// Reads a string after its `h'`, and appends its bytes to `out`. Gives how many bytes of `tail` it
+/// takes, too.
 pub fn in_hex(tail: &[u8], out: &mut Vec<u8>) -> Result<(Front, usize), AllocError>
     ensures { IfOk result (λ r. (r.1 ≤ length tail.now) × ((a : AnyFront) × IsPrefixed hexadecimal (take r.1 tail.now) (drop r.1 tail.now) a × ((n : ℕ) → FrontStandsFor r.0 n out.old.items out.new.items a))) }
 {
@@ -78,7 +78,7 @@ fn to_standard(c: u8) -> u8
     }
 }
 
-/// The content without white space, in the standard alphabet.
+/// `content` without white space, in the standard alphabet.
 fn without_white(alloc: Global, content: &[u8]) -> Result<Vec<u8>, AllocError>
     ensures { IfOk result (λ v. v.items ≡ map to_standard (filter (λ c. not (is_white c)) content.now)) }
 {
@@ -91,7 +91,6 @@ fn without_white(alloc: Global, content: &[u8]) -> Result<Vec<u8>, AllocError>
     Ok(text)
 }
 
-/// Appends padding.
 fn pad(text: &mut Vec<u8>, n: usize) -> Result<(), AllocError>
     ensures { OnOk result (text.new.items ≡ text.old.items ++ replicate n 61) }
 {
@@ -101,14 +100,13 @@ fn pad(text: &mut Vec<u8>, n: usize) -> Result<(), AllocError>
     Ok(())
 }
 
-/// Whether there is padding.
 fn is_padded(text: &[u8]) -> bool
     ensures { result ≡ list_any (λ c. c == 61) text.now }
 {
     text.iter().any(|c| *c == b'=')
 }
 
-/// The content without white space, in the standard alphabet, with padding where it had none.
+/// `content` without white space, in the standard alphabet, and padded if it had no padding.
 fn standard_text(alloc: Global, content: &[u8]) -> Result<Vec<u8>, AllocError>
     ensures { IfOk result (λ v. v.items ≡ base64_text content.now) }
 {
@@ -120,7 +118,7 @@ fn standard_text(alloc: Global, content: &[u8]) -> Result<Vec<u8>, AllocError>
     Ok(text)
 }
 
-/// The bytes that a content in base64 stands for, if it does.
+/// The bytes that a content in base64 encodes; `None` if it encodes none.
 fn base64_bytes(alloc: Global, content: &[u8]) -> Result<Option<Vec<u8>>, AllocError>
     ensures { IfOk result (λ r. MatchOption r ((bytes : List ℕ) → IsBase64 content.now bytes → ⊥) (λ v. IsBase64 content.now v.items)) }
 {
@@ -132,7 +130,8 @@ fn base64_bytes(alloc: Global, content: &[u8]) -> Result<Option<Vec<u8>>, AllocE
     }
 }
 
-/// The string that `b64'` begins, which `tail` follows, and how many bytes of `tail` it takes.
+/// Reads a string after its `b64'`, and appends its bytes to `out`. Gives how many bytes of `tail`
+/// it takes, too.
 pub fn in_base64(
     alloc: Global,
     tail: &[u8],

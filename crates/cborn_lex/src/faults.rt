@@ -6,8 +6,8 @@ ghost use Rattle.cborn_lex.specs.declared.faults.LexFault.TheVariants.{OutOfMemo
 use std::alloc::{AllocError, AllocFailed};
 use thiserror::Error;
 
-/// What is wrong with a token. docs/LIBRARY.md numbers the reasons in this order, and no number
-/// ever changes: a new one stands last.
+/// What is wrong with a token. docs/LIBRARY.md numbers the reasons in this order. No number ever
+/// changes: a new reason goes last.
 #[derive(Clone, Copy, PartialEq, Eq, Debug, Error)]
 pub enum LexReason {
     /// No token begins like this.
@@ -23,23 +23,22 @@ pub enum LexReason {
     /// control character.
     #[error("bad escape")]
     BadEscape,
-    /// `h'..'` with an odd number of digits, or with something else than digits, white space and
-    /// comments.
+    /// `h'..'` with an odd number of digits, or with anything but digits, white space and comments.
     #[error("bad hex")]
     BadHex,
-    /// `b64'..'` that isn't the base64 (RFC 4648 section 4) of any bytes.
+    /// `b64'..'` that isn't the base64 (RFC 4648 sections 4 and 5) of any bytes.
     #[error("bad base64")]
     BadBase64,
     /// A word right before a single quote that is neither `h` nor `b64`.
     #[error("unknown prefix")]
     UnknownPrefix,
-    /// A number in no form of an integer or a float.
+    /// A number that is neither an integer nor a float.
     #[error("bad number")]
     BadNumber,
     /// An integer with a magnitude of 2^128 or more.
     #[error("number too large")]
     NumberTooLarge,
-    /// An underscore that begins no indicator.
+    /// An underscore that begins no encoding indicator, or none that is allowed there.
     #[error("bad indicator")]
     BadIndicator,
     /// A float.
@@ -47,10 +46,10 @@ pub enum LexReason {
     FloatLeftOut,
 }
 
-/// Why no tokens were read.
+/// Why tokens could not be read.
 #[derive(Clone, Copy, PartialEq, Eq, Debug, Error)]
 pub enum LexFault {
-    /// The text isn't made of tokens. `place` is where the first bad token starts, in bytes from
+    /// The text isn't made of tokens. `place` is the offset of the first bad token, in bytes from
     /// the start of the text.
     #[error("offset {place}: {reason}")]
     Refused { place: u64, reason: LexReason },

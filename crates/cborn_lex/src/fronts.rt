@@ -1,4 +1,5 @@
-//! The front of a text: what it is, and how long.
+//! What a text begins with. Most functions read `tail`, which follows the first character, and give
+//! how many bytes of `tail` they read.
 
 ghost use Rattle.std.specs.Prelude.{◌≡◌, ℕ, ◌<◌, ◌≤◌, List, [], length, take, drop, slice_index, IfOk, false, ◌⊎◌};
 ghost use Rattle.cborn_lex.specs.declared.classes.Class.TheVariants.{ArrayOpen, MapOpen, EmbedClose};
@@ -21,12 +22,11 @@ pub enum Front {
     Blank,
     /// A token.
     Read(Kind),
-    /// Neither.
+    /// Neither, and why.
     Bad(LexReason),
 }
 
-/// A comment up to the character `end`, or what an unclosed one is; and how many bytes of `tail` it
-/// takes.
+/// Reads a comment up to the character `end`, or up to the end of the text, where it is `unclosed`.
 fn comment(end: u8, tail: &[u8], unclosed: Front) -> (Front, usize)
     ensures within { result.1 ≤ length tail.now }
     ensures reads { (n : ℕ) → ((body : List ℕ) × Through end body (take result.1 tail.now) × (front_view n [] result.0 ≡ Blank)) ⊎ (Lacks end (take result.1 tail.now) (drop result.1 tail.now) × (front_view n [] result.0 ≡ front_view n [] unclosed)) }
@@ -61,7 +61,7 @@ fn map_open(tail: &[u8]) -> (Front, usize)
     }
 }
 
-/// `>>` and its indicator, from the second `>` on.
+/// `>>` and its indicator. `after` follows the second `>`.
 fn embed_close(after: &[u8]) -> (Front, usize)
     ensures within { result.1 ≤ length after.now }
     ensures run { IsIndicator (take result.1 after.now) (drop result.1 after.now) }
@@ -121,8 +121,8 @@ fn greater(tail: &[u8]) -> (Front, usize)
     }
 }
 
-/// What the first character of `text` begins, which `tail` follows, and how many bytes of `tail`
-/// that takes. It isn't white space.
+/// What the first character of `text` begins, which isn't white space. `tail` follows it. A number
+/// goes to `number`, the content of a string to `out`.
 #[inline(always)]
 fn front_by_character(
     alloc: Global,
@@ -170,7 +170,8 @@ fn hash(profile: Profile, tail: &[u8]) -> (Front, usize)
     }
 }
 
-/// What a text begins with, and how many bytes that takes. It isn't white space.
+/// What `text` begins with, which isn't white space, and how many bytes that takes. A number goes
+/// to `number`, the content of a string to `out`.
 pub fn first_of(
     alloc: Global,
     profile: Profile,

@@ -1,4 +1,4 @@
-//! Integers and the numbers of tags.
+//! Integers and the numbers of tags (RFC 8949 section 8, RFC 8610 appendix G.5).
 
 ghost use Rattle.std.specs.Prelude.{◌≡◌, ◌+◌, ◌*◌, ◌<◌, ◌≤◌, MatchOption, length, take, drop, Bool, [], slice_index, OnSome, IfSome, true, Ok, Err, false, ◌==◌, ◌||◌, ◌&&◌, not, ◌^◌, if◌then◌else◌, ℕ, IfNone};
 ghost use Rattle.std.specs.List.{list_all, list_any};
@@ -15,7 +15,7 @@ use crate::slices::{
     begins_with, begins_with_digit, front_of, has_prefix, is_numeral, mark_at, numeral_len, rest_of,
 };
 
-/// The value of a digit or a letter, and 36 for any other character.
+/// The value of a digit or of a letter as a digit, from 0 to 35; 36 for any other character.
 pub fn digit_of(c: u8) -> u8
     ensures { result ≡ digit_value c }
 {
@@ -27,7 +27,7 @@ pub fn digit_of(c: u8) -> u8
     }
 }
 
-/// Whether each is a digit of the base.
+/// Whether each character is a digit of the base.
 fn all_digits(base: u8, ds: &[u8]) -> bool
     ensures { result ≡ list_all (λ d. is_digit d base) ds.now }
 {
@@ -41,7 +41,7 @@ fn are_digits(base: u8, ds: &[u8]) -> bool
     !ds.is_empty() && all_digits(base, ds)
 }
 
-/// The number that digits spell.
+/// The number that digits of the base spell.
 fn value(base: u8, ds: &[u8]) -> Result<u128, LexReason>
     requires { 1 ≤ base }
     ensures { result ≡ within (number base 0 ds.now) }
@@ -56,7 +56,8 @@ fn value(base: u8, ds: &[u8]) -> Result<u128, LexReason>
     Ok(n)
 }
 
-/// The number that `n` and one more digit spell, if it fits 128 bits. Most need no test for overflow.
+/// The number that `n` and one more digit spell; `None` if it doesn't fit 128 bits. Most numbers
+/// need no test for overflow.
 #[inline(always)]
 fn with_digit(base: u8, n: u128, digit: u8) -> Option<u128>
     ensures { MatchOption result (2 ^ 128 ≤ n * base + digit) (λ m. m ≡ n * base + digit) }
@@ -70,21 +71,21 @@ fn with_digit(base: u8, n: u128, digit: u8) -> Option<u128>
 /// Any number below 2^120 has room for one more digit of any base in 128 bits.
 const ROOM_FOR_MORE: u128 = 0x0100_0000_0000_0000_0000_0000_0000_0000;
 
-/// Whether there is a point, or one of the two letters.
+/// Whether there is a point, or one of the letters `a` and `b`.
 fn has_point_or(a: u8, b: u8, x: &[u8]) -> bool
     ensures { result ≡ list_any (λ c. (c == 46) || ((c == a) || ((c == b) || false))) x.now }
 {
     x.iter().any(|c| *c == b'.' || *c == a || *c == b)
 }
 
-/// What follows the two characters of a base.
+/// What follows the two characters of a base, as `0x`.
 fn after_two(x: &[u8]) -> &[u8]
     ensures { result.now ≡ drop 2 x.now }
 {
     if x.len() < 2 { &x[x.len()..] } else { &x[2..] }
 }
 
-/// An integer after the characters of its base 8 or 2.
+/// The integer after the characters of base 8 or 2.
 fn based(base: u8, ds: &[u8]) -> Result<u128, LexReason>
     requires { 1 ≤ base }
     ensures { result ≡ (if are_digits base ds.now then within (number base 0 ds.now) else Err LexReason.BadNumber) }
@@ -96,7 +97,7 @@ fn based(base: u8, ds: &[u8]) -> Result<u128, LexReason>
     }
 }
 
-/// The integer of a number's text after its minus.
+/// The integer that a number's text is, without its minus, or why it is none.
 fn integer(negative: bool, body: &[u8]) -> Result<u128, LexReason>
     ensures { result ≡ integer negative body.now }
 {
@@ -128,8 +129,8 @@ fn integer(negative: bool, body: &[u8]) -> Result<u128, LexReason>
     }
 }
 
-/// The integer of a number in any form, after its minus, and how many bytes of `body` the number
-/// takes. Out of line, so that what is common stays small.
+/// Reads an integer in any form, after its minus, and how many bytes of `body` it takes. Out of
+/// line, so that the common form stays small.
 #[inline(never)]
 fn any_integer(negative: bool, body: &[u8]) -> (Result<u128, LexReason>, usize)
     ensures within { result.1 ≤ length body.now }
@@ -140,9 +141,9 @@ fn any_integer(negative: bool, body: &[u8]) -> (Result<u128, LexReason>, usize)
     (integer(negative, front_of(body, n)), n)
 }
 
-/// The decimal integer that `tail` begins with, and how many digits it has (RFC 8949 section 8,
-/// RFC 8610 appendix G.5). `None` where `tail` begins with another form of number or with none, or
-/// with more than 19 digits: 19 always fit 64 bits, so no digit needs a test for overflow.
+/// The decimal integer that `tail` begins with, and how many digits it has (RFC 8949 section 8, RFC
+/// 8610 appendix G.5). `None` if `tail` begins with another form of number or with none, or with
+/// more than 19 digits: 19 always fit 64 bits, so that no digit needs a test for overflow.
 #[inline(always)]
 pub fn decimal_at(tail: &[u8]) -> Option<(u64, usize)>
     ensures within { IfSome result (λ r. r.1 ≤ length tail.now) }
@@ -169,7 +170,7 @@ pub fn decimal_at(tail: &[u8]) -> Option<(u64, usize)>
     Some((n, len))
 }
 
-/// The value of the decimal digit at the offset `at` of `tail`, if one stands there.
+/// The value of the decimal digit at the offset `at` of `tail`; `None` if there is none.
 #[inline(always)]
 fn digit_at(tail: &[u8], at: usize) -> Option<u8>
     ensures digit { IfSome result (λ d. (at < length tail.now) × (slice_index tail.now at ≡ 48 + d) × (d ≤ 9)) }
@@ -182,7 +183,7 @@ fn digit_at(tail: &[u8], at: usize) -> Option<u8>
     }
 }
 
-/// The integer of a number after its minus, and how many bytes of `body` the number takes.
+/// Reads an integer after its minus, and how many bytes of `body` it takes.
 #[inline(always)]
 fn integer_at(negative: bool, body: &[u8]) -> (Result<u128, LexReason>, usize)
     ensures within { result.1 ≤ length body.now }
@@ -195,8 +196,8 @@ fn integer_at(negative: bool, body: &[u8]) -> (Result<u128, LexReason>, usize)
     }
 }
 
-/// The token of a number, or of the tag that it begins. The number is put into `number` where there
-/// is a token.
+/// The token of a number, or of the tag that it begins if `tagged`. If there is a token, its number
+/// is put into `number`.
 #[inline(always)]
 fn number_front(
     negative: bool,
@@ -226,7 +227,7 @@ fn number_front(
     }
 }
 
-/// Whether a number is that of a tag: a `(` follows it, and no minus precedes it.
+/// Whether a number is that of a tag: no minus precedes it, and a `(` follows.
 #[inline(always)]
 fn is_tag(negative: bool, x: &[u8]) -> bool
     ensures { result ≡ (not negative && begins (λ c. c == 40) x.now) }
@@ -243,7 +244,8 @@ fn number_len(n: usize, m: usize, tagged: bool) -> usize
     if tagged { n + m + 1 } else { n + m }
 }
 
-/// The token of a number after its minus, if it is `negative`, and how many bytes of `body` it takes.
+/// Reads a number, after its minus if it is `negative`: its token, and how many bytes of `body`
+/// that takes. The number goes to `number`.
 pub fn number_at(negative: bool, body: &[u8], number: &mut u128) -> (Front, usize)
     ensures within { result.1 ≤ length body.now }
     ensures reads { ReadsNumber negative [] (take result.1 body.now) (drop result.1 body.now) (front_view number.new [] result.0) }
@@ -256,8 +258,8 @@ pub fn number_at(negative: bool, body: &[u8], number: &mut u128) -> (Front, usiz
     (front, number_len(n, m, tagged))
 }
 
-/// The token of a number without a minus, whose first digit is the first character of `text`, which
-/// `tail` follows, and how many bytes of `tail` it takes.
+/// Reads a number without a minus, which begins `text`: its token, and how many bytes of `tail`
+/// that takes, the rest of `text` after the first digit. The number goes to `number`.
 #[inline(always)]
 pub fn number_from_digit(text: &[u8], tail: &[u8], number: &mut u128) -> (Front, usize)
     requires some { 0 < length text.now }

@@ -1,4 +1,4 @@
-//! Words, and what may follow one without white space between.
+//! Words: prefixes of byte strings, `simple(`, and the names of simple values.
 
 ghost use Rattle.std.specs.Prelude.{◌≡◌, ℕ, ◌<◌, ◌≤◌, length, take, drop, [], slice_index, IfOk, true, false, ◌&&◌, bytes_eq, codes, ◌==◌};
 ghost use Rattle.cborn_lex.specs.Tokens.{Front as AnyFront, begins};
@@ -13,7 +13,7 @@ use crate::fronts::Front;
 use crate::slices::{begins_with, front_of, has_prefix, rest_of, word_len};
 use std::alloc::{AllocError, Global};
 
-/// A word that is no prefix and no `simple(`.
+/// The token of a word that is no prefix and no `simple(`.
 fn word_front(w: &[u8]) -> Front
     ensures { (n : ℕ) → front_view n [] result ≡ word_front w.now }
 {
@@ -32,7 +32,8 @@ fn word_front(w: &[u8]) -> Front
     }
 }
 
-/// A string after its prefix, which is `word`, and its opening quote.
+/// Reads a string after its prefix `word` and its opening quote: its token, and how many bytes of
+/// `tail` that takes.
 fn prefixed(
     alloc: Global,
     word: &[u8],
@@ -50,7 +51,8 @@ fn prefixed(
     }
 }
 
-/// What a word begins, which `after` follows, and how many bytes of `after` that takes.
+/// Reads what a word begins: its token, and how many bytes of `after`, which follows the word, that
+/// takes.
 fn after_word(
     alloc: Global,
     word: &[u8],
@@ -68,8 +70,8 @@ fn after_word(
     }
 }
 
-/// What a word begins whose first letter is the first character of `text`, which `tail` follows, and
-/// how many bytes of `tail` that takes.
+/// Reads what the word begins that `text` begins with: its token, and how many bytes of `tail` that
+/// takes, the rest of `text` after the first letter.
 pub fn word_at(
     alloc: Global,
     text: &[u8],

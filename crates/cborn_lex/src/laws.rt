@@ -1,4 +1,4 @@
-//! What holds of every text.
+//! Laws of the tokens of a text: the contract of each function is a theorem.
 
 ghost use Rattle.std.specs.Prelude.{◌≡◌, ◌↔◌, Some, None, ℕ, ◌<◌, List, [], ◌++◌, ◌⊎◌, length, drop};
 ghost use Rattle.hex.specs.Hex.{IsBytes};
@@ -14,7 +14,7 @@ ghost use Rattle.cborn_lex.specs.Lex.{Lex, Stop, SpansRise};
 use crate::classes::Profile;
 use crate::faults::LexReason;
 
-/// A text has one list of tokens or one place where it has none, never both or two.
+/// A text has one list of tokens or one fault, never both or two.
 pub fn one_answer()
     ensures some { (profile : Profile) (text : List ℕ) → IsBytes text → ((ts : List Token) × HasTokens profile text ts) ⊎ ((p : ℕ) × (r : LexReason) × FailsAt profile text p r) }
     ensures not_both { (profile : Profile) (text : List ℕ) (ts : List Token) (p : ℕ) (r : LexReason) → HasTokens profile text ts → FailsAt profile text p r → ⊥ }
@@ -27,7 +27,7 @@ pub fn spans_rise()
     ensures { (profile : Profile) (text : List ℕ) (ts : List Token) → HasTokens profile text ts → SpansRise 0 ts (length text) }
 {}
 
-/// Where a text fails is a place inside it, at which no white space, comment or token stands.
+/// A text fails at an offset inside it, where no white space, comment or token begins.
 pub fn no_token_at_stop()
     ensures inside { (profile : Profile) (text : List ℕ) (p : ℕ) (r : LexReason) → FailsAt profile text p r → p < length text }
     ensures no_piece { (profile : Profile) (text : List ℕ) (p : ℕ) (r : LexReason) → FailsAt profile text p r → BeginsNothing profile (drop p text) }
@@ -38,7 +38,7 @@ pub fn both_profiles()
     ensures { (text : List ℕ) (ts : List Token) → HasTokens Profile.One text ts → HasTokens Profile.Two text ts }
 {}
 
-/// What is read token by token, from 0 up to the end or to where the text fails, is what it holds.
+/// Tokens read one by one, from 0 to the end or to where the text fails, are those of the text.
 pub fn token_by_token()
     ensures begins { (profile : Profile) (text : List ℕ) (n : ℕ) → TokensBetween profile text n n [] }
     ensures joins { (profile : Profile) (text : List ℕ) (l m n : ℕ) (ts us : List Token) → TokensBetween profile text l m ts → TokensBetween profile text m n us → TokensBetween profile text l n (ts ++ us) }
@@ -47,17 +47,16 @@ pub fn token_by_token()
     ensures stops { (profile : Profile) (text : List ℕ) (m n : ℕ) (ts : List Token) (e : LexFault) → TokensBetween profile text m n ts → HasNoTokenFrom profile text n e → HasNoTokenFrom profile text m e }
 {}
 
-/// What reads at the front of a text as white space or a comment, or as a token, is what is taken as
-/// that; and so are the tokens of a text. `Reads` and the lists of tokens by it are a device of the
-/// proofs.
+/// `Reads` and `Takes` agree on white space, comments and tokens; so do the lists of tokens by
+/// them. `Reads` and its lists are a device of the proofs.
 pub fn good_tokens()
     ensures blank { (profile : Profile) (s z : List ℕ) → Reads profile s z Blank ↔ Takes profile s z None }
     ensures token { (profile : Profile) (s z : List ℕ) (k : Class) → Reads profile s z (Read k) ↔ Takes profile s z (Some k) }
     ensures texts { (profile : Profile) (text : List ℕ) (tokens : List Token) → Lex profile text tokens ↔ HasTokens profile text tokens }
 {}
 
-/// A text stops being tokens at a place, for a reason, exactly where it fails there for that reason.
-/// The stops by `Reads` are a device of the proofs.
+/// `Reads` finds a token bad exactly where `Fails` does, and for the same reason. The stops by
+/// `Reads` are a device of the proofs.
 pub fn bad_tokens()
     ensures front { (profile : Profile) (s z : List ℕ) (r : LexReason) → Reads profile s z (Bad r) → Fails profile (s ++ z) r }
     ensures back { (profile : Profile) (y : List ℕ) (r : LexReason) → Fails profile y r → (s : List ℕ) × (z : List ℕ) × (y ≡ s ++ z) × Reads profile s z (Bad r) }

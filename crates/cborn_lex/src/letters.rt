@@ -1,6 +1,7 @@
-//! The letters between the quotes of a string (RFC 8259 section 7), by their bytes in UTF-8. A
-//! *plain* letter stands for itself and closes no string; sixteen of them are looked at at once.
-//! The others are the closing quote, escapes, and control characters, which no string holds.
+//! The letters between the quotes of a string (RFC 8259 section 7), by their bytes in UTF-8.
+//!
+//! A *plain* letter means itself; sixteen are looked at together. The others are the closing quote,
+//! escapes, and control characters, which no string may have.
 
 ghost use Rattle.std.specs.Prelude.{◌≡◌, ◌≤◌, ◌<◌, ◌+◌, ◌++◌, ℕ, List, true, length, take, drop, map, slice_index, IfOk, OnOk, MatchOption, None, Some, false, encode_utf8, ◌⊎◌};
 ghost use Rattle.std.specs.List.{list_all};
@@ -14,8 +15,8 @@ use crate::slices::rest_of;
 use std::alloc::AllocError;
 use std::simd::prelude::*;
 
-/// How many plain letters `tail` begins with, in bytes, in a string whose closing quote is `quote`
-/// (`unescaped` of RFC 8259 section 7, but for the quote).
+/// How many bytes of plain letters `tail` begins with: all but control characters, backslashes and
+/// the closing quote, which is `quote` (RFC 8259 section 7).
 #[inline(always)]
 pub fn plain_run(quote: u8, tail: &[u8]) -> usize
     ensures within { result ≤ length tail.now }
@@ -33,7 +34,7 @@ pub fn plain_run(quote: u8, tail: &[u8]) -> usize
     plain_rest(quote, tail, at)
 }
 
-/// How many plain letters `tail` begins with, of which the first `from` are known to be plain.
+/// How many bytes of plain letters `tail` begins with; the first `from` are known to be plain.
 #[inline(never)]
 fn plain_rest(quote: u8, tail: &[u8], from: usize) -> usize
     requires within { from ≤ length tail.now }
@@ -57,7 +58,7 @@ fn is_plain(quote: u8, c: u8) -> bool
     c >= 32 && c != b'\\' && c != quote
 }
 
-/// How many of the sixteen letters from `at` on come before the first that isn't plain.
+/// How many of the sixteen letters from the offset `at` on come before the first that isn't plain.
 #[inline(always)]
 fn run_of_block(quote: u8, tail: &[u8], at: usize) -> usize
     requires { at + 16 ≤ length tail.now }
@@ -73,7 +74,7 @@ fn run_of_block(quote: u8, tail: &[u8], at: usize) -> usize
     }
 }
 
-/// A bit for each of sixteen letters, the lowest for the first: set where it isn't plain.
+/// A bit for each of sixteen letters, the lowest for the first: set if it isn't plain.
 #[inline(always)]
 fn special_letters(quote: u8, letters: u8x16) -> u64
     ensures { result ≡ mask_l (map (is_special quote) letters) }
@@ -84,13 +85,13 @@ fn special_letters(quote: u8, letters: u8x16) -> u64
     (quotes | backslashes | controls).to_bitmask()
 }
 
-/// Appends the bytes that the letters of a string stand for, from the offset `from` of `tail` up to
-/// the closing quote, and answers the offset of that quote (RFC 8259 section 7). `None` where no
-/// quote closes the string, or where a letter before it is a control character or begins no escape.
-/// What `out` had stays in any case; after `None` a part of the bytes may follow it.
+/// Appends the bytes that the letters of a string mean, from the offset `from` of `tail` up to the
+/// closing quote, and gives the offset of that quote (RFC 8259 section 7). `None` if no quote
+/// closes the string, or if a letter before it is a control character or begins no escape. What
+/// `out` had stays in any case; after `None` or an error a part of the bytes may follow it.
 ///
 /// # Errors
-/// `AllocError` where `out` couldn't grow; a part of the bytes may follow what it had.
+/// `AllocError` if memory is refused.
 #[inline(always)]
 pub fn push_letters(
     quote: u8,
@@ -125,7 +126,7 @@ pub fn push_letters(
     Ok(None)
 }
 
-/// Appends the plain letters from `at` on, and answers how many these are.
+/// Appends the plain letters from the offset `at` on, and gives their number of bytes.
 #[inline(always)]
 fn push_run(quote: u8, tail: &[u8], at: usize, out: &mut Vec<u8>) -> Result<usize, AllocError>
     requires { at ≤ length tail.now }
@@ -146,8 +147,8 @@ fn push_run(quote: u8, tail: &[u8], at: usize, out: &mut Vec<u8>) -> Result<usiz
     push_long_run(quote, &tail[at..], out)
 }
 
-/// Appends the first `n` of sixteen letters. To copy all sixteen and then cut is quicker than to
-/// copy `n`, since the length of the copy is known to the compiler.
+/// Appends the first `n` of sixteen letters. Copying all sixteen and cutting the rest is quicker
+/// than copying `n`, since the compiler knows the length of the copy.
 #[inline(always)]
 fn push_block(tail: &[u8], n: usize, out: &mut Vec<u8>) -> Result<(), AllocError>
     requires few { n ≤ 16 }
@@ -161,8 +162,8 @@ fn push_block(tail: &[u8], n: usize, out: &mut Vec<u8>) -> Result<(), AllocError
     Ok(())
 }
 
-/// Appends the plain letters that `tail` begins with, and answers how many these are. They are
-/// counted first, so that a buffer that is empty takes as much memory as they need, and no more.
+/// Appends the plain letters that `tail` begins with, and gives their number of bytes. They are
+/// counted first, so that an empty buffer takes as much memory as they need, and no more.
 #[inline(never)]
 fn push_long_run(quote: u8, tail: &[u8], out: &mut Vec<u8>) -> Result<usize, AllocError>
     ensures within { IfOk result (λ n. n ≤ length tail.now) }
@@ -176,8 +177,8 @@ fn push_long_run(quote: u8, tail: &[u8], out: &mut Vec<u8>) -> Result<usize, All
     Ok(n)
 }
 
-/// Appends the character of the escape whose backslash stands at the offset `at`, in UTF-8, and
-/// answers the offset after the escape. `None` where the backslash begins no escape.
+/// Appends in UTF-8 the character of the escape whose backslash is at the offset `at`, and gives
+/// the offset after the escape. `None` if the backslash begins no escape.
 #[inline(always)]
 fn push_escape(
     quote: u8,
@@ -208,8 +209,8 @@ fn push_escape(
     Ok(Some(at + 2))
 }
 
-/// The character of an escape of two characters, by the second one. `\'` is one in single quotes
-/// alone.
+/// The character of an escape of two characters, by the second one; `None` if there is no such
+/// escape. `\'` is one in single quotes alone.
 #[inline(always)]
 fn escape_code(quote: u8, second: u8) -> Option<u8>
     requires double_or_single { (quote ≡ 34) ⊎ (quote ≡ 39) }
@@ -228,8 +229,7 @@ fn escape_code(quote: u8, second: u8) -> Option<u8>
     Some(c)
 }
 
-/// The character of each escape of two characters, by the second one; 0 where there is no such
-/// escape.
+/// The character of each escape of two characters, by the second one; 0 if there is no such escape.
 const ESCAPED: [u8; 128] = [
     0, 0, 0, 0, 0, 0, 0, 0, 0, 0, 0, 0, 0, 0, 0, 0, 0, 0, 0, 0, 0, 0, 0, 0, 0, 0, 0, 0, 0, 0, 0, 0,
     0, 0, b'"', 0, 0, 0, 0, b'\'', 0, 0, 0, 0, 0, 0, 0, b'/', 0, 0, 0, 0, 0, 0, 0, 0, 0, 0, 0, 0,

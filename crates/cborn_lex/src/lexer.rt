@@ -1,4 +1,4 @@
-//! The tokens of a text.
+//! Reading the tokens of a text, in one list or one by one.
 
 ghost use Rattle.std.specs.Prelude.{◌≤◌, length, IfOk, IfErr};
 ghost use Rattle.cborn_lex.specs.Good.{HasTokens, IsTokenFrom};
@@ -11,12 +11,12 @@ use crate::fronts::{Front, first_of};
 use crate::slices::{is_white, rest_of};
 use std::alloc::Global;
 
-/// The tokens of `text` in that profile, in their order; white space and comments stand between
-/// them alone (RFC 8949 section 8, RFC 8610 appendix G).
+/// The tokens of `text` in this profile, in their order, with nothing but white space and comments
+/// between them (RFC 8949 section 8, RFC 8610 appendix G).
 ///
 /// # Errors
-/// `Refused` where the text isn't made of tokens: the place and the reason of the first that is
-/// bad. `OutOfMemory` where memory was refused.
+/// `Refused` if the text isn't made of tokens, with the offset and the reason of the first that is
+/// bad. `OutOfMemory` if memory is refused.
 pub fn tokens(alloc: Global, profile: Profile, text: &str) -> Result<Vec<Token>, LexFault>
     ensures ok { IfOk result (λ v. HasTokens profile text.now v.items) }
     ensures refused { IfErr result (λ e. HasNoTokens profile text.now e) }
@@ -30,13 +30,13 @@ pub fn tokens(alloc: Global, profile: Profile, text: &str) -> Result<Vec<Token>,
     Ok(found)
 }
 
-/// The first token of `text` from the offset `at` on, in bytes, and `None` where only white space
-/// and comments are left. Who begins at 0 and goes on at each token's `stop` gets the tokens that
-/// [`tokens`] gives, one by one, and no list of them is kept.
+/// The first token of `text` from the offset `at` on, in bytes; `None` if only white space and
+/// comments are left. From 0 on, and then from each token's `stop`, it gives the tokens of
+/// [`tokens`] one by one, without keeping a list.
 ///
 /// # Errors
-/// `Refused` where the text from `at` on begins with no token: the place, from the start of the
-/// text, and the reason of what is bad. `OutOfMemory` where memory was refused.
+/// `Refused` if the text from `at` on begins with no token, with the reason, and the offset from
+/// the start of the text. `OutOfMemory` if memory is refused.
 pub fn token_from(
     alloc: Global,
     profile: Profile,
@@ -59,15 +59,15 @@ pub fn token_from(
     }
 }
 
-/// The first token of `text` from the offset `at` on, in bytes, and `None` where only white space
-/// and comments are left (RFC 8949 section 8, RFC 8610 appendix G). What a string stands for is
-/// appended to `out`, and the number of an integer or a tag is put into `number`: so nothing is
-/// copied twice, and a token is small. Every other token leaves `out` as it was.
+/// The first token of `text` from the offset `at` on, in bytes; `None` if only white space and
+/// comments are left (RFC 8949 section 8, RFC 8610 appendix G). The bytes of a string are appended
+/// to `out`, and the number of an integer or a tag is put into `number`: so nothing is copied
+/// twice, and a token is small. Any other token leaves `out` unchanged.
 ///
 /// # Errors
-/// `Refused` where the text from `at` on begins with no token: the place, from the start of the
-/// text, and the reason of what is bad. `OutOfMemory` where `out` couldn't grow. After an error
-/// `out` may have a part of a string after what it had.
+/// `Refused` if the text from `at` on begins with no token, with the reason, and the offset from
+/// the start of the text. `OutOfMemory` if memory is refused. After an error `out` may have a part
+/// of a string after what it had.
 #[inline(always)]
 pub fn next_token(
     alloc: Global,

@@ -15,13 +15,11 @@
 //!  └ ArrayOpen, with the indicator Endless
 //! ```
 //!
-//! `specs/Forms.antt` has the forms, and `specs/Lex.antt` says what the tokens of a text are and
-//! where a text stops being tokens. [`tokens`] gives exactly these, and [`token_from`] the same one
-//! by one, for who needs no list of them. Both stand on [`next_token`], which makes no value of its
-//! own: it answers what a token is, and appends what a string stands for to a buffer of the caller's.
+//! `specs/Good.antt` says what the tokens of a text are, and `specs/Bad.antt` where a text has none,
+//! and why. [`tokens`] gives them in a list, [`token_from`] one by one. Both call [`next_token`],
+//! which gives what a token is, and appends the bytes of a string to a buffer of the caller's.
 //! [`decimal_at`], [`mark_at`], [`plain_run`] and [`push_letters`] are for a reader that looks for
-//! what is common before it asks for any token. [`laws`] says that each text has tokens or a stop, and that what is
-//! read one by one is what the text holds.
+//! what is frequent before it asks for a token. [`laws`] has what is proved of the definitions.
 #![tactic(auto)]
 
 mod classes;

@@ -1,4 +1,4 @@
-//! Characters and slices of a text.
+//! Characters and slices of a text, as bytes of UTF-8.
 
 ghost use Rattle.std.specs.Prelude.{◌≡◌, ◌<◌, ◌≤◌, length, take, drop, slice_index, MatchOption, true, ◌==◌, [], ◌∷◌};
 ghost use Rattle.std.specs.List.{list_all};
@@ -10,7 +10,7 @@ ghost use Rattle.cborn_lex.specs.Forms.{IsRun, IsIndicator};
 use crate::classes::Mark;
 use cborn_model::Width;
 
-/// Whether a character is white space.
+/// Whether a character is white space: a space, a tab, a line feed or a carriage return.
 #[inline(always)]
 pub fn is_white(c: u8) -> bool
     ensures { result ≡ is_white c }
@@ -18,14 +18,14 @@ pub fn is_white(c: u8) -> bool
     c == b' ' || c == b'\t' || c == b'\n' || c == b'\r'
 }
 
-/// Whether a character is one of words and indicators.
+/// Whether a character may be in a word or an indicator.
 fn is_word(c: u8) -> bool
     ensures { result ≡ is_word c }
 {
     c.is_ascii_alphanumeric() || c == b'_'
 }
 
-/// Whether a character is one of numbers.
+/// Whether a character may be in a number.
 #[inline(always)]
 pub fn is_numeral(c: u8) -> bool
     ensures { result ≡ is_numeral c }
@@ -51,7 +51,7 @@ pub fn front_of(x: &[u8], n: usize) -> &[u8]
     &x[..n]
 }
 
-/// Whether the character is at the front.
+/// Whether `x` begins with the character `c`.
 #[inline(always)]
 pub fn begins_with(c: u8, x: &[u8]) -> bool
     ensures { result ≡ begins (λ d. d == c) x.now }
@@ -59,14 +59,14 @@ pub fn begins_with(c: u8, x: &[u8]) -> bool
     x.len() > 0 && x[0] == c
 }
 
-/// Whether a decimal digit is at the front.
+/// Whether `x` begins with a decimal digit.
 pub fn begins_with_digit(x: &[u8]) -> bool
     ensures { result ≡ begins is_ascii_digit x.now }
 {
     x.len() > 0 && x[0].is_ascii_digit()
 }
 
-/// Whether the bytes begin with others.
+/// Whether `x` begins with the bytes `p`.
 pub fn has_prefix(p: &[u8], x: &[u8]) -> bool
     ensures { result ≡ has_prefix p.now x.now }
 {
@@ -77,7 +77,7 @@ pub fn has_prefix(p: &[u8], x: &[u8]) -> bool
     }
 }
 
-/// The offset of the first byte that is `wanted`.
+/// The offset of the first byte that is `wanted`; `None` if there is none.
 pub fn find(wanted: u8, tail: &[u8]) -> Option<usize>
     ensures { MatchOption result (list_all (is_not wanted) tail.now ≡ true) (λ i. (i < length tail.now) × (list_all (is_not wanted) (take i tail.now) ≡ true) × (slice_index tail.now i ≡ wanted)) }
 {
@@ -89,7 +89,7 @@ pub fn find(wanted: u8, tail: &[u8]) -> Option<usize>
     None
 }
 
-/// How many word characters come first.
+/// How many word characters `tail` begins with.
 pub fn word_len(tail: &[u8]) -> usize
     ensures within { result ≤ length tail.now }
     ensures run { IsRun is_word (take result tail.now) (drop result tail.now) }
@@ -102,7 +102,7 @@ pub fn word_len(tail: &[u8]) -> usize
     tail.len()
 }
 
-/// How many characters of a number's body come first.
+/// How many characters of a number `tail` begins with.
 pub fn numeral_len(tail: &[u8]) -> usize
     ensures within { result ≤ length tail.now }
     ensures run { IsRun is_numeral (take result tail.now) (drop result tail.now) }
@@ -115,7 +115,7 @@ pub fn numeral_len(tail: &[u8]) -> usize
     tail.len()
 }
 
-/// How long the indicator at the front is.
+/// How long the indicator is that `tail` begins with, good or bad.
 pub fn indicator_len(tail: &[u8]) -> usize
     ensures within { result ≤ length tail.now }
     ensures run { IsIndicator (take result tail.now) (drop result tail.now) }
@@ -126,9 +126,8 @@ pub fn indicator_len(tail: &[u8]) -> usize
     word_len(&tail[1..]) + 1
 }
 
-/// The encoding indicator that `x` begins with (RFC 8949 section 8.1), `Mark::Absent` where `x`
-/// doesn't begin with an underscore, and `None` where what does begin with one is no indicator; and
-/// how many bytes of `x` that is.
+/// The encoding indicator that `x` begins with (RFC 8949 section 8.1), and its length in bytes:
+/// `Mark::Absent` without an underscore, `None` if what begins with one is no indicator.
 #[inline(always)]
 pub fn mark_at(x: &[u8]) -> (Option<Mark>, usize)
     ensures within { result.1 ≤ length x.now }
@@ -141,8 +140,8 @@ pub fn mark_at(x: &[u8]) -> (Option<Mark>, usize)
     underscored_mark(x)
 }
 
-/// The encoding indicator that `x` begins with, where that is an underscore; `None` where it is no
-/// indicator; and how many bytes of `x` that is.
+/// The encoding indicator that `x` begins with, from its underscore on, and its length in bytes;
+/// `None` if it is no indicator.
 #[inline(never)]
 fn underscored_mark(x: &[u8]) -> (Option<Mark>, usize)
     requires some { 0 < length x.now }
@@ -160,7 +159,7 @@ fn underscored_mark(x: &[u8]) -> (Option<Mark>, usize)
     (None, indicator_len(x))
 }
 
-/// The indicator that an underscore and this character are.
+/// The indicator of an underscore and this character; `None` if there is no such indicator.
 #[inline(always)]
 fn width_of(c: u8) -> Option<Mark>
     requires word { is_word c ≡ true }

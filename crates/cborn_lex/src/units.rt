@@ -13,7 +13,7 @@ pub fn are_hex(a: u8, b: u8, c: u8, d: u8) -> bool
     digit_of(a) < 16 && digit_of(b) < 16 && digit_of(c) < 16 && digit_of(d) < 16
 }
 
-/// The number of four hexadecimal digits.
+/// The number that four hexadecimal digits write.
 #[inline]
 pub fn hex_code(a: u8, b: u8, c: u8, d: u8) -> u32
     requires { are_hex a b c d ≡ true }
@@ -24,7 +24,7 @@ pub fn hex_code(a: u8, b: u8, c: u8, d: u8) -> u32
         + digit_of(d) as u32
 }
 
-/// Whether a unit is the first half of a surrogate pair.
+/// Whether a unit is a high surrogate, the first half of a pair.
 #[inline]
 pub fn is_high(n: u32) -> bool
     ensures { result ≡ is_high n }
@@ -32,7 +32,7 @@ pub fn is_high(n: u32) -> bool
     0xD800 <= n && n < 0xDC00
 }
 
-/// Whether a unit is the second half of a surrogate pair.
+/// Whether a unit is a low surrogate, the second half of a pair.
 #[inline]
 pub fn is_low(n: u32) -> bool
     ensures { result ≡ is_low n }

@@ -99,7 +99,7 @@ meant_is q (escaped e) x y h = escape_bytes q e h.allowed
 meant_is q (unit a b d e) x y h = refl
 meant_is q (pair a b d e f g i j) x y h = refl
 
--- an escape behind a backslash, its character c and its n bytes
+-- an escape after a backslash, its character c and its n bytes
 pub record Escape (q : ℕ) (x : List ℕ) (c n : ℕ) : Type 0 where
   pub letter : Letter
   pub at : LetterAt q (92 ∷ x) letter (drop n (92 ∷ x))

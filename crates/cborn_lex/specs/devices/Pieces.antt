@@ -24,7 +24,7 @@ abbrev pub spelled : List Lexeme → List ℕ
 spelled [] = []
 spelled (p ∷ ps) = slice p ++ spelled ps
 
--- each piece is what it is, as the text goes on behind it
+-- each piece is what it is, if the text goes on after it
 abbrev pub AreRead : Profile → List Lexeme → List ℕ → Type 0
 AreRead profile [] z = Unit {0}
 AreRead profile (p ∷ ps) z = Reads profile (slice p) (spelled ps ++ z) (front_of p) × AreRead profile ps z
@@ -35,7 +35,7 @@ tokens n [] = []
 tokens n (gap s ∷ ps) = tokens (n + length s) ps
 tokens n (token k s ∷ ps) = record { start = n; stop = n + length s; class = k } ∷ tokens (n + length s) ps
 
--- the pieces of a part of a text, from the place n up to m, behind which y stands
+-- the pieces of a part of a text, from the offset n up to m, where y begins
 pub record Parted (profile : Profile) (n : ℕ) (x : List ℕ) (ts : List Token) (m : ℕ) (y : List ℕ) : Type 0 where
   pub pieces : List Lexeme
   pub read : AreRead profile pieces y

@@ -38,7 +38,7 @@ abbrev pub paired : ℕ → Option ℕ → Option (ℕ × ℕ)
 paired n None = None
 paired n (Some m) = Some (0x1_0000 + (n - 0xD800) * 0x400 + (m - 0xDC00), 12)
 
--- the same from the first escape's number, and from what follows it
+-- what an escape of four digits is, by its number and what follows it; half a pair alone is nothing
 abbrev pub unit_from : Option ℕ → List ℕ → Option (ℕ × ℕ)
 unit_from None x = None
 unit_from (Some n) x = cond (is_high n) (paired n (low_code x)) (cond (is_low n) None (Some (n, 6)))
