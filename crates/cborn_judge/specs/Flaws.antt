@@ -10,7 +10,7 @@ use Rattle.cborn_judge.specs.declared.faults.Invalid.{Invalid}
 use Rattle.cborn_judge.specs.declared.faults.Invalid.TheVariants.{Refused, OutOfMemory}
 use Rattle.cborn_model.specs.Meaning.{IsByteString, Means}
 
--- the node is this one, or stands below it
+-- q is this node, or inside it
 abbrev mutual
   pub Within : Tree → Tree → Type 0
   Within q (Items p s ts) = (q ≡ Items p s ts) ⊎ WithinAll q ts

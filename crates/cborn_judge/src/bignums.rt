@@ -1,4 +1,4 @@
-//! What integers mean.
+//! What integers and bignums mean (RFC 8949 sections 3.1 and 3.4.3).
 
 ghost use Rattle.std.specs.Prelude.{IfOk};
 ghost use Rattle.cborn_model.specs.Bytes.{AreBytes};
@@ -12,7 +12,7 @@ use cborn_det::number_of;
 use cborn_model::{Form, Item, Magnitude, Node, without_zeros};
 use std::alloc::{AllocError, Global};
 
-/// The integer `n`, or -1 - `n`.
+/// The integer `n`, or -1 - `n` if it is `negative`.
 pub(crate) fn small_integer(negative: bool, n: u64) -> Item
     ensures { IsNumber negative n (item_value result) }
 {
@@ -23,8 +23,8 @@ pub(crate) fn small_integer(negative: bool, n: u64) -> Item
     }
 }
 
-/// The integer of tag 2 or 3 over `content` (RFC 8949 section 3.4.3), if `content` is a byte
-/// string.
+/// The integer of tag 2 or 3 with this content (RFC 8949 section 3.4.3); `None` unless the content
+/// is a byte string.
 pub(crate) fn judge_bignum(
     alloc: Global,
     negative: bool,

@@ -1,4 +1,4 @@
-//! The check for the deterministic encoding.
+//! The check whether a node spells the deterministic encoding of what it means.
 
 ghost use Rattle.std.specs.Prelude.{◌≡◌, ◌↔◌, IfOk, IfErr, None, map};
 ghost use Rattle.cborn_model.specs.ItemView.{item_value, pair_value};
@@ -22,12 +22,12 @@ use cborn_det::push_encoding;
 use cborn_model::{Form, Item, KeyOrder, Node, Spelled};
 use std::alloc::{AllocError, Global};
 
-/// The first departure of the node's spelling from the deterministic encoding of the item that it
-/// means (RFC 8949 section 4.2), if there is one. The keys of maps are compared in the order `O`.
+/// The first defect of the node: where its spelling first departs from the deterministic encoding
+/// of the item that it means (RFC 8949 section 4.2), with the keys of maps in the order `O`. `None`
+/// if it is that encoding.
 ///
 /// # Errors
-/// Those of [`judge`]: `Refused` with the first flaw of a node that means nothing, and
-/// `OutOfMemory` where memory was refused.
+/// `Refused`, with the node's first flaw, if it means no item. `OutOfMemory` if memory is refused.
 pub fn first_defect<O: KeyOrder>(
     alloc: Global,
     spelled: &Spelled,
@@ -80,7 +80,7 @@ fn defect_of<O: KeyOrder>(
     }
 }
 
-/// The first defect of the nodes of an array of `items`.
+/// The first defect of the elements of an array, which mean `items`.
 #[cycle(checked)]
 #[inline(never)]
 fn defect_in_items<O: KeyOrder>(
@@ -100,7 +100,7 @@ fn defect_in_items<O: KeyOrder>(
     Ok(first)
 }
 
-/// The first defect of the nodes of a map of `pairs`, and of their order.
+/// The first defect of the keys and values of a map, which mean `pairs`, and of its order.
 #[cycle(checked)]
 #[inline(never)]
 fn defect_in_pairs<O: KeyOrder>(
@@ -121,8 +121,8 @@ fn defect_in_pairs<O: KeyOrder>(
     Ok(first)
 }
 
-/// The first defect of the content of a tag at `place` that means `item`, and of the tag as a
-/// bignum's.
+/// The first defect of the content of a tag at `place`, and of its bytes if they are a bignum's.
+/// The tag means `item`.
 #[cycle(checked)]
 #[inline(never)]
 fn defect_in_tag<O: KeyOrder>(
@@ -176,7 +176,7 @@ fn descent<O: KeyOrder>(
     Ok(first)
 }
 
-/// The items of an array.
+/// The items of an array; of anything else none.
 fn items_of(item: &Item) -> &[Item]
     ensures { (vs : Values) → item_value item.now ≡ array vs → values_of (map item_value result.now) ≡ vs }
 {
@@ -186,7 +186,7 @@ fn items_of(item: &Item) -> &[Item]
     }
 }
 
-/// The pairs of a map.
+/// The pairs of a map; of anything else none.
 fn couples_of(item: &Item) -> &[(Item, Item)]
     ensures { (ps : Couples) → item_value item.now ≡ dict ps → pairs_of (map pair_value result.now) ≡ ps }
 {

@@ -1,4 +1,4 @@
-//! Where a spelling is not the deterministic encoding.
+//! Defects: where a spelling departs from the deterministic encoding (RFC 8949 section 4.2).
 
 ghost use Rattle.std.specs.Prelude.{◌≡◌};
 ghost use Rattle.cborn_judge.specs.Defects.{defect_rank};
@@ -6,8 +6,8 @@ ghost use Rattle.cborn_judge.specs.Defects.{defect_rank};
 use crate::precedence::Fault;
 use thiserror::Error;
 
-/// How the spelling of an item departs from its deterministic encoding. The number of a reason is
-/// its place in this list, from 1.
+/// How the spelling of an item departs from its deterministic encoding. The reasons are numbered
+/// from 1 in this order.
 #[derive(Clone, Copy, PartialEq, Eq, Debug, Error)]
 pub enum DefectReason {
     /// A head is not the shortest for its argument (RFC 8949 section 4.2.1).
@@ -19,13 +19,15 @@ pub enum DefectReason {
     /// The bytes of a bignum begin with a zero, or fit 64 bits (RFC 8949 section 3.4.3).
     #[error("loose bignum")]
     LooseBignum,
-    /// The encoding of a key is not above that of the key before it (RFC 8949 section 4.2.1).
+    /// The encoding of a key is not above that of the key before it (RFC 8949 sections 4.2.1 and
+    /// 4.2.3).
     #[error("key order")]
     KeyOrder,
 }
 
-/// A departure from the deterministic encoding, and where. `place` is that of the head of the node,
-/// chunk, tag or key: its offset in bytes, from the start of the input that the node was read from.
+/// A departure from the deterministic encoding. `place` is the offset of the head of the node,
+/// chunk, tag or key that departs, in bytes from the start of the input that the node was read
+/// from.
 #[derive(Clone, Copy, PartialEq, Eq, Debug, Error)]
 #[error("offset {place}: {reason}")]
 pub struct Defect {
@@ -34,7 +36,7 @@ pub struct Defect {
 }
 
 impl DefectReason {
-    /// Its place in the list of reasons, from 1.
+    /// The number of the reason, from 1.
     fn number(self) -> u8
         ensures { result ≡ defect_rank self }
     {

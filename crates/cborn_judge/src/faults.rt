@@ -1,4 +1,4 @@
-//! Why an item is not valid.
+//! Flaws: why a node means no item (RFC 8949 sections 3.1, 3.4.3 and 5.6).
 
 ghost use Rattle.std.specs.Prelude.{◌≡◌};
 ghost use Rattle.cborn_judge.specs.Flaws.{flaw_rank};
@@ -8,13 +8,13 @@ use crate::precedence::Fault;
 use std::alloc::{AllocError, AllocFailed};
 use thiserror::Error;
 
-/// Why an item means nothing. The number of a reason is its place in this list, from 1.
+/// Why a node means no item. The reasons are numbered from 1 in this order.
 #[derive(Clone, Copy, PartialEq, Eq, Debug, Error)]
 pub enum InvalidReason {
     /// A text string, or a chunk of one, is not UTF-8 (RFC 8949 section 3.1).
     #[error("not UTF-8")]
     NotUtf8,
-    /// Tag 2 or 3 is not over a byte string (RFC 8949 section 3.4.3).
+    /// The content of tag 2 or 3 is not a byte string (RFC 8949 section 3.4.3).
     #[error("bad bignum")]
     BadBignum,
     /// A key is the same as an earlier key of its map (RFC 8949 section 5.6).
@@ -25,9 +25,9 @@ pub enum InvalidReason {
 /// Why there is no valid item.
 #[derive(Clone, Copy, PartialEq, Eq, Debug, Error)]
 pub enum Invalid {
-    /// The node means nothing. `place` is that of the head of the string or chunk that is not
-    /// UTF-8, of the tag, or of the later key: its offset in bytes, from the start of the input
-    /// that the node was read from.
+    /// The node means no item. `place` is the offset of the head of the string or chunk that is not
+    /// UTF-8, of the tag, or of the later key, in bytes from the start of the input that the node
+    /// was read from.
     #[error("offset {place}: {reason}")]
     Refused { place: u64, reason: InvalidReason },
     /// Memory was refused.
@@ -51,7 +51,7 @@ impl<T: Drop> From<AllocFailed<T>> for Invalid {
     }
 }
 
-/// Where something is wrong, and what.
+/// What is wrong, and at which offset.
 #[derive(Clone, Copy)]
 pub(crate) struct Flaw {
     pub place: u64,
@@ -59,7 +59,7 @@ pub(crate) struct Flaw {
 }
 
 impl InvalidReason {
-    /// Its place in the list of reasons, from 1.
+    /// The number of the reason, from 1.
     fn number(self) -> u8
         ensures { result ≡ flaw_rank self }
     {

@@ -1,4 +1,4 @@
-//! What nodes mean.
+//! What nodes mean (RFC 8949 section 5.3), or their first flaw.
 
 ghost use Rattle.std.specs.Prelude.{◌≤◌, ℕ, IfOk, IfErr, OnOk, vec_len};
 ghost use Rattle.std.specs.List.{AllZip};
@@ -20,27 +20,25 @@ use crate::strings::{judge_byte_chunks, judge_bytes, judge_text, judge_text_chun
 use cborn_model::{Form, Item, ItemBox, ItemList, Node, PairList, Spelled, Valid};
 use std::alloc::{AllocError, Global};
 
-/// What a node means, or the first of its flaws.
+/// What a node means, or its first flaw.
 #[derive(Drop)]
 pub(crate) enum Judged {
     Valid(Item),
     Flawed(Flaw),
 }
 
-/// What a pair of nodes means, or the first of their flaws.
+/// What a pair of nodes means, or their first flaw.
 #[derive(Drop)]
 pub(crate) enum JudgedPair {
     Valid(Item, Item),
     Flawed(Flaw),
 }
 
-/// The item that the node means (RFC 8949 section 5.3; bignums: section 3.4.3), or the first of all
-/// its flaws: the one at the least place, and there the one with the least number.
+/// The item that the node means (RFC 8949 section 5.3; bignums: section 3.4.3).
 ///
 /// # Errors
-/// `Refused` tells the reason and the place of that flaw, which is the offset of the head of the
-/// node or chunk where it stands, in bytes from the start of the input that the node was read from.
-/// `OutOfMemory` where memory was refused.
+/// `Refused` if it means none, with its first flaw: that at the lowest offset, and there that with
+/// the lowest number. `OutOfMemory` if memory is refused.
 pub fn judge(alloc: Global, spelled: &Spelled) -> Result<Valid, Invalid>
     ensures meant { IfOk result (λ valid. Means spelled.now valid) }
     ensures refused { IfErr result (IsRefusal spelled.now) }
@@ -48,7 +46,7 @@ pub fn judge(alloc: Global, spelled: &Spelled) -> Result<Valid, Invalid>
     judge_with(alloc, spelled, &mut Vec::new(alloc))
 }
 
-/// What `judge` answers. `spare` has the room of maps that are done, for the keys of those to come.
+/// `judge` with buffers to use again: `spare` has those of maps that are done.
 #[inline(always)]
 fn judge_with(alloc: Global, spelled: &Spelled, spare: &mut Vec<Keys>) -> Result<Valid, Invalid>
     ensures meant { IfOk result (λ valid. Means spelled.now valid) }
@@ -60,12 +58,11 @@ fn judge_with(alloc: Global, spelled: &Spelled, spare: &mut Vec<Keys>) -> Result
     }
 }
 
-/// The items that the nodes mean, in order (RFC 8949 sections 5.3 and 3.4.3), or the first flaw of
-/// the first node that means nothing.
+/// The items that the nodes mean, in order (RFC 8949 sections 5.3 and 3.4.3).
 ///
 /// # Errors
-/// Those of [`judge`]: `Refused` with the reason and the place of that flaw, and `OutOfMemory`
-/// where memory was refused.
+/// `Refused` if a node means none, with the first flaw of the first such node. `OutOfMemory` if
+/// memory is refused.
 pub fn judge_all(alloc: Global, spelled: &[Spelled]) -> Result<Vec<Valid>, Invalid>
     ensures meant { IfOk result (λ items. AllZip Means spelled.now items.items) }
     ensures refused { IfErr result (IsRefusalOfAll spelled.now) }
@@ -79,8 +76,8 @@ pub fn judge_all(alloc: Global, spelled: &[Spelled]) -> Result<Vec<Valid>, Inval
     Ok(items)
 }
 
-/// What the node means. What stands in `spare` is of no meaning: its room is used again for the
-/// keys of maps, one for each that is open at a time.
+/// What the node means. What `spare` holds means nothing: its buffers are used again for the keys
+/// of maps, one for each map that is open at a time.
 #[cycle(judged)]
 #[inline(always)]
 fn judge_node(alloc: Global, node: &Node, spare: &mut Vec<Keys>) -> Result<Judged, AllocError>
@@ -102,7 +99,6 @@ fn judge_node(alloc: Global, node: &Node, spare: &mut Vec<Keys>) -> Result<Judge
     }
 }
 
-/// What an array of these nodes means.
 #[cycle(judged)]
 #[inline(never)]
 fn judge_items(alloc: Global, nodes: &[Node], spare: &mut Vec<Keys>) -> Result<Judged, AllocError>
@@ -127,7 +123,6 @@ fn judge_items(alloc: Global, nodes: &[Node], spare: &mut Vec<Keys>) -> Result<J
     }
 }
 
-/// What a map of these pairs means.
 #[cycle(judged)]
 #[inline(never)]
 fn judge_pairs(
@@ -155,7 +150,7 @@ fn judge_pairs(
     }
 }
 
-/// What the pair at `position` means. A key that means something joins `keys`.
+/// What the pair at index `position` means. A key that means something is added to `keys`.
 #[cycle(judged)]
 fn judge_pair(
     alloc: Global,
@@ -174,7 +169,7 @@ fn judge_pair(
     Ok(paired(key, value))
 }
 
-/// What the key at `position` means. One that means something joins `keys`.
+/// What the key at index `position` means. It is added to `keys` if it means something.
 #[cycle(judged)]
 fn judge_key(
     alloc: Global,
@@ -209,7 +204,7 @@ fn paired(key: Judged, value: Judged) -> JudgedPair
     }
 }
 
-/// What a tag at `place` means.
+/// What a tag at the offset `place` means.
 #[cycle(judged)]
 #[inline(never)]
 fn judge_tagged(
@@ -240,7 +235,7 @@ fn judge_tagged(
     }
 }
 
-/// The first of a flaw and of that of what was judged next, if it has one.
+/// The first of a flaw and of that of what was judged next, if that has one.
 fn first_flaw(flaw: Flaw, next: &Judged) -> Flaw
     ensures { IsFirstWith flaw next.now result }
 {

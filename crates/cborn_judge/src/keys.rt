@@ -1,4 +1,5 @@
-//! The keys of a map.
+//! The keys of a map, kept as their deterministic encodings: keys are the same exactly if these are
+//! equal.
 
 ghost use Rattle.std.specs.Prelude.{◌≤◌, ℕ, List, [], IfOk, OnOk, vec_len};
 ghost use Rattle.cborn_model.specs.ItemView.{item_value};
@@ -13,16 +14,15 @@ use std::alloc::{AllocError, Global};
 #[derive(Drop)]
 pub(crate) struct Keys {
     bytes: Vec<u8>,
-    /// The length of each encoding, and the position of the key in its map.
+    /// The length of each encoding in bytes, and the index of the key in its map.
     marks: Vec<(usize, usize)>,
-    /// Where the last encoding begins.
+    /// The offset of the last encoding in `bytes`.
     last: usize,
     /// Whether each encoding is above the one before it.
     pub(crate) rising: bool,
 }
 
 impl Keys {
-    /// No keys.
     pub(crate) fn new(alloc: Global) -> Keys
         ensures { (places : List ℕ) → AreKept places [] result }
     {
@@ -34,7 +34,7 @@ impl Keys {
         }
     }
 
-    /// Drops all keys, and keeps their room.
+    /// Removes all keys, and keeps their memory.
     pub(crate) fn clear(&mut self)
         ensures { (places : List ℕ) → AreKept places [] self.new }
     {
@@ -44,7 +44,7 @@ impl Keys {
         self.rising = true;
     }
 
-    /// Takes in the key at `position`.
+    /// Adds the key at index `position`.
     pub(crate) fn push(
         &mut self,
         alloc: Global,
@@ -66,7 +66,7 @@ impl Keys {
         Ok(())
     }
 
-    /// Each encoding with its position.
+    /// Each encoding, with the index of its key.
     pub(crate) fn slices(&self, alloc: Global) -> Result<Vec<(&[u8], usize)>, AllocError>
         requires { (codes : List (List ℕ × ℕ)) × IsMarked codes self.now.marks.items self.now.bytes.items }
         ensures { IfOk result (λ slices. IsMarked (CodesOf slices.items) self.now.marks.items self.now.bytes.items) }
@@ -82,7 +82,7 @@ impl Keys {
     }
 }
 
-/// No keys, in the room of keys that are spare, if there are any.
+/// No keys, in memory that is spare if there is any.
 pub(crate) fn cleared(alloc: Global, spare: &mut Vec<Keys>) -> Keys
     ensures { (places : List ℕ) → AreKept places [] result }
 {

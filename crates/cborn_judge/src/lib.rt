@@ -2,16 +2,16 @@
 //! and 5.3).
 //!
 //! Two questions are answered about a node. *Does it mean an item?* [`judge`] gives the item, or
-//! the first flaw: `judgments` walks the node, and `strings`, `bignums` and `keys` with `repeats`
-//! judge what has rules of its own. *Is it the deterministic encoding of that item?*
-//! [`first_defect`] walks the node beside its item (`checks`), and `spellings` looks at its heads.
-//! Which of two faults comes first is said in `precedence`.
+//! the first flaw: `judgments` goes through the node, and `strings`, `bignums` and `keys` with
+//! `repeats` judge what has rules of its own. *Does it spell the deterministic encoding of that
+//! item?* [`first_defect`] goes through the node and its item together (`checks`), and `spellings`
+//! looks at its heads. `precedence` says which of two faults comes first.
 //!
-//! A reader of the definitions starts at `specs/Flaws.antt` (what is wrong with a node, and what is
-//! wrong first) and `specs/Defects.antt` (where a spelling departs from the deterministic
-//! encoding); what a node means is told by `cborn_model`. Devices of the proofs stand in
-//! `specs/devices/`. [`laws`] says that no flaw means an item, and no defect the deterministic
-//! encoding.
+//! A reader of the definitions starts at `specs/Flaws.antt` (what is wrong with a node, and what
+//! comes first) and `specs/Defects.antt` (where a spelling departs from the deterministic
+//! encoding); `cborn_model` defines what a node means. Devices of the proofs are in
+//! `specs/devices/`. [`laws`] has what is proved of the definitions: no flaw means an item, and no
+//! defect the deterministic encoding.
 #![tactic(auto)]
 
 mod bignums;

@@ -1,20 +1,20 @@
-//! The first of several faults.
+//! Which of several faults comes first.
 
 ghost use Rattle.std.specs.Prelude.{◌≡◌, ℕ};
 ghost use Rattle.cborn_judge.specs.Earliest.{IsEarlier, IsEarliest};
 
-/// Something wrong at a place, for a reason that has a number. The first of several is the one at
-/// the lowest place, and there the one with the lowest number.
+/// Something wrong at an offset, for a reason that has a number. The first of several is the one at
+/// the lowest offset, and there the one with the lowest number.
 pub trait Fault: Copy {
-    /// Its place, and the number of its reason.
+    /// Its offset and the number of its reason, as contracts see them.
     ghost key: { Self → ℕ × ℕ };
 
-    /// Its place, and the number of its reason. Takes no memory.
+    /// Its offset in bytes, and the number of its reason. Takes no memory.
     fn place_and_number(self) -> (u64, u8)
         ensures { result ≡ key self };
 }
 
-/// The one of the two that comes first. Takes no memory.
+/// The one of two faults that comes first. Takes no memory.
 pub fn earlier<F: Fault>(fault: F, next: F) -> F
     ensures { IsEarlier F.key fault next result }
 {
@@ -27,7 +27,8 @@ pub fn earlier<F: Fault>(fault: F, next: F) -> F
     }
 }
 
-/// The first of what was found so far and what was found next. Takes no memory.
+/// The first of what was found so far and what was found next; `None` if nothing was. Takes no
+/// memory.
 pub fn earliest<F: Fault>(so_far: Option<F>, next: Option<F>) -> Option<F>
     ensures { IsEarliest F.key so_far next result }
 {

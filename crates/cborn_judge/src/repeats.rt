@@ -1,4 +1,4 @@
-//! Which keys of a map are repeated.
+//! Which keys of a map are repeated. Sorted encodings have equal ones next to each other.
 
 ghost use Rattle.std.specs.Prelude.{◌≡◌, ◌<◌, IfOk, All, length};
 ghost use Rattle.cborn_model.specs.Tree.{entries};
@@ -14,7 +14,7 @@ use cborn_model::Node;
 use std::alloc::{AllocError, Global};
 
 impl Keys {
-    /// The first of the keys that are the same as an earlier one.
+    /// The first key that is the same as an earlier one.
     pub(crate) fn first_repeat(
         &self,
         alloc: Global,
@@ -32,7 +32,7 @@ impl Keys {
     }
 }
 
-/// Where the keys of these pairs stand.
+/// The offsets of the keys of these pairs.
 fn places_of(alloc: Global, nodes: &[(Node, Node)]) -> Result<Vec<u64>, AllocError>
     ensures { IfOk result (λ places. places.items ≡ key_places nodes.now) }
 {
@@ -43,7 +43,7 @@ fn places_of(alloc: Global, nodes: &[(Node, Node)]) -> Result<Vec<u64>, AllocErr
     Ok(places)
 }
 
-/// The first of the keys whose encoding an earlier key has.
+/// The first of the keys with an encoding that an earlier key has.
 fn first_tie(keys: &mut Vec<(&[u8], usize)>, places: &[u64]) -> Option<Flaw>
     requires rising { PositionsRise key_bytes key_position 0 keys.old.items }
     requires within { All (λ k. k.1 < length places.now) keys.old.items }

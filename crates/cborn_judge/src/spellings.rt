@@ -1,5 +1,5 @@
-//! The defects of heads, strings, bignums and keys. Those of one head, one bignum's bytes and one
-//! key are also told to who keeps no node.
+//! The defects of heads, strings, bignums and keys. Passes that keep no node use those of one head,
+//! of one bignum and of one key.
 
 ghost use Rattle.std.specs.Prelude.{◌≡◌, ◌⊎◌, ◌↔◌, IfOk, IsTrue, List, ℕ};
 ghost use Rattle.std.proofs.Common.{Ordering};
@@ -14,7 +14,8 @@ use crate::strings::join;
 use cborn_model::{Chunk, Form, KeyOrder, Node, Size, Width, shortest};
 use std::alloc::{AllocError, Global};
 
-/// The defect of a head at `place` with the argument `n`, if it has one.
+/// The defect of a head at the offset `place` with the argument `n`, if it is not the shortest (RFC
+/// 8949 section 4.2.1).
 #[inline]
 pub fn head_defect(place: u64, width: Width, n: u64) -> Option<Defect>
     ensures { FindsDefect (LongAt place width n) result }
@@ -39,7 +40,7 @@ pub(crate) fn size_defect(place: u64, size: Size, n: u64) -> Option<Defect>
     }
 }
 
-/// The first defect of a string at `place` of these chunks.
+/// The first defect of a string in these chunks at `place`.
 pub(crate) fn chunks_defect(place: u64, chunks: &[Chunk]) -> Option<Defect>
     ensures { FindsDefect (ChunksDefect place chunks.now) result }
 {
@@ -56,7 +57,8 @@ pub(crate) fn chunks_defect(place: u64, chunks: &[Chunk]) -> Option<Defect>
     first
 }
 
-/// The first defect of tag 2 or 3 at `place`, its head aside, and of its content, a byte string.
+/// The first defect of tag 2 or 3 at `place`, but for its head's, and of its content, a byte
+/// string.
 pub(crate) fn bignum_defect(
     alloc: Global,
     place: u64,
@@ -80,7 +82,8 @@ pub(crate) fn bignum_defect(
     }
 }
 
-/// The defect of a bignum at `place` of these bytes, if it has one.
+/// The defect of a bignum at the offset `place` with these bytes, if they begin with a zero or are
+/// at most eight (RFC 8949 section 3.4.3).
 #[inline]
 pub fn loose_defect(place: u64, bytes: &[u8]) -> Option<Defect>
     ensures { FindsDefect (LooseBytesAt place bytes.now) result }
@@ -100,7 +103,8 @@ fn is_loose(bytes: &[u8]) -> bool
     bytes.len() <= 8 || bytes[0] == 0
 }
 
-/// The defect of a key at `place` whose encoding follows that of the key before it, if it has one.
+/// The defect of a key at the offset `place`, if its encoding is not above `previous`, that of the
+/// key before it, in the order `O` (RFC 8949 section 4.2.1).
 #[inline]
 pub fn order_defect<O: KeyOrder>(place: u64, previous: &[u8], encoding: &[u8]) -> Option<Defect>
     ensures { FindsDefect (NotAboveAt O.order place previous.now encoding.now) result }

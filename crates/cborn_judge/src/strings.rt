@@ -1,4 +1,4 @@
-//! What strings mean.
+//! What strings mean (RFC 8949 sections 3.1 and 3.2.3).
 
 ghost use Rattle.std.specs.Prelude.{◌≡◌, ℕ, IfOk};
 ghost use Rattle.cborn_model.specs.declared.heads.Width.{Width};
@@ -25,7 +25,6 @@ pub(crate) fn join(alloc: Global, chunks: &[Chunk]) -> Result<Vec<u8>, AllocErro
     Ok(bytes)
 }
 
-/// What a byte string means.
 pub(crate) fn judge_bytes(alloc: Global, bytes: &[u8]) -> Result<Judged, AllocError>
     requires { AreBytes bytes.now }
     ensures { IfOk result (λ judged. (p : ℕ) (w : Width) → IsJudged (tree.Bytes p w bytes.now) judged) }
@@ -34,7 +33,6 @@ pub(crate) fn judge_bytes(alloc: Global, bytes: &[u8]) -> Result<Judged, AllocEr
     Ok(Judged::Valid(Item::Bytes(ByteString::new(bytes))))
 }
 
-/// What a byte string of these chunks means.
 pub(crate) fn judge_byte_chunks(alloc: Global, chunks: &[Chunk]) -> Result<Judged, AllocError>
     requires { ChunksFit chunks.now }
     ensures { IfOk result (λ judged. (p : ℕ) → IsJudged (tree.ByteChunks p chunks.now) judged) }
@@ -43,7 +41,7 @@ pub(crate) fn judge_byte_chunks(alloc: Global, chunks: &[Chunk]) -> Result<Judge
     Ok(Judged::Valid(Item::Bytes(ByteString::new(bytes))))
 }
 
-/// What a text string at `place` means.
+/// What a text string at the offset `place` means.
 pub(crate) fn judge_text(alloc: Global, place: u64, bytes: &[u8]) -> Result<Judged, AllocError>
     ensures { IfOk result (λ judged. (w : Width) → IsJudged (tree.Text place w bytes.now) judged) }
 {
@@ -59,7 +57,7 @@ pub(crate) fn judge_text(alloc: Global, place: u64, bytes: &[u8]) -> Result<Judg
     }
 }
 
-/// What a text string of these chunks means. Each chunk has to be UTF-8 by itself (RFC 8949 section
+/// What a text string in these chunks means. Each chunk must be UTF-8 by itself (RFC 8949 section
 /// 3.2.3).
 pub(crate) fn judge_text_chunks(alloc: Global, chunks: &[Chunk]) -> Result<Judged, AllocError>
     ensures { IfOk result (λ judged. (p : ℕ) → IsJudged (tree.TextChunks p chunks.now) judged) }

@@ -143,7 +143,7 @@ mutual
       let d = one_after (p + length (spelled k)) q (q + length (spelled_entries es)) (places v) (places_entries es) b c in
       widened p (q + length (spelled_entries es)) p (p + length (spelled_entries (entry k v es))) (places_entries (entry k v es)) (omega arith) (omega arith) (one_after p (p + length (spelled k)) (q + length (spelled_entries es)) (places k) (places v ++ places_entries es) a d)
 
--- ---- where flaws and defects stand
+-- ---- where flaws and defects are
 
 in_left : (p : ℕ) (xs ys : List ℕ) → IsIn p xs → IsIn p (xs ++ ys)
 in_left p [] ys i = absurd i
@@ -227,7 +227,7 @@ flaw_at_place (Tagged q w n t) p r h = inl h.0
 flaw_at_place (Pairs q s es) p r h = inr (repeat_place es p h.1)
 flaw_at_place _ p r h = absurd h
 
--- a flaw of a placed node stands within its bytes
+-- a flaw of a placed node is within its bytes
 pub flaw_within : (t : Tree) (p q : ℕ) (r : InvalidReason) → Placed p t → Flaw t q r → (p ≤ q) × (q < p + length (spelled t))
 flaw_within t p q r h f = at_place p (p + length (spelled t)) q (places t) (places_rise t p h) (inner_places f.0 t f.1 q (flaw_at_place f.0 q r f.2))
 
@@ -263,6 +263,6 @@ module _ (order : List ℕ → List ℕ → Ordering) where
   defect_at_place (Tagged q w n t) p r h = inl h.0
   defect_at_place (Simple q n) p r h = absurd h
 
-  -- a defect of a placed node stands within its bytes
+  -- a defect of a placed node is within its bytes
   pub defect_within : (t : Tree) (p q : ℕ) (r : DefectReason) → Placed p t → Defect order t q r → (p ≤ q) × (q < p + length (spelled t))
   defect_within t p q r h (v, m, u, i, d) = at_place p (p + length (spelled t)) q (places t) (places_rise t p h) (inner_places u t i q (defect_at_place u q r d))

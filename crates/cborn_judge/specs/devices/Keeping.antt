@@ -29,7 +29,7 @@ IsMarked codes marks bytes = (marks ≡ map (λ c. (length c.0, c.1)) codes) × 
 abbrev pub IsLastAt : List Code → ℕ → Type 0
 IsLastAt codes last = (before : List Code) (c : Code) → codes ≡ before ++ c ∷ [] → last ≡ length (flat_map code_bytes before)
 
--- these are the marks and the bytes of the codes, and what is remembered beside them
+-- these are the marks and the bytes of the codes, and what is remembered with them
 pub record AreCodes (codes : List Code) (marks : List (ℕ × ℕ)) (bytes : List ℕ) (last : ℕ) (rising : Bool) : Type 0 where
   pub marked : IsMarked codes marks bytes
   pub within : last ≤ length bytes

@@ -20,6 +20,6 @@ key_position k = k.1
 abbrev pub RepeatAt : List Key → List ℕ → ℕ → InvalidReason → Type 0
 RepeatAt ks places p r = (r ≡ DuplicateKey) × (z : Key) × IsAgain key_bytes ks z × (slice_index places z.1 ≡ p)
 
--- where the keys of these pairs stand
+-- the offsets of the keys of these pairs
 abbrev pub key_places : List (Tree × Tree) → List ℕ
 key_places = map (λ n. place n.0)

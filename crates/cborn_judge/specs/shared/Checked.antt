@@ -36,10 +36,10 @@ module _ (order : List ℕ → List ℕ → Ordering) where
   abbrev pub DescentAt : Entries → ℕ → DefectReason → Type 0
   DescentAt es p r = (r ≡ KeyOrder) × HasDescent order es p
 
-  -- what a map is checked for beside its head
+  -- what a map is checked for besides its head
   abbrev pub MapDefect : Entries → ℕ → DefectReason → Type 0
   MapDefect es p r = DescentAt es p r ⊎ DefectAmong es p r
 
-  -- what a tag is checked for beside its head
+  -- what a tag is checked for besides its head
   abbrev pub TagDefect : ℕ → ℕ → Tree → ℕ → DefectReason → Type 0
   TagDefect q n t p r = LooseAt q n t p r ⊎ DefectIn t p r

@@ -62,7 +62,7 @@ IsJudgedPair n (judged_pair.Flawed f) = IsFirst flaw_rank (PairFlaw n) f.place f
 abbrev pub ChunkFlaw : List Chunk → ℕ → InvalidReason → Type 0
 ChunkFlaw cs p r = (r ≡ NotUtf8) × HasBadChunk cs p
 
--- the integer of tag 2 or 3 over this node, or none where it is no byte string
+-- the integer of tag 2 or 3 with this content, or none if that is no byte string
 abbrev pub IsBignumItem : Bool → Tree → Option Item → Type 0
 IsBignumItem negative t None = (b : List ℕ) → IsByteString t b → ⊥
 IsBignumItem negative t (Some item) = IsBignum negative t (item_value item) × IsProper (item_value item)
