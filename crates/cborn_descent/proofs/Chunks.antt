@@ -80,7 +80,7 @@ fit : (text : Bool) (p : ℕ) (cs : List Chunk) → Fits (chunks_node text p cs)
 fit false p cs f = f
 fit true p cs f = f
 
--- a chunk of the list, behind those before it
+-- a chunk of the list, after those before it
 pub record NextChunk (m : Major) (cs : List Chunk) (mid : List ℕ) : Type 0 where
   pub front : List Chunk
   pub chunk : Chunk
@@ -110,7 +110,7 @@ next_of text (u ∷ us) (c ∷ cs) mid rest f g e not =
     let n = next_of text us cs mid rest f.1 g.1 tails not in
     record { front = c ∷ n.front; chunk = n.chunk; back = n.back; is = ap (λ l. c ∷ l) n.is; rest = n.rest; read = n.read; fits = n.fits }
 
--- behind chunks that were read, no break and no chunk, or one that is blamed
+-- after chunks that were read, no break and no chunk, or one that is blamed
 pub chunks_fail : {P : List Chunk → Type 0} (B : Tree → Type 0) (room : ℕ) (text : Bool) (input mid : List ℕ) → ChunksRead P (major_of text) input mid → ((rest : List ℕ) → mid ≡ 255 ∷ rest → ⊥) → ChunkFails (BlamesChunk B text) (major_of text) mid → Only B room (head (major_of text) Unbounded ++ input)
 unfolding Only ChunkFails BlamesChunk
 chunks_fail B room text input mid s not fails rest t =
@@ -123,7 +123,7 @@ chunks_fail B room text input mid s not fails rest t =
     let bad = fails n.rest (record { chunk = n.chunk; read = n.read; fits = n.fits; holds = tt }) in
     subst B (sym (is ∙ ap (chunks_node text p) n.is)) (bad p n.front n.back n.chunk refl)
 
--- the same, where no chunk stands there at all
+-- the same, where no chunk is there at all
 pub never_chunk : (B : List ℕ → Type 0) (m : Major) (x : List ℕ) → ChunkFails (λ _. ⊥) m x → ChunkFails B m x
 unfolding ChunkFails
 never_chunk B m x f rest c = absurd (f rest c)

@@ -1,4 +1,4 @@
--- No node stands where no head does, or one that begins none.
+-- No node is where no head is, or one that begins none.
 use Rattle.std.proofs.Common.{◌≡◌, ℕ, ◌+◌, ◌*◌, ◌%◌, ◌<◌, ◌≤◌, List, [], ◌++◌, length, refl, sym, ap, ◌∙◌, subst, arith, append_assoc, append-nil, length-append, Some, None, true, false, Bool, inl, inr}
 use Rattle.std.specs.Prelude.{IsTrue}
 use Rattle.cborn_model.specs.declared.heads.Width.{Width}

@@ -1,4 +1,4 @@
--- What stands inside a node, by the head with which it begins.
+-- What is inside a node, by the head with which it begins.
 use Rattle.std.proofs.Common.{◌≡◌, ℕ, suc, ◌-◌, ◌<◌, ◌≤◌, List, [], ◌∷◌, ◌++◌, length, refl, sym, ap, ◌∙◌, subst, arith, append_assoc, append-nil, length-append}
 use Rattle.cborn_model.specs.declared.heads.Width.{Width}
 use Rattle.cborn_model.specs.declared.heads.Size.{Size}
@@ -118,7 +118,7 @@ module _ {room : ℕ} where
 
 -- ---- of two lists of nodes at the front of the same bytes
 
--- a node of the list, behind those before it
+-- a node of the list, after those before it
 pub record Next (room : ℕ) (ts : List Tree) (mid : List ℕ) : Type 0 where
   pub front : List Tree
   pub node : Tree
@@ -139,7 +139,7 @@ tails : (u t : Tree) (us ts : List Tree) (mid rest : List ℕ) → Fits u → Fi
 tails u t us ts mid rest f g e =
     (one_front u t (spelled_all (trees us) ++ mid) (spelled_all (trees ts) ++ rest) f g (sym (append_assoc (spelled u) (spelled_all (trees us)) mid) ∙ e ∙ append_assoc (spelled t) (spelled_all (trees ts)) rest)).1
 
--- of the longer one, the node that stands where the other ends
+-- of the longer one, the node that is where the other ends
 pub next_of : (room : ℕ) (us ts : List Tree) (mid rest : List ℕ) → FitsAll (trees us) → FitsAll (trees ts) → depth_all (trees ts) ≤ room → spelled_all (trees us) ++ mid ≡ spelled_all (trees ts) ++ rest → length us < length ts → Next room ts mid
 next_of room us [] mid rest f g d e l = absurd (omega (arith, l))
 next_of room [] (t ∷ ts) mid rest f g d e l = first_there room t ts mid rest g d e
@@ -162,7 +162,7 @@ given_is (Simple p n) e a = absurd cc
 pub no_break : (t : Tree) (x rest : List ℕ) → Fits t → spelled t ++ x ≡ 255 ∷ rest → ⊥
 no_break t x rest f e = let o = opened t Other Unbounded rest x f tt e in given_is t o.0 o.1
 
--- of those that a break ends, the node that stands where the others end, and no break
+-- of those that a break ends, the node that is where the others end, and no break
 pub next_before_break : (room : ℕ) (us ts : List Tree) (mid rest : List ℕ) → FitsAll (trees us) → FitsAll (trees ts) → depth_all (trees ts) ≤ room → spelled_all (trees us) ++ mid ≡ spelled_all (trees ts) ++ (255 ∷ rest) → (mid ≡ 255 ∷ rest → ⊥) → Next room ts mid
 next_before_break room [] [] mid rest f g d e not = absurd (not e)
 next_before_break room (u ∷ us) [] mid rest f g d e not = absurd (no_break u (spelled_all (trees us) ++ mid) rest f.0 (sym (append_assoc (spelled u) (spelled_all (trees us)) mid) ∙ e))
@@ -181,7 +181,7 @@ pub bytes_of : (ts : List Tree) → length ts ≤ length (spelled_all (trees ts)
 bytes_of [] = omega arith
 bytes_of (t ∷ ts) = omega (arith, some_byte t, bytes_of ts, length-append (spelled t) (spelled_all (trees ts)))
 
--- of those that end with the input, the node that stands where the others end, and not at the end
+-- of those that end with the input, the node that is where the others end, and not at the end
 pub next_at_end : (room : ℕ) (us ts : List Tree) (mid : List ℕ) → FitsAll (trees us) → FitsAll (trees ts) → depth_all (trees ts) ≤ room → spelled_all (trees us) ++ mid ≡ spelled_all (trees ts) ++ [] → (mid ≡ [] → ⊥) → Next room ts mid
 next_at_end room [] [] mid f g d e not = absurd (not e)
 next_at_end room (u ∷ us) [] mid f g d e not = absurd (omega (arith, some_byte u, ap length e, length-append (spelled u ++ spelled_all (trees us)) mid, length-append (spelled u) (spelled_all (trees us))))

@@ -1,4 +1,4 @@
--- Where no node stands at the front, or of each that stands there something holds that rises.
+-- No node is at the front, or something that rises holds of each that is there.
 use Rattle.std.proofs.Common.{◌≡◌, ℕ, suc, ◌+◌, ◌-◌, ◌<◌, ◌≤◌, List, ◌∷◌, ◌++◌, length, refl, sym, ap, ◌∙◌, subst, arith, Bool, true, false, Option, Some, None, ◌≢◌, ◌⊎◌, inl, inr, length-append}
 use Rattle.cborn_model.specs.declared.heads.Width.{Width}
 use Rattle.cborn_model.specs.declared.heads.Major.TheVariants.{Array, Tag}

@@ -1,4 +1,4 @@
--- Pairs that were read, and the one behind them that isn't there: as of items in `Inside` and `Onlies`.
+-- Pairs that were read, and the one after them that isn't there: as of items in `Inside` and `Onlies`.
 use Rattle.std.proofs.Common.{◌≡◌, ℕ, ◌-◌, ◌<◌, ◌≤◌, ◌⊎◌, inl, inr, List, [], ◌∷◌, ◌++◌, length, refl, sym, ap, ◌∙◌, subst, arith, append_assoc, append-nil, length-append}
 use Rattle.cborn_model.specs.declared.heads.Width.{Width}
 use Rattle.cborn_model.specs.declared.heads.Size.{Size}
@@ -100,7 +100,7 @@ module _ {room : ℕ} where
       (subst (λ (t : Tree). (opening t).1 ≡ Unbounded) (sym whole) o.1) (subst (λ (t : Tree). contents t ++ rest ≡ input) (sym whole) o.2) in
       (done.0, (length l, subst (λ (t : Tree). PairsIn t (room - 1) (length l) input (255 ∷ rest)) whole done.1))
 
--- a pair of the list, behind those before it
+-- a pair of the list, after those before it
 pub record NextPair (room : ℕ) (ts : List Pair) (mid : List ℕ) : Type 0 where
   pub front : List Pair
   pub pair : Pair
@@ -188,7 +188,7 @@ module _ (B : Tree → Type 0) (room : ℕ) where
       let i = (endless_map_in input rest x).1.1 in
       blamed B r i (next_before_break (room - 1) s.nodes i.read.nodes mid rest s.fits i.read.fits i.read.shallow (sym s.read ∙ i.read.read) (not rest)) only
 
-  -- a pair whose key, or whose value behind its key, isn't there
+  -- a pair whose key, or whose value after its key, isn't there
   pub key_fails : (x : List ℕ) → Only B room x → PairFails B room x
   unfolding Only PairFails
   key_fails x only rest p = inl (only (spelled p.pair.1 ++ rest) (record { node = p.pair.0; read = p.read ∙ append_assoc (spelled p.pair.0) (spelled p.pair.1) rest; fits = p.fits.0; shallow = p.shallow.0; holds = tt }))

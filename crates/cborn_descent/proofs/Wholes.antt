@@ -1,4 +1,4 @@
--- Whole inputs: what stands behind the nodes that were read.
+-- Whole inputs: what is after the nodes that were read.
 use Rattle.std.proofs.Common.{◌≡◌, ◌==◌, ◌<◌, ℕ, List, [], ◌∷◌, ◌++◌, length, true, false, refl, sym, ap, ◌∙◌, subst, arith, length-append, append-nil}
 use Rattle.std.proofs.lemmas.Bool.{eqb-true}
 use Rattle.cborn_model.specs.Spelled.{spelled, spelled_all, Wellformed}
@@ -8,7 +8,7 @@ use Rattle.cborn_wire.specs.Parts.{NodeRead, NodesRead}
 use Rattle.cborn_descent.specs.Descending.{Only, Never}
 use Rattle.cborn_descent.proofs.Inside.{Next, listed, next_at_end, some_byte}
 
--- where bytes are left and no node stands at their front, the input isn't well-formed
+-- where bytes are left and no node is at their front, the input isn't well-formed
 pub malformed : {P : List Tree → Type 0} (room n : ℕ) (input rest : List ℕ) → NodesRead P room n input rest → (rest ≡ [] → ⊥) → Only Never room rest → IsWellformed room input → ⊥
 unfolding Only
 malformed room n input rest s some only w =

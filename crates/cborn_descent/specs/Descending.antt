@@ -1,4 +1,4 @@
--- What a descent says of the front of its input (RFC 8949 section 3): a node stands there, which the sink took; or none does; or the sink stopped at it.
+-- What a descent says of the front of its input (RFC 8949 section 3): a node is there, which the sink took; or none is; or the sink stopped at it.
 -- Start with Descended. It is of any sink: P is what holds of a node that the sink took, and B what holds of one at which it stopped.
 use Rattle.std.specs.Prelude.{◌≡◌, ℕ, ◌^◌, ◌<◌, ◌≤◌, ◌⊎◌, List, ◌∷◌, ◌++◌, length, Bool, true, false}
 use Rattle.cborn_model.specs.declared.nodes.Chunk.{Chunk}
@@ -31,7 +31,7 @@ abbrev pub chunks_node : Bool → ℕ → List Chunk → Tree
 chunks_node false p cs = ByteChunks p cs
 chunks_node true p cs = TextChunks p cs
 
--- of a size without a count
+-- a size without a count
 abbrev pub is_endless : Size → Bool
 is_endless (Fixed w) = false
 is_endless Endless = true
@@ -40,7 +40,7 @@ is_endless Endless = true
 unfoldable pub Always : (Tree → Type 0) → Type 0
 Always B = (t : Tree) → B t
 
--- Whatever node no deeper than the room stands at the front, B holds of it. If B never holds, none stands there.
+-- B holds of each node no deeper than the room that is at the front. If B never holds, none is there.
 unfoldable pub Only : (Tree → Type 0) → ℕ → List ℕ → Type 0
 Only B room x = (rest : List ℕ) (t : NodeRead (λ _. Unit {0}) room x rest) → B t.node
 
@@ -54,7 +54,7 @@ pub record Rises (B : Tree → Type 0) : Type 0 where
   pub values : (p : ℕ) (s : Size) (front back : List Pair) (e : Pair) → B e.1 → B (Pairs p s (entries (front ++ e ∷ back)))
   pub tagged : (p : ℕ) (w : Width) (n : ℕ) (t : Tree) → B t → B (Tagged p w n t)
 
--- A node stands at the front, with so many bytes after it, and P holds of it; or no node no deeper than the room stands there; or B holds of whatever node does.
+-- A node is at the front, with this many bytes after it, and P holds of it; or no node no deeper than the room is there; or B holds of each that is.
 abbrev pub Descended : (P B : Tree → Type 0) → ℕ → List ℕ → Descent → Type 0
 Descended P B room x (Taken left) = Leaves (NodeRead P room x) left
 Descended P B room x Malformed = Only Never room x
@@ -65,7 +65,7 @@ abbrev pub Opened : {T : Type 0} → (T → Type 0) → (P B : Tree → Type 0) 
 Opened Q P B x (Inside o) = Q o
 Opened Q P B x (Whole d) = (room : ℕ) → 1 ≤ room → Descended P B room x d
 
--- The next item wasn't taken: after k items that were read, fewer than there may be, and where no break ends them, B holds of whatever node stands there; or B holds of each node.
+-- The next item wasn't taken: after k items that were read, fewer than there may be, and with no break after them, B holds of each node that is there; or B holds of each node.
 unfoldable pub ItemsFail : (Tree → Type 0) → (room most : ℕ) → (may_end : Bool) → List ℕ → Type 0
 ItemsFail B room most may_end x =
     ((t : Tree) → B t)
@@ -77,11 +77,11 @@ Fails F B (Taken left) = ⊥
 Fails F B Malformed = F Never
 Fails F B Stopped = F B
 
--- B holds of the key or of the value of whatever pair stands there
+-- B holds of the key or of the value of each pair that is there
 unfoldable pub PairFails : (Tree → Type 0) → ℕ → List ℕ → Type 0
 PairFails B room x = (rest : List ℕ) (p : PairRead (λ _. Unit {0}) room x rest) → B p.pair.0 ⊎ B p.pair.1
 
--- The next pair wasn't taken: after k pairs that were read, B holds of the key or of the value of whatever pair stands there; or B holds of each node.
+-- The next pair wasn't taken: after k pairs that were read, B holds of the key or of the value of each pair that is there; or B holds of each node.
 unfoldable pub PairsFail : (Tree → Type 0) → (room most : ℕ) → (may_end : Bool) → List ℕ → Type 0
 PairsFail B room most may_end x =
     ((t : Tree) → B t)
@@ -102,13 +102,13 @@ AreSpellable ps = FitsEntries (entries ps) × (length (spelled_entries (entries 
 unfoldable pub BlamesMap : (Tree → Type 0) → List Pair → Type 0
 BlamesMap B ps = (p : ℕ) (s : Size) (qs : List Pair) → FitsEntries (entries qs) → length qs ≡ length ps → spelled_entries (entries qs) ≡ spelled_entries (entries ps) → B (Pairs p s (entries qs))
 
--- a key, of which P holds, was taken from the front, and so many bytes follow it
+-- a key, of which P holds, was taken from the front, and this many bytes follow it
 abbrev pub KeyTaken : (Tree → Type 0) → List ℕ → ℕ → Type 0
 KeyTaken P x left = (room : ℕ) × (room ≤ 1024) × Leaves (NodeRead P room x) left
 
 -- ---- chunks
 
--- B holds of the content of whatever chunk stands there
+-- B holds of the content of each chunk that is there
 unfoldable pub ChunkFails : (List ℕ → Type 0) → Major → List ℕ → Type 0
 ChunkFails B m x = (rest : List ℕ) (c : ChunkRead (λ _. Unit {0}) m x rest) → B c.chunk.bytes
 
@@ -125,7 +125,7 @@ ChunkDescended P B text x (Taken left) = Leaves (ChunkRead P (major_of text) x) 
 ChunkDescended P B text x Malformed = ChunkFails (λ _. ⊥) (major_of text) x
 ChunkDescended P B text x Stopped = ChunkFails (BlamesChunk B text) (major_of text) x
 
--- so many bytes follow the pair, where one was read
+-- this many bytes follow the pair, if one was read
 abbrev pub PairEnds : ℕ → List ℕ → Descent → Type 0
 PairEnds room x (Taken left) = Leaves (PairRead (λ _. Unit {0}) room x) left
 PairEnds room x Malformed = Unit {0}

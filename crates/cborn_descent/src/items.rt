@@ -1,4 +1,4 @@
-//! Items, one after another and inside one another.
+//! Reading items, one after another and inside one another.
 
 ghost use Rattle.std.specs.Prelude.{◌≡◌, ◌⊎◌, ◌≤◌, ◌∷◌, ◌++◌, ℕ, List, [], length, None, true, false, MatchResult, MatchOption};
 ghost use Rattle.cborn_model.specs.declared.heads.Major.TheVariants.{Array, Map, Tag};
@@ -13,9 +13,10 @@ use crate::strings::{take_chunks, take_string};
 use cborn_model::{Major, Width};
 use cborn_wire::{Argument, HeadRead, behind_break, is_done, last, read_head};
 
-/// Gives a sink the item at the front of `bytes`, if its nesting depth is at most `room`.
+/// Gives a sink the item at the front of `bytes`, of a nesting depth of at most `room` (RFC 8949
+/// section 3).
 ///
-/// The answer is exact: an item that stands there is taken, or the sink stopped at it. After
+/// The answer is exact: if an item is there, it was taken, or the sink stopped at it. After
 /// `Malformed` and `Stopped` the sink may have taken a front of the item.
 #[inline(always)]
 pub fn descend<S: Sink>(sink: &mut S, room: u64, bytes: &[u8]) -> Descent
@@ -25,8 +26,8 @@ pub fn descend<S: Sink>(sink: &mut S, room: u64, bytes: &[u8]) -> Descent
     take_node(sink, room, bytes)
 }
 
-/// Gives a sink the item at the front of `bytes`, out of line. The answer comes back in registers, so
-/// that the frames of a deep nest stay small; for the same reason strings are read out of line.
+/// Gives a sink the item at the front of `bytes`, out of line. The answer comes back in registers,
+/// so that a deep nest needs little stack; for the same reason strings are read out of line.
 #[cycle(descended)]
 #[inline(never)]
 fn take_node<S: Sink>(sink: &mut S, room: u64, bytes: &[u8]) -> Descent
@@ -70,7 +71,7 @@ fn after_head(step: Option<()>, rest: &[u8]) -> Descent
     }
 }
 
-/// Reads an array of `n` items, which stand at the front of `bytes`.
+/// Reads an array of `n` items, which are at the front of `bytes`.
 #[cycle(descended)]
 #[inline(never)]
 fn take_array<S: Sink>(sink: &mut S, room: u64, width: Width, n: u64, bytes: &[u8]) -> Descent
@@ -93,7 +94,7 @@ fn take_array<S: Sink>(sink: &mut S, room: u64, width: Width, n: u64, bytes: &[u
     }
 }
 
-/// Reads an array of indefinite length, whose items stand at the front of `bytes`.
+/// Reads an array of indefinite length, whose items are at the front of `bytes`.
 #[cycle(descended)]
 #[inline(never)]
 fn take_endless_array<S: Sink>(sink: &mut S, room: u64, bytes: &[u8]) -> Descent
@@ -120,8 +121,8 @@ fn take_endless_array<S: Sink>(sink: &mut S, room: u64, bytes: &[u8]) -> Descent
     }
 }
 
-/// Reads the items of an array up to the count `most`, or, if `may_end`, up to a break. Answers what
-/// follows them, and how many they are.
+/// Reads the items of an array up to the count `most`, or, if `may_end`, up to a break. Gives what
+/// follows them, and their number.
 #[cycle(descended)]
 #[inline(always)]
 fn take_items<'a, S: Sink>(
@@ -166,7 +167,7 @@ fn take_items<'a, S: Sink>(
     }
 }
 
-/// Reads a map of `n` pairs, which stand at the front of `bytes`.
+/// Reads a map of `n` pairs, which are at the front of `bytes`.
 #[cycle(descended)]
 #[inline(never)]
 fn take_map<S: Sink>(sink: &mut S, room: u64, width: Width, n: u64, bytes: &[u8]) -> Descent
@@ -190,7 +191,7 @@ fn take_map<S: Sink>(sink: &mut S, room: u64, width: Width, n: u64, bytes: &[u8]
     }
 }
 
-/// Reads a map of indefinite length, whose pairs stand at the front of `bytes`.
+/// Reads a map of indefinite length, whose pairs are at the front of `bytes`.
 #[cycle(descended)]
 #[inline(never)]
 fn take_endless_map<S: Sink>(sink: &mut S, room: u64, bytes: &[u8]) -> Descent
@@ -217,8 +218,8 @@ fn take_endless_map<S: Sink>(sink: &mut S, room: u64, bytes: &[u8]) -> Descent
     }
 }
 
-/// Reads the pairs of a map up to the count `most`, or, if `may_end`, up to a break. Answers what
-/// follows them, and how many they are.
+/// Reads the pairs of a map up to the count `most`, or, if `may_end`, up to a break. Gives what
+/// follows them, and their number.
 #[cycle(descended)]
 #[inline(always)]
 fn take_pairs<'a, S: Sink>(
@@ -284,7 +285,7 @@ fn take_pair<S: Sink>(sink: &mut S, begun: &mut S::Map, room: u64, bytes: &[u8])
     }
 }
 
-/// Reads the content of the tag `n`, which stands at the front of `bytes`.
+/// Reads the content of the tag `n`, which is at the front of `bytes`.
 #[cycle(descended)]
 #[inline(never)]
 fn take_tagged<S: Sink>(sink: &mut S, room: u64, width: Width, n: u64, bytes: &[u8]) -> Descent

@@ -1,4 +1,4 @@
-//! Who gets what a descent reads.
+//! The [`Sink`], which gets what a descent reads.
 
 ghost use Rattle.std.specs.Prelude.{◌≡◌, ◌<◌, ◌≤◌, ◌+◌, ◌++◌, ◌∷◌, ◌^◌, ℕ, Bool, List, [], length, drop, None, IfSome, OnSome, IsTrue};
 ghost use Rattle.cborn_model.specs.Bytes.{AreBytes};
@@ -14,28 +14,28 @@ ghost use Rattle.cborn_descent.specs.Descending.{integer_node, string_node, chun
 use crate::descents::Descent;
 use cborn_model::Width;
 
-/// What a sink answers where a map or a tag begins.
+/// What a sink answers when a map or a tag begins.
 #[derive(Drop)]
 pub enum Opening<T> {
-    /// The descent goes on inside. This is kept until the map or the tag ends.
+    /// The descent goes on inside, and keeps this until the map or the tag ends.
     Inside(T),
     /// The sink has read the map or the tag itself, with all that is in it, and this came of it.
     Whole(Descent),
 }
 
-/// Takes the heads and the contents of items as a descent reads them. A method that answers none
+/// Takes the heads and the contents of items as a descent reads them. A method that gives `None`
 /// stops the descent; then the sink holds why.
 ///
 /// A sink says by its ghost members what it is after each step. Each of them but `blames` relates
 /// two states of the sink: `a`, before an item began, and `b`, now.
 pub trait Sink {
-    /// What is kept of a string in chunks while it is open.
+    /// What the descent keeps of a string in chunks while it is open.
     type Chunks: Drop;
 
-    /// What is kept of an array while it is open.
+    /// What the descent keeps of an array while it is open.
     type Array: Drop;
 
-    /// What is kept of a map while it is open.
+    /// What the descent keeps of a map while it is open.
     type Map: Drop;
 
     /// `took a b t`: the sink took the node t, which made b of a.
@@ -63,18 +63,18 @@ pub trait Sink {
     /// `in_tag a b w n`: the tag n, whose head has the width w, is open.
     ghost in_tag: { Self → Self → Width → ℕ → Type 0 };
 
-    /// `blames b t`: why the sink stopped holds of the node t. It is what a caller learns of each node
-    /// that may stand there: of a sink that stops at bad items, that t holds one; of one that was
-    /// refused memory, nothing.
+    /// `blames b t`: why the sink stopped holds of the node t. A caller learns it of each node that
+    /// may be there: of a sink that stops at bad items, that t holds one; of one that was refused
+    /// memory, nothing.
     ghost blames: { Self → Tree → Type 0 };
 
-    /// Takes the integer `n`, or -1 - `n` where it is negative.
+    /// Takes the integer `n`, or -1 - `n` if it is `negative`.
     fn integer(&mut self, negative: bool, width: Width, n: u64) -> Option<()>
         requires { WidthFits width n }
         ensures taken { OnSome result (took self.old self.new (integer_node negative 0 width n)) }
         ensures stopped { result ≡ None → Always (blames self.new) };
 
-    /// Takes a text string or a byte string of a definite length.
+    /// Takes a text string, or else a byte string, of definite length.
     fn string(&mut self, text: bool, width: Width, content: &[u8]) -> Option<()>
         requires fits { WidthFits width (length content.now) }
         requires bytes { AreBytes content.now }
@@ -87,12 +87,12 @@ pub trait Sink {
         ensures taken { OnSome result (took self.old self.new (Simple 0 n)) }
         ensures stopped { result ≡ None → Always (blames self.new) };
 
-    /// Begins a string of indefinite length, whose chunks stand at the front of `rest`.
+    /// Begins a string of indefinite length, whose chunks are at the front of `rest`.
     fn open_chunks(&mut self, text: bool, rest: &[u8]) -> Option<Self::Chunks>
         ensures opened { IfSome result (λ o. in_chunks self.old self.new o text []) }
         ensures stopped { result ≡ None → Always (blames self.new) };
 
-    /// Takes the chunk with this index, whose head stands at the front of `rest`.
+    /// Takes the chunk with this index, from 0, whose head is at the front of `rest`.
     fn chunk(
         &mut self,
         begun: &mut Self::Chunks,
@@ -113,20 +113,20 @@ pub trait Sink {
         ensures taken { OnSome result ((a : Self) (cs : List Chunk) → length cs ≡ count → in_chunks a self.old begun text cs → took a self.new (chunks_node text 0 cs)) }
         ensures stopped { result ≡ None → Always (blames self.new) };
 
-    /// Begins an array of `n` items, which stand at the front of `rest`.
+    /// Begins an array of `n` items, which are at the front of `rest`.
     fn open_array(&mut self, width: Width, n: u64, rest: &[u8]) -> Option<Self::Array>
         requires { WidthFits width n }
         ensures opened { IfSome result (λ o. in_array self.old self.new o (Given width n) []) }
         ensures stopped { result ≡ None → Always (blames self.new) };
 
-    /// Begins an array of indefinite length, whose items stand at the front of `rest`.
+    /// Begins an array of indefinite length, whose items are at the front of `rest`.
     fn open_endless_array(&mut self, rest: &[u8]) -> Option<Self::Array>
         ensures opened { IfSome result (λ o. in_array self.old self.new o Unbounded []) }
         ensures stopped { result ≡ None → Always (blames self.new) };
 
-    /// Takes integers at the front of `bytes` together, at most `most` of them; `index` is that of
-    /// the first in its array. Answers how many bytes they have, and how many they are. It may leave
-    /// some or all, which then come one by one.
+    /// Takes integers at the front of `bytes` together, at most `most`; `index` is that of the
+    /// first in its array. Gives their length in bytes, and their number. Those that it leaves come
+    /// one by one.
     fn integers(
         &mut self,
         begun: &mut Self::Array,
@@ -139,7 +139,8 @@ pub trait Sink {
         ensures taken { IfSome result (λ r. (a : Self) (g : Argument) (ts : List Tree) → length ts ≡ index → in_array a self.old begun.old g ts → NodesRead (λ us. in_array a self.new begun.new g (ts ++ us)) 0 r.1 bytes.now (drop r.0 bytes.now)) }
         ensures stopped { result ≡ None → Always (blames self.new) };
 
-    /// Says that the item of an array with this index comes next, at the front of `bytes`.
+    /// Announces the item of an array with this index, from 0, which is at the front of `bytes`; if
+    /// `may_end`, the array is of indefinite length.
     fn before_item(
         &mut self,
         begun: &mut Self::Array,
@@ -150,7 +151,7 @@ pub trait Sink {
         ensures taken { OnSome result ((a : Self) (g : Argument) (ts : List Tree) → length ts ≡ index → in_array a self.old begun.old g ts → at_item a self.new begun.new g ts) }
         ensures stopped { result ≡ None → Always (blames self.new) };
 
-    /// Says that the item of an array was taken.
+    /// Reports that the item of an array was taken.
     fn after_item(&mut self, begun: &mut Self::Array) -> Option<()>
         ensures taken { OnSome result ((a m : Self) (g : Argument) (ts : List Tree) (t : Tree) → at_item a m begun.old g ts → took m self.old t → in_array a self.new begun.new g (ts ++ t ∷ [])) }
         ensures stopped { result ≡ None → Always (blames self.new) };
@@ -161,17 +162,18 @@ pub trait Sink {
         ensures taken { OnSome result ((a : Self) (s : Size) (ts : List Tree) → is_endless s ≡ endless → length ts ≡ count → SizeFits s count → in_array a self.old begun (argument s count) ts → took a self.new (Items 0 s (trees ts))) }
         ensures stopped { result ≡ None → Always (blames self.new) };
 
-    /// Begins a map of `n` pairs, which stand at the front of `rest`.
+    /// Begins a map of `n` pairs, which are at the front of `rest`.
     fn open_map(&mut self, width: Width, n: u64, rest: &[u8]) -> Opening<Self::Map>
         requires { WidthFits width n }
         ensures { Opened (λ o. in_map self.old self.new o (Given width n) []) (took self.old self.new) (blames self.new) (head Map (Given width n) ++ rest.now) result };
 
-    /// Begins a map of indefinite length, whose pairs stand at the front of `rest`.
+    /// Begins a map of indefinite length, whose pairs are at the front of `rest`.
     fn open_endless_map(&mut self, rest: &[u8]) -> Option<Self::Map>
         ensures opened { IfSome result (λ o. in_map self.old self.new o Unbounded []) }
         ensures stopped { result ≡ None → Always (blames self.new) };
 
-    /// Says that the key of a map with this index comes next, at the front of `bytes`.
+    /// Announces the key of a map with this index, from 0, which is at the front of `bytes`; if
+    /// `may_end`, the map is of indefinite length.
     fn before_key(
         &mut self,
         begun: &mut Self::Map,
@@ -182,14 +184,14 @@ pub trait Sink {
         ensures taken { OnSome result ((a : Self) (g : Argument) (ps : List Pair) → length ps ≡ index → in_map a self.old begun.old g ps → at_key a self.new begun.new g ps) }
         ensures stopped { result ≡ None → Always (blames self.new) };
 
-    /// Says that a key was taken from the front of `bytes`, that `left` bytes follow it, and that its
-    /// value comes next.
+    /// Announces the value of the key that was taken from the front of `bytes`; `left` bytes follow
+    /// that key.
     fn before_value(&mut self, begun: &mut Self::Map, bytes: &[u8], left: usize) -> Option<()>
         requires { (a m : Self) × (g : Argument) × (ps : List Pair) × at_key a m begun.old g ps × KeyTaken (took m self.old) bytes.now left }
         ensures taken { OnSome result ((a m : Self) (g : Argument) (ps : List Pair) (k : Tree) → at_key a m begun.old g ps → took m self.old k → at_value a self.new begun.new g ps k) }
         ensures stopped { result ≡ None → Always (blames self.new) };
 
-    /// Says that the value of a key was taken.
+    /// Reports that the value of a key was taken.
     fn after_value(&mut self, begun: &mut Self::Map) -> Option<()>
         requires { (a m : Self) × (g : Argument) × (ps : List Pair) × (k v : Tree) × at_value a m begun.old g ps k × took m self.old v }
         ensures taken { OnSome result ((a m : Self) (g : Argument) (ps : List Pair) (k v : Tree) → at_value a m begun.old g ps k → took m self.old v → in_map a self.new begun.new g (ps ++ (k, v) ∷ [])) }
@@ -201,7 +203,7 @@ pub trait Sink {
         ensures taken { OnSome result ((a : Self) (s : Size) (ps : List Pair) → is_endless s ≡ endless → length ps ≡ count → SizeFits s count → AreSpellable ps → in_map a self.old begun (argument s count) ps → took a self.new (Pairs 0 s (entries ps))) }
         ensures stopped { result ≡ None → (a : Self) (s : Size) (ps : List Pair) → length ps ≡ count → AreSpellable ps → in_map a self.old begun (argument s count) ps → BlamesMap (blames self.new) ps };
 
-    /// Begins the tag `n`, whose content stands at the front of `rest`.
+    /// Begins the tag `n`, whose content is at the front of `rest`.
     fn open_tag(&mut self, width: Width, n: u64, rest: &[u8]) -> Opening<()>
         requires { WidthFits width n }
         ensures { Opened (λ o. in_tag self.old self.new width n) (took self.old self.new) (blames self.new) (head Tag (Given width n) ++ rest.now) result };
@@ -211,6 +213,6 @@ pub trait Sink {
         ensures taken { OnSome result ((a m : Self) (w : Width) (n : ℕ) (t : Tree) → in_tag a m w n → took m self.old t → took a self.new (Tagged 0 w n t)) }
         ensures stopped { result ≡ None → Always (blames self.new) };
 
-    /// Where the sink blames a node, it blames each array, map and tag that holds it.
+    /// If the sink blames a node, it blames each array, map and tag that holds it.
     ghost rises: { (s : Self) → Rises (blames s) };
 }

@@ -1,4 +1,4 @@
-//! Strings, whole and in chunks.
+//! Reading strings, whole and in chunks.
 
 ghost use Rattle.std.specs.Prelude.{◌≡◌, ◌≢◌, ◌⊎◌, ◌++◌, ◌∷◌, ℕ, List, [], length, true, IsTrue};
 ghost use Rattle.cborn_model.specs.declared.nodes.Chunk.{Chunk};
@@ -10,7 +10,7 @@ use crate::sinks::Sink;
 use cborn_model::{Major, Width};
 use cborn_wire::{Argument, HeadRead, behind_break, last, read_head};
 
-/// Reads a string of the `n` bytes at the front.
+/// Reads a string whose content is the `n` bytes at the front.
 #[inline(never)]
 pub(crate) fn take_string<S: Sink>(
     sink: &mut S,
@@ -62,7 +62,7 @@ pub(crate) fn take_chunks<S: Sink>(sink: &mut S, text: bool, bytes: &[u8]) -> De
     }
 }
 
-/// Reads the chunk at the front of `bytes`, which has to be of the same kind as its string.
+/// Reads the chunk at the front of `bytes`, which must be of its string's kind.
 #[inline]
 fn take_chunk<S: Sink>(
     sink: &mut S,
@@ -93,7 +93,7 @@ fn take_chunk<S: Sink>(
     }
 }
 
-/// Whether the major type is that of text strings, or else of byte strings.
+/// Whether the major type is that of text strings or, unless `text`, of byte strings.
 #[inline(always)]
 fn is_string(text: bool, major: Major) -> bool
     ensures good { result ≡ true → major ≡ major_of text }
