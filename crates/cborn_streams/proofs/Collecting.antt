@@ -1,4 +1,4 @@
--- A loop that collects pieces, each behind those before it.
+-- A loop that collects pieces, each after those before it.
 use Rattle.std.proofs.Common.{◌≡◌, ◌≤◌, ◌+◌, ◌-◌, ℕ, List, ◌++◌, length, take, drop, Option, Ok, Err, sym, subst, arith, length-append}
 use Rattle.std.specs.Io.KnownBytes.{Consumes}
 use Rattle.std.proofs.KnownBytes.{Consumes-trans, Consumes-kept}
@@ -14,7 +14,7 @@ pub record Filled (most filled : ℕ) (before after : Option (List ℕ)) (x : Li
   pub allowed : filled ≤ most
   pub taken : Consumes before after (take filled x)
 
--- they stay where the buffer changes behind them
+-- they stay where the buffer changes after them
 pub kept : (most filled : ℕ) (a b : Option (List ℕ)) (x y : List ℕ) → Filled most filled a b x → take filled y ≡ take filled x → filled ≤ length y → Filled most filled a b y
 kept most filled a b x y h e l = record { within = l; allowed = h.allowed; taken = subst (Consumes a b) (sym e) h.taken }
 

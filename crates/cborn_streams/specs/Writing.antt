@@ -1,4 +1,4 @@
--- What went out of an answer.
+-- What was written of an answer.
 use Rattle.std.specs.Prelude.{◌≡◌, ℕ, List, ◌++◌, Option, Result, Ok, Err}
 use Rattle.std.specs.Io.KnownBytes.{Appends}
 use Rattle.cborn_streams.specs.declared.faults.OutputFault.{OutputFault}
@@ -7,7 +7,7 @@ use Rattle.cborn_streams.specs.declared.faults.OutputFault.{OutputFault}
 abbrev pub IsFront : List ℕ → List ℕ → Type 0
 IsFront front whole = (rest : List ℕ) × (front ++ rest ≡ whole)
 
--- what went out of an answer: all of it, or a front of it where the writer failed
+-- what was written of an answer: all of it, or a front of it if the writer failed
 abbrev pub WriteAnswers : List ℕ → List ℕ → Result Unit OutputFault → Type 0
 WriteAnswers bytes output (Ok u) = output ≡ bytes
 WriteAnswers bytes output (Err why) = IsFront output bytes

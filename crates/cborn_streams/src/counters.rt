@@ -10,10 +10,9 @@ use std::io;
 use std::io::{Read, Write};
 use std::marker::Model;
 
-/// A reader or a writer of std, with counts: of its failures, of the reads that were asked for, and
-/// of the bytes that were written since the last flush that didn't fail. Each count stays at
-/// `u64::MAX` once it is there. An interrupted call is a failure as any other: nothing is tried
-/// again.
+/// A reader or a writer of std that counts its failures, the reads that were asked for, and the
+/// bytes that were written since the last flush without a failure. Each count stays at `u64::MAX`
+/// once it is there. An interrupted call is a failure like any other: nothing is tried again.
 #[derive(Drop)]
 pub struct Counted<T> {
     inner: T,
@@ -31,7 +30,7 @@ impl<T> Model for Counted<T> {
 }
 
 impl<T> Counted<T> {
-    /// Counts for a reader or a writer, from 0.
+    /// Wraps a reader or a writer, with all counts at 0.
     pub fn new(inner: T) -> Self
         ensures inner { result.inner ≡ inner }
         ensures failures { result.failed ≡ 0 }
@@ -119,7 +118,7 @@ impl<T: Write> Sink for Counted<T> {
     }
 }
 
-/// For `write!` and whatever else asks for a writer of std: the calls of [`Sink`], by std's names.
+/// For `write!` and other callers of std: the methods of [`Sink`], by std's names.
 impl<T: Write> Write for Counted<T> {
     ghost contents = { λ c. T.contents c.inner };
 

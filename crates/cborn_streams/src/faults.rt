@@ -11,7 +11,7 @@ pub enum InputFault {
     /// The reader failed.
     #[error("read failed")]
     ReadFault,
-    /// The input is longer than it may be.
+    /// The input is longer than allowed.
     #[error("input too long")]
     TooLong,
     /// Memory was refused.
@@ -22,7 +22,7 @@ pub enum InputFault {
 /// Why an answer was not written whole.
 #[derive(Clone, Copy, PartialEq, Eq, Debug, Error)]
 pub enum OutputFault {
-    /// The writer failed. What went out before is a front of the answer.
+    /// The writer failed. What it took before is a front of the answer.
     #[error("write failed")]
     WriteFault,
 }

@@ -1,4 +1,4 @@
-//! All the bytes of an input.
+//! Reading all bytes of an input.
 ghost use Rattle.std.specs.Prelude.{◌≡◌, ◌≤◌, ◌<◌, ◌+◌, ◌^◌};
 ghost use Rattle.cborn_streams.specs.Failures.{failures_after_read};
 ghost use Rattle.cborn_streams.specs.Reading.{Collects};
@@ -8,12 +8,12 @@ use crate::pieces::{make_room, read_behind};
 use crate::sources::Source;
 use std::alloc::Global;
 
-/// All the bytes of an input, of which at most `most` are allowed, and `most` is below 2^64 - 1.
-/// They are read to where they stay, in a buffer that grows with them.
+/// All bytes of an input, which may have at most `most`; `most` must be below 2^64 - 1. They are
+/// read to where they stay, in a buffer that grows with them.
 ///
 /// # Errors
-/// `ReadFault` where the reader failed, which ends the reading. `TooLong` where it gave `most` + 1
-/// bytes; no more are read. `OutOfMemory` may come at any time.
+/// `ReadFault` if the reader fails, which ends the reading. `TooLong` if it gives `most` + 1 bytes;
+/// no more are read. `OutOfMemory` if memory is refused.
 pub fn read_bytes<R: Source>(
     alloc: Global,
     most: u64,

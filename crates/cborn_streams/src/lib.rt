@@ -1,7 +1,7 @@
-//! Readers and writers that count their failures, and whole inputs and answers over them. Nothing
+//! Readers and writers that count their failures, and whole inputs and answers by them. Nothing
 //! here knows what the bytes hold.
 //!
-//! What is read from is a [`Source`], what is written to a [`Sink`]; [`Counted`] makes them of the
+//! Bytes are read from a [`Source`] and written to a [`Sink`]; [`Counted`] makes them of the
 //! readers and writers of std. [`read_bytes`] keeps all of an input, [`read_piece`] reads the next
 //! piece of one that isn't kept, and [`write_answer`] writes a whole answer and flushes it.
 //!

@@ -6,10 +6,10 @@ ghost use Rattle.cborn_streams.specs.Writing.{Sends};
 use crate::faults::OutputFault;
 use crate::sinks::Sink;
 
-/// Sends all the bytes, and flushes once, also where there are none.
+/// Writes all bytes, and then flushes once, even if there are none.
 ///
 /// # Errors
-/// `WriteFault` where the writer failed; then a front of the bytes went out.
+/// `WriteFault` if the writer fails, or takes nothing; then a front of the bytes was written.
 pub fn write_answer<W: Sink>(writer: &mut W, bytes: &[u8]) -> Result<(), OutputFault>
     ensures writes { Sends (W.contents writer.old) (W.contents writer.new) bytes.now result }
     ensures failures { W.failed writer.new ≡ failures_after result (W.failed writer.old) }

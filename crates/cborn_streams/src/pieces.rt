@@ -1,4 +1,4 @@
-//! Reading a piece of an input, and room for the next.
+//! Reading an input in pieces.
 ghost use Rattle.std.specs.Prelude.{◌≡◌, ◌≤◌, ◌<◌, ◌+◌, ◌^◌, length, take, drop, OnOk};
 ghost use Rattle.cborn_streams.specs.Failures.{failures_after_read};
 ghost use Rattle.cborn_streams.specs.Reading.{PieceAnswers};
@@ -7,12 +7,12 @@ use crate::faults::InputFault;
 use crate::sources::Source;
 use std::alloc::AllocError;
 
-/// Reads a piece of an input of which at most `left` more bytes are allowed, to the front of `buf`,
-/// and answers its length: 0 only at the end. Of an input that is longer one byte more than allowed
-/// is read. `buf` isn't empty, and `left` is below 2^64 - 1.
+/// Reads the next piece of an input to the front of `buf`, and gives its length in bytes: 0 only at
+/// the end. The input may have at most `left` more bytes; of one that is longer, one byte too many
+/// is read at most. `buf` must not be empty, and `left` must be below 2^64 - 1.
 ///
 /// # Errors
-/// `ReadFault` where the reader failed, `TooLong` where it gave more than is allowed.
+/// `ReadFault` if the reader fails. `TooLong` if it gives more than `left` bytes.
 pub fn read_piece<R: Source>(reader: &mut R, buf: &mut [u8], left: u64) -> Result<usize, InputFault>
     requires room { 0 < length buf.old }
     requires bounded { left + 1 < 2 ^ 64 }
@@ -31,17 +31,17 @@ pub fn read_piece<R: Source>(reader: &mut R, buf: &mut [u8], left: u64) -> Resul
     Ok(count)
 }
 
-/// The first room of a buffer, in bytes: a small input costs no more.
+/// The first length of a buffer, in bytes: a small input needs no more.
 const FIRST_ROOM: usize = 512;
 
-/// The most room that a buffer grows by, in bytes.
+/// The most by which a buffer grows at once, in bytes.
 const MOST_ROOM: usize = 1 << 18;
 
-/// Makes room for a piece behind the first `filled` bytes, which stay. A buffer that is full is
-/// doubled while it is small.
+/// Makes room for a piece after the first `filled` bytes, which stay. A full buffer is doubled
+/// while it is small.
 ///
 /// # Errors
-/// Where memory was refused.
+/// `AllocError` if memory is refused.
 pub fn make_room(bytes: &mut Vec<u8>, filled: usize) -> Result<(), AllocError>
     requires { filled ≤ length bytes.old.items }
     ensures front { OnOk result (take filled bytes.new.items ≡ take filled bytes.old.items) }
@@ -53,11 +53,12 @@ pub fn make_room(bytes: &mut Vec<u8>, filled: usize) -> Result<(), AllocError>
     bytes.resize(filled + filled.max(FIRST_ROOM).min(MOST_ROOM), 0)
 }
 
-/// Reads a piece of an input, of which at most `left` more bytes are allowed, to `bytes` from the
-/// offset `filled` on, and answers its length: 0 only at the end. The bytes before that stay.
+/// Reads the next piece of an input, which may have at most `left` more bytes, to `bytes` from the
+/// offset `filled` on, and gives its length in bytes: 0 only at the end. The bytes before that
+/// offset stay.
 ///
 /// # Errors
-/// Those of `read_piece`.
+/// `ReadFault` if the reader fails. `TooLong` if it gives more than `left` bytes.
 pub fn read_behind<R: Source>(
     reader: &mut R,
     bytes: &mut Vec<u8>,
@@ -74,7 +75,7 @@ pub fn read_behind<R: Source>(
     read_at(reader, bytes.as_mut_slice(), filled, left)
 }
 
-/// Reads a piece of an input to a slice, from the offset `filled` on.
+/// Reads the next piece of an input to a slice, from the offset `filled` on.
 fn read_at<R: Source>(
     reader: &mut R,
     buf: &mut [u8],
