@@ -20,7 +20,7 @@ pub on : {A E : Type 0} {P Q : Type 0} (r : Result A E) → (P → Q) → OnOk r
 on (Err e) f h = h
 on (Ok x) f h = f h
 
--- a number with its sign, and what stands before it, written from the end
+-- a number with its sign, and what is before it, written from the end
 
 -- the byte, if it is wanted
 abbrev pub maybe : Bool → ℕ → List ℕ
@@ -70,7 +70,7 @@ pub shown_short : (below : Bool) (n shown : ℕ) → n < 18446744073709551615 �
 shown_short true n shown l e = length-decimal-le 20 shown (omega arith) (omega arith) (omega (arith, l, e))
 shown_short false n shown l e = length-decimal-le 20 shown (omega arith) (omega arith) (omega (arith, l, e))
 
--- the block, behind the texts before it
+-- the block, after the texts before it
 pub behind_texts : (start end k : ℕ) (texts block part text z : List ℕ) → length texts ≡ 256 → end + 32 ≤ 256 → length block ≡ 64 → part ≡ take 32 (drop start block) → drop start block ≡ text ++ z → start + length text ≡ 32
     → take (end + (32 - start)) (put_mid end k texts part) ≡ take end texts ++ text
 behind_texts start end k texts block part text z len room whole p b s =

@@ -81,7 +81,7 @@ sums_length (suc k) n l fits =
       | inr low ↦ omega (arith, sums_tenth k n, reaches_low n 10 low.1, tenth, length_one (n / 10) (omega (arith, low.1)), length_one n low.1)
     ]
 
--- ---- eight digits behind others, and eight of which zeros are cut off
+-- ---- eight digits after others, and eight of which zeros are cut off
 
 pub decimal_eight : (n : ℕ) → 100000000 ≤ n → n < 2 ^ 64 → decimal n ≡ decimal (n / 100000000) ++ eight (n % 100000000)
 decimal_eight n least fits =

@@ -18,7 +18,7 @@ use Rattle.cborn_wire.proofs.Parts.Heads.{read_from}
 use Rattle.cborn_wire.proofs.Parts.Nodes.{uint_read, nint_read, no_node, node_more, nodes_as}
 use Rattle.cborn_show.specs.Passed.{NodeWritten, NodeShown, NextShown, NodesShown, RunShown, ItemsOpen, ItemNext, PairsOpen, KeyNext, ValueNext, TagOpen, behind_bracket, signed, integer_major}
 
--- an integer with the shortest head, behind what stands before it
+-- an integer with the shortest head, after what is before it
 pub next_shown : (x tail : List ℕ) (h : Head) (len index n room : ℕ) (w : Width) (below : Bool) (old : List ℕ) → tail ≡ drop len x → IsHeadOf x h len → major_at h.major ≡ integer_major below → h.argument ≡ arguments.Given w n → w ≡ least n
     → NextShown room index x tail old (old ++ (between (codes ", ") index ++ signed below n))
 next_shown x tail h len index n room w below old t i b f short = go below b

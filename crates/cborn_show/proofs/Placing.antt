@@ -89,7 +89,7 @@ some_lines limit n input rest out text s r some t = go s.nodes refl
 
 -- ---- no notation
 
--- behind those that were read no node stands, or none that is showable
+-- after those that were read there is no node, or none that is showable
 pub failed : {P : List Tree → Type 0} (B : Tree → Type 0) (room n : ℕ) (input rest : List ℕ) → ((t : Tree) → B t → IsShowable t → ⊥) → NodesRead P room n input rest → (rest ≡ [] → ⊥) → Only B room rest → HasNoNotation room input
 unfolding Only HasNoNotation
 failed B room n input rest not s some only nodes w good =

@@ -31,7 +31,7 @@ abbrev pub kind_of : Bool → StringKind
 kind_of true = OfText
 kind_of false = OfBytes
 
--- the major type of an integer: that of those below zero where true
+-- the major type of an integer: that of one below zero if true
 abbrev pub integer_major : Bool → Major
 integer_major true = Negative
 integer_major false = Unsigned
@@ -41,7 +41,7 @@ abbrev pub shown_content : Bool → List ℕ → List ℕ
 shown_content true x = codes "\"" ++ (flat_map escaped x ++ codes "\"")
 shown_content false x = codes "h'" ++ (encode_lower x ++ codes "'")
 
--- What a pass has written at the end of its buffer: of what was old it became new, of a node, of nodes, or of what is still open.
+-- What a pass has written of a node, of nodes, or of what is still open: its buffer was old, and is new.
 
 abbrev pub NodeWritten : (old new : List ℕ) → Tree → Type 0
 NodeWritten old new t = IsShowable t × (new ≡ old ++ shown t)
@@ -52,17 +52,17 @@ NodesWritten sep old new ts = EachShowable (trees ts) × (new ≡ old ++ joined_
 abbrev pub PairsWritten : (old new : List ℕ) → List Pair → Type 0
 PairsWritten old new ps = ArePairsShowable (entries ps) × (new ≡ old ++ joined_by (codes ", ") (map shown_pair ps))
 
--- what stands before the chunk at the index
+-- what precedes the chunk at the index
 abbrev pub before_chunk : ℕ → List ℕ
 before_chunk zero = codes "(_ "
 before_chunk (suc i) = codes ", "
 
--- what stands behind so many chunks; where there is none, it is all
+-- what follows this many chunks; without any, it is the whole string
 abbrev pub behind_chunks : StringKind → ℕ → List ℕ
 behind_chunks k zero = shown_chunks k []
 behind_chunks k (suc i) = codes ")"
 
--- the chunks so far, each behind what stands before it
+-- the chunks so far, each after what precedes it
 abbrev pub begun_chunks : StringKind → List Chunk → List ℕ
 begun_chunks k [] = []
 begun_chunks k cs = codes "(_ " ++ joined_by (codes ", ") (map (shown_chunk k) cs)
@@ -94,7 +94,7 @@ ValueNext g old new ps k = (before key : List ℕ) × KeyNext g old before ps ×
 abbrev pub TagOpen : Width → ℕ → (old new : List ℕ) → Type 0
 TagOpen w n old new = new ≡ (old ++ (decimal n ++ indicator (mark_for w n))) ++ codes "("
 
--- nodes behind those whose texts end what was old, of which there are as many as the index says
+-- nodes after those whose texts end what was old, of which there are as many as the index says
 abbrev pub RunWritten : (index : ℕ) (old new : List ℕ) → List Tree → Type 0
 RunWritten index old new us =
     EachShowable (trees us)
@@ -118,7 +118,7 @@ signed true n = codes "-" ++ decimal (suc n)
 abbrev pub NodeShown : (room : ℕ) (input rest old new : List ℕ) → Type 0
 NodeShown room input rest old new = NodeRead (NodeWritten old new) room input rest
 
--- a node, which is written behind what stands before the one at the index
+-- a node, which is written after what precedes the one at the index
 abbrev pub NextShown : (room index : ℕ) (input rest old new : List ℕ) → Type 0
 NextShown room index input rest old new = NodeShown room input rest (old ++ between (codes ", ") index) new
 
@@ -132,7 +132,7 @@ pub record PassShown (limit : ℕ) (input text : List ℕ) : Type 0 where
   pub read : Wellformed limit (trees nodes) input
   pub shown : Shown (trees nodes) text
 
--- the input is the spelling of nodes, none deeper than the limit, each at its place, and the text is their fixed notation
+-- the input is the spelling of nodes, none deeper than the limit, each with its offset, and the text is their fixed notation
 pub record IsShownText (limit : ℕ) (input text : List ℕ) : Type 0 where
   pub nodes : List Tree
   pub read : Wellformed limit (trees nodes) input
@@ -149,7 +149,7 @@ Notates limit input (ShownText text) = IsShownText limit input text.items
 Notates limit input Malformed = IsWellformed limit input → ⊥
 Notates limit input Unshowable = HasNoNotation limit input
 
--- what a pass over a whole input answers; in doubt, without looking ahead, as where there is no notation
+-- what a pass over a whole input answers; in doubt without looking ahead, that there is no notation
 abbrev pub Passes : (hinted : Bool) (limit : ℕ) (input : List ℕ) → Pass → Type 0
 Passes hinted limit input (PassShows text) = PassShown limit input text.items
 Passes hinted limit input FoundMalformed = IsWellformed limit input → ⊥

@@ -1,4 +1,4 @@
-//! Whether bytes have a fixed notation, with nothing written.
+//! Whether bytes have a fixed notation, without writing it.
 #![tactic(auto, unfolding(cborn_descent::specs::Descending::Always, cborn_descent::specs::Descending::Only, cborn_descent::specs::Descending::BlamesString, cborn_descent::specs::Descending::BlamesChunk))]
 
 ghost use Rattle.std.specs.Prelude.{◌≡◌, ◌≤◌, length, drop, true};
@@ -13,12 +13,12 @@ use cborn_descent::{Descent, Opening, Sink, descend};
 use cborn_model::Width;
 use cborn_wire::last;
 
-/// What a walk that writes nothing says of bytes.
+/// What a walk that writes nothing finds.
 #[derive(Clone, Copy)]
 pub(crate) enum Checked {
     /// They hold items whose texts are UTF-8.
     Good,
-    /// They hold no items.
+    /// They hold no items, or one that is nested too deep.
     Malformed,
     /// A text in them isn't UTF-8.
     BadText,
@@ -47,7 +47,7 @@ pub(crate) fn check_texts(room: u64, bytes: &[u8]) -> Checked
     Checked::Good
 }
 
-/// How many integers of one byte each stand at the front, at most `most`.
+/// How many integers of one byte are at the front, at most `most`.
 fn small_integers(most: u64, bytes: &[u8]) -> usize
     ensures within { (result ≤ length bytes.now) × (result ≤ most) }
     ensures read { NodesRead (λ us. EachShowable (trees us)) 0 result bytes.now (drop result bytes.now) }
@@ -64,7 +64,7 @@ fn small_integers(most: u64, bytes: &[u8]) -> usize
     at
 }
 
-/// Takes items whose texts are UTF-8, and stops at another. It keeps nothing.
+/// A sink that takes items whose texts are UTF-8, and stops at any other text. It keeps nothing.
 #[derive(Drop)]
 struct Checking {
     count: u64,

@@ -1,10 +1,11 @@
-//! The digits of a number in decimal, eight at a time. How many a number has can't be foretold, and
-//! a branch that was guessed wrong costs more than the zeros that are written before it and cut off.
+//! The digits of a number in decimal, eight at a time. How many a number has can't be predicted,
+//! and a branch that is predicted wrong costs more than zeros that are written before it and cut
+//! off.
 
 ghost use Rattle.std.specs.Prelude.{◌≡◌, ◌≤◌, ◌<◌, ◌+◌, ◌-◌, ◌/◌, ◌%◌, ◌++◌, length, drop, decimal};
 ghost use Rattle.cborn_show.specs.devices.Digits.{pair, eight, reaches};
 
-/// The numbers below it have eight digits at most.
+/// The numbers below it have at most eight digits.
 const EIGHT_DIGITS: u64 = 100_000_000;
 
 /// Each number below 100, in two digits.
@@ -14,8 +15,8 @@ const PAIRS: &[u8; 200] = b"0001020304050607080910111213141516171819\
     6061626364656667686970717273747576777879\
     8081828384858687888990919293949596979899";
 
-/// Writes the digits of `n` up to byte 32 of the block; answers where they start. What stands before
-/// them is of no use then.
+/// Writes the digits of `n` up to byte 32 of the block, and gives the index where they start. What
+/// is before them means nothing then.
 #[inline(always)]
 pub(crate) fn write_number(n: u64, block: &mut [u8; 64]) -> usize
     ensures start { result + length (decimal n) ≡ 32 }
@@ -33,7 +34,7 @@ pub(crate) fn write_number(n: u64, block: &mut [u8; 64]) -> usize
     write_front(front / EIGHT_DIGITS, block, 16)
 }
 
-/// Writes the digits of `n` up to `end`; answers where they start.
+/// Writes the digits of `n`, at most eight, up to `end`, and gives the index where they start.
 #[inline(always)]
 fn write_front(n: u64, block: &mut [u8; 64], end: usize) -> usize
     requires small { n < 100000000 }
@@ -45,7 +46,7 @@ fn write_front(n: u64, block: &mut [u8; 64], end: usize) -> usize
     end - count_digits(n)
 }
 
-/// How many digits `n` has: a sum where a chain of tests would be branches.
+/// How many digits `n` has, at most eight: a sum, where a chain of tests would be branches.
 #[inline(always)]
 fn count_digits(n: u64) -> usize
     requires { n < 100000000 }
@@ -60,7 +61,7 @@ fn count_digits(n: u64) -> usize
         + reaches(n, 10_000_000)
 }
 
-/// 1 where `n` is `least` or more, else 0.
+/// 1 if `n` is `least` or more, else 0.
 #[inline(always)]
 fn reaches(n: u64, least: u64) -> usize
     ensures { result ≡ reaches n least }
@@ -68,7 +69,7 @@ fn reaches(n: u64, least: u64) -> usize
     (n >= least) as usize
 }
 
-/// Writes the last eight digits of `n`, zeros before them, up to `end`.
+/// Writes the last eight digits of `n`, with zeros before them, up to `end`.
 #[inline(always)]
 fn write_eight(n: u64, block: &mut [u8; 64], end: usize)
     requires small { n < 100000000 }
@@ -82,7 +83,7 @@ fn write_eight(n: u64, block: &mut [u8; 64], end: usize)
     write_pair(front / 100, block, end - 8);
 }
 
-/// Writes a number below 100 in two digits.
+/// Writes a number below 100 in two digits at the index `at`.
 #[inline(always)]
 fn write_pair(n: u64, block: &mut [u8; 64], at: usize)
     requires small { n < 100 }
@@ -94,7 +95,6 @@ fn write_pair(n: u64, block: &mut [u8; 64], at: usize)
     block[at + 1] = ones;
 }
 
-/// The first digit of a number below 100.
 #[inline(always)]
 fn tens(n: u64) -> u8
     requires { n < 100 }
@@ -103,7 +103,6 @@ fn tens(n: u64) -> u8
     PAIRS[2 * n as usize]
 }
 
-/// The second digit of a number below 100.
 #[inline(always)]
 fn ones(n: u64) -> u8
     requires { n < 100 }

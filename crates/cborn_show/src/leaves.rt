@@ -1,4 +1,4 @@
-//! Strings and simple values.
+//! Strings, whole and in chunks.
 
 ghost use Rattle.std.specs.Prelude.{◌≡◌, ◌<◌, ◌/◌, ◌%◌, ◌++◌, List, [], ◌∷◌, length, true, false, slice_index, OnOk, MatchOption};
 ghost use Rattle.std.specs.Str.{is_utf8};
@@ -11,7 +11,7 @@ use cborn_edn::push_escaped;
 use cborn_model::Width;
 use std::alloc::{AllocError, Global};
 
-/// A string, with its indicator.
+/// Appends a string, with its indicator.
 #[inline(always)]
 pub(crate) fn put_string(
     alloc: Global,
@@ -26,7 +26,7 @@ pub(crate) fn put_string(
     put_indicator(width, content.len() as u64, out)
 }
 
-/// A chunk behind those before it, of which there are `index`.
+/// Appends the chunk with this index, and what precedes it.
 #[inline(always)]
 pub(crate) fn put_chunk(
     alloc: Global,
@@ -42,7 +42,7 @@ pub(crate) fn put_chunk(
     put_string(alloc, text, width, content, out)
 }
 
-/// What stands before the chunk with this index.
+/// Appends what precedes the chunk with this index.
 #[inline(always)]
 fn put_before_chunk(index: u64, out: &mut Vec<u8>) -> Result<(), AllocError>
     ensures { OnOk result (out.new.items ≡ out.old.items ++ before_chunk index) }
@@ -54,7 +54,7 @@ fn put_before_chunk(index: u64, out: &mut Vec<u8>) -> Result<(), AllocError>
     }
 }
 
-/// What stands behind the chunks, of which there are `count`.
+/// Appends what follows the chunks, of which there are `count`; without any, the whole string.
 #[inline(always)]
 pub(crate) fn put_chunks_end(text: bool, count: u64, out: &mut Vec<u8>) -> Result<(), AllocError>
     ensures { OnOk result (out.new.items ≡ out.old.items ++ behind_chunks (kind_of text) count) }
@@ -66,7 +66,7 @@ pub(crate) fn put_chunks_end(text: bool, count: u64, out: &mut Vec<u8>) -> Resul
     Ok(())
 }
 
-/// A string, with no indicator.
+/// Appends a string, without an indicator.
 #[inline(always)]
 fn put_content(
     alloc: Global,
@@ -83,7 +83,6 @@ fn put_content(
     }
 }
 
-/// A text string.
 #[inline]
 fn put_text(alloc: Global, text: &[u8], out: &mut Vec<u8>) -> Result<(), AllocError>
     ensures { OnOk result (out.new.items ≡ out.old.items ++ shown_content true text.now) }
@@ -94,7 +93,6 @@ fn put_text(alloc: Global, text: &[u8], out: &mut Vec<u8>) -> Result<(), AllocEr
     Ok(())
 }
 
-/// A byte string.
 #[inline]
 fn put_bytes(bytes: &[u8], out: &mut Vec<u8>) -> Result<(), AllocError>
     ensures { OnOk result (out.new.items ≡ out.old.items ++ shown_content false bytes.now) }
@@ -105,7 +103,6 @@ fn put_bytes(bytes: &[u8], out: &mut Vec<u8>) -> Result<(), AllocError>
     Ok(())
 }
 
-/// The bytes in hexadecimal.
 fn put_hex(bytes: &[u8], out: &mut Vec<u8>) -> Result<(), AllocError>
     ensures { OnOk result (out.new.items ≡ out.old.items ++ encode_lower bytes.now) }
 {
@@ -131,7 +128,6 @@ fn put_hex(bytes: &[u8], out: &mut Vec<u8>) -> Result<(), AllocError>
     Ok(())
 }
 
-/// The first four bytes, and what follows them.
 #[inline(always)]
 fn first_four(bytes: &[u8]) -> Option<(u8, u8, u8, u8, &[u8])>
     ensures { MatchOption result (length bytes.now < 4) (λ r. bytes.now ≡ r.0 ∷ r.1 ∷ r.2 ∷ r.3 ∷ r.4.now) }
@@ -142,7 +138,6 @@ fn first_four(bytes: &[u8]) -> Option<(u8, u8, u8, u8, &[u8])>
     }
 }
 
-/// The first byte, and what follows it.
 #[inline(always)]
 fn first_one(bytes: &[u8]) -> Option<(u8, &[u8])>
     ensures { MatchOption result (bytes.now ≡ []) (λ r. bytes.now ≡ r.0 ∷ r.1.now) }
@@ -177,7 +172,7 @@ pub(crate) fn is_text(bytes: &[u8]) -> bool
     bytes.is_ascii() || simdutf8::is_utf8(bytes)
 }
 
-/// The bytes are of a text, and aren't UTF-8.
+/// Whether the bytes are of a text, and aren't UTF-8.
 #[inline(always)]
 pub(crate) fn is_bad_text(text: bool, bytes: &[u8]) -> bool
     ensures good { result ≡ false → text ≡ true → is_utf8 bytes.now ≡ true }
@@ -186,7 +181,7 @@ pub(crate) fn is_bad_text(text: bool, bytes: &[u8]) -> bool
     text && !is_text(bytes)
 }
 
-/// A string without chunks.
+/// Appends a string in chunks that has none.
 fn put_empty(text: bool, out: &mut Vec<u8>) -> Result<(), AllocError>
     ensures { OnOk result (out.new.items ≡ out.old.items ++ shown_chunks (kind_of text) []) }
 {

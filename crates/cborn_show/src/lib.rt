@@ -2,23 +2,23 @@
 //! (RFC 8949 section 8).
 //!
 //! ```text
-//! bytes   9f 01 42 0203 ff            two heads and their contents, as they come
+//! bytes   9f 01 42 0203 ff            three heads, a content and a break, as they come
 //! text    [_ 1, h'0203']              written as each head is read
 //! ```
 //!
-//! [`show_bytes`] reads each head, writes what it says at the end of one buffer, and goes on behind
-//! it; items inside one another are calls inside one another, as deep as the limit at most. Start
-//! with `IsShownText` of `specs/Passed.antt`, which says what the text is: the bytes spell nodes,
-//! each at its place, and the text is their fixed notation as `cborn_edn` defines it. So what is
-//! shown here is what the writer that keeps nodes shows, byte for byte.
+//! [`show_bytes`] reads each head, and writes what it says at the end of one buffer. Items inside one
+//! another are calls inside one another, at most as deep as the limit. Start with `IsShownText` of
+//! `specs/Passed.antt`, which says what the text is: the bytes spell nodes, and the text is their
+//! fixed notation as `cborn_edn` defines it. So a text from here is that of the writer that keeps
+//! nodes, byte for byte.
 //!
-//! Where it answers no text, there is none (`HasNoNotation`): the bytes hold no items within the
-//! limit, or a text in them isn't UTF-8. The error is that of a growth that was refused.
+//! There is no text if the bytes hold no items within the limit, or if a text in them isn't UTF-8
+//! (`HasNoNotation`). Out of memory is an error of its own.
 //!
-//! In the code start with `passes`; `notations` is what the descent over the bytes tells of what it
-//! reads; `leaves` has the strings, `numbers` decimals and indicators, `runs` integers in a row, with
-//! the digits of `digits`. Where a text grows much longer than its input, `prospects` guesses whether
-//! the rest will be shown; `checks` settles a doubt without writing.
+//! In the code start with `passes`. `notations` has the sink that writes what a descent reads, with
+//! `leaves` for strings, `numbers` for decimals and indicators, and `runs` for integers in a row,
+//! which are written by `digits`. When a text grows much longer than its input, `prospects` guesses
+//! whether the rest will be shown; `checks` settles a doubt without writing.
 #![tactic(auto)]
 
 mod checks;

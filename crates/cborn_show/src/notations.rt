@@ -1,4 +1,4 @@
-//! What a descent over bytes becomes: the fixed notation.
+//! The sink that writes the fixed notation of what a descent reads.
 #![tactic(auto, unfolding(cborn_descent::specs::Descending::Always, cborn_descent::specs::Descending::Only, cborn_descent::specs::Descending::BlamesString, cborn_descent::specs::Descending::BlamesChunk, cborn_descent::specs::Descending::BlamesMap))]
 
 ghost use Rattle.std.specs.Prelude.{◌≡◌, ◌++◌, ◌∷◌, [], true, OnOk};
@@ -27,19 +27,19 @@ pub(crate) enum Halt {
     Doubtful,
 }
 
-/// Writes what a descent reads at the end of a text, and looks ahead, if it is `HINTED`, before the
+/// Writes what a descent reads at the end of a text. It looks ahead, if it is `HINTED`, before the
 /// text grows long.
 #[derive(Drop)]
 pub(crate) struct Notation<const HINTED: bool> {
     alloc: Global,
     outlook: Outlook,
-    /// Why it stopped. Says nothing while it goes on.
+    /// Why it stopped. Means nothing before that.
     pub halt: Halt,
     pub out: Vec<u8>,
 }
 
 impl<const HINTED: bool> Notation<HINTED> {
-    /// Writes at the end of `out`.
+    /// A sink that writes at the end of `out`.
     pub(crate) fn new(alloc: Global, outlook: Outlook, out: Vec<u8>) -> Notation<HINTED>
         ensures { result.out.items ≡ out.items }
     {
@@ -51,8 +51,8 @@ impl<const HINTED: bool> Notation<HINTED> {
         }
     }
 
-    /// Whether the text may be thrown away, with `bytes` left to be read. `may_end` where a break is
-    /// to come.
+    /// Whether the text may have to be thrown away, by the look of the `bytes` that are left.
+    /// `may_end`: a break is still to come.
     #[inline(always)]
     pub(crate) fn is_doubtful(&mut self, may_end: bool, bytes: &[u8]) -> bool
         ensures hinted { result ≡ true → HINTED ≡ true }
@@ -338,7 +338,6 @@ impl<const HINTED: bool> Sink for Notation<HINTED> {
     ghost rises = { λ s. blamed_rises HINTED s.halt };
 }
 
-/// An integer, below zero or not.
 #[inline(always)]
 fn put_integer(negative: bool, width: Width, n: u64, out: &mut Vec<u8>) -> Result<(), AllocError>
     ensures { OnOk result (NodeWritten out.old.items out.new.items (integer_node negative 0 width n)) }
@@ -350,7 +349,8 @@ fn put_integer(negative: bool, width: Width, n: u64, out: &mut Vec<u8>) -> Resul
     }
 }
 
-/// The indicator of an array or a map of `n` entries, and a space behind it.
+/// Appends the indicator of an array or a map of `n` entries, and a space, if there is an
+/// indicator.
 #[inline(never)]
 fn put_opened(width: Width, n: u64, out: &mut Vec<u8>) -> Result<(), AllocError>
     ensures { OnOk result (out.new.items ≡ out.old.items ++ opened (mark_for width n)) }
@@ -362,7 +362,7 @@ fn put_opened(width: Width, n: u64, out: &mut Vec<u8>) -> Result<(), AllocError>
     Ok(())
 }
 
-/// What stands before the entries of an array or a map of `n`, behind this bracket.
+/// Appends this bracket of an array or a map of `n` entries, and its indicator.
 #[inline(always)]
 fn put_bracket(bracket: u8, width: Width, n: u64, out: &mut Vec<u8>) -> Result<(), AllocError>
     ensures { OnOk result (out.new.items ≡ (out.old.items ++ bracket ∷ []) ++ opened (mark_for width n)) }
@@ -371,7 +371,7 @@ fn put_bracket(bracket: u8, width: Width, n: u64, out: &mut Vec<u8>) -> Result<(
     put_opened(width, n, out)
 }
 
-/// What stands before the item of a tag.
+/// Appends what precedes the content of a tag.
 #[inline(always)]
 fn put_tag(width: Width, n: u64, out: &mut Vec<u8>) -> Result<(), AllocError>
     ensures { OnOk result (TagOpen width n out.old.items out.new.items) }

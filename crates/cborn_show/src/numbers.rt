@@ -10,7 +10,7 @@ use cborn_model::Width;
 use itoa::Buffer;
 use std::alloc::AllocError;
 
-/// A number, and its indicator.
+/// Appends a number, and its indicator.
 #[inline(never)]
 pub(crate) fn put_number(width: Width, n: u64, out: &mut Vec<u8>) -> Result<(), AllocError>
     ensures { OnOk result (out.new.items ≡ out.old.items ++ (decimal n ++ indicator (mark_for width n))) }
@@ -19,7 +19,7 @@ pub(crate) fn put_number(width: Width, n: u64, out: &mut Vec<u8>) -> Result<(), 
     put_indicator(width, n, out)
 }
 
-/// -1-n, and its indicator.
+/// Appends -1 - `n`, and its indicator.
 #[inline(never)]
 pub(crate) fn put_below(width: Width, n: u64, out: &mut Vec<u8>) -> Result<(), AllocError>
     ensures { OnOk result (out.new.items ≡ out.old.items ++ (codes "-" ++ (decimal (suc n) ++ indicator (mark_for width n)))) }
@@ -29,7 +29,7 @@ pub(crate) fn put_below(width: Width, n: u64, out: &mut Vec<u8>) -> Result<(), A
     put_indicator(width, n, out)
 }
 
-/// The decimal digits of `n` + 1.
+/// Appends the decimal digits of `n` + 1.
 #[inline(always)]
 fn put_successor(n: u64, out: &mut Vec<u8>) -> Result<(), AllocError>
     ensures { OnOk result (out.new.items ≡ out.old.items ++ decimal (suc n)) }
@@ -42,7 +42,7 @@ fn put_successor(n: u64, out: &mut Vec<u8>) -> Result<(), AllocError>
     put_decimal(n + 1, out)
 }
 
-/// The indicator of a head that isn't the shortest for `n`.
+/// Appends the indicator of a head that isn't the shortest for `n`; else nothing.
 #[inline(always)]
 pub(crate) fn put_indicator(width: Width, n: u64, out: &mut Vec<u8>) -> Result<(), AllocError>
     ensures { OnOk result (out.new.items ≡ out.old.items ++ indicator (mark_for width n)) }
@@ -53,7 +53,6 @@ pub(crate) fn put_indicator(width: Width, n: u64, out: &mut Vec<u8>) -> Result<(
     push_indicator(out, width, n)
 }
 
-/// The decimal digits of `n`.
 #[inline(always)]
 fn put_decimal(n: u64, out: &mut Vec<u8>) -> Result<(), AllocError>
     ensures { OnOk result (out.new.items ≡ out.old.items ++ decimal n) }
@@ -63,7 +62,8 @@ fn put_decimal(n: u64, out: &mut Vec<u8>) -> Result<(), AllocError>
     put_block(&digits, start, out)
 }
 
-/// What the block holds from `start` up to its byte 32, which is copied as a whole and cut off.
+/// Appends what the block holds from `start` up to its byte 32. 32 bytes are copied, and those that
+/// follow are cut off.
 #[inline(always)]
 fn put_block(block: &[u8; 64], start: usize, out: &mut Vec<u8>) -> Result<(), AllocError>
     requires { start ≤ 32 }
@@ -75,7 +75,7 @@ fn put_block(block: &[u8; 64], start: usize, out: &mut Vec<u8>) -> Result<(), Al
     Ok(())
 }
 
-/// What stands before the item or the pair with this index.
+/// Appends what precedes the item or the pair with this index.
 #[inline(always)]
 pub(crate) fn put_between(index: u64, out: &mut Vec<u8>) -> Result<(), AllocError>
     ensures { OnOk result (out.new.items ≡ out.old.items ++ between (codes ", ") index) }

@@ -1,4 +1,4 @@
-//! A whole input.
+//! The fixed notation of a whole input.
 
 ghost use Rattle.std.specs.Prelude.{◌≤◌, IfOk};
 ghost use Rattle.cborn_show.specs.Passed.{Notates, Passes, Answers};
@@ -15,36 +15,35 @@ use std::alloc::{AllocError, Global};
 /// The fixed notation of bytes, or why they have none.
 #[derive(Drop)]
 pub enum Notated {
-    /// This is the text.
+    /// The notation, in UTF-8.
     Text(Vec<u8>),
     /// The bytes hold no items within the limit (RFC 8949 section 3).
     Malformed,
-    /// They have none: a text string in them isn't UTF-8 (RFC 8949 section 8), whether or not they
-    /// hold items.
+    /// A text string in the bytes isn't UTF-8 (RFC 8949 section 8), whether or not they hold items.
     Unshowable,
 }
 
-/// What a pass over a whole input came to.
+/// What became of a pass over a whole input.
 #[derive(Drop)]
 pub(crate) enum Pass {
-    /// This is the text.
+    /// The text.
     Shown(Vec<u8>),
-    /// There is none, since the bytes hold no items.
+    /// The bytes hold no items within the limit.
     Malformed,
-    /// There is none.
+    /// A text string in the bytes isn't UTF-8.
     Unshown,
     /// What is left doesn't look as if it would be shown.
     Doubtful,
 }
 
-/// The fixed notation of the items that the bytes hold, or why there is none. The text is empty where
-/// the bytes are; else a line for each item.
+/// The fixed notation of the items that the bytes hold (RFC 8949 section 8), in UTF-8 with a line
+/// for each item, or why there is none. The text is empty if the bytes are.
 ///
-/// Memory is at most about twice the input and the text together: where a text grows longer than
-/// one and a half times the input, what is left is looked over first.
+/// Memory is at most about twice the input and the text together: when a text grows longer than one
+/// and a half times the input, what is left of that is looked over first.
 ///
 /// # Errors
-/// A growth of the text was refused.
+/// `AllocError` if memory is refused.
 pub fn show_bytes(alloc: Global, limit: Limit, bytes: &[u8]) -> Result<Notated, AllocError>
     ensures { IfOk result (Notates limit bytes.now) }
 {
@@ -57,8 +56,8 @@ pub fn show_bytes(alloc: Global, limit: Limit, bytes: &[u8]) -> Result<Notated, 
     }
 }
 
-/// The text, or none, where a pass that looks ahead was in doubt: what the doubt was about is
-/// settled first, in a walk that takes no memory.
+/// The answer after a pass that looks ahead was in doubt. A walk that takes no memory settles the
+/// doubt first.
 #[inline(never)]
 fn show_in_doubt(alloc: Global, room: u64, bytes: &[u8]) -> Result<Notated, AllocError>
     requires { room ≤ 1024 }
@@ -77,7 +76,7 @@ fn show_in_doubt(alloc: Global, room: u64, bytes: &[u8]) -> Result<Notated, Allo
     }
 }
 
-/// The text of the items, none deeper than `room`, up to the end.
+/// The text of the items, none deeper than `room`, with a line for each.
 fn put_all<const HINTED: bool>(alloc: Global, room: u64, bytes: &[u8]) -> Result<Pass, AllocError>
     requires { room ≤ 1024 }
     ensures { IfOk result (Passes HINTED room bytes.now) }
@@ -112,7 +111,7 @@ fn put_all<const HINTED: bool>(alloc: Global, room: u64, bytes: &[u8]) -> Result
     Ok(Pass::Shown(out))
 }
 
-/// What a pass that stopped answers.
+/// The answer of a pass that stopped.
 fn answer_of(halt: Halt) -> Result<Pass, AllocError>
     ensures { IfOk result (Answers halt) }
 {

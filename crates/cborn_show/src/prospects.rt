@@ -1,8 +1,7 @@
 //! Whether the rest of an input looks as if it will be shown. A text is several times as long as
-//! small items are, so before one grows much longer than the input, what is left is looked over:
-//! where the text would be thrown away, the pass is given up early. Nothing is promised of this
-//! guess: `is_showable` of `checks` settles each doubt, and where there is a text after all, a second
-//! pass writes it without a guess.
+//! small items are, so before one grows much longer than the input, what is left is looked over: if
+//! the text would be thrown away, the pass is given up early. The guess is unproved: `check_texts`
+//! settles each doubt, and if there is a text after all, a second pass writes it without a guess.
 
 ghost use Rattle.std.specs.Prelude.{◌≤◌, length, IfSome};
 
@@ -10,27 +9,27 @@ use crate::leaves::is_text;
 use cborn_model::Major;
 use cborn_wire::{Argument, Head, HeadRead, read_head};
 
-/// A text shorter than this isn't given up early, since it is small.
+/// A text shorter than this, in bytes, isn't given up early.
 const SHORT: usize = 1 << 16;
 
 /// When the rest of an input is looked over, and for what.
 #[derive(Drop)]
 pub(crate) struct Outlook {
-    /// How long the text is then, in bytes. Once it was done, longer than any text.
+    /// At which length of the text, in bytes. Once it was done, one longer than any text.
     at: usize,
-    /// How many items may stand one inside another.
+    /// The maximum nesting depth.
     limit: u64,
 }
 
 impl Outlook {
-    /// For an input of `len` bytes.
+    /// The outlook of an input of `len` bytes.
     pub(crate) fn new(limit: u64, len: usize) -> Outlook {
         let at = SHORT.max(len.saturating_add(len / 2));
         Outlook { at, limit }
     }
 
-    /// Whether to go on with the rest `bytes`, behind a text of `len` bytes. `may_end` where a
-    /// break is to come.
+    /// Whether to go on with the rest `bytes`, after a text of `len` bytes. `may_end`: a break is
+    /// still to come.
     #[inline(always)]
     pub(crate) fn is_good(&mut self, may_end: bool, bytes: &[u8], len: usize) -> bool {
         len < self.at || self.is_good_now(may_end, bytes)
@@ -45,8 +44,8 @@ impl Outlook {
 
 /// Whether these are heads and strings, none of them malformed or cut short, with the breaks that
 /// are missing, texts that are UTF-8, and no nest without siblings that is deeper than `limit`.
-/// Goes from head to head, and takes no memory. It doesn't know of all that is open where it
-/// starts, so `missing` may be too low.
+/// Goes from head to head, and takes no memory. What is open at the start isn't all known, so
+/// `missing` may be too low.
 pub(crate) fn is_promising(limit: u64, missing: u64, bytes: &[u8]) -> bool {
     let lens = lens();
     let mut rest = bytes;
@@ -70,7 +69,7 @@ pub(crate) fn is_promising(limit: u64, missing: u64, bytes: &[u8]) -> bool {
 }
 
 /// The length in bytes of the head at the front, and of a string's content with it, or of eight
-/// small integers. None where it is malformed or cut short, or a text isn't UTF-8.
+/// small integers. `None` if it is malformed or cut short, or a text isn't UTF-8.
 #[inline(always)]
 fn len_of_front(lens: &[u8; 256], bytes: &[u8]) -> Option<usize>
     ensures { IfSome result (λ len. len ≤ length bytes.now) }
@@ -89,7 +88,8 @@ fn len_of_front(lens: &[u8; 256], bytes: &[u8]) -> Option<usize>
     Some(len)
 }
 
-/// The same of one head, whatever it is.
+/// The length in bytes of whatever head is at the front, and of a string's content with it. `None`
+/// if it is malformed or cut short, or a text isn't UTF-8.
 #[inline(never)]
 fn len_of_any(bytes: &[u8]) -> Option<usize>
     ensures { IfSome result (λ len. len ≤ length bytes.now) }
@@ -109,7 +109,7 @@ fn len_of_any(bytes: &[u8]) -> Option<usize>
     Some(len + count as usize)
 }
 
-/// How many bytes of a string follow its head.
+/// How many bytes of a string's content follow its head.
 fn content_len(head: Head) -> u64 {
     match head.argument {
         Argument::Given(_, count) => match head.major_type() {
@@ -121,14 +121,14 @@ fn content_len(head: Head) -> u64 {
     }
 }
 
-/// Each of the eight bytes is an integer from 0 to 23.
+/// Whether each of the eight bytes is an integer from 0 to 23.
 #[inline(always)]
 fn are_small(word: u64) -> bool {
     (word | word.wrapping_add(0x0808_0808_0808_0808)) & 0xe0e0_e0e0_e0e0_e0e0 == 0
 }
 
-/// No text of up to seven bytes stands here, or its bytes are ASCII. The first of the eight bytes
-/// is the lowest.
+/// Whether the front is no text of up to seven bytes, or one in ASCII. `word` is eight bytes, the
+/// first of them the lowest.
 #[inline(always)]
 fn is_plain(first: u8, word: u64) -> bool {
     match first {
@@ -140,7 +140,7 @@ fn is_plain(first: u8, word: u64) -> bool {
     }
 }
 
-/// For each initial byte what `len_of_front` answers, or 0 where more has to be looked at.
+/// For each initial byte what `len_of_front` answers, or 0 if more has to be looked at.
 fn lens() -> [u8; 256] {
     let mut lens = [0; 256];
     for first in 0..256 {
@@ -160,7 +160,7 @@ fn len_behind(first: u8) -> u8 {
     }
 }
 
-/// The length in bytes of a head with an argument. 0 where there is no such head.
+/// The length in bytes of a head of this additional information; 0 if no argument has it.
 fn head_len(information: u8) -> u8 {
     match information {
         0..24 => 1,
@@ -172,7 +172,8 @@ fn head_len(information: u8) -> u8 {
     }
 }
 
-/// How many breaks are missing behind a head with this initial byte.
+/// How many breaks are missing after a head with this initial byte, if `before` are missing before
+/// it.
 #[inline(always)]
 fn breaks_behind(first: u8, before: u64) -> u64 {
     match first {
@@ -182,8 +183,8 @@ fn breaks_behind(first: u8, before: u64) -> u64 {
     }
 }
 
-/// How many heads that go on with what they hold stand in a row behind one with this initial byte.
-/// One whose count is no part of its initial byte may hold nothing.
+/// How many heads in a row hold something, up to one with this initial byte; 0 unless that one
+/// does. One whose count isn't in its initial byte may hold nothing.
 #[inline(always)]
 fn nested_behind(first: u8, before: u64) -> u64 {
     match first {

@@ -1,4 +1,4 @@
-//! Integers in a row, which is what long arrays mostly hold: their texts are gathered in a block, and
+//! Integers in a row, which long arrays mostly hold: their texts are gathered in a block, and
 //! appended together.
 
 ghost use Rattle.std.specs.Prelude.{◌≡◌, ◌<◌, ◌≤◌, ◌+◌, ◌-◌, ◌++◌, ◌∷◌, [], ℕ, List, suc, length, take, drop, if◌then◌else◌, codes, IfSome, IfOk};
@@ -14,12 +14,12 @@ use std::alloc::AllocError;
 /// How many bytes of text are gathered.
 const GATHERED: usize = 256;
 
-/// How many of them one integer takes at most.
+/// How many of these bytes one integer takes at most.
 const LONGEST: usize = 32;
 
-/// Appends the integers at the front of `bytes` whose heads are the shortest, at most `most` of
-/// them; `index` is that of the first. Answers how many bytes they take, and how many they are. It
-/// may leave some.
+/// Appends integers at the front of `bytes` whose heads are the shortest, at most `most`; `index`
+/// is that of the first in its array. Gives their length in bytes, and their number. Some may be
+/// left.
 #[inline(always)]
 pub(crate) fn put_integers(
     index: u64,
@@ -37,7 +37,7 @@ pub(crate) fn put_integers(
     }
 }
 
-/// The same, where an integer is likely.
+/// `put_integers`, where an integer is likely.
 #[inline(never)]
 fn put_run(
     index: u64,
@@ -68,8 +68,8 @@ fn put_run(
     Ok((at, count))
 }
 
-/// The integer at the front, if its head is the shortest: whether it is below zero, the argument of
-/// its head, and the length of that. None of 2^64 - 1, and of what is no integer.
+/// The integer at the front, if its head is the shortest: whether it is below zero, its argument,
+/// and the length of its head. `None` for an argument of 2^64 - 1, and for what is no integer.
 #[inline(always)]
 fn short_integer(bytes: &[u8]) -> Option<(bool, u64, usize)>
     ensures within { IfSome result (λ r. (r.1 < 18446744073709551615) × (r.2 ≤ length bytes.now)) }
@@ -88,7 +88,7 @@ fn short_integer(bytes: &[u8]) -> Option<(bool, u64, usize)>
     Some((below, n, len))
 }
 
-/// Whether integers of the major type are below zero. None where it is of no integers.
+/// Whether integers of the major type are below zero; `None` if it isn't one of integers.
 #[inline(always)]
 fn is_below(major: Major) -> Option<bool>
     ensures { IfSome result (λ below. major ≡ integer_major below) }
@@ -100,8 +100,8 @@ fn is_below(major: Major) -> Option<bool>
     }
 }
 
-/// Writes what stands before the integer at `index` of an array, a sign and the digits behind the
-/// first `end` bytes of the texts; answers where they end.
+/// Writes what precedes the integer at `index` of an array, its sign and its digits after the first
+/// `end` bytes of the texts, and gives where they end.
 #[inline(always)]
 fn write_next(index: u64, below: bool, n: u64, texts: &mut [u8; GATHERED], end: usize) -> usize
     requires small { n < 18446744073709551615 }
@@ -126,7 +126,8 @@ fn shown_number(below: bool, n: u64) -> u64
     n + below as u64
 }
 
-/// Writes a byte before `at`, and answers where it stands, if it is wanted; else `at`.
+/// Writes a byte before `at`. Gives its index if it is `wanted`; else `at`, so that it is written
+/// over.
 #[inline(always)]
 fn put_before(block: &mut [u8; 64], at: usize, byte: u8, wanted: bool) -> usize
     requires some { 0 < at }
@@ -138,8 +139,8 @@ fn put_before(block: &mut [u8; 64], at: usize, byte: u8, wanted: bool) -> usize
     at - wanted as usize
 }
 
-/// Copies what the block holds from `start` up to its byte 32 behind the first `end` bytes of the
-/// texts, as a whole with what follows it, which is of no use; answers where it ends.
+/// Copies what the block holds from `start` up to its byte 32 after the first `end` bytes of the
+/// texts, and gives where it ends. 32 bytes are copied; those after that end mean nothing.
 #[inline(always)]
 fn copy_block(block: &[u8; 64], start: usize, texts: &mut [u8; GATHERED], end: usize) -> usize
     requires start { start ≤ 32 }
