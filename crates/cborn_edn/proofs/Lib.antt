@@ -1,7 +1,6 @@
 pub mod Grammar
 pub mod Meaning
 pub mod Reader
-pub mod Shaped
 pub mod Shown
 pub mod Lexed
 pub mod RoundTrip

@@ -1,17 +1,28 @@
--- The reader of tokens keeps what the machine holds, and so tells the nodes, the jam or the first slip.
--- What it keeps is a draft of the machine's state (`Kept`), and each token makes the same of both (`Steps`); what is kept of a tree is
--- what the tree means (`Agreeing`) and its first slip (`FirstSlips`); the tests are the parser's (`Telling`, `Reading`).
--- What it reaches has room for the next token (`Reached`); the rest ties this to places of a text, and to the vectors and numbers of the code.
-pub mod Kept
-pub mod Steps
-pub mod Spellings
-pub mod Agreeing
-pub mod FirstSlips
-pub mod Telling
-pub mod Reading
-pub mod Reached
-pub mod Underway
-pub mod Innermost
+-- The reader writes what the text notates, or answers its first fault.
+-- What it keeps shows a state of the machine of tokens (`Showing`): of each open bracket an entry (`Opened`, `Counts`), of the output what complete items spell (`Laying`, `Shifting`, `Modest`), and the first fault of meaning (`Slipping`).
+-- Each token makes the same of both: it opens or turns a bracket (`Turning`, `Inverted`), builds a string (`Built`, `Joints`, `Utf8`), ends one or a bracket (`Closed`, `Rows`, `Items`), or is refused (`Stepping`, `Going`); and so to the end of the text (`Ending`).
+-- The rest is of tokens that are found without the lexer (`CommonTokens`, `BareTokens`, `NextPieces`), of bytes of long integers (`Bignums`, `Cutting`), and of answers (`Results`).
+pub mod Opened
+pub mod Slipping
+pub mod Shifting
+pub mod Laying
+pub mod Results
 pub mod Bignums
-pub mod Leaner
-pub mod Wanting
+pub mod Joints
+pub mod Showing
+pub mod Rows
+pub mod Closed
+pub mod Built
+pub mod Modest
+pub mod Inverted
+pub mod Turning
+pub mod CommonTokens
+pub mod Items
+pub mod Cutting
+pub mod Utf8
+pub mod NextPieces
+pub mod BareTokens
+pub mod Going
+pub mod Counts
+pub mod Stepping
+pub mod Ending

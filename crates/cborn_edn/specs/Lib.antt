@@ -1,6 +1,7 @@
 pub mod Says
 pub mod Grammar
 pub mod Faults
+pub mod Spelling
 pub mod Shown
 pub mod Plain
 pub mod ReadingBack

@@ -1,228 +1,204 @@
-//! What may stand behind something complete: one more piece, a comma, a colon, or the end of a
-//! bracket.
+//! Brackets that end, and what stands between their items.
 
-ghost use Rattle.std.specs.Prelude.{◌≡◌, ℕ, true, Some, None, IfOk, if◌then◌else◌};
-ghost use Rattle.cborn_lex.specs.declared.classes.Class.TheVariants.{ArrayClose, EmbedClose, MapClose, ParenClose};
-ghost use Rattle.cborn_edn.specs.devices.Draft as pure;
-ghost use Rattle.cborn_edn.specs.declared.states.Phase.TheVariants.{Wants};
-ghost use Rattle.cborn_edn.specs.devices.Ready.{HaveRoom};
+ghost use Rattle.std.specs.Prelude.{◌≡◌, ℕ, ◌<◌, ◌^◌, ◌++◌, ◌∷◌, List, length, Option, Some, None, OnOk, false, ◌&&◌};
+ghost use Rattle.cborn_lex.specs.declared.classes.Mark.{Mark as Indicator};
+ghost use Rattle.cborn_edn.specs.declared.strings.StringKind.TheVariants.{Bytes as OfBytes};
+ghost use Rattle.cborn_edn.specs.shared.Syntax.{Span as Place, Item, Content, Fields, Pieces as Joined, array, map, tag, embedded, row, RowBefore, after_row, pairs, PairsBefore, after_pairs};
+ghost use Rattle.cborn_edn.specs.shared.Machine.{Stack, Nest, in_row, in_key, in_value, in_tag, in_array, in_embed, Home, with_piece, wants, has, builds};
+ghost use Rattle.cborn_edn.specs.devices.Shows.{Shows, Leads, content_state, fields_state, entries_at};
+ghost use Rattle.cborn_edn.specs.declared.states.Frame.{Frame as Opened};
+ghost use Rattle.cborn_edn.specs.declared.states.Writer.{Writer as Writing};
+ghost use Rattle.cborn_edn.specs.declared.states.Stand.TheVariants.{Has};
+ghost use Rattle.cborn_edn.specs.devices.Kept.{joint};
+ghost use Rattle.cborn_edn.specs.devices.Slips.{Notes};
+ghost use Rattle.cborn_model.specs.Heads.{argument, head};
+ghost use Rattle.cborn_model.specs.Spelled.{ending};
+ghost use Rattle.cborn_edn.specs.Says.{Str, joined, piece_slips, size, size_slips};
+ghost use Rattle.cborn_edn.specs.devices.Laid.{cut, place_of};
 
-use crate::brackets::Bracket;
-use crate::contents::Chunks;
-use crate::discards::discard;
-use crate::spellings::Spelling;
-use crate::states::{Phase, State};
-use crate::strings::Pieces;
-use cborn_lex::{Class, Mark};
-use cborn_model::Major;
-use std::alloc::{AllocError, Global};
+use crate::heads::set_head;
+use crate::numbers::width_for;
+use crate::slips::{earlier, is_none, note_width};
+use crate::states::{Frame, Here, Joint, Level, Stand, Writer};
+use crate::strings::{is_endless, note_piece};
+use crate::{Slip, StringKind};
+use cborn_lex::Mark;
+use cborn_model::{BREAK, Major};
+use std::alloc::AllocError;
 
-impl State {
-    /// Behind an item.
-    #[inline(never)]
-    pub(crate) fn after(
-        &mut self,
-        item: Option<Spelling>,
-        start: u64,
-        class: &Class,
-    ) -> Result<bool, AllocError>
-        requires taken { self.old.phase ≡ Wants }
-        requires room { HaveRoom self.old.brackets }
-        ensures { IfOk result (λ b. pure.after self.old.brackets self.old.slip item start class.now ≡ (if b then Some self.new else None)) }
-    {
-        match class {
-            Class::Comma => self.brackets.settle(item),
-            Class::Colon => Ok(self.brackets.key(item)),
-            Class::ParenClose => self.after_content(item),
-            _ => Ok(self.brackets.settle(item)? && self.ended(start, class)?),
-        }
+/// Writes the head of an array or a map of `count` entries in the place of the byte at `start`, or
+/// its break after the entries, and notes what is wrong with its indicator, which stands at `place`.
+fn set_size(
+    major: Major,
+    frame: Frame,
+    count: u64,
+    out: &mut Vec<u8>,
+    slip: &mut Option<Slip>,
+) -> Result<(), AllocError>
+    requires { frame.start < length out.old.items }
+    ensures added { OnOk result ((base x : List ℕ) → frame.start ≡ length base → out.old.items ≡ cut (base ++ (place_of major frame.mark ++ x)) → out.new.items ≡ cut (base ++ (head major (argument (size frame.mark count) count) ++ x ++ ending (size frame.mark count)))) }
+    ensures noted { OnOk result (Notes slip.old slip.new (size_slips frame.place frame.mark count)) }
+{
+    if is_endless(frame.mark) {
+        out.push(BREAK)?;
+        return Ok(());
     }
+    note_width(frame.mark, count, frame.place, slip);
+    set_head(major, width_for(frame.mark, count), count, frame.start, out)
+}
 
-    /// The end of a tag: the item is its content.
-    #[inline(never)]
-    fn after_content(&mut self, item: Option<Spelling>) -> Result<bool, AllocError>
-        requires { self.old.phase ≡ Wants }
-        ensures { IfOk result (λ b. (start : ℕ) → pure.after self.old.brackets self.old.slip item start ParenClose ≡ (if b then Some self.new else None)) }
-    {
-        let Some(Bracket::Tagged(head)) = self.brackets.pop() else {
-            return Ok(false);
-        };
-        self.enter(Phase::Has(tagged(head, item)?));
-        Ok(true)
-    }
-
-    /// A bracket ends behind its contents.
-    #[inline(never)]
-    pub(crate) fn ended(&mut self, start: u64, class: &Class) -> Result<bool, AllocError>
-        requires { self.old.phase ≡ Wants }
-        ensures { IfOk result (λ b. pure.ended self.old.brackets self.old.slip start class.now ≡ (if b then Some self.new else None)) }
-    {
-        match class {
-            Class::ArrayClose => self.ended_array(),
-            Class::MapClose => self.ended_map(),
-            Class::EmbedClose(mark) => self.ended_embedded(start, *mark),
-            _ => Ok(false),
-        }
-    }
-
-    /// An array ends.
-    #[inline(never)]
-    fn ended_array(&mut self) -> Result<bool, AllocError>
-        requires { self.old.phase ≡ Wants }
-        ensures { IfOk result (λ b. (start : ℕ) → pure.ended self.old.brackets self.old.slip start ArrayClose ≡ (if b then Some self.new else None)) }
-    {
-        match self.brackets.pop() {
-            Some(Bracket::Array { place, mark, row }) => {
-                let (item, found) = row.into_item(Major::Array, place, mark)?;
-                self.stand(item, found);
-                Ok(true)
-            }
-            other => {
-                discard(other);
-                Ok(false)
-            }
-        }
-    }
-
-    /// A map ends.
-    #[inline(never)]
-    fn ended_map(&mut self) -> Result<bool, AllocError>
-        requires { self.old.phase ≡ Wants }
-        ensures { IfOk result (λ b. (start : ℕ) → pure.ended self.old.brackets self.old.slip start MapClose ≡ (if b then Some self.new else None)) }
-    {
-        match self.brackets.pop() {
-            Some(
-                Bracket::Key {
-                    place,
-                    mark,
-                    fields,
-                },
-            ) => {
-                let (item, found) = fields.into_item(Major::Map, place, mark)?;
-                self.stand(item, found);
-                Ok(true)
-            }
-            other => {
-                discard(other);
-                Ok(false)
-            }
-        }
-    }
-
-    /// An embedded sequence ends: its bytes are a piece of a string.
-    #[inline(never)]
-    fn ended_embedded(&mut self, start: u64, mark: Mark) -> Result<bool, AllocError>
-        requires { self.old.phase ≡ Wants }
-        ensures { IfOk result (λ b. pure.ended self.old.brackets self.old.slip start (EmbedClose mark) ≡ (if b then Some self.new else None)) }
-    {
-        let Some(
-            Bracket::Embedded {
-                before,
-                place,
-                items,
-            },
-        ) = self.brackets.pop()
-        else {
-            return Ok(false);
-        };
-        let piece = Pieces::embedded(place, items.bytes, start, mark);
-        match before {
-            Some(pieces) => self.join(pieces, piece)?,
-            None => self.enter(Phase::Builds(piece)),
-        }
-        Ok(true)
-    }
-
-    /// Behind pieces of a string: another one, or the end of the string.
-    #[inline(never)]
-    pub(crate) fn more(
-        &mut self,
-        alloc: Global,
-        string: Pieces,
-        start: u64,
-        class: Class,
-    ) -> Result<bool, AllocError>
-        requires taken { self.old.phase ≡ Wants }
-        requires room { HaveRoom self.old.brackets }
-        ensures { IfOk result (λ b. pure.more self.old.brackets self.old.slip string start class ≡ (if b then Some self.new else None)) }
-    {
-        match class {
-            Class::Text { bytes, mark } => self.join(string, Pieces::text(start, bytes, mark))?,
-            Class::Bytes {
-                quoted,
-                bytes,
-                mark,
-            } => self.join(string, Pieces::bytes(start, quoted, bytes, mark))?,
-            Class::EmbedOpen => self.open_embedded(alloc, Some(string), start)?,
-            _ => return self.after_string(alloc, string, start, &class),
-        }
-        Ok(true)
-    }
-
-    /// The string ends, and something stands behind it.
-    #[inline(never)]
-    fn after_string(
-        &mut self,
-        alloc: Global,
-        string: Pieces,
-        start: u64,
-        class: &Class,
-    ) -> Result<bool, AllocError>
-        requires taken { self.old.phase ≡ Wants }
-        requires room { HaveRoom self.old.brackets }
-        ensures { IfOk result (λ b. pure.after_string self.old.brackets self.old.slip string start class.now ≡ (if b then Some self.new else None)) }
-    {
-        if self.brackets.are_chunks() {
-            return self.after_chunk(string, class);
-        }
-        let (item, found) = string.into_item(alloc)?;
-        self.note(found);
-        self.after(item, start, class)
-    }
-
-    /// The string was a chunk: a comma, or the end of the chunks.
-    #[inline(never)]
-    fn after_chunk(&mut self, string: Pieces, class: &Class) -> Result<bool, AllocError>
-        requires taken { self.old.phase ≡ Wants }
-        requires chunks { pure.are_chunks self.old.brackets ≡ true }
-        ensures { IfOk result (λ b. (start : ℕ) → pure.after_string self.old.brackets self.old.slip string start class.now ≡ (if b then Some self.new else None)) }
-    {
-        let Some(Bracket::Chunked(chunks)) = self.brackets.pop() else {
-            return Ok(false);
-        };
-        let (chunks, found) = chunks.with(string)?;
-        self.note(found);
-        match class {
-            Class::Comma => {
-                self.open(Bracket::Chunked(chunks))?;
-                self.enter(Phase::WantsChunk);
-            }
-            Class::ParenClose => self.enter(Phase::Has(chunks.into_item()?)),
-            _ => return Ok(false),
-        }
-        Ok(true)
-    }
-
-    /// Behind the number of a simple value, whose item it is.
-    #[inline(never)]
-    pub(crate) fn after_number(&mut self, item: Option<Spelling>, class: &Class) -> bool
-        requires { self.old.phase ≡ Wants }
-        ensures { pure.after_number self.old.brackets self.old.slip item class.now ≡ (if result then Some self.new else None) }
-    {
-        let Class::ParenClose = class else {
-            return false;
-        };
-        self.enter(Phase::Has(item));
-        true
+/// How many entries stand in the innermost bracket, where it ends.
+#[inline(always)]
+fn all_entries(here: &Here) -> u64
+    requires { here.now.count < 2 ^ 63 }
+    ensures { result ≡ entries_at here.now.stand here.now.count }
+{
+    match here.stand {
+        Stand::Has => here.count + 1,
+        _ => here.count,
     }
 }
 
-/// The tag with its content.
-fn tagged(head: Option<Spelling>, item: Option<Spelling>) -> Result<Option<Spelling>, AllocError>
-    ensures { IfOk result (λ o. o ≡ pure.tag_item head item) }
+/// Takes off the innermost bracket. What stands there then is an item.
+#[inline(always)]
+fn shut(here: &mut Here, writer: &mut Writer) -> Frame
+    requires { 0 < length writer.old.frames }
+    ensures rest { writer.new ≡ record writer.old { frames = writer.new.frames } }
+    ensures top { (f : Opened) (fs : List Opened) → writer.old.frames ≡ f ∷ fs → (result ≡ f) × (writer.new ≡ record writer.old { frames = fs }) × (here.new ≡ record here.old { count = f.count; stand = Has; level = f.level }) }
 {
-    match (head, item) {
-        (Some(head), Some(item)) => Ok(Some(head.with(item)?)),
-        _ => Ok(None),
+    let Some(frame) = writer.frames.shut() else {
+        unreachable!();
+    };
+    here.count = frame.count;
+    here.stand = Stand::Has;
+    here.level = frame.level;
+    frame
+}
+
+/// An array ends.
+pub(crate) fn close_array(here: &mut Here, writer: &mut Writer) -> Result<(), AllocError>
+    requires small { here.old.count < 2 ^ 63 }
+    requires open { (st : Stack) × (s : Place) × (m : Indicator) × (c : Content) × Shows here.old writer.old writer.old.out.items (content_state (in_array st s m) c) }
+    ensures { OnOk result ((st : Stack) (s a : Place) (m : Indicator) (c : Content) → Leads here.old writer.old here.new writer.new (content_state (in_array st s m) c) (has st (array s m c a))) }
+{
+    let count = all_entries(here);
+    let frame = shut(here, writer);
+    set_size(
+        Major::Array,
+        frame,
+        count,
+        &mut writer.out,
+        &mut writer.slip,
+    )
+}
+
+/// A map ends.
+pub(crate) fn close_map(here: &mut Here, writer: &mut Writer) -> Result<(), AllocError>
+    requires small { here.old.count < 2 ^ 63 }
+    requires open { (st : Stack) × (s : Place) × (m : Indicator) × (f : Fields) × Shows here.old writer.old writer.old.out.items (fields_state st s m f) }
+    ensures { OnOk result ((st : Stack) (s a : Place) (m : Indicator) (f : Fields) → Leads here.old writer.old here.new writer.new (fields_state st s m f) (has st (map s m f a))) }
+{
+    let count = all_entries(here);
+    let frame = shut(here, writer);
+    set_size(Major::Map, frame, count, &mut writer.out, &mut writer.slip)
+}
+
+/// A tag ends.
+pub(crate) fn close_tag(here: &mut Here, writer: &mut Writer)
+    requires { 0 < length writer.old.frames }
+    ensures { (st : Stack) (s a : Place) (n : ℕ) (m : Indicator) (i : Item) → Leads here.old writer.old here.new writer.new (has (in_tag st s n m) i) (has st (tag s n m i a)) }
+{
+    shut(here, writer);
+}
+
+/// What is embedded in a string ends with a `>>` at `place`.
+pub(crate) fn close_embedded(mark: Mark, place: usize, here: &mut Here, writer: &mut Writer)
+    requires frames { 0 < length writer.old.frames }
+    requires around { 0 < length writer.old.around }
+    ensures { (h : Home) (o : Option Joined) (s a : Place) (c : Content) → place ≡ a.start → Leads here.old writer.old here.new writer.new (content_state (in_embed h o s) c) (builds h (with_piece o (embedded s c a mark))) }
+{
+    let frame = shut(here, writer);
+    let Some(around) = writer.around.shut() else {
+        unreachable!();
+    };
+    let known = is_none(writer.slip);
+    writer.slip = earlier(around.slip, writer.slip);
+    let string = with_embedded(around.string, frame, known, mark, place, &mut writer.slip);
+    writer.chunks = around.chunks;
+    writer.string = Some(string);
+    here.stand = Stand::Builds;
+}
+
+/// A string with one more piece, which is embedded, and which `known` says to have no fault of
+/// meaning.
+fn with_embedded(
+    before: Option<Joint>,
+    frame: Frame,
+    known: bool,
+    mark: Mark,
+    place: usize,
+    slip: &mut Option<Slip>,
+) -> Joint
+    ensures alone { (t : Str) → before ≡ None → t.kind ≡ OfBytes → t.place ≡ frame.place → t.lone ≡ false → t.known ≡ known → t.mark ≡ mark → t.mark_place ≡ place → (result ≡ joint frame.start t) × (slip.new ≡ slip.old) }
+    ensures more { (start : ℕ) (s t : Str) → before ≡ Some (joint start s) → t.kind ≡ OfBytes → t.place ≡ frame.place → t.known ≡ known → t.mark ≡ mark → t.mark_place ≡ place → (result ≡ joint start (joined s t)) × Notes slip.old slip.new (piece_slips s t) }
+{
+    match before {
+        Some(string) => {
+            note_piece(string, StringKind::Bytes, frame.place, slip);
+            Joint {
+                mark,
+                mark_place: place,
+                lone: false,
+                known: are_both(string.known, known),
+                ..string
+            }
+        }
+        None => Joint {
+            kind: StringKind::Bytes,
+            start: frame.start,
+            place: frame.place,
+            mark,
+            mark_place: place,
+            lone: false,
+            known,
+        },
     }
+}
+
+/// Whether both hold.
+#[inline(always)]
+fn are_both(one: bool, other: bool) -> bool
+    ensures { result ≡ (one && other) }
+{
+    one && other
+}
+
+/// A comma after an item of a row.
+#[inline(always)]
+pub(crate) fn comma(here: &mut Here)
+    requires { here.old.count < 2 ^ 63 }
+    ensures { (w : Writing) (out : List ℕ) (n : Nest) (b : RowBefore) (i : Item) (a : Place) → Shows here.old w out (has (in_row n b) i) → Shows here.new w out (wants (in_row n (after_row (row b i) a))) }
+{
+    here.count += 1;
+    here.stand = Stand::WantsMore;
+}
+
+/// A comma after a pair of a map.
+#[inline(always)]
+pub(crate) fn comma_of_pairs(here: &mut Here)
+    requires { here.old.count < 2 ^ 63 }
+    ensures { (w : Writing) (out : List ℕ) (st : Stack) (s c a : Place) (m : Indicator) (b : PairsBefore) (k v : Item) → Shows here.old w out (has (in_value st s m b k c) v) → Shows here.new w out (wants (in_key st s m (after_pairs (pairs b k c v) a))) }
+{
+    here.count += 1;
+    here.stand = Stand::WantsMore;
+    here.level = Some(Level::Key);
+}
+
+/// A colon after a key.
+#[inline(always)]
+pub(crate) fn colon(here: &mut Here)
+    ensures { (w : Writing) (out : List ℕ) (st : Stack) (s c : Place) (m : Indicator) (b : PairsBefore) (k : Item) → Shows here.old w out (has (in_key st s m b) k) → Shows here.new w out (wants (in_value st s m b k c)) }
+{
+    here.stand = Stand::Wants;
+    here.level = Some(Level::Value);
 }

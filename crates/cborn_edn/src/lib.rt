@@ -1,64 +1,90 @@
 //! Diagnostic notation of data items: read and written (RFC 8949 section 8, RFC 8610 appendix G).
 //!
+//! A text becomes bytes in one pass over its tokens, and bytes become nodes:
+//!
 //! ```text
 //! text    [1, "a" h'62'_1]    as it stands
-//! tokens  [ 1 , "a" h'62'_1 ] as `cborn_lex` reads them, each with its span in bytes
-//! tree    an array of a number and of a string of two pieces
+//! tokens  [ 1 , "a" h'62'_1 ] as `cborn_lex` reads them, one at a time
+//! bytes   82 01 79 00 02 61 62
 //! nodes   Items of Uint and Text: the string "ab", whose length takes two bytes
 //! ```
 //!
-//! The crate has four parts:
+//! [`read_text`] gives the bytes, or the one fault of the text: of a token, of syntax, or of
+//! meaning. [`read_notation`] gives the nodes, each with its place in the text, and [`start_at`] the
+//! place of one node or chunk by its number. [`show`] gives nodes in the fixed notation.
 //!
-//! - *Tokens* are those of `cborn_lex`; a text without tokens is refused as that crate tells.
-//! - *Grammar and meaning*: `specs/Grammar.antt` is the grammar as one relation, of tokens to the
-//!   nodes that they say and to their slips, within a bound on their depth; `specs/Says.antt` has
-//!   the nodes and the slips of a number and of a string. Pieces that stand side by side are joined
-//!   to one string, an indicator gives a width, and what stands in `<< >>` becomes bytes.
-//!   `specs/Faults.antt` says why a text notates nothing: where its tokens jam, or its first slip.
-//! - *Trees*: `Syntax.antt` and `Meaning.antt` in `specs/shared`, `Parse.antt` and `Notates.antt` in
-//!   `specs/devices` say the same by trees of the grammar, over which the reader is proved; the law
-//!   `short_form` of [`laws`] says that both are one.
-//! - *Showing*: `specs/Shown.antt` has the fixed notation, one text for each list of nodes, places
-//!   aside.
+//! # The definitions
 //!
-//! [`recognise`] tells whether a text has a tree, with nothing kept of it; [`read_notation`] gives
-//! what a text notates, or why it notates nothing, and [`recognise_items`] the latter alone, without
-//! the nodes. [`start_at`] gives the place of a node or a chunk by its number, and [`show`] the fixed
-//! notation. Start with `Notates` and follow the definitions that it names; [`laws`] has what is
-//! proved of them alone, above all that the fixed notation notates the nodes that it shows. In the
-//! code start with `readers` and `showing`: the reader takes one token at a time from the text
-//! (`states`), keeps in `brackets` what is open, and keeps no token and no node, but the bytes that
-//! complete items spell (`spellings`). It reads for the first slip alone before it reads for the
-//! bytes (`wanted`), of which `placing` makes the nodes.
+//! Start with `specs/Grammar.antt`: the grammar is one relation, of tokens to the nodes that they
+//! say and to their meaning errors, within a bound on their depth. `Says.antt` has the node and
+//! the faults of a number and of a string, `Faults.antt` why a text notates nothing, `Starts.antt`
+//! the places of nodes, and `Shown.antt` the fixed notation. In these a syntax error is a *jam*, and
+//! a meaning error a *slip*. [`laws`] has what is proved of them alone, above all that the
+//! fixed notation notates the nodes that it shows.
+//!
+//! # The reader
+//!
+//! What opens is written as a byte in the place of a head, and what stands in it after that byte.
+//! When it ends its head is known, and is put in the place of the byte: an array's by its count, a
+//! string's by its length. A meaning error doesn't stop the reader: it writes on, each number
+//! cut to a byte, and keeps the first, so that a later syntax error is still found, which comes
+//! before all of meaning.
+//!
+//! - `passes` has the loop over the tokens, and what is answered at the end: start here.
+//! - `tokens` reads one token, with a string's content at once in the output.
+//! - `steps` is the grammar: what a token may be where the reader stands. `endings`, `openings`,
+//!   `closings`, `strings` and `numbers` write what it is; `slips` notes meaning errors, and
+//!   `refusals` has the syntax errors.
+//! - `states` is what is kept: where the reader stands, an entry for each open bracket, and the
+//!   string at hand.
+//! - `heads` writes a head at the end of a buffer, or in the place of a byte, and moves what follows
+//!   it.
+//! - `gaps`, `marks`, `integers`, `words`, `texts` and `common` look at a text for what is common:
+//!   white space and comments, brackets and what separates items, and items. What they leave is for
+//!   `next_token` of the lexer.
+//!
+//! Of the bytes `placing` makes nodes, and puts places into them that `starts` finds in the text, by
+//! the shape of its open brackets (`shapes`). `showing` and `writing` show nodes, and `bad_texts`
+//! finds a text among them that isn't UTF-8.
+//!
+//! The proof goes by a machine of tokens that keeps trees (`specs/shared/Machine.antt`): what the
+//! reader keeps shows one of its states (`specs/devices/Shows.antt`), and each step is the
+//! machine's. The law `short_form` says that the trees and the relation are one.
 #![tactic(auto)]
 
-mod brackets;
+mod bad_texts;
 mod closings;
-mod contents;
-mod discards;
+mod common;
+mod endings;
 mod faults;
+mod gaps;
+mod heads;
+mod integers;
 pub mod laws;
+mod marks;
 mod numbers;
 mod openings;
+mod passes;
 mod placing;
 mod readers;
-mod recognisers;
+mod refusals;
 mod shapes;
 mod showing;
 mod slips;
-mod spellings;
 mod starts;
 mod states;
+mod steps;
 mod strings;
 mod texts;
-mod wanted;
+mod tokens;
+mod words;
 mod writing;
 
 pub use faults::{EdnFault, EdnReason, ShowFault};
-pub use readers::{read_notation, recognise_items};
-pub use recognisers::recognise;
+pub use passes::read_text;
+pub use readers::read_notation;
 pub use showing::show;
-pub use slips::{Slip, earlier};
+pub use slips::Slip;
 pub use starts::start_at;
 pub use strings::StringKind;
 pub use writing::{push_between, push_escaped, push_indicator, push_simple};

@@ -1,69 +1,46 @@
-//! Numbers, and the widths of heads.
+//! Integers, tags and simple values of tokens that were read.
 
-ghost use Rattle.std.specs.Prelude.{◌≡◌, true, ◌<◌, ◌≤◌, ◌^◌, ◌&&◌, ◌++◌, ℕ, length, Some, IfOk, OnOk, if◌then◌else◌};
-ghost use Rattle.std.specs.Result.{result_ok};
+ghost use Rattle.std.specs.Prelude.{◌≡◌, ◌++◌, ℕ, Bool, List, length, OnOk, if◌then◌else◌};
+ghost use Rattle.cborn_lex.specs.declared.classes.Mark.{Mark as Indicator};
+ghost use Rattle.cborn_edn.specs.shared.Syntax.{Span as Place, number, word, simple};
+ghost use Rattle.cborn_edn.specs.shared.Machine.{Stack, wants, has, wants_number, has_number};
+ghost use Rattle.cborn_edn.specs.declared.states.Writer.{Writer as Writing};
+ghost use Rattle.cborn_edn.specs.devices.Shows.{Shows, Leads};
 ghost use Rattle.std.specs.Int.Digits.{digits_of};
-ghost use Rattle.cborn_model.specs.Heads.{least, WidthFits, SizeFits, Given, head};
-ghost use Rattle.cborn_model.specs.Spelled.{string};
-ghost use Rattle.cborn_model.specs.declared.heads.Major.TheVariants.{ByteString as ByteHead, Tag};
+ghost use Rattle.cborn_model.specs.Heads.{code, least, Given, head, head_bytes};
+ghost use Rattle.cborn_model.specs.declared.heads.Major.TheVariants.{Tag, Other, ByteString as ByteHead};
 ghost use Rattle.cborn_model.specs.declared.heads.Width.TheVariants.{Direct};
-ghost use Rattle.cborn_edn.specs.shared.Syntax as syntax;
-ghost use Rattle.cborn_edn.specs.shared.Meaning as pure;
-ghost use Rattle.cborn_edn.specs.devices.Draft.{slip_at, simple_slip, first_slip, tag_head, number_bytes, simple_bytes};
+ghost use Rattle.cborn_model.specs.Tree.{Simple};
+ghost use Rattle.cborn_model.specs.Spelled.{spelled, string};
+ghost use Rattle.cborn_edn.specs.Says as says;
+ghost use Rattle.cborn_edn.specs.devices.Slips.{Notes};
+ghost use Rattle.cborn_edn.specs.devices.Laid.{cut};
 
-use crate::EdnReason;
-use crate::slips::{Slip, earlier, slip_unless};
-use crate::spellings::Spelling;
+use crate::heads::{push_head, set_head};
+use crate::slips::{note, note_unless, note_width};
+use crate::states::{Here, Stand, Writer};
+use crate::{EdnReason, Slip};
 use cborn_lex::Mark;
-use cborn_model::{ByteString, Major, Size, Width, is_simple_value, shortest};
-use std::alloc::{AllocError, Global};
+use cborn_model::{Major, Width, is_simple_value, shortest};
+use std::alloc::AllocError;
 
-/// The width of a head with the argument `n` under an indicator, where the head can't be
-/// indefinite.
-pub(crate) fn width_for(mark: Mark, n: u64) -> Result<Width, EdnReason>
-    ensures width { result_ok result ≡ pure.width_for mark n }
-    ensures fits { IfOk result (λ w. WidthFits w n) }
-    ensures slip { (p : ℕ) → slip_at p result ≡ first_slip (pure.width_slips p mark n) }
+/// The first number that doesn't fit 64 bits.
+const OUTSIDE: u128 = 18446744073709551616;
+
+/// The width of a head with the argument `n` under an indicator.
+#[inline(always)]
+pub(crate) fn width_for(mark: Mark, n: u64) -> Width
+    ensures { result ≡ says.width mark n }
 {
     match mark {
-        Mark::Absent => Ok(shortest(n)),
-        Mark::Endless => Err(EdnReason::IndicatorNotAllowed),
-        Mark::Wide(width) if width.holds(n) => Ok(width),
-        Mark::Wide(_) => Err(EdnReason::IndicatorTooNarrow),
+        Mark::Wide(width) => width,
+        _ => shortest(n),
     }
-}
-
-/// How an array or a map of `n` entries under an indicator says where it ends.
-pub(crate) fn size_for(mark: Mark, n: u64) -> Result<Size, EdnReason>
-    ensures size { result_ok result ≡ pure.size_for mark n }
-    ensures fits { IfOk result (λ s. SizeFits s n) }
-    ensures slip { (p : ℕ) → slip_at p result ≡ first_slip (pure.size_slips p mark n) }
-{
-    match mark {
-        Mark::Absent => Ok(Size::Fixed(shortest(n))),
-        Mark::Endless => Ok(Size::Endless),
-        Mark::Wide(width) if width.holds(n) => Ok(Size::Fixed(width)),
-        Mark::Wide(_) => Err(EdnReason::IndicatorTooNarrow),
-    }
-}
-
-/// Whether an integer is from -2^64 to 2^64-1, so that it needs no tag.
-pub(crate) fn is_small(negative: bool, magnitude: u128) -> bool
-    ensures { result ≡ syntax.is_small negative magnitude }
-{
-    argument_of(negative, magnitude) < 18446744073709551616
-}
-
-/// Whether it is below zero; -0 isn't.
-fn is_below(negative: bool, magnitude: u128) -> bool
-    ensures { result ≡ syntax.is_below negative magnitude }
-{
-    negative && magnitude > 0
 }
 
 /// `n` for `n`, and for `-1-n`.
 fn argument_of(negative: bool, magnitude: u128) -> u128
-    ensures { result ≡ syntax.argument_of negative magnitude }
+    ensures { result ≡ says.argument_of negative magnitude }
 {
     if negative && magnitude > 0 {
         magnitude - 1
@@ -72,23 +49,38 @@ fn argument_of(negative: bool, magnitude: u128) -> u128
     }
 }
 
-/// What an integer literal spells: `magnitude`, or `-magnitude`.
-pub(crate) fn integer(
-    alloc: Global,
+/// Whether it is below zero; -0 isn't.
+fn is_below(negative: bool, magnitude: u128) -> bool
+    ensures { result ≡ says.is_below negative magnitude }
+{
+    negative && magnitude > 0
+}
+
+/// Whether an integer is from -2^64 to 2^64-1, so that it needs no tag.
+#[inline(always)]
+pub(crate) fn is_small(negative: bool, magnitude: u128) -> bool
+    ensures { result ≡ says.is_small negative magnitude }
+{
+    argument_of(negative, magnitude) < OUTSIDE
+}
+
+/// Appends an integer: `magnitude`, or `-magnitude`.
+pub(crate) fn push_number(
     negative: bool,
     magnitude: u128,
     mark: Mark,
-) -> Result<Result<Spelling, EdnReason>, AllocError>
-    ensures means { IfOk result (λ r. result_ok r ≡ number_bytes negative magnitude mark) }
-    ensures slip { IfOk result (λ r. (p : ℕ) → slip_at p r ≡ first_slip (pure.number_slips p negative magnitude mark)) }
+    place: usize,
+    out: &mut Vec<u8>,
+    slip: &mut Option<Slip>,
+) -> Result<(), AllocError>
+    ensures added { OnOk result (out.new.items ≡ out.old.items ++ cut (spelled (says.number_node place negative magnitude mark))) }
+    ensures noted { OnOk result (Notes slip.old slip.new (says.number_slips place negative magnitude mark)) }
 {
     let below = is_below(negative, magnitude);
     let argument = argument_of(negative, magnitude);
-    if argument >= 18446744073709551616 {
-        if mark != Mark::Absent {
-            return Ok(Err(EdnReason::IndicatorNotAllowed));
-        }
-        return Ok(Ok(bignum(alloc, below, argument)?));
+    if argument >= OUTSIDE {
+        note_unless(is_absent(mark), place, EdnReason::IndicatorNotAllowed, slip);
+        return push_bignum(below, argument, out);
     }
     let n = argument as u64;
     let major = if below {
@@ -96,81 +88,170 @@ pub(crate) fn integer(
     } else {
         Major::Unsigned
     };
-    match width_for(mark, n) {
-        Ok(width) => Ok(Ok(Spelling::given(major, width, n, Vec::new(alloc)))),
-        Err(reason) => Ok(Err(reason)),
-    }
+    note_width(mark, n, place, slip);
+    push_head(major, width_for(mark, n), n, out)
 }
 
-/// A tag over the shortest bytes of `n`, with shortest heads.
+/// Appends the tag over the shortest bytes of `n`.
 #[cold]
 #[inline(never)]
-fn bignum(alloc: Global, below: bool, n: u128) -> Result<Spelling, AllocError>
-    requires { 2 ^ 64 ≤ n }
-    ensures { IfOk result (λ s. s ≡ head Tag (Given Direct (if below then 3 else 2)) ++ string ByteHead (least (length (digits_of 256 n))) (digits_of 256 n)) }
+fn push_bignum(below: bool, n: u128, out: &mut Vec<u8>) -> Result<(), AllocError>
+    ensures { OnOk result (out.new.items ≡ out.old.items ++ cut (head Tag (Given Direct (if below then 3 else 2)) ++ string ByteHead (least (length (digits_of 256 n))) (digits_of 256 n))) }
 {
-    let mut bytes = Vec::new(alloc);
-    push_shortest(&mut bytes, n)?;
-    let width = shortest(bytes.len() as u64);
-    let string = Spelling::string(Major::ByteString, width, ByteString::new(bytes));
-    let number = if below { 3 } else { 2 };
-    Spelling::given(Major::Tag, Width::Direct, number, Vec::new(alloc)).with(string)
+    push_head(Major::Tag, Width::Direct, bignum_tag(below), out)?;
+    let start = out.len();
+    out.push(0)?;
+    push_digits(n, out)?;
+    let len = (out.len() - start - 1) as u64;
+    set_head(Major::ByteString, shortest(len), len, start, out)
+}
+
+/// The tag of a bignum (RFC 8949 section 3.4.3).
+fn bignum_tag(below: bool) -> u64
+    ensures { result ≡ (if below then 3 else 2) }
+{
+    if below { 3 } else { 2 }
 }
 
 /// Appends the bytes of `n`, the highest first, without leading zeros.
-fn push_shortest(bytes: &mut Vec<u8>, n: u128) -> Result<(), AllocError>
-    ensures { OnOk result (bytes.new.items ≡ bytes.old.items ++ digits_of 256 n) }
+fn push_digits(n: u128, out: &mut Vec<u8>) -> Result<(), AllocError>
+    ensures { OnOk result (out.new.items ≡ out.old.items ++ digits_of 256 n) }
 {
     if n > 0 {
-        push_shortest(bytes, n / 256)?;
-        bytes.push((n % 256) as u8)?;
+        push_digits(n / 256, out)?;
+        out.push((n % 256) as u8)?;
     }
     Ok(())
 }
 
-/// A tag's head.
-pub(crate) fn tag_head(alloc: Global, number: u128, mark: Mark) -> Result<Spelling, EdnReason>
-    ensures head { result_ok result ≡ tag_head number mark }
-    ensures slip { (p : ℕ) → slip_at p result ≡ first_slip (pure.tag_slips p mark number) }
+/// Whether there is no indicator.
+#[inline(always)]
+pub(crate) fn is_absent(mark: Mark) -> bool
+    ensures { result ≡ says.is_absent mark }
 {
-    if number >= 18446744073709551616 {
-        return Err(EdnReason::TagTooLarge);
-    }
-    let n = number as u64;
-    let width = width_for(mark, n)?;
-    Ok(Spelling::given(Major::Tag, width, n, Vec::new(alloc)))
+    matches!(mark, Mark::Absent)
 }
 
-/// The simple value of a number at `start`, whose bracket is at `place`, and what is wrong with it.
-pub(crate) fn simple(
-    alloc: Global,
-    place: u64,
-    start: u64,
+/// Appends a tag's head. Of a number outside 64 bits its low bits are written.
+pub(crate) fn push_tag(
+    number: u128,
+    mark: Mark,
+    place: usize,
+    out: &mut Vec<u8>,
+    slip: &mut Option<Slip>,
+) -> Result<(), AllocError>
+    ensures added { OnOk result (out.new.items ≡ out.old.items ++ cut (head Tag (Given (says.width mark number) number))) }
+    ensures noted { OnOk result (Notes slip.old slip.new (says.tag_slips place mark number)) }
+{
+    if number < OUTSIDE {
+        let n = number as u64;
+        note_width(mark, n, place, slip);
+        return push_head(Major::Tag, width_for(mark, n), n, out);
+    }
+    note(place, EdnReason::TagTooLarge, slip);
+    let width = match mark {
+        Mark::Wide(width) => width,
+        _ => Width::Eight,
+    };
+    push_low(Major::Tag, width, number, out)
+}
+
+/// Appends a head with the low bits of `n`.
+fn push_low(major: Major, width: Width, n: u128, out: &mut Vec<u8>) -> Result<(), AllocError>
+    ensures { OnOk result (out.new.items ≡ out.old.items ++ cut (head_bytes (code major) width n)) }
+{
+    push_head(major, width, (n % OUTSIDE) as u64, out)
+}
+
+/// Appends the simple value of a number at `place`, after the `simple(` at `opened`. Where there is
+/// no such value its low bits are written.
+pub(crate) fn push_simple(
     negative: bool,
     magnitude: u128,
     mark: Mark,
-) -> (Option<Spelling>, Option<Slip>)
-    ensures item { result.0 ≡ pure.when (pure.is_simple negative magnitude && pure.is_absent mark) (Some (simple_bytes magnitude)) }
-    ensures slip { result.1 ≡ simple_slip place start negative magnitude mark }
+    opened: usize,
+    place: usize,
+    out: &mut Vec<u8>,
+    slip: &mut Option<Slip>,
+) -> Result<(), AllocError>
+    ensures added { OnOk result (out.new.items ≡ out.old.items ++ cut (spelled (Simple opened magnitude))) }
+    ensures noted { OnOk result (Notes slip.old slip.new (says.simple_slips opened place negative magnitude mark)) }
 {
     let good = is_simple(negative, magnitude);
-    let bare = mark == Mark::Absent;
-    let slip = earlier(
-        slip_unless(good, place, EdnReason::BadSimple),
-        slip_unless(bare, start, EdnReason::IndicatorNotAllowed),
-    );
-    if good && bare {
-        (Some(Spelling::simple(alloc, magnitude as u8)), slip)
-    } else {
-        (None, slip)
+    note_unless(good, opened, EdnReason::BadSimple, slip);
+    note_unless(is_absent(mark), place, EdnReason::IndicatorNotAllowed, slip);
+    if magnitude < OUTSIDE {
+        let n = magnitude as u64;
+        return push_head(Major::Other, shortest(n), n, out);
     }
+    push_low(Major::Other, Width::Eight, magnitude, out)
 }
 
 /// Whether there is such a simple value.
 fn is_simple(negative: bool, magnitude: u128) -> bool
-    ensures value { result ≡ pure.is_simple negative magnitude }
-    ensures small { result ≡ true → magnitude < 256 }
+    ensures { result ≡ says.is_simple negative magnitude }
 {
-    let below = is_below(negative, magnitude);
-    !below && magnitude < 256 && is_simple_value(magnitude as u64)
+    !is_below(negative, magnitude) && magnitude < 256 && is_simple_value(magnitude as u64)
+}
+
+/// An integer, as an item.
+pub(crate) fn put_number(
+    negative: bool,
+    magnitude: u128,
+    mark: Mark,
+    place: usize,
+    here: &mut Here,
+    writer: &mut Writer,
+) -> Result<(), AllocError>
+    ensures { OnOk result ((st : Stack) (a : Place) → place ≡ a.start → Leads here.old writer.old here.new writer.new (wants st) (has st (number a negative magnitude mark))) }
+{
+    here.stand = Stand::Has;
+    push_number(
+        negative,
+        magnitude,
+        mark,
+        place,
+        &mut writer.out,
+        &mut writer.slip,
+    )
+}
+
+/// A word for the simple value `n`, as an item.
+pub(crate) fn put_word(n: u8, here: &mut Here, writer: &mut Writer) -> Result<(), AllocError>
+    ensures { OnOk result ((st : Stack) (a : Place) → Leads here.old writer.old here.new writer.new (wants st) (has st (word a n))) }
+{
+    here.stand = Stand::Has;
+    let n = n as u64;
+    push_head(Major::Other, shortest(n), n, &mut writer.out)
+}
+
+/// The number in `simple(..)`.
+pub(crate) fn put_simple(
+    negative: bool,
+    magnitude: u128,
+    mark: Mark,
+    place: usize,
+    here: &mut Here,
+    writer: &mut Writer,
+) -> Result<(), AllocError>
+    ensures { OnOk result ((st : Stack) (s a : Place) → place ≡ a.start → Leads here.old writer.old here.new writer.new (wants_number st s) (has_number st s a negative magnitude mark)) }
+{
+    here.stand = Stand::HasNumber;
+    push_simple(
+        negative,
+        magnitude,
+        mark,
+        writer.simple,
+        place,
+        &mut writer.out,
+        &mut writer.slip,
+    )
+}
+
+/// The end of `simple(..)`.
+#[inline(always)]
+pub(crate) fn close_simple(here: &mut Here)
+    ensures { (w : Writing) (out : List ℕ) (st : Stack) (s b a : Place) (n : Bool) (v : ℕ) (m : Indicator) → Shows here.old w out (has_number st s b n v m) → Shows here.new w out (has st (simple s b n v m a)) }
+{
+    here.stand = Stand::Has;
 }

@@ -1,177 +1,141 @@
-//! What may begin where an item, a chunk or a number is wanted.
+//! Brackets that open.
 
-ghost use Rattle.std.specs.Prelude.{◌≡◌, ◌∷◌, Some, None, IfOk, OnOk, if◌then◌else◌};
-ghost use Rattle.cborn_edn.specs.devices.Draft as pure;
-ghost use Rattle.cborn_edn.specs.declared.brackets.Bracket.TheVariants.{Array, Chunked, Embedded, Key, Tagged};
-ghost use Rattle.cborn_edn.specs.declared.states.Phase.TheVariants.{Wants, WantsChunk};
-ghost use Rattle.cborn_edn.specs.shared.Meaning.{tag_slips};
+ghost use Rattle.std.specs.Prelude.{◌≡◌, ℕ, ◌++◌, ◌∷◌, [], List, length, Some, None, OnOk};
+ghost use Rattle.cborn_edn.specs.shared.Syntax.{Span as Place, Pieces as Joined, no_item, no_pair, no_string};
+ghost use Rattle.cborn_edn.specs.shared.Machine.{Stack, in_row, in_key, in_tag, in_array, in_embed, Home, wants, builds, wants_chunk, wants_number};
+ghost use Rattle.cborn_edn.specs.shared.Machine.{at_home};
+ghost use Rattle.cborn_edn.specs.declared.states.Stand.TheVariants.{Wants};
+ghost use Rattle.cborn_edn.specs.devices.Laid.{place_of};
+ghost use Rattle.cborn_edn.specs.devices.Shows.{Shows, Leads};
 
-use crate::brackets::Bracket;
-use crate::contents::{Chunks, Row};
-use crate::numbers::{integer, simple, tag_head};
-use crate::slips::slip_at;
-use crate::spellings::Spelling;
-use crate::states::{Phase, State};
-use crate::strings::Pieces;
-use cborn_lex::{Class, Mark};
-use std::alloc::{AllocError, Global};
+use crate::numbers::push_tag;
+use crate::states::{Around, Chunks, Frame, Here, Level, Stand, Writer};
+use cborn_lex::Mark;
+use cborn_model::Major;
+use std::alloc::AllocError;
 
-impl State {
-    /// An item begins, or the bracket ends.
-    #[inline(never)]
-    pub(crate) fn begin(
-        &mut self,
-        alloc: Global,
-        start: u64,
-        class: Class,
-    ) -> Result<bool, AllocError>
-        requires { self.old.phase ≡ Wants }
-        ensures { IfOk result (λ b. pure.begin self.old.brackets self.old.slip start class ≡ (if b then Some self.new else None)) }
-    {
-        match class {
-            Class::ArrayOpen(mark) => self.open_array(alloc, start, mark)?,
-            Class::MapOpen(mark) => self.open_map(alloc, start, mark)?,
-            Class::ChunkOpen => self.open_chunks(alloc)?,
-            Class::TagOpen { number, mark } => self.open_tag(alloc, start, number, mark)?,
-            Class::SimpleOpen => self.enter(Phase::WantsNumber { place: start }),
-            Class::Word(n) => self.stand(Some(Spelling::simple(alloc, n)), None),
-            Class::Number {
-                negative,
-                magnitude,
-                mark,
-            } => {
-                let judged = integer(alloc, negative, magnitude, mark)?;
-                let found = slip_at(start, &judged);
-                self.stand(judged.ok(), found);
-            }
-            Class::Text { .. } | Class::Bytes { .. } | Class::EmbedOpen => {
-                return self.begin_chunk(alloc, start, class);
-            }
-            _ => return self.ended(start, &class),
-        }
-        Ok(true)
-    }
+/// An array opens at `place`.
+pub(crate) fn open_array(
+    mark: Mark,
+    place: usize,
+    here: &mut Here,
+    writer: &mut Writer,
+) -> Result<(), AllocError>
+    ensures { OnOk result ((st : Stack) (a : Place) → place ≡ a.start → Leads here.old writer.old here.new writer.new (wants st) (wants (in_row (in_array st a mark) no_item))) }
+{
+    let start = writer.out.len();
+    push_place(Major::Array, mark, &mut writer.out)?;
+    open_frame(Level::Array, mark, start, place, here, writer)
+}
 
-    /// An array begins.
-    #[inline(never)]
-    fn open_array(&mut self, alloc: Global, place: u64, mark: Mark) -> Result<(), AllocError>
-        requires { self.old.phase ≡ Wants }
-        ensures { OnOk result (self.new ≡ pure.keep (Array place mark pure.no_row ∷ self.old.brackets) Wants self.old.slip) }
-    {
-        let row = Row::new(alloc);
-        self.open(Bracket::Array { place, mark, row })
-    }
+/// A map opens at `place`.
+pub(crate) fn open_map(
+    mark: Mark,
+    place: usize,
+    here: &mut Here,
+    writer: &mut Writer,
+) -> Result<(), AllocError>
+    ensures { OnOk result ((st : Stack) (a : Place) → place ≡ a.start → Leads here.old writer.old here.new writer.new (wants st) (wants (in_key st a mark no_pair))) }
+{
+    let start = writer.out.len();
+    push_place(Major::Map, mark, &mut writer.out)?;
+    open_frame(Level::Key, mark, start, place, here, writer)
+}
 
-    /// A map begins.
-    #[inline(never)]
-    fn open_map(&mut self, alloc: Global, place: u64, mark: Mark) -> Result<(), AllocError>
-        requires { self.old.phase ≡ Wants }
-        ensures { OnOk result (self.new ≡ pure.keep (Key place mark pure.no_row ∷ self.old.brackets) Wants self.old.slip) }
-    {
-        let fields = Row::new(alloc);
-        self.open(Bracket::Key {
-            place,
-            mark,
-            fields,
-        })
-    }
+/// Writes a byte in the place of a head, or the head where the length is indefinite.
+fn push_place(major: Major, mark: Mark, out: &mut Vec<u8>) -> Result<(), AllocError>
+    ensures { OnOk result (out.new.items ≡ out.old.items ++ place_of major mark) }
+{
+    let byte = match mark {
+        Mark::Endless => major.endless_head(),
+        _ => 0,
+    };
+    out.push(byte)?;
+    Ok(())
+}
 
-    /// A string in chunks begins.
-    #[inline(never)]
-    fn open_chunks(&mut self, alloc: Global) -> Result<(), AllocError>
-        requires { self.old.phase ≡ Wants }
-        ensures { OnOk result (self.new ≡ pure.keep (Chunked pure.no_chunks ∷ self.old.brackets) WantsChunk self.old.slip) }
-    {
-        self.open(Bracket::Chunked(Chunks::new(alloc)))?;
-        self.enter(Phase::WantsChunk);
-        Ok(())
-    }
+/// A tag opens at `place`.
+pub(crate) fn open_tag(
+    number: u128,
+    mark: Mark,
+    place: usize,
+    here: &mut Here,
+    writer: &mut Writer,
+) -> Result<(), AllocError>
+    ensures { OnOk result ((st : Stack) (a : Place) → place ≡ a.start → Leads here.old writer.old here.new writer.new (wants st) (wants (in_tag st a number mark))) }
+{
+    push_tag(number, mark, place, &mut writer.out, &mut writer.slip)?;
+    open_frame(Level::Tag, Mark::Absent, 0, 0, here, writer)
+}
 
-    /// A tag begins.
-    #[inline(never)]
-    fn open_tag(
-        &mut self,
-        alloc: Global,
-        place: u64,
-        number: u128,
-        mark: Mark,
-    ) -> Result<(), AllocError>
-        requires { self.old.phase ≡ Wants }
-        ensures { OnOk result (self.new ≡ pure.keep (Tagged (pure.tag_head number mark) ∷ self.old.brackets) Wants (pure.earlier self.old.slip (pure.first_slip (tag_slips place mark number)))) }
-    {
-        let head = tag_head(alloc, number, mark);
-        self.note(slip_at(place, &head));
-        self.open(Bracket::Tagged(head.ok()))
-    }
+/// A sequence opens at `place` inside a string. Before it stand the bytes of the pieces so far; or,
+/// where there are none, a byte in the place of the string's head, at `start`.
+pub(crate) fn open_embedded(
+    start: usize,
+    place: usize,
+    here: &mut Here,
+    writer: &mut Writer,
+) -> Result<(), AllocError>
+    ensures begins { OnOk result ((h : Home) (a : Place) (base : List ℕ) → place ≡ a.start → start ≡ length base → writer.old.out.items ≡ base ++ (0 ∷ []) → Shows here.old writer.old base (at_home h None) → Shows here.new writer.new writer.new.out.items (wants (in_row (in_embed h None a) no_item))) }
+    ensures goes_on { OnOk result ((h : Home) (ps : Joined) (a : Place) → place ≡ a.start → Shows here.old writer.old writer.old.out.items (builds h ps) → Shows here.new writer.new writer.new.out.items (wants (in_row (in_embed h (Some ps) a) no_item))) }
+{
+    let start = match writer.string {
+        Some(string) => string.start,
+        None => start,
+    };
+    let around = Around {
+        string: writer.string,
+        chunks: writer.chunks,
+        slip: writer.slip,
+    };
+    writer.around.open(around)?;
+    writer.string = None;
+    writer.chunks = None;
+    writer.slip = None;
+    open_frame(Level::Embedded, Mark::Absent, start, place, here, writer)
+}
 
-    /// A sequence begins inside a string, behind the pieces of the string so far.
-    #[inline(never)]
-    pub(crate) fn open_embedded(
-        &mut self,
-        alloc: Global,
-        before: Option<Pieces>,
-        place: u64,
-    ) -> Result<(), AllocError>
-        requires { self.old.phase ≡ Wants }
-        ensures { OnOk result (self.new ≡ pure.keep (Embedded before place pure.no_row ∷ self.old.brackets) Wants self.old.slip) }
-    {
-        let items = Row::new(alloc);
-        self.open(Bracket::Embedded {
-            before,
-            place,
-            items,
-        })
-    }
+/// A string in chunks opens.
+pub(crate) fn open_chunks(here: &mut Here, writer: &mut Writer) -> Result<(), AllocError>
+    ensures { OnOk result ((st : Stack) (a : Place) → Leads here.old writer.old here.new writer.new (wants st) (wants_chunk st a no_string)) }
+{
+    let start = writer.out.len();
+    writer.out.push(0)?;
+    writer.chunks = Some(Chunks { start, kind: None });
+    here.stand = Stand::WantsChunk;
+    Ok(())
+}
 
-    /// A chunk begins.
-    #[inline(never)]
-    pub(crate) fn begin_chunk(
-        &mut self,
-        alloc: Global,
-        start: u64,
-        class: Class,
-    ) -> Result<bool, AllocError>
-        requires { self.old.phase ≡ Wants }
-        ensures { IfOk result (λ b. pure.begin_chunk self.old.brackets self.old.slip start class ≡ (if b then Some self.new else None)) }
-    {
-        match class {
-            Class::Text { bytes, mark } => {
-                self.enter(Phase::Builds(Pieces::text(start, bytes, mark)));
-            }
-            Class::Bytes {
-                quoted,
-                bytes,
-                mark,
-            } => self.enter(Phase::Builds(Pieces::bytes(start, quoted, bytes, mark))),
-            Class::EmbedOpen => self.open_embedded(alloc, None, start)?,
-            _ => return Ok(false),
-        }
-        Ok(true)
-    }
+/// A simple value opens at `place`.
+pub(crate) fn open_simple(place: usize, here: &mut Here, writer: &mut Writer)
+    ensures { (st : Stack) (a : Place) → place ≡ a.start → Leads here.old writer.old here.new writer.new (wants st) (wants_number st a) }
+{
+    writer.simple = place;
+    here.stand = Stand::WantsNumber;
+}
 
-    /// The number of a simple value, whose bracket is at `place`.
-    #[inline(never)]
-    pub(crate) fn begin_number(
-        &mut self,
-        alloc: Global,
-        place: u64,
-        start: u64,
-        class: &Class,
-    ) -> bool
-        requires { self.old.phase ≡ Wants }
-        ensures { pure.begin_number self.old.brackets self.old.slip place start class.now ≡ (if result then Some self.new else None) }
-    {
-        let Class::Number {
-            negative,
-            magnitude,
-            mark,
-        } = class
-        else {
-            return false;
-        };
-        let (item, found) = simple(alloc, place, start, *negative, *magnitude, *mark);
-        self.note(found);
-        self.enter(Phase::HasNumber(item));
-        true
-    }
+/// One more frame, in which an item is wanted.
+fn open_frame(
+    level: Level,
+    mark: Mark,
+    start: usize,
+    place: usize,
+    here: &mut Here,
+    writer: &mut Writer,
+) -> Result<(), AllocError>
+    ensures here { OnOk result (here.new ≡ record { at = here.old.at; count = 0; stand = Wants; level = Some level }) }
+    ensures writer { OnOk result (writer.new ≡ record writer.old { frames = record { place = place; start = start; count = here.old.count; level = here.old.level; mark = mark } ∷ writer.old.frames }) }
+{
+    let frame = Frame {
+        place,
+        start,
+        count: here.count,
+        level: here.level,
+        mark,
+    };
+    writer.frames.open(frame)?;
+    here.count = 0;
+    here.stand = Stand::Wants;
+    here.level = Some(level);
+    Ok(())
 }

@@ -5,10 +5,11 @@
 //! in the order of their heads. So each node and each chunk that was read takes the next of them.
 
 ghost use Rattle.std.specs.Prelude.{◌≡◌, ℕ, IfOk};
-ghost use Rattle.cborn_model.specs.Spelled.{Wellformed, spelled_all};
-ghost use Rattle.cborn_model.specs.Tree.{Trees, trees, entries};
+ghost use Rattle.cborn_model.specs.Spelled.{Wellformed};
+ghost use Rattle.cborn_model.specs.Tree.{trees, entries};
 ghost use Rattle.cborn_wire.specs.Faults.{IsWellformed};
-ghost use Rattle.cborn_edn.specs.devices.Notates.{Notates};
+ghost use Rattle.cborn_edn.specs.Grammar.{Notates};
+ghost use Rattle.cborn_edn.specs.Spelling.{IsSpelling};
 ghost use Rattle.cborn_edn.specs.devices.Put as pure;
 
 use crate::starts::all_starts;
@@ -30,7 +31,7 @@ pub(crate) fn placed(
     text: &str,
     bytes: &[u8],
 ) -> Result<Vec<Spelled>, AllocError>
-    requires { (nodes : Trees) × Notates profile limit text.now nodes × (bytes.now ≡ spelled_all nodes) }
+    requires { IsSpelling profile limit text.now bytes.now }
     ensures { IfOk result (λ items. Notates profile limit text.now (trees items.items)) }
 {
     let mut items = read_wellformed(alloc, limit, bytes)?;

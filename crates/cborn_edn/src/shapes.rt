@@ -1,11 +1,9 @@
 //! The shape of what is open: brackets by their kinds, and what stands right before the next token.
 //! Nothing is kept of the items, and whether a token may come next depends on nothing else.
 
-ghost use Rattle.std.specs.Prelude.{◌≡◌, ◌<◌, ◌^◌};
-ghost use Rattle.cborn_edn.specs.devices.Levels.{reach};
+ghost use Rattle.std.specs.Prelude.{◌≡◌};
 ghost use Rattle.cborn_edn.specs.devices.Shapes as pure;
 
-use crate::numbers::is_small;
 use cborn_lex::{Class, Profile};
 use cborn_model::push_doubling;
 use std::alloc::{AllocError, Global};
@@ -78,7 +76,7 @@ impl Model for Levels {
 }
 
 impl Levels {
-    ghost use Rattle.std.specs.Prelude.{[], ◌∷◌, length, OnOk};
+    ghost use Rattle.std.specs.Prelude.{[], ◌∷◌, OnOk};
     ghost use Rattle.cborn_edn.specs.devices.Shapes.{innermost, without};
 
     /// None are open.
@@ -90,17 +88,8 @@ impl Levels {
         }
     }
 
-    /// How many are open.
-    #[tactic(auto, using(crate::proofs::Shaped::Innermost::innermost_level))]
-    fn count(&self) -> u64
-        ensures count { result ≡ length self.now }
-        ensures small { result < 2 ^ 63 }
-    {
-        self.levels.len() as u64
-    }
-
     /// The innermost.
-    #[tactic(auto, using(crate::proofs::Shaped::Innermost::innermost_level))]
+    #[tactic(auto, using(crate::proofs::Reader::Opened::innermost))]
     fn innermost(&self) -> Option<Level>
         ensures { result ≡ innermost self.now }
     {
@@ -108,7 +97,7 @@ impl Levels {
     }
 
     /// One more, inside the others.
-    #[tactic(auto, using(crate::proofs::Shaped::Innermost::innermost_level))]
+    #[tactic(auto, using(crate::proofs::Reader::Opened::innermost))]
     fn open(&mut self, level: Level) -> Result<(), AllocError>
         ensures { OnOk result (self.new ≡ level ∷ self.old) }
     {
@@ -116,7 +105,7 @@ impl Levels {
     }
 
     /// The innermost is taken off.
-    #[tactic(auto, using(crate::proofs::Shaped::Innermost::innermost_level))]
+    #[tactic(auto, using(crate::proofs::Reader::Opened::innermost))]
     fn shut(&mut self)
         ensures { self.new ≡ without self.old }
     {
@@ -132,7 +121,7 @@ pub(crate) struct Shape {
 }
 
 impl Shape {
-    ghost use Rattle.std.specs.Prelude.{length, IfOk, OnOk, Some, None, if◌then◌else◌};
+    ghost use Rattle.std.specs.Prelude.{IfOk, OnOk, Some, None, if◌then◌else◌};
 
     /// Before the first token.
     pub(crate) fn new(alloc: Global) -> Shape
@@ -142,13 +131,6 @@ impl Shape {
             levels: Levels::new(alloc),
             stand: Stand::Wants,
         }
-    }
-
-    /// How deep a token of this class goes here.
-    pub(crate) fn reach(&self, class: &Class) -> u64
-        ensures { result ≡ reach (length self.now.levels) class.now }
-    {
-        depth_at(self.levels.count(), class)
     }
 
     /// Takes a token of this class. Whether the grammar has such a token here; where it has none,
@@ -186,45 +168,6 @@ impl Shape {
         }
         Ok(())
     }
-
-    /// Whether the text may end here.
-    pub(crate) fn is_whole(&self) -> bool
-        ensures { result ≡ pure.is_whole self.now }
-    {
-        self.levels.innermost().is_none() && may_end(self.stand)
-    }
-}
-
-/// How deep a token of this class goes inside so many open brackets. A number outside 64 bits is a
-/// tag round a string, and goes one level deeper than it stands.
-pub(crate) fn depth_at(levels: u64, class: &Class) -> u64
-    requires { levels < 2 ^ 63 }
-    ensures { result ≡ reach levels class.now }
-{
-    match class {
-        Class::ArrayOpen(_) | Class::MapOpen(_) | Class::EmbedOpen | Class::TagOpen { .. } => {
-            levels + 1
-        }
-        Class::Number {
-            negative,
-            magnitude,
-            ..
-        } => {
-            if is_small(*negative, *magnitude) {
-                levels
-            } else {
-                levels + 1
-            }
-        }
-        _ => 0,
-    }
-}
-
-/// Whether nothing is missing behind it. No bracket is open.
-fn may_end(stand: Stand) -> bool
-    ensures { result ≡ pure.may_end stand }
-{
-    matches!(stand, Stand::Wants | Stand::Has | Stand::Builds)
 }
 
 /// What a token of this class makes of the innermost bracket, if it may come next.

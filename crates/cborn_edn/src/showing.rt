@@ -7,7 +7,7 @@ ghost use Rattle.cborn_model.specs.Spelled.{FitsAll};
 ghost use Rattle.cborn_edn.specs.Shown.{Shown, IsShowFault, shown_lines};
 
 use crate::ShowFault;
-use crate::texts::lowest_bad_text;
+use crate::bad_texts::lowest_bad_text;
 use crate::writing::{push_between, push_node};
 use cborn_model::Spelled;
 use std::alloc::{AllocError, Global};

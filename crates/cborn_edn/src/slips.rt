@@ -1,43 +1,22 @@
-//! Faults of meaning, of which the first is told.
+//! Meaning errors, of which the first is reported.
 
-ghost use Rattle.std.specs.Prelude.{◌≡◌};
-ghost use Rattle.cborn_edn.specs.devices.Draft as pure;
+ghost use Rattle.std.specs.Prelude.{◌≡◌, false};
+ghost use Rattle.cborn_edn.specs.Says as says;
+ghost use Rattle.cborn_edn.specs.devices.Slips as pure;
+ghost use Rattle.cborn_edn.specs.devices.Slips.{Notes};
 
 use crate::EdnReason;
+use cborn_lex::Mark;
 
-/// A fault of meaning, and where it stands: an offset in bytes from the start of the text.
+/// A meaning error, and where it stands: an offset in bytes from the start of the text.
 #[derive(Clone, Copy)]
 pub struct Slip {
     pub place: u64,
     pub reason: EdnReason,
 }
 
-/// The slip, if any, of what was judged at `place`.
-pub(crate) fn slip_at<T>(place: u64, judged: &Result<T, EdnReason>) -> Option<Slip>
-    ensures { result ≡ pure.slip_at place judged.now }
-{
-    match judged {
-        Ok(_) => None,
-        Err(reason) => Some(Slip {
-            place,
-            reason: *reason,
-        }),
-    }
-}
-
-/// A slip, unless something holds.
-pub(crate) fn slip_unless(holds: bool, place: u64, reason: EdnReason) -> Option<Slip>
-    ensures { result ≡ pure.slip_unless holds place reason }
-{
-    if holds {
-        None
-    } else {
-        Some(Slip { place, reason })
-    }
-}
-
-/// The first of two slips: the one of the lower place, and at one place the one of the lower number.
-pub fn earlier(one: Option<Slip>, other: Option<Slip>) -> Option<Slip>
+/// The first of two: the one of the lower place, and at one place the one of the lower number.
+pub(crate) fn earlier(one: Option<Slip>, other: Option<Slip>) -> Option<Slip>
     ensures { result ≡ pure.earlier one other }
 {
     match (one, other) {
@@ -47,9 +26,53 @@ pub fn earlier(one: Option<Slip>, other: Option<Slip>) -> Option<Slip>
     }
 }
 
-/// Whether `a` is the one that is told: the least place, then the least number.
+/// Whether `a` is the one that is reported: the least place, then the least number.
 fn no_later(a: Slip, b: Slip) -> bool
     ensures { result ≡ pure.no_later a b }
 {
     a.place < b.place || (a.place == b.place && a.reason.number() <= b.reason.number())
+}
+
+/// Notes one more meaning error: of two the one of the lower place stays, and at one place the
+/// one of the lower number.
+#[cold]
+#[inline(never)]
+pub(crate) fn note(place: usize, reason: EdnReason, slip: &mut Option<Slip>)
+    ensures { Notes slip.old slip.new (says.unless false place reason) }
+{
+    let place = place as u64;
+    *slip = earlier(*slip, Some(Slip { place, reason }));
+}
+
+/// Notes a meaning error unless something holds.
+#[inline(always)]
+pub(crate) fn note_unless(holds: bool, place: usize, reason: EdnReason, slip: &mut Option<Slip>)
+    ensures { Notes slip.old slip.new (says.unless holds place reason) }
+{
+    if !holds {
+        note(place, reason, slip);
+    }
+}
+
+/// Notes what is wrong with an indicator at `place` of a head with the argument `n`, which can't be
+/// indefinite.
+#[inline(always)]
+pub(crate) fn note_width(mark: Mark, n: u64, place: usize, slip: &mut Option<Slip>)
+    ensures { Notes slip.old slip.new (says.width_slips place mark n) }
+{
+    match mark {
+        Mark::Absent => {}
+        Mark::Endless => note(place, EdnReason::IndicatorNotAllowed, slip),
+        Mark::Wide(width) => {
+            note_unless(width.holds(n), place, EdnReason::IndicatorTooNarrow, slip);
+        }
+    }
+}
+
+/// Whether there is none.
+#[inline(always)]
+pub(crate) fn is_none(slip: Option<Slip>) -> bool
+    ensures { result ≡ pure.is_none slip }
+{
+    matches!(slip, None)
 }

@@ -1,210 +1,214 @@
-//! The reader of tokens: what is open, and what stands right before the next token.
+//! What the reader keeps: where it stands, what it has written, and an entry for each open bracket.
 
-ghost use Rattle.std.specs.Prelude.{◌≡◌, suc, ◌^◌, ◌<◌, [], ◌∷◌, Some, None, IfOk, OnOk, if◌then◌else◌};
-ghost use Rattle.cborn_edn.specs.devices.Draft as pure;
-ghost use Rattle.cborn_edn.specs.devices.Levels.{levels_in, reach};
-ghost use Rattle.cborn_edn.specs.devices.Ready.{IsReady, IsHeld};
-ghost use Rattle.cborn_edn.specs.declared.brackets.Bracket.TheVariants.{Top};
-ghost use Rattle.cborn_edn.specs.declared.states.Phase.TheVariants.{Wants, Has};
-
-use crate::brackets::{Bracket, Brackets};
-use crate::contents::Row;
-use crate::shapes::depth_at;
-use crate::slips::{Slip, earlier};
-use crate::spellings::Spelling;
-use crate::strings::Pieces;
-use cborn_lex::{Class, Token};
-use cborn_model::ByteString;
+use crate::{Slip, StringKind};
+use cborn_lex::Mark;
+use cborn_model::push_doubling;
 use std::alloc::{AllocError, Global};
+use std::marker::Model;
+
+/// A kind of open bracket.
+#[derive(Clone, Copy, PartialEq, Eq)]
+pub(crate) enum Level {
+    Array,
+    /// `<<`
+    Embedded,
+    /// A map where a key is wanted or stands.
+    Key,
+    /// A map after a key and its colon.
+    Value,
+    Tag,
+}
 
 /// What stands right before the next token.
-#[derive(Drop)]
-pub(crate) enum Phase {
-    /// An opening bracket, a comma, a colon, or nothing: an item is wanted.
+#[derive(Clone, Copy, PartialEq, Eq)]
+pub(crate) enum Stand {
+    /// An opening bracket, a colon, or nothing: an item is wanted.
     Wants,
-    /// An item that is no string; none where it has a slip.
-    Has(Option<Spelling>),
-    /// Pieces of a string, to which more may come.
-    Builds(Pieces),
+    /// A comma, after which an item or a key is wanted.
+    WantsMore,
+    /// An item that is no string in pieces.
+    Has,
+    /// Pieces of a string or of a chunk.
+    Builds,
     /// `(_`, or a comma between chunks.
     WantsChunk,
     /// `simple(`
-    WantsNumber { place: u64 },
+    WantsNumber,
     /// `simple(` and a number.
-    HasNumber(Option<Spelling>),
+    HasNumber,
 }
 
-/// What the reader keeps.
-#[derive(Drop)]
-pub(crate) struct State {
-    pub(crate) brackets: Brackets,
-    pub(crate) phase: Phase,
-    /// The first fault of meaning so far.
+/// Where the reader is: the offset in the text, in bytes; what stands before it; the innermost
+/// bracket, none at the top; and how many items or pairs with their commas stand in it.
+#[derive(Clone, Copy)]
+pub(crate) struct Here {
+    pub(crate) at: usize,
+    pub(crate) count: u64,
+    pub(crate) stand: Stand,
+    pub(crate) level: Option<Level>,
+}
+
+impl Here {
+    /// Before the first token.
+    pub(crate) const FIRST: Here = Here {
+        at: 0,
+        count: 0,
+        stand: Stand::Wants,
+        level: None,
+    };
+}
+
+/// An open bracket. `count` and `level` are those around it, `place` is its offset in the text, and
+/// `start` that of the byte in the place of its head in the output.
+#[derive(Clone, Copy)]
+pub(crate) struct Frame {
+    pub(crate) place: usize,
+    pub(crate) start: usize,
+    pub(crate) count: u64,
+    pub(crate) level: Option<Level>,
+    pub(crate) mark: Mark,
+}
+
+/// The pieces of a string so far, as one: the first gives the kind and the place, the last one the
+/// indicator. Its bytes are those of the output after the byte at `start`.
+#[derive(Clone, Copy)]
+pub(crate) struct Joint {
+    pub(crate) kind: StringKind,
+    pub(crate) start: usize,
+    pub(crate) place: usize,
+    pub(crate) mark: Mark,
+    /// The place of the token that carries the indicator.
+    pub(crate) mark_place: usize,
+    /// Whether it is a lone `''` or `""`.
+    pub(crate) lone: bool,
+    /// Whether nothing embedded in it has a meaning error.
+    pub(crate) known: bool,
+}
+
+/// The chunks of a string so far. The first gives the kind, and `start` is the offset of the byte in
+/// the place of the string's head in the output.
+#[derive(Clone, Copy)]
+pub(crate) struct Chunks {
+    pub(crate) start: usize,
+    pub(crate) kind: Option<StringKind>,
+}
+
+/// What stands around a `<<`: the pieces before it, the chunks that the string is one of, and the
+/// first meaning error before it.
+#[derive(Clone, Copy)]
+pub(crate) struct Around {
+    pub(crate) string: Option<Joint>,
+    pub(crate) chunks: Option<Chunks>,
     pub(crate) slip: Option<Slip>,
 }
 
-impl State {
-    /// Before the first token.
-    pub(crate) fn new(alloc: Global) -> Result<State, AllocError>
-        ensures { IfOk result (λ s. s ≡ pure.keep (Top pure.no_row ∷ []) Wants None) }
-    {
-        let mut brackets = Brackets::new(alloc);
-        brackets.push(Bracket::Top(Row::new(alloc)))?;
-        Ok(State {
-            brackets,
-            phase: Phase::Wants,
-            slip: None,
-        })
-    }
+/// What is written, and what is open. A string, or chunks, are there only while they are read.
+#[derive(Drop)]
+pub(crate) struct Writer {
+    pub(crate) out: Vec<u8>,
+    pub(crate) frames: Frames,
+    pub(crate) around: Arounds,
+    pub(crate) string: Option<Joint>,
+    pub(crate) chunks: Option<Chunks>,
+    /// The place of the last `simple(`.
+    pub(crate) simple: usize,
+    /// The first meaning error since the innermost `<<`.
+    pub(crate) slip: Option<Slip>,
+}
 
-    /// How deep a token of this class goes here.
-    pub(crate) fn reach(&self, class: &Class) -> u64
-        ensures { result ≡ reach (levels_in self.now.brackets) class.now }
-    {
-        depth_at(self.brackets.levels(), class)
-    }
+/// The open brackets. Contracts see the innermost first.
+#[derive(Drop)]
+pub(crate) struct Frames {
+    frames: Vec<Frame>,
+}
 
-    /// Whether a token of this class is a bracket behind a comma.
-    pub(crate) fn is_behind_comma(&self, class: &Class) -> bool
-        ensures { result ≡ pure.is_behind_comma self.now.phase self.now.brackets class.now }
+impl Model for Frames {
+    ghost use Rattle.std.specs.Prelude.{List};
+    ghost use Rattle.cborn_edn.specs.declared.states.Frame.{Frame as OneFrame};
+    ghost use mathlib.Core.List as lists;
+
+    ghost Value = { List OneFrame };
+
+    ghost view = { λ l. lists.reverse l.frames.items };
+}
+
+impl Frames {
+    ghost use Rattle.std.specs.Prelude.{◌≡◌, ◌<◌, ◌^◌, [], ◌∷◌, length, MatchOption, OnOk};
+
+    /// None are open.
+    pub(crate) fn new(alloc: Global) -> Frames
+        ensures { result ≡ [] }
     {
-        match &self.phase {
-            Phase::Wants => self.brackets.is_filled(class),
-            _ => false,
+        Frames {
+            frames: Vec::new(alloc),
         }
     }
 
-    /// Memory holds the pieces of a string, so their length fits 64 bits. Does nothing.
-    pub(crate) fn in_memory(&self)
-        ensures { IsHeld self.now.phase }
+    /// How many are open.
+    #[tactic(auto, using(crate::proofs::Reader::Opened::innermost))]
+    pub(crate) fn count(&self) -> u64
+        ensures count { result ≡ length self.now }
+        ensures small { result < 2 ^ 63 }
     {
-        if let Phase::Builds(string) = &self.phase {
-            string.in_memory();
-        }
+        self.frames.len() as u64
     }
 
-    /// Takes `token`. Whether the grammar has such a token here; where it has none, the state is of
-    /// no use.
-    pub(crate) fn step(&mut self, alloc: Global, token: Token) -> Result<bool, AllocError>
-        requires { IsReady self.old }
-        ensures { IfOk result (λ b. pure.draft_step self.old token ≡ (if b then Some self.new else None)) }
+    /// One more, inside the others.
+    #[tactic(auto, using(crate::proofs::Reader::Opened::innermost))]
+    pub(crate) fn open(&mut self, frame: Frame) -> Result<(), AllocError>
+        ensures { OnOk result (self.new ≡ frame ∷ self.old) }
     {
-        let Token { start, class, .. } = token;
-        match std::mem::replace(&mut self.phase, Phase::Wants) {
-            Phase::Wants => self.begin(alloc, start, class),
-            Phase::Has(item) => self.after(item, start, &class),
-            Phase::Builds(string) => self.more(alloc, string, start, class),
-            Phase::WantsChunk => self.begin_chunk(alloc, start, class),
-            Phase::WantsNumber { place } => Ok(self.begin_number(alloc, place, start, &class)),
-            Phase::HasNumber(item) => Ok(self.after_number(item, &class)),
-        }
+        push_doubling(&mut self.frames, frame)
     }
 
-    /// The next phase. The one before was taken out, so that there is nothing to drop.
-    #[inline]
-    pub(crate) fn enter(&mut self, phase: Phase)
-        requires { self.old.phase ≡ Wants }
-        ensures { self.new ≡ pure.keep self.old.brackets phase self.old.slip }
+    /// The innermost is taken off.
+    pub(crate) fn shut(&mut self) -> Option<Frame>
+        ensures { MatchOption result (self.old ≡ []) (λ f. self.old ≡ f ∷ self.new) }
     {
-        let Phase::Wants = &self.phase else {
-            unreachable!();
-        };
-        self.phase = phase;
-    }
-
-    /// What is wrong, if anything, with what was just read.
-    #[inline]
-    #[tactic(auto, using(crate::proofs::Meaning::Earliest::slips))]
-    pub(crate) fn note(&mut self, found: Option<Slip>)
-        ensures { self.new ≡ pure.keep self.old.brackets self.old.phase (pure.earlier self.old.slip found) }
-    {
-        if found.is_some() {
-            self.slip = earlier(self.slip, found);
-        }
-    }
-
-    /// A bracket opens, in which an item is wanted.
-    #[inline]
-    pub(crate) fn open(&mut self, bracket: Bracket) -> Result<(), AllocError>
-        requires { self.old.phase ≡ Wants }
-        ensures { OnOk result (self.new ≡ pure.keep (bracket ∷ self.old.brackets) Wants self.old.slip) }
-    {
-        self.brackets.push(bracket)
-    }
-
-    /// An item stands complete; `found` is what is wrong with it.
-    #[inline]
-    pub(crate) fn stand(&mut self, item: Option<Spelling>, found: Option<Slip>)
-        requires { self.old.phase ≡ Wants }
-        ensures { self.new ≡ pure.keep self.old.brackets (Has item) (pure.earlier self.old.slip found) }
-    {
-        self.note(found);
-        self.enter(Phase::Has(item));
-    }
-
-    /// A piece stands complete, behind others.
-    #[inline(never)]
-    pub(crate) fn join(&mut self, before: Pieces, piece: Pieces) -> Result<(), AllocError>
-        requires { self.old.phase ≡ Wants }
-        ensures { OnOk result (self.new ≡ pure.built self.old.brackets self.old.slip (Some before) piece) }
-    {
-        self.note(before.slip_before(&piece));
-        self.enter(Phase::Builds(before.with(piece)?));
-        Ok(())
+        self.frames.pop()
     }
 }
 
-/// The bytes of the whole text and its first slip, or nothing where the text may not end here.
-pub(crate) fn finished(
-    alloc: Global,
-    state: State,
-) -> Result<Option<(Option<ByteString>, Option<Slip>)>, AllocError>
-    requires { IsReady state }
-    ensures { IfOk result (λ o. o ≡ pure.finished state) }
-{
-    let State {
-        mut brackets,
-        phase,
-        slip,
-    } = state;
-    match brackets.pop() {
-        Some(bracket) => match bracket {
-            Bracket::Top(items) => finished_top(alloc, phase, slip, items),
-            _ => Ok(None),
-        },
-        None => Ok(None),
-    }
+/// What stands around each open `<<`. Contracts see the innermost first.
+#[derive(Drop)]
+pub(crate) struct Arounds {
+    arounds: Vec<Around>,
 }
 
-/// The same, by what stands right before the end.
-fn finished_top(
-    alloc: Global,
-    phase: Phase,
-    slip: Option<Slip>,
-    items: Row,
-) -> Result<Option<(Option<ByteString>, Option<Slip>)>, AllocError>
-    requires { suc items.count < 2 ^ 64 }
-    ensures { IfOk result (λ o. o ≡ pure.finished_top phase slip items) }
-{
-    match phase {
-        Phase::Wants => {
-            if items.count == 0 {
-                Ok(Some((items.bytes, slip)))
-            } else {
-                Ok(None)
-            }
+impl Model for Arounds {
+    ghost use Rattle.std.specs.Prelude.{List};
+    ghost use Rattle.cborn_edn.specs.declared.states.Around.{Around as OneAround};
+    ghost use mathlib.Core.List as lists;
+
+    ghost Value = { List OneAround };
+
+    ghost view = { λ l. lists.reverse l.arounds.items };
+}
+
+impl Arounds {
+    ghost use Rattle.std.specs.Prelude.{◌≡◌, [], ◌∷◌, MatchOption, OnOk};
+
+    /// None are open.
+    pub(crate) fn new(alloc: Global) -> Arounds
+        ensures { result ≡ [] }
+    {
+        Arounds {
+            arounds: Vec::new(alloc),
         }
-        Phase::Has(item) => {
-            let mut items = items;
-            items.add(item)?;
-            Ok(Some((items.bytes, slip)))
-        }
-        Phase::Builds(string) => {
-            let (item, found) = string.into_item(alloc)?;
-            let mut items = items;
-            items.add(item)?;
-            Ok(Some((items.bytes, earlier(slip, found))))
-        }
-        _ => Ok(None),
+    }
+
+    /// One more, inside the others.
+    #[tactic(auto, using(crate::proofs::Reader::Opened::innermost))]
+    pub(crate) fn open(&mut self, around: Around) -> Result<(), AllocError>
+        ensures { OnOk result (self.new ≡ around ∷ self.old) }
+    {
+        push_doubling(&mut self.arounds, around)
+    }
+
+    /// The innermost is taken off.
+    pub(crate) fn shut(&mut self) -> Option<Around>
+        ensures { MatchOption result (self.old ≡ []) (λ a. self.old ≡ a ∷ self.new) }
+    {
+        self.arounds.pop()
     }
 }

@@ -1,18 +1,29 @@
-//! Strings of the notation, piece by piece.
+//! Strings, piece by piece, and their chunks (RFC 8949 section 3.2.3, RFC 8610 appendix G.4).
 
-ghost use Rattle.std.specs.Prelude.{◌≡◌, ◌≤◌, false, IfOk};
-ghost use Rattle.cborn_model.specs.Heads.{code};
-ghost use Rattle.cborn_edn.specs.devices.Draft as pure;
-ghost use Rattle.cborn_edn.specs.shared.Meaning.{is_good};
-ghost use Rattle.cborn_edn.specs.devices.Counted.{IsShort};
+ghost use Rattle.std.specs.Prelude.{◌≡◌, ℕ, ◌<◌, ◌++◌, ◌∷◌, List, Bool, length, IsSome, None, OnOk, true, ◌&&◌};
+ghost use Rattle.cborn_model.specs.Bytes.{AreBytes};
+ghost use Rattle.cborn_edn.specs.devices.Modest.{AreModest};
+ghost use Rattle.cborn_edn.specs.Says as says;
+ghost use Rattle.cborn_edn.specs.declared.strings.StringKind.TheVariants.{Text as OfText};
+ghost use Rattle.cborn_edn.specs.shared.Syntax.{Span as Place, Pieces as Joined, Strings, StringsBefore, strings, string, chunked, also, piece, after_strings, tokens_of_pieces};
+ghost use Rattle.cborn_edn.specs.shared.Machine.{Stack, Home, as_item, as_chunk, has, builds, wants_chunk};
+ghost use Rattle.cborn_edn.specs.shared.Machine.{at_home};
+ghost use Rattle.cborn_edn.specs.shared.Said.{str};
+ghost use Rattle.cborn_model.specs.Spelled as spells;
+ghost use Rattle.cborn_edn.specs.devices.Laid.{cut, major_of};
+ghost use Rattle.cborn_edn.specs.devices.Kept.{joint, kind_or};
+ghost use Rattle.cborn_edn.specs.devices.Slips.{Notes};
+ghost use Rattle.cborn_edn.specs.declared.states.Here.{Here as Standing};
+ghost use Rattle.cborn_edn.specs.devices.Shows.{Shows, Leads, piece_of};
 
-use crate::EdnReason;
-use crate::numbers::width_for;
-use crate::slips::{Slip, earlier, slip_at, slip_unless};
-use crate::spellings::Spelling;
+use crate::heads::set_head;
+use crate::numbers::{is_absent, width_for};
+use crate::slips::{note_unless, note_width};
+use crate::states::{Chunks, Here, Joint, Stand, Writer};
+use crate::{EdnReason, Slip};
 use cborn_lex::Mark;
-use cborn_model::{ByteString, Major};
-use std::alloc::{AllocError, Global};
+use cborn_model::{BREAK, Major};
+use std::alloc::AllocError;
 
 /// Whether a string is of bytes or of text.
 #[derive(Clone, Copy, PartialEq, Eq)]
@@ -23,261 +34,262 @@ pub enum StringKind {
     Text,
 }
 
-impl StringKind {
-    /// The major type.
-    pub(crate) fn major(self) -> Major
-        ensures major { result ≡ pure.major_of self }
-        ensures low { code result ≤ 6 }
-    {
-        match self {
-            StringKind::Bytes => Major::ByteString,
-            StringKind::Text => Major::TextString,
-        }
+/// The major type of a string.
+#[inline(always)]
+fn major_of(kind: StringKind) -> Major
+    ensures { result ≡ major_of kind }
+{
+    match kind {
+        StringKind::Bytes => Major::ByteString,
+        StringKind::Text => Major::TextString,
     }
 }
 
-/// The pieces of a string so far, as one: the first gives the kind and the place, the last one the
-/// indicator.
-#[derive(Drop)]
-pub(crate) struct Pieces {
-    pub(crate) kind: StringKind,
-    pub(crate) place: u64,
-    /// The joined bytes; none where an embedded item has a slip.
-    pub(crate) bytes: Option<ByteString>,
-    pub(crate) mark: Mark,
-    /// The place of the token that carries the indicator.
-    pub(crate) mark_place: u64,
-    /// Whether no piece but the last has an indicator, and none is of the wrong kind.
-    pub(crate) sound: bool,
-    /// Whether it is a lone `''` or `""`.
-    pub(crate) quote: bool,
+/// Whether both are byte strings, or both text strings.
+#[inline(always)]
+fn are_same(one: StringKind, other: StringKind) -> bool
+    ensures { result ≡ says.same_kind one other }
+{
+    match (one, other) {
+        (StringKind::Bytes, StringKind::Bytes) | (StringKind::Text, StringKind::Text) => true,
+        _ => false,
+    }
 }
 
-impl Pieces {
-    /// A text piece.
-    pub(crate) fn text(place: u64, bytes: ByteString, mark: Mark) -> Pieces
-        ensures { result ≡ pure.text_piece place bytes mark }
-    {
-        Pieces {
-            kind: StringKind::Text,
-            place,
-            quote: bytes.as_slice().is_empty(),
-            bytes: Some(bytes),
-            mark,
-            mark_place: place,
-            sound: true,
-        }
+/// Whether a piece of the second kind may follow in a string of the first: bytes in a text string,
+/// but no text in a byte string.
+#[inline(always)]
+fn may_join(kind: StringKind, next: StringKind) -> bool
+    ensures { result ≡ says.may_join kind next }
+{
+    match (kind, next) {
+        (StringKind::Bytes, StringKind::Text) => false,
+        _ => true,
     }
+}
 
-    /// A byte piece.
-    pub(crate) fn bytes(place: u64, quoted: bool, bytes: ByteString, mark: Mark) -> Pieces
-        ensures { result ≡ pure.byte_piece place quoted bytes mark }
-    {
-        Pieces {
-            kind: StringKind::Bytes,
-            place,
-            quote: quoted && bytes.as_slice().is_empty(),
-            bytes: Some(bytes),
-            mark,
-            mark_place: place,
-            sound: true,
-        }
-    }
+/// Notes what is wrong with a piece at `place` after others.
+pub(crate) fn note_piece(string: Joint, kind: StringKind, place: usize, slip: &mut Option<Slip>)
+    ensures { (s t : says.Str) (start : ℕ) → string ≡ joint start s → kind ≡ t.kind → place ≡ t.place → Notes slip.old slip.new (says.piece_slips s t) }
+{
+    note_unless(
+        is_absent(string.mark),
+        string.mark_place,
+        EdnReason::IndicatorNotAllowed,
+        slip,
+    );
+    note_unless(
+        may_join(string.kind, kind),
+        place,
+        EdnReason::MixedString,
+        slip,
+    );
+}
 
-    /// An embedded sequence, of these bytes, that ends with the token at `end`.
-    pub(crate) fn embedded(place: u64, bytes: Option<ByteString>, end: u64, mark: Mark) -> Pieces
-        ensures { result ≡ pure.embedded_piece place bytes end mark }
-    {
-        Pieces {
-            kind: StringKind::Bytes,
-            place,
-            bytes,
-            mark,
-            mark_place: end,
-            sound: true,
-            quote: false,
-        }
-    }
-
-    /// What is wrong with `next` behind these pieces.
-    pub(crate) fn slip_before(&self, next: &Pieces) -> Option<Slip>
-        ensures { result ≡ pure.slip_before self.now next.now }
-    {
-        let bare = slip_unless(
-            self.mark == Mark::Absent,
-            self.mark_place,
-            EdnReason::IndicatorNotAllowed,
+/// Notes what is wrong with a whole string of `size` bytes, which stand in `content`. `may_end` is
+/// whether it may be of indefinite length without a chunk.
+fn note_string(may_end: bool, string: Joint, content: &[u8], slip: &mut Option<Slip>)
+    ensures { (s : says.Str) (start : ℕ) → string ≡ joint start s → content.now ≡ cut s.bytes → (s.known ≡ true → AreBytes s.bytes) → Notes slip.old slip.new (says.string_slips may_end s) }
+{
+    note_mark(may_end, string, content.len() as u64, slip);
+    if string.known {
+        note_unless(
+            is_good(string.kind, content),
+            string.place,
+            EdnReason::TextNotUtf8,
+            slip,
         );
-        let mixed = slip_unless(self.admits(next), next.place, EdnReason::MixedString);
-        earlier(bare, mixed)
-    }
-
-    /// Byte pieces may stand in a text string, text pieces in no byte string.
-    fn admits(&self, next: &Pieces) -> bool
-        ensures { result ≡ pure.admits self.now.kind next.now.kind }
-    {
-        self.kind == StringKind::Text || next.kind == StringKind::Bytes
-    }
-
-    /// These pieces, and `next` behind them.
-    pub(crate) fn with(self, next: Pieces) -> Result<Pieces, AllocError>
-        ensures { IfOk result (λ d. d ≡ pure.with_next self next) }
-    {
-        let sound = self.sound && self.mark == Mark::Absent && self.admits(&next);
-        let bytes = joined(self.bytes, next.bytes)?;
-        Ok(Pieces {
-            kind: self.kind,
-            place: self.place,
-            bytes,
-            mark: next.mark,
-            mark_place: next.mark_place,
-            sound,
-            quote: false,
-        })
-    }
-
-    /// Memory holds the bytes, so their length fits 64 bits. Does nothing.
-    pub(crate) fn in_memory(&self)
-        ensures { IsShort self.now.bytes }
-    {
-        if let Some(bytes) = &self.bytes {
-            let _length = bytes.as_slice().len();
-        }
-    }
-
-    /// What is wrong with the whole string. `may_end` is whether it may have the indicator `_`.
-    pub(crate) fn slip(&self, may_end: bool) -> Option<Slip>
-        ensures { result ≡ pure.string_slip may_end self.now }
-    {
-        match self.mark_slip(may_end) {
-            None => self.text_slip(),
-            marked => earlier(marked, self.text_slip()),
-        }
-    }
-
-    /// What is wrong with the indicator.
-    fn mark_slip(&self, may_end: bool) -> Option<Slip>
-        ensures { result ≡ pure.mark_slip may_end self.now.mark_place self.now.mark self.now.bytes }
-    {
-        match (self.mark, &self.bytes) {
-            (Mark::Absent, _) => None,
-            (Mark::Endless, _) => {
-                slip_unless(may_end, self.mark_place, EdnReason::IndicatorNotAllowed)
-            }
-            (Mark::Wide(_), None) => None,
-            (Mark::Wide(_), Some(bytes)) => {
-                let width = width_for(self.mark, bytes.as_slice().len() as u64);
-                slip_at(self.mark_place, &width)
-            }
-        }
-    }
-
-    /// What is wrong with the text.
-    fn text_slip(&self) -> Option<Slip>
-        ensures { result ≡ pure.text_slip self.now.kind self.now.place self.now.bytes }
-    {
-        match &self.bytes {
-            Some(bytes) => {
-                let good = is_good(self.kind, bytes);
-                slip_unless(good, self.place, EdnReason::TextNotUtf8)
-            }
-            None => None,
-        }
-    }
-
-    /// The string as an item, and what is wrong with it as a whole.
-    pub(crate) fn into_item(
-        self,
-        alloc: Global,
-    ) -> Result<(Option<Spelling>, Option<Slip>), AllocError>
-        ensures item { IfOk result (λ p. p.0 ≡ pure.string_item self) }
-        ensures slip { IfOk result (λ p. p.1 ≡ pure.string_slip self.quote self) }
-    {
-        let slip = self.slip(self.quote);
-        if !self.sound || slip.is_some() {
-            return Ok((None, slip));
-        }
-        let Pieces {
-            kind,
-            bytes,
-            mark,
-            ..
-        } = self;
-        match bytes {
-            Some(bytes) => Ok((marked(alloc, kind, mark, bytes)?, slip)),
-            None => Ok((None, slip)),
-        }
-    }
-
-    /// The string as a chunk, and what is wrong with it as a whole.
-    pub(crate) fn into_chunk(self) -> (Option<Spelling>, Option<Slip>)
-        ensures chunk { result.0 ≡ pure.string_chunk self }
-        ensures slip { result.1 ≡ pure.string_slip false self }
-    {
-        let slip = self.slip(false);
-        if !self.sound || slip.is_some() {
-            return (None, slip);
-        }
-        let Pieces {
-            kind,
-            bytes,
-            mark,
-            ..
-        } = self;
-        match bytes {
-            Some(bytes) => (definite(kind, mark, bytes), slip),
-            None => (None, slip),
-        }
     }
 }
 
-/// Text has to be UTF-8.
-fn is_good(kind: StringKind, bytes: &ByteString) -> bool
-    ensures { result ≡ is_good kind bytes.now }
+/// Notes what is wrong with the indicator of a whole string of `size` bytes.
+fn note_mark(may_end: bool, string: Joint, size: u64, slip: &mut Option<Slip>)
+    ensures { (s : says.Str) (start : ℕ) → string ≡ joint start s → size ≡ length s.bytes → Notes slip.old slip.new (says.mark_slips may_end s) }
+{
+    if is_endless(string.mark) {
+        note_unless(
+            may_end,
+            string.mark_place,
+            EdnReason::IndicatorNotAllowed,
+            slip,
+        );
+    } else if string.known {
+        note_width(string.mark, size, string.mark_place, slip);
+    }
+}
+
+/// Whether an indicator asks for an indefinite length.
+#[inline(always)]
+pub(crate) fn is_endless(mark: Mark) -> bool
+    ensures { result ≡ says.is_endless mark }
+{
+    matches!(mark, Mark::Endless)
+}
+
+/// Whether a text string is UTF-8.
+fn is_good(kind: StringKind, content: &[u8]) -> bool
+    ensures { result ≡ says.is_good kind content.now }
 {
     match kind {
         StringKind::Bytes => true,
-        StringKind::Text => simdutf8::is_utf8(bytes.as_slice()),
+        StringKind::Text => simdutf8::is_utf8(content),
     }
 }
 
-/// The bytes of both.
-fn joined(
-    first: Option<ByteString>,
-    second: Option<ByteString>,
-) -> Result<Option<ByteString>, AllocError>
-    ensures { IfOk result (λ b. b ≡ pure.joined_bytes first second) }
+/// Writes the head of a string with a length in the place of the byte before it.
+fn set_length(major: Major, string: Joint, out: &mut Vec<u8>) -> Result<(), AllocError>
+    requires { string.start < length out.old.items }
+    ensures { OnOk result ((s : says.Str) (base : List ℕ) → string ≡ joint (length base) s → out.old.items ≡ cut (base ++ (0 ∷ s.bytes)) → out.new.items ≡ cut (base ++ spells.string major (says.width s.mark (length s.bytes)) s.bytes)) }
 {
-    match (first, second) {
-        (Some(first), Some(second)) => {
-            let mut bytes = first.into_vec();
-            bytes.extend_from_slice(second.as_slice())?;
-            Ok(Some(ByteString::new(bytes)))
-        }
-        _ => Ok(None),
-    }
+    let size = (out.len() - string.start - 1) as u64;
+    set_head(major, width_for(string.mark, size), size, string.start, out)
 }
 
-/// The string of these bytes, or the one without chunks.
-fn marked(
-    alloc: Global,
+/// Writes the head of a whole string, and notes what is wrong with it.
+fn close_string(string: Joint, out: &mut Vec<u8>, slip: &mut Option<Slip>) -> Result<(), AllocError>
+    requires { string.start < length out.old.items }
+    ensures added { OnOk result ((s : says.Str) (base : List ℕ) → string ≡ joint (length base) s → out.old.items ≡ cut (base ++ (0 ∷ s.bytes)) → out.new.items ≡ cut (base ++ spells.spelled (says.said_string s))) }
+    ensures noted { OnOk result ((s : says.Str) (base : List ℕ) → string ≡ joint (length base) s → out.old.items ≡ cut (base ++ (0 ∷ s.bytes)) → (s.known ≡ true → AreBytes s.bytes) → Notes slip.old slip.new (says.string_slips s.lone s)) }
+{
+    note_string(string.lone, string, &out[string.start + 1..], slip);
+    if string.lone && is_endless(string.mark) {
+        out.truncate(string.start);
+        return out.extend_from_slice(&[major_of(string.kind).endless_head(), BREAK]);
+    }
+    set_length(major_of(string.kind), string, out)
+}
+
+/// Whether a piece of `size` bytes is a lone `''` or `""`.
+#[inline(always)]
+fn is_lone(quoted: bool, size: usize) -> bool
+    ensures { (x : List ℕ) → size ≡ length x → result ≡ (quoted && says.is_nil x) }
+{
+    quoted && size == 0
+}
+
+/// The first piece of a string, after the byte at `start`.
+#[inline(always)]
+pub(crate) fn begin_string(
     kind: StringKind,
+    start: usize,
+    place: usize,
     mark: Mark,
-    bytes: ByteString,
-) -> Result<Option<Spelling>, AllocError>
-    ensures { IfOk result (λ o. o ≡ pure.marked_bytes kind mark bytes) }
+    quoted: bool,
+    here: &mut Here,
+    writer: &mut Writer,
+)
+    requires { start < length writer.old.out.items }
+    ensures { (h : Home) (a : Place) (x base : List ℕ) → place ≡ a.start → start ≡ length base → writer.old.out.items ≡ base ++ (0 ∷ x) → AreBytes x → (kind ≡ OfText → quoted ≡ true) → Shows here.old writer.old base (at_home h None) → Shows here.new writer.new writer.new.out.items (builds h (piece (piece_of kind a quoted x mark))) }
 {
-    if mark == Mark::Endless {
-        let no_chunks = Spelling::endless(kind.major(), Vec::new(alloc))?;
-        return Ok(Some(no_chunks));
-    }
-    Ok(definite(kind, mark, bytes))
+    writer.string = Some(Joint {
+        kind,
+        start,
+        place,
+        mark,
+        mark_place: place,
+        lone: is_lone(quoted, writer.out.len() - start - 1),
+        known: true,
+    });
+    here.stand = Stand::Builds;
 }
 
-/// The definite string of these bytes.
-fn definite(kind: StringKind, mark: Mark, bytes: ByteString) -> Option<Spelling>
-    ensures { result ≡ pure.definite_bytes kind mark bytes }
+/// One more piece of a string.
+pub(crate) fn join(kind: StringKind, place: usize, mark: Mark, writer: &mut Writer)
+    requires { IsSome writer.old.string }
+    ensures { (here : Standing) (h : Home) (ps : Joined) (a : Place) (q : Bool) (x base : List ℕ) → place ≡ a.start → writer.old.out.items ≡ base ++ x → AreBytes x → Shows here writer.old base (builds h ps) → Shows here writer.new writer.new.out.items (builds h (also ps (piece_of kind a q x mark))) }
 {
-    let width = width_for(mark, bytes.as_slice().len() as u64).ok()?;
-    Some(Spelling::string(kind.major(), width, bytes))
+    let Some(string) = writer.string else {
+        unreachable!();
+    };
+    note_piece(string, kind, place, &mut writer.slip);
+    writer.string = Some(Joint {
+        mark,
+        mark_place: place,
+        lone: false,
+        ..string
+    });
+}
+
+/// The string ends, as an item.
+pub(crate) fn end_item(here: &mut Here, writer: &mut Writer) -> Result<(), AllocError>
+    requires { (st : Stack) × (ps : Joined) × Shows here.old writer.old writer.old.out.items (builds (as_item st) ps) }
+    ensures { OnOk result ((st : Stack) (ps : Joined) → AreModest (tokens_of_pieces ps) → Leads here.old writer.old here.new writer.new (builds (as_item st) ps) (has st (string ps))) }
+{
+    let Some(joint) = writer.string else {
+        unreachable!();
+    };
+    writer.string = None;
+    here.stand = Stand::Has;
+    close_string(joint, &mut writer.out, &mut writer.slip)
+}
+
+/// The string ends, as a chunk.
+pub(crate) fn end_chunk(here: &mut Here, writer: &mut Writer) -> Result<(), AllocError>
+    requires { (st : Stack) × (s : Place) × (b : StringsBefore) × (ps : Joined) × Shows here.old writer.old writer.old.out.items (builds (as_chunk st s b) ps) }
+    ensures { OnOk result ((st : Stack) (s a : Place) (b : StringsBefore) (ps : Joined) → AreModest (tokens_of_pieces ps) → Leads here.old writer.old here.new writer.new (builds (as_chunk st s b) ps) (wants_chunk st s (after_strings (strings b ps) a))) }
+{
+    let Some(joint) = writer.string else {
+        unreachable!();
+    };
+    let Some(chunks) = writer.chunks else {
+        unreachable!();
+    };
+    let kind = kind_or(chunks.kind, joint.kind);
+    writer.string = None;
+    writer.chunks = Some(Chunks {
+        start: chunks.start,
+        kind: Some(kind),
+    });
+    here.stand = Stand::WantsChunk;
+    close_chunk(kind, joint, &mut writer.out, &mut writer.slip)
+}
+
+/// The kind of the first chunk, which `next` is where there is none before it.
+#[inline(always)]
+fn kind_or(first: Option<StringKind>, next: StringKind) -> StringKind
+    ensures { result ≡ kind_or first next }
+{
+    match first {
+        Some(kind) => kind,
+        None => next,
+    }
+}
+
+/// Writes the head of a chunk, and notes what is wrong with it; `kind` is that of the first chunk.
+fn close_chunk(
+    kind: StringKind,
+    string: Joint,
+    out: &mut Vec<u8>,
+    slip: &mut Option<Slip>,
+) -> Result<(), AllocError>
+    requires { string.start < length out.old.items }
+    ensures added { OnOk result ((s : says.Str) (base : List ℕ) → string ≡ joint (length base) s → out.old.items ≡ cut (base ++ (0 ∷ s.bytes)) → out.new.items ≡ cut (base ++ spells.chunk_bytes (major_of kind) (says.chunk s))) }
+    ensures noted { OnOk result ((s : says.Str) (base : List ℕ) → string ≡ joint (length base) s → out.old.items ≡ cut (base ++ (0 ∷ s.bytes)) → (s.known ≡ true → AreBytes s.bytes) → Notes slip.old slip.new (says.chunk_slips kind s)) }
+{
+    note_unless(
+        are_same(kind, string.kind),
+        string.place,
+        EdnReason::MixedChunks,
+        slip,
+    );
+    note_string(false, string, &out[string.start + 1..], slip);
+    set_length(major_of(kind), string, out)
+}
+
+/// The chunks end, of which there is one at least.
+pub(crate) fn end_chunks(here: &mut Here, writer: &mut Writer) -> Result<(), AllocError>
+    requires { (st : Stack) × (s : Place) × (a : Place) × (ss : Strings) × Shows here.old writer.old writer.old.out.items (wants_chunk st s (after_strings ss a)) }
+    ensures { OnOk result ((st : Stack) (s a e : Place) (ss : Strings) → Leads here.old writer.old here.new writer.new (wants_chunk st s (after_strings ss a)) (has st (chunked s ss e))) }
+{
+    let Some(chunks) = writer.chunks else {
+        unreachable!();
+    };
+    let Some(kind) = chunks.kind else {
+        unreachable!();
+    };
+    writer.chunks = None;
+    here.stand = Stand::Has;
+    writer.out[chunks.start] = major_of(kind).endless_head();
+    writer.out.push(BREAK)?;
+    Ok(())
 }

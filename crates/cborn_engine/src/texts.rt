@@ -8,9 +8,9 @@ ghost use Rattle.cborn_engine.specs.devices.Counting.{read_failures};
 ghost use Rattle.cborn_engine.specs.Refusing.{IsRefused};
 
 use crate::faults::EngineFault;
+use cborn_edn::read_text;
 use cborn_lex::Profile;
 use cborn_model::Limit;
-use cborn_reader::read_text;
 use cborn_spell::spell_text;
 use simdutf8::compat::from_utf8;
 use std::alloc::Global;

@@ -2,10 +2,10 @@
 #![tactic(auto)]
 
 #[cfg(test)]
+mod bytes;
+#[cfg(test)]
 mod edn;
 #[cfg(test)]
 mod lex;
-#[cfg(test)]
-mod recognise;
 #[cfg(test)]
 mod starts;

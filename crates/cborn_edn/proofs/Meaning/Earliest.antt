@@ -1,5 +1,5 @@
 -- The first of several slips: there is one where there is any, and it doesn't depend on their order.
-use Rattle.std.proofs.Common.{◌≡◌, refl, sym, ap, subst, ◌∙◌, ℕ, ◌+◌, ◌*◌, ◌<◌, ◌≤◌, List, [], ◌∷◌, ◌++◌, Bool, true, false, ◌==◌, ◌&&◌, ◌||◌, cond, if◌then◌else◌, leb, ltb, eqb, Option, Some, None, inl, arith}
+use Rattle.std.proofs.Common.{◌≡◌, refl, sym, ap, subst, ◌∙◌, ℕ, ◌+◌, ◌*◌, ◌<◌, ◌≤◌, List, [], ◌∷◌, ◌++◌, Bool, true, false, ◌==◌, ◌&&◌, ◌||◌, cond, if◌then◌else◌, leb, ltb, eqb, Option, Some, None, arith}
 use Rattle.std.specs.Prelude.{min}
 use Rattle.std.proofs.lemmas.Bool.{leb-true, leb-false, le-leb, lt-leb, ltb-true, ltb-false, eqb-true, eqb-false}
 use Rattle.cborn_model.specs.First.{NoLater, IsFirst}
@@ -8,7 +8,7 @@ use Rattle.cborn_edn.specs.declared.faults.EdnReason.{EdnReason}
 use Rattle.cborn_edn.specs.declared.faults.EdnReason.TheVariants.{UnexpectedToken, UnexpectedEnd, TooDeep, IndicatorTooNarrow, IndicatorNotAllowed, MixedString, MixedChunks, TextNotUtf8, BadSimple, TagTooLarge}
 use Rattle.cborn_edn.specs.declared.slips.Slip.{Slip}
 use Rattle.cborn_edn.specs.shared.Meaning.{number_of, unless, IsAmong}
-use Rattle.cborn_edn.specs.devices.Draft.{earlier, first_slip, slip_unless}
+use Rattle.cborn_edn.specs.devices.Slips.{earlier, first_slip, slip_unless}
 
 -- the reason that has a number
 abbrev reason_at : ℕ → EdnReason
@@ -97,8 +97,6 @@ pub earlier-none : (a : Option Slip) → earlier a None ≡ a
 earlier-none None = refl
 earlier-none (Some a) = refl
 
-pub ruleset slips = (earlier-none)
-
 earlier-comm : (a b : Option Slip) → earlier a b ≡ earlier b a
 earlier-comm None b = sym (earlier-none b)
 earlier-comm (Some a) None = refl
@@ -164,14 +162,3 @@ pub one_first : (l : List Slip) (p q : ℕ) (r s : EdnReason) → IsFirst number
 one_first l p q r s f g =
     let e = no_later_turned (p, number_of r) (q, number_of s) (f.first q s g.is) (g.first p r f.is) in
     (e.0, one_number r s e.1)
-
-pub none_among : (l : List Slip) → ((p : ℕ) (r : EdnReason) → IsAmong l p r → ⊥) → l ≡ []
-none_among [] none = refl
-none_among (x ∷ l) none = absurd (none x.place x.reason (inl (refl, refl)))
-
-pub some_first : (l : List Slip) (p : ℕ) (r : EdnReason) → IsAmong l p r → (q : ℕ) × (s : EdnReason) × IsFirst number_of (IsAmong l) q s
-some_first l p r h = go (first_slip l) (tells l)
-  where
-    go : (o : Option Slip) → Tells l o → (q : ℕ) × (s : EdnReason) × IsFirst number_of (IsAmong l) q s
-    go None e = absurd (nothing_among l p r e h)
-    go (Some s) f = (s.place, s.reason, f)

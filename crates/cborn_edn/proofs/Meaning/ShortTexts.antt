@@ -1,6 +1,6 @@
 -- A text of fewer than 2^56 bytes has one answer.
-use Rattle.std.proofs.Common.{◌≡◌, subst, ℕ, ◌^◌, ◌<◌, ◌≤◌, List, length, Option, Some, None, ◌⊎◌, inl, inr}
-use Rattle.cborn_edn.specs.devices.Draft.{first_slip}
+use Rattle.std.proofs.Common.{ℕ, ◌^◌, ◌<◌, ◌≤◌, List, length, Option, Some, None, ◌⊎◌, inl, inr}
+use Rattle.cborn_edn.specs.devices.Slips.{first_slip}
 use Rattle.cborn_model.specs.Bytes.{AreBytes}
 use Rattle.cborn_model.specs.Tree.{Trees, depth_all}
 use Rattle.cborn_model.specs.Spelled.{FitsAll}
@@ -8,35 +8,23 @@ use Rattle.cborn_lex.specs.declared.classes.Profile.{Profile}
 use Rattle.cborn_lex.specs.declared.classes.Token.{Token}
 use Rattle.cborn_lex.specs.declared.faults.LexReason.{LexReason}
 use Rattle.cborn_lex.specs.Lex.{Lex, Stop}
-use Rattle.cborn_lex.proofs.WholeTexts.Chains.{one_list, some_answer}
+use Rattle.cborn_lex.proofs.WholeTexts.Chains.{some_answer}
 use Rattle.cborn_lex.proofs.WholeTexts.Weights.{as_test}
 use Rattle.cborn_edn.specs.declared.faults.EdnReason.{EdnReason}
 use Rattle.cborn_edn.specs.declared.slips.Slip.{Slip}
 use Rattle.cborn_edn.specs.shared.Syntax.{Input, depth_of_input}
 use Rattle.cborn_edn.specs.devices.Parse.{Parse, HasTree, Jam}
-use Rattle.cborn_edn.specs.shared.Meaning.{FirstSlip, input_slips}
+use Rattle.cborn_edn.specs.shared.Meaning.{input_slips}
 use Rattle.cborn_edn.specs.devices.Notates.{Notates, Slips, Jams}
 use Rattle.cborn_edn.proofs.Meaning.Agree.{says}
 use Rattle.cborn_edn.proofs.Meaning.AnyLength.{any_fits}
 use Rattle.cborn_edn.proofs.Meaning.Counting.{counted_text}
-use Rattle.cborn_edn.proofs.Meaning.Earliest.{Tells, tells, nothing_among}
-use Rattle.cborn_edn.proofs.Meaning.NoSlip.{no_slip}
-use Rattle.cborn_edn.proofs.Grammar.OneTree.{one_tree, answered}
+use Rattle.cborn_edn.proofs.Meaning.Earliest.{Tells, tells}
+use Rattle.cborn_edn.proofs.Grammar.OneTree.{answered}
 
 -- LAW: the nodes fit their widths and are within the limit
 pub notated_fits : (profile : Profile) (limit : ℕ) (text : List ℕ) (nodes : Trees) → AreBytes text → length text < 2 ^ 56 → Notates profile limit text nodes → FitsAll nodes × (depth_all nodes ≤ limit)
 notated_fits profile limit text nodes are short h = any_fits profile limit text nodes are h
-
--- LAW: never nodes and a slip, of whatever length the text is
-pub notated_or_slips : (profile : Profile) (limit most : ℕ) (text : List ℕ) (nodes : Trees) (p : ℕ) (r : EdnReason) → Notates profile limit text nodes → Slips profile most text p r → ⊥
-notated_or_slips profile limit most text nodes p r h k =
-    let a = h.1 in
-    let b = k.1 in
-    let e : b.tokens ≡ a.tokens = one_list profile text b.tokens a.tokens b.lex a.lex in
-    let parse : Parse profile a.tokens k.0 = subst (λ (ts : List Token). Parse profile ts k.0) e b.parse in
-    let same : k.0 ≡ h.0 = one_tree profile profile a.tokens k.0 h.0 parse a.parse in
-    let slip : FirstSlip h.0 p r = subst (λ (t : Input). FirstSlip t p r) same k.2 in
-    nothing_among (input_slips h.0) p r (no_slip h.0 nodes h.2) slip.is
 
 abbrev pub Answered : Profile → ℕ → List ℕ → Type 0
 Answered profile limit text =

@@ -1,24 +1,36 @@
 -- Bytes that are spelled by what a text notates are read, and with the places of the text they are that.
-use Rattle.std.proofs.Common.{◌≡◌, sym, ap, ◌∙◌, subst, ℕ, List}
+use Rattle.std.proofs.Common.{◌≡◌, sym, ap, ◌∙◌, subst, ℕ, ◌^◌, ◌<◌, ◌≤◌, List, [], length, arith}
 use Rattle.cborn_model.specs.Bytes.{AreBytes}
-use Rattle.cborn_model.specs.Tree.{Trees}
-use Rattle.cborn_model.specs.Spelled.{Wellformed, spelled_all}
+use Rattle.cborn_model.specs.Tree.{Trees, depth_all}
+use Rattle.cborn_model.specs.Spelled.{FitsAll, Wellformed, spelled_all}
 use Rattle.cborn_lex.specs.declared.classes.Profile.{Profile}
+use Rattle.cborn_lex.proofs.GoodTexts.{lexed as lex_of}
+use Rattle.cborn_lex.proofs.WholeTexts.Weights.{AreModest, text_light}
 use Rattle.cborn_wire.specs.Faults.{IsWellformed}
-use Rattle.cborn_edn.specs.devices.Notates.{Notates}
-use Rattle.cborn_edn.specs.Grammar as grammar
+use Rattle.cborn_edn.specs.Grammar.{Notates}
+use Rattle.cborn_edn.specs.Spelling.{IsSpelling}
 use Rattle.cborn_edn.specs.Starts.{starts_all}
 use Rattle.cborn_edn.specs.devices.Put.{put_all}
 use Rattle.cborn_edn.proofs.Meaning.AnyLength.{any_fits}
+use Rattle.cborn_edn.proofs.Placed.Bounded.{bounded_input}
 use Rattle.cborn_edn.proofs.Placed.Putting.{same_nodes}
-use Rattle.cborn_edn.proofs.Short.Jammed.{notated}
+use Rattle.cborn_edn.proofs.Short.Jammed.{parsed}
+use Rattle.cborn_edn.proofs.Short.Same.{meant}
 
-module _ (profile : Profile) (limit : ℕ) (text bytes : List ℕ) (are : AreBytes text) (h : (nodes : Trees) × Notates profile limit text nodes × (bytes ≡ spelled_all nodes)) where
+module _ (profile : Profile) (limit : ℕ) (text bytes : List ℕ) (are : AreBytes text) (few : length bytes < 2 ^ 64) (h : IsSpelling profile limit text bytes) where
+  fit : FitsAll h.nodes × (depth_all h.nodes ≤ limit)
+  fit =
+      let x = h.notated.0 in
+      let lex = lex_of profile text x h.notated.1 in
+      let r = parsed profile limit x h.nodes [] h.notated.2 in
+      let modest = subst AreModest (sym r.parse.is) (text_light profile text x are lex).0 in
+      let counted = bounded_input r.tree modest (omega (arith, few, ap (λ ts. length (spelled_all ts)) r.says, ap length h.spells)) in
+      any_fits profile limit text h.nodes are (meant profile limit text h.nodes x lex r counted)
+
   pub is_wellformed : IsWellformed limit bytes
-  is_wellformed = let fit = any_fits profile limit text h.0 are h.1 in (h.0, record { spells = sym h.2; fit = fit.0; shallow = fit.1 })
+  is_wellformed = (h.nodes, record { spells = h.spells; fit = fit.0; shallow = fit.1 })
 
-  pub are_placed : (read now : Trees) (places : List ℕ) → Wellformed limit read bytes → ((most : ℕ) (nodes : Trees) → grammar.Notates profile most text nodes → places ≡ starts_all nodes) → now ≡ put_all places read → Notates profile limit text now
+  pub are_placed : (read now : Trees) (places : List ℕ) → Wellformed limit read bytes → ((most : ℕ) (nodes : Trees) → Notates profile most text nodes → places ≡ starts_all nodes) → now ≡ put_all places read → Notates profile limit text now
   are_placed read now places well all put =
-      let fit = any_fits profile limit text h.0 are h.1 in
-      let same : now ≡ h.0 = put ∙ ap (λ ps. put_all ps read) (all limit h.0 (notated profile limit text h.0 h.1)) ∙ same_nodes h.0 read fit.0 well.fit (sym h.2 ∙ sym well.spells) in
-      subst (Notates profile limit text) (sym same) h.1
+      let same : now ≡ h.nodes = put ∙ ap (λ ps. put_all ps read) (all limit h.nodes h.notated) ∙ same_nodes h.nodes read fit.0 well.fit (h.spells ∙ sym well.spells) in
+      subst (Notates profile limit text) (sym same) h.notated

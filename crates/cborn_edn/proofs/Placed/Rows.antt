@@ -1,11 +1,11 @@
 -- A loop that changes what stands in a list, one after another, while something is passed on: places are put into each, and the next gets those that are left.
-use Rattle.std.proofs.Common.{◌≡◌, refl, sym, ap, ◌∙◌, ℕ, zero, suc, ◌+◌, ◌<◌, ◌≤◌, List, [], ◌∷◌, ◌++◌, length, take, drop, get_or, append_assoc, append-nil, length-append, length-drop, arith}
+use Rattle.std.proofs.Common.{◌≡◌, refl, sym, ap, ◌∙◌, ℕ, zero, suc, ◌+◌, ◌<◌, ◌≤◌, List, [], ◌∷◌, ◌++◌, length, take, drop, get_or, append_assoc, append-nil, arith}
 use Rattle.std.proofs.Math.ListN.{set}
 use Rattle.std.proofs.Math.Seq.{drop-cons, get_or-append_seam, set-append_seam}
 use Rattle.std.proofs.lemmas.List.{take_more, take_all, drop_all, length-take-le}
 use Rattle.cborn_model.specs.declared.nodes.Chunk.{Chunk}
 use Rattle.cborn_model.specs.Tree.{Tree, trees, entries, more, entry}
-use Rattle.cborn_edn.specs.devices.Put.{first, behind, put_chunks, left_by_chunks, left, left_by_all, left_by_entries, put, put_all, put_entries}
+use Rattle.cborn_edn.specs.devices.Put.{first, behind, left, left_by_all, left_by_entries, put, put_all, put_entries}
 
 -- f changes one by what is passed to it, and g is what it passes on
 module _ {A P : Type 0} (f : P → A → A) (g : P → A → P) where
@@ -64,12 +64,6 @@ module _ {A P : Type 0} (f : P → A → A) (g : P → A → P) where
           rest = b ∙ ap (λ s. g s x) h.rest ∙ sym (passed-more p (take i xs) x) ∙ ap (passed_on p) (sym more_taken);
         }
 
-  pub row_begins : (p : P) (xs : List A) → Row p xs 0 xs p
-  row_begins p xs = record { items = refl; rest = refl }
-
-  pub row_long : (p : P) (xs : List A) (i : ℕ) (now : List A) (q : P) → i ≤ length xs → Row p xs i now q → length now ≡ length xs
-  row_long p xs i now q few h = omega (arith, ap length h.items, length-append (changed p (take i xs)) (drop i xs), changed-long p (take i xs), length-take-le i xs few, length-drop i xs)
-
   pub row_ends : (p : P) (xs : List A) (i : ℕ) (now : List A) (q : P) → length xs ≤ i → Row p xs i now q → (now ≡ changed p xs) × (q ≡ passed_on p xs)
   row_ends p xs i now q all h = (
     h.items ∙ ap (λ l. changed p l ++ drop i xs) (take_all i xs all) ∙ ap (λ l. changed p xs ++ l) (drop_all i xs all) ∙ append-nil (changed p xs),
@@ -99,14 +93,6 @@ put_pair ps e = (put ps e.0, put (left ps e.0) e.1)
 
 abbrev pub left_by_pair : List ℕ → Tree × Tree → List ℕ
 left_by_pair ps e = left (left ps e.0) e.1
-
-pub chunks_changed : (ps : List ℕ) (cs : List Chunk) → changed put_chunk left_by_chunk ps cs ≡ put_chunks ps cs
-chunks_changed ps [] = refl
-chunks_changed ps (c ∷ cs) = ap (λ ds. put_chunk ps c ∷ ds) (chunks_changed (behind ps) cs)
-
-pub chunks_passed : (ps : List ℕ) (cs : List Chunk) → passed_on put_chunk left_by_chunk ps cs ≡ left_by_chunks ps cs
-chunks_passed ps [] = refl
-chunks_passed ps (c ∷ cs) = chunks_passed (behind ps) cs
 
 pub items_changed : (ps : List ℕ) (xs : List Tree) → trees (changed put left ps xs) ≡ put_all ps (trees xs)
 items_changed ps [] = refl

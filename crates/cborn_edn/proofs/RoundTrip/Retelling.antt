@@ -14,10 +14,8 @@ use Rattle.cborn_edn.specs.shared.Meaning.{means_input}
 use Rattle.cborn_edn.specs.declared.strings.StringKind.{StringKind}
 use Rattle.cborn_edn.specs.declared.strings.StringKind.TheVariants.{Bytes as OfBytes, Text as OfText}
 use Rattle.cborn_edn.specs.ReadingBack.{bare, ReadsBack, nowhere, chunk_pieces, chunk_row, chunk_item, simple_item, notated, notated_content, notated_row, notated_fields, notated_pairs, notated_input, unplaced_all}
-use Rattle.cborn_edn.specs.Shown.{AreShowable}
 use Rattle.cborn_edn.specs.shared.Texts.{EachShowable}
 use Rattle.cborn_edn.proofs.Grammar.Trailing.{parse_of}
-use Rattle.cborn_edn.proofs.Shown.Lowests.{each_showable}
 use Rattle.cborn_edn.proofs.RoundTrip.Back.{says_back, as_deep, spelled_all-unplaced}
 use Rattle.std.proofs.lemmas.Option.{same_Some}
 use Rattle.cborn_edn.proofs.RoundTrip.Erase.{opt_map, clash, retold, Retold}
@@ -97,7 +95,3 @@ reads_same p limit nodes ts fits show low e =
       },
       same_Some _ _ g,
     )
-
--- LAW: tokens of what is shown read back
-pub reads_back : (p : Profile) (limit : ℕ) (nodes : Trees) (ts : List Token) → FitsAll nodes → AreShowable nodes → depth_all nodes ≤ limit → list_map bare ts ≡ tokens_of_input (notated_input nodes) → ReadsBack p limit nodes ts
-reads_back p limit nodes ts fits show low e = (reads_same p limit nodes ts fits (each_showable nodes show) low e).0

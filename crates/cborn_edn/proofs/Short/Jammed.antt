@@ -13,7 +13,6 @@ use Rattle.cborn_edn.specs.devices.Parse.{Parse}
 use Rattle.cborn_edn.specs.devices.Notates as trees
 use Rattle.cborn_edn.specs.Grammar.{IsText, Notates}
 use Rattle.cborn_edn.specs.Faults.{HasTree, GoesOn, StopsAt, Jam, IsNoTree, IsNoNotation}
-use Rattle.cborn_lex.specs.Good.{HasTokens}
 use Rattle.cborn_lex.specs.declared.faults.LexFault.TheVariants.{Refused as LexRefused, OutOfMemory as LexOutOfMemory}
 use Rattle.cborn_edn.specs.declared.faults.EdnFault.{EdnFault}
 use Rattle.cborn_edn.specs.declared.faults.EdnFault.TheVariants.{Lex as LexPart, Refused, OutOfMemory}
@@ -107,6 +106,3 @@ nothing_notated p limit text OutOfMemory h = h
 -- LAW: and so why they notate nothing
 pub not_had : (p : Profile) (limit : ℕ) (text : List ℕ) (why : EdnFault) → trees.IsNoTree p limit text why → IsNoNotation p limit text why
 not_had p limit text why h = nothing_notated p limit text why (no_tree p limit text why h)
-
-pub has_text : (p : Profile) (limit : ℕ) (text : List ℕ) → (t : Input) × trees.Parses p limit text t → (x : List Token) × HasTokens p text x × HasTree p limit x
-has_text p limit text (t, h) = (h.tokens, has_tokens p text h.tokens h.lex, has_tree p limit h.tokens (t, h.parse, h.shallow))

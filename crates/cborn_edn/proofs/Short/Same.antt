@@ -3,7 +3,9 @@ use Rattle.std.proofs.Common.{◌≡◌, sym, ap, ◌∙◌, subst, ℕ, ◌^◌
 use Rattle.cborn_model.specs.Bytes.{AreBytes}
 use Rattle.cborn_model.specs.First.{IsFirst}
 use Rattle.cborn_model.specs.Tree.{Trees}
+use Rattle.cborn_lex.specs.Lex.{Lex}
 use Rattle.cborn_lex.specs.declared.classes.Profile.{Profile}
+use Rattle.cborn_lex.specs.declared.classes.Token.{Token}
 use Rattle.cborn_lex.specs.declared.faults.LexFault.TheVariants.{Refused as LexRefused, OutOfMemory as LexOutOfMemory}
 use Rattle.cborn_lex.proofs.GoodTexts.{has_tokens, lexed as lex_of, failed, stopped}
 use Rattle.cborn_edn.specs.declared.faults.EdnReason.{EdnReason}
@@ -16,14 +18,14 @@ use Rattle.cborn_edn.specs.shared.Meaning.{number_of, IsAmong, Says, input_slips
 use Rattle.cborn_edn.specs.devices.Notates as trees
 use Rattle.cborn_edn.specs.Grammar.{Notates}
 use Rattle.cborn_edn.specs.Faults.{Slips, IsNoNotation}
-use Rattle.cborn_edn.specs.devices.Draft.{first_slip}
+use Rattle.cborn_edn.specs.devices.Slips.{first_slip}
 use Rattle.cborn_edn.proofs.Meaning.Agree.{says}
 use Rattle.cborn_edn.proofs.Meaning.Counting.{counted_text}
 use Rattle.cborn_edn.proofs.Meaning.Earliest.{Tells, tells, nothing_among, one_first}
 use Rattle.cborn_edn.proofs.Short.Said.{nodes_of_input, faults_of_input}
 use Rattle.cborn_edn.proofs.Short.Meant.{said_input}
 use Rattle.cborn_edn.proofs.Short.Slipping.{first_input}
-use Rattle.cborn_edn.proofs.Short.Jammed.{text_of, parsed, jam, jammed}
+use Rattle.cborn_edn.proofs.Short.Jammed.{text_of, Parsed, parsed, jam, jammed}
 
 -- lists with one first slip have one that is told
 pub moved : (l m : List Slip) (q : ℕ) (r : EdnReason) → first_slip l ≡ first_slip m → IsFirst number_of (IsAmong l) q r → IsFirst number_of (IsAmong m) q r
@@ -44,16 +46,20 @@ pub slip_of : (p : Profile) (limit : ℕ) (text : List ℕ) (q : ℕ) (r : EdnRe
 slip_of p limit text q r t h counted f =
     (h.tokens, nodes_of_input t, faults_of_input t, has_tokens p text h.tokens h.lex, text_of p limit h.tokens t h.parse h.shallow, moved (input_slips t) (faults_of_input t) q r (sym (first_input t counted)) f)
 
+-- LAW: and its nodes
+pub meant : (p : Profile) (limit : ℕ) (text : List ℕ) (nodes : Trees) (x : List Token) → Lex p text x → (r : Parsed p limit x nodes []) → CountedInput r.tree → trees.Notates p limit text nodes
+meant p limit text nodes x lex r counted =
+    let meant = says r.tree counted (none_of (input_slips r.tree) (faults_of_input r.tree) (sym (first_input r.tree counted)) r.slips) in
+    let same = sym (said_input r.tree meant.0 meant.1).0 ∙ r.says in
+    (r.tree, record { tokens = x; lex = lex; parse = r.parse; shallow = r.shallow }, subst (λ ts. Says r.tree ts) same meant.1)
+
 module _ (p : Profile) (limit : ℕ) (text : List ℕ) (are : AreBytes text) (short : length text < 2 ^ 56) where
   -- LAW: the nodes
   pub notated_by : (nodes : Trees) → Notates p limit text nodes → trees.Notates p limit text nodes
   notated_by nodes (x, taken, h) =
       let lex = lex_of p text x taken in
       let r = parsed p limit x nodes [] h in
-      let counted = counted_text p text x r.tree are short lex r.parse in
-      let meant = says r.tree counted (none_of (input_slips r.tree) (faults_of_input r.tree) (sym (first_input r.tree counted)) r.slips) in
-      let same = sym (said_input r.tree meant.0 meant.1).0 ∙ r.says in
-      (r.tree, record { tokens = x; lex = lex; parse = r.parse; shallow = r.shallow }, subst (λ ts. Says r.tree ts) same meant.1)
+      meant p limit text nodes x lex r (counted_text p text x r.tree are short lex r.parse)
 
   -- LAW: the slip
   pub slips : (q : ℕ) (r : EdnReason) → trees.Slips p limit text q r → Slips p limit text q r

@@ -12,10 +12,10 @@ use Rattle.cborn_edn.specs.shared.Syntax.{Item, number, word, tag, simple, strin
 use Rattle.cborn_edn.specs.devices.Counted.{Counted, CountedPiece, CountedPieces, CountedStrings, CountedRow, CountedRowBefore, CountedContent, CountedPairs, CountedPairsBefore, CountedFields, CountedInput}
 use Rattle.cborn_edn.specs.shared.Meaning.{and_then, is_absent, same_kind, start_of, mark_of, mark_place, kind, place, last_piece, fits_kind, is_empty_quote, is_good, kind_of_strings, joined_piece, joined as joined_bytes, means_content, unless, size_slips, tag_slips, bare_slips_before, kind_slips, mark_slips as mark_slips_of, text_slips, string_slips as string_slips_of, row_length, row_length_before, content_length, pairs_length, pairs_length_before, fields_length, slips, piece_slips as piece_slips_of, inner_slips, strings_slips, row_slips, row_slips_before, content_slips, pairs_slips, pairs_slips_before, fields_slips, input_slips}
 use Rattle.cborn_edn.specs.Says.{Str, is_nil, may_join, mark_slips, piece_slips, string_slips, chunk_slips}
-use Rattle.cborn_edn.specs.devices.Draft.{earlier, first_slip, slip_unless}
+use Rattle.cborn_edn.specs.devices.Slips.{earlier, first_slip, slip_unless}
 use Rattle.cborn_edn.proofs.Meaning.Agree.{is_there, is_nil as has_none, there-made, content_agrees, count-snoc, count-snoc_entry}
 use Rattle.cborn_edn.proofs.Meaning.Earliest.{earlier-none, earlier-assoc, first-append, first-unless}
-use Rattle.cborn_edn.proofs.Reader.FirstSlips.{string_order, chunk_order, pieces_order, string_list, bare_first, one_kind}
+use Rattle.cborn_edn.proofs.Meaning.StringSlips.{string_order, chunk_order, pieces_order, string_list, bare_first, one_kind}
 use Rattle.cborn_edn.proofs.Short.Said.{node, str_of, str, kind_in, nodes, nodes_before, nodes_in, entries, entries_before, entries_in, faults, faults_of_piece, faults_of_pieces, faults_of_strings, faults_of_row, faults_before, faults_in, faults_of_pairs, faults_before_pairs, faults_of_fields, faults_of_input}
 use Rattle.cborn_edn.proofs.Short.Rebuilt.{both_ap}
 use Rattle.cborn_edn.proofs.Short.Meant.{str_kind, str_place, str_mark, str_mark_place, str_lone, suits, kinds, of_fields, str_is, said_pieces}
@@ -62,7 +62,7 @@ mutual
   counts_before no_item = refl
   counts_before (after_row r c) = counts r
 
-counts_in : (c : Content) → count (nodes_in c) ≡ content_length c
+pub counts_in : (c : Content) → count (nodes_in c) ≡ content_length c
 counts_in (loose b) = counts_before b
 counts_in (tight r) = counts r
 
@@ -74,7 +74,7 @@ mutual
   counts_pairs_before no_pair = refl
   counts_pairs_before (after_pairs ps c) = counts_pairs ps
 
-counts_fields : (f : Fields) → count_entries (entries_in f) ≡ fields_length f
+pub counts_fields : (f : Fields) → count_entries (entries_in f) ≡ fields_length f
 counts_fields (loose_fields b) = counts_pairs_before b
 counts_fields (tight_fields ps) = counts_pairs ps
 

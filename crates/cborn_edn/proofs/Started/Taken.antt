@@ -17,12 +17,11 @@ use Rattle.cborn_edn.specs.declared.shapes.Level.TheVariants.{Array, Embedded, E
 use Rattle.cborn_edn.specs.declared.shapes.Stand.{Stand}
 use Rattle.cborn_edn.specs.declared.shapes.Stand.TheVariants.{Wants, WantsMore, Has, Builds, BuildsChunk, WantsChunk, WantsNumber, HasNumber}
 use Rattle.cborn_edn.specs.declared.shapes.Shape.{Shape}
-use Rattle.cborn_edn.specs.devices.Shapes.{innermost, array_end, key_end, value_end, embed_end, comma, colon, content_end, changed_by, shape_step, first_shape}
+use Rattle.cborn_edn.specs.devices.Shapes.{at, innermost, array_end, key_end, value_end, embed_end, comma, colon, content_end, changed_by, shape_step, first_shape}
 use Rattle.cborn_edn.specs.devices.Begun.{embeddings, embedded_after, begun}
 use Rattle.cborn_lex.proofs.GoodTexts.{lexed}
 use Rattle.cborn_edn.specs.Grammar.{Notates}
 use Rattle.cborn_edn.specs.Starts.{starts_all}
-use Rattle.cborn_edn.proofs.Shaped.ShapeSteps.{at}
 use Rattle.cborn_edn.proofs.Started.Walks.{copies, outside, emitted, told, walk, walk_input}
 use Rattle.cborn_edn.proofs.Started.Fronts.{goes_on}
 use Rattle.cborn_edn.proofs.Short.Jammed.{parsed}

@@ -11,13 +11,12 @@ use Rattle.cborn_edn.specs.declared.shapes.Stand.{Stand}
 use Rattle.cborn_edn.specs.declared.shapes.Stand.TheVariants.{Wants, WantsMore, Has, Builds, BuildsChunk, WantsChunk}
 use Rattle.cborn_edn.specs.declared.shapes.Change.TheVariants.{Stay}
 use Rattle.cborn_edn.specs.declared.shapes.Shape.{Shape}
-use Rattle.cborn_edn.specs.devices.Shapes.{innermost, comma, changed_by, shape_step}
+use Rattle.cborn_edn.specs.devices.Shapes.{at, innermost, comma, changed_by, shape_step}
 use Rattle.cborn_edn.specs.devices.Begun.{embeddings, heads_of_number}
 use Rattle.cborn_edn.specs.shared.Syntax.{Span, token, Item, number, word, tag, simple, string, chunked, array, map, Piece, text, bytes, embedded, Pieces, piece, also, Strings, strings, StringsBefore, no_string, after_strings, Row, row, RowBefore, no_item, after_row, Content, loose, tight, Pairs, pairs, PairsBefore, no_pair, after_pairs, Fields, loose_fields, tight_fields, Input, nothing, items, tokens_of, tokens_of_piece, tokens_of_pieces, tokens_of_strings, tokens_of_strings_before, tokens_of_row, tokens_of_row_before, tokens_of_content, tokens_of_pairs, tokens_of_pairs_before, tokens_of_fields, tokens_of_input}
 use Rattle.cborn_edn.specs.shared.Meaning.{start_of, place}
 use Rattle.cborn_edn.proofs.Grammar.Takes.{Ender, array_end, map_end, paren_end, colon, embed_end, class_of}
 use Rattle.cborn_edn.proofs.Grammar.Takes as takes
-use Rattle.cborn_edn.proofs.Shaped.ShapeSteps.{at}
 
 -- p so many times
 abbrev pub copies : ℕ → ℕ → List ℕ

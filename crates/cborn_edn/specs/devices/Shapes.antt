@@ -1,6 +1,7 @@
 -- A device of the proofs: which brackets are open and what stands right before the next token, and what each token makes of that. No definition cites it.
-use Rattle.std.specs.Prelude.{◌≡◌, ◌⊎◌, ℕ, ◌<◌, ◌≤◌, List, [], ◌∷◌, length, ◌&&◌, Bool, true, false, if◌then◌else◌, Option, Some, None}
+use Rattle.std.specs.Prelude.{List, [], ◌∷◌, ◌&&◌, Bool, true, false, if◌then◌else◌, Option, Some, None}
 use Rattle.cborn_lex.specs.declared.classes.Profile.{Profile}
+use Rattle.cborn_lex.specs.declared.classes.Profile.TheVariants.{One as ProfileOne, Two as ProfileTwo}
 use Rattle.cborn_lex.specs.declared.classes.Class.{Class}
 use Rattle.cborn_lex.specs.declared.classes.Class.TheVariants.{ArrayOpen, MapOpen, ArrayClose, MapClose, ParenClose, Comma, Colon, EmbedOpen, EmbedClose, ChunkOpen, Number, TagOpen, Word, SimpleOpen, Text, Bytes}
 use Rattle.cborn_edn.specs.declared.shapes.Level.{Level}
@@ -11,10 +12,10 @@ use Rattle.cborn_edn.specs.declared.shapes.Change.{Change}
 use Rattle.cborn_edn.specs.declared.shapes.Change.TheVariants.{Stay, Open, Shut, Turn}
 use Rattle.cborn_edn.specs.declared.shapes.Shape.{Shape}
 use Rattle.cborn_edn.specs.devices.Parse as parse
-use Rattle.cborn_edn.specs.declared.faults.EdnReason.{EdnReason}
-use Rattle.cborn_edn.specs.declared.faults.EdnReason.TheVariants.{UnexpectedToken, TooDeep}
-use Rattle.cborn_edn.specs.devices.Levels.{reach}
-use Rattle.cborn_edn.specs.devices.Draft.{is_one}
+
+abbrev pub is_one : Profile → Bool
+is_one ProfileOne = true
+is_one ProfileTwo = false
 
 abbrev pub innermost : List Level → Option Level
 innermost [] = None
@@ -122,11 +123,14 @@ change_at p WantsChunk o c = in_chunk c
 change_at p WantsNumber o c = begin_number c
 change_at p HasNumber o c = after_number c
 
+abbrev pub at : List Level → Stand → Shape
+at ls s = record { levels = ls; stand = s }
+
 abbrev pub changed : List Level → Change → Shape
-changed ls (Stay s) = record { levels = ls; stand = s }
-changed ls (Open l s) = record { levels = l ∷ ls; stand = s }
-changed ls (Shut s) = record { levels = without ls; stand = s }
-changed ls (Turn l s) = record { levels = l ∷ without ls; stand = s }
+changed ls (Stay s) = at ls s
+changed ls (Open l s) = at (l ∷ ls) s
+changed ls (Shut s) = at (without ls) s
+changed ls (Turn l s) = at (l ∷ without ls) s
 
 abbrev pub changed_by : List Level → Option Change → Option Shape
 changed_by ls None = None
@@ -136,22 +140,4 @@ abbrev pub shape_step : Profile → Shape → Class → Option Shape
 shape_step p s c = changed_by s.levels (change_at p s.stand (innermost s.levels) c)
 
 abbrev pub first_shape : Shape
-first_shape = record { levels = []; stand = Wants }
-
-abbrev pub may_end : Stand → Bool
-may_end Wants = true
-may_end Has = true
-may_end Builds = true
-may_end _ = false
-
-abbrev pub is_whole_at : Option Level → Stand → Bool
-is_whole_at None s = may_end s
-is_whole_at (Some l) s = false
-
-abbrev pub is_whole : Shape → Bool
-is_whole s = is_whole_at (innermost s.levels) s.stand
-
--- what a token of this class makes of the shape d: the shape e within the limit, or the reason why no text goes on with it
-abbrev pub Takes : Profile → ℕ → Shape → Class → Shape → Option EdnReason → Type 0
-Takes p limit d c e None = (shape_step p d c ≡ Some e) × (reach (length d.levels) c ≤ limit)
-Takes p limit d c e (Some r) = ((shape_step p d c ≡ None) × (r ≡ UnexpectedToken)) ⊎ ((shape_step p d c ≡ Some e) × (limit < reach (length d.levels) c) × (r ≡ TooDeep))
+first_shape = at [] Wants

@@ -4,7 +4,8 @@ use Rattle.cborn_lex.specs.declared.classes.Profile.{Profile}
 use Rattle.cborn_lex.specs.declared.classes.Profile.TheVariants.{One as ProfileOne, Two as ProfileTwo}
 use Rattle.cborn_edn.specs.declared.faults.EdnReason.{EdnReason}
 use Rattle.cborn_edn.specs.declared.faults.EdnReason.TheVariants.{UnexpectedToken, UnexpectedEnd, TooDeep}
-pub use Rattle.cborn_edn.specs.devices.Draft.{first_slip, lexical}
+pub use Rattle.cborn_edn.specs.devices.Slips.{first_slip}
+pub use Rattle.cborn_edn.specs.devices.Lexical.{lexical}
 pub use Rattle.cborn_edn.specs.devices.Levels.{reach}
 use Rattle.cborn_lex.specs.declared.classes.Mark.{Mark}
 use Rattle.cborn_lex.specs.declared.classes.Class.{Class}

@@ -5,7 +5,7 @@ use Rattle.cborn_model.specs.Spelled.{spelled_all}
 use Rattle.cborn_lex.specs.declared.classes.Profile.{Profile}
 use Rattle.cborn_edn.specs.Grammar.{Notates}
 use Rattle.cborn_wire.proofs.Spelled.TreeLists.{tree_list, trees-tree_list}
-use Rattle.cborn_reader.specs.Spelling as reader
+use Rattle.cborn_edn.specs.Spelling as reader
 use Rattle.cborn_spell.specs.Descent.{IsSpelling}
 
 pub respelled : (p : Profile) (limit : ℕ) (text input bytes : List ℕ) → text ≡ input → reader.IsSpelling p limit text bytes → IsSpelling p limit input bytes

@@ -1,0 +1,193 @@
+-- A text that is read up to some place: on with one more token, or why not.
+use Rattle.std.proofs.Common.{◌≡◌, refl, sym, ap, ◌∙◌, subst, ℕ, ◌+◌, ◌<◌, ◌≤◌, List, [], ◌∷◌, ◌++◌, length, Bool, true, false, cond, leb, Option, Some, None, append_assoc, append-nil, ◌⊎◌, inl, inr}
+use Rattle.std.specs.Prelude.{max}
+use Rattle.std.proofs.lemmas.Bool.{le-leb, lt-leb}
+use Rattle.cborn_lex.specs.Lex.{Between, IsStopAt, IsStopFrom}
+use Rattle.cborn_lex.specs.Kinds.{class_of}
+use Rattle.cborn_lex.specs.declared.classes.Kind.{Kind}
+use Rattle.cborn_lex.specs.declared.classes.Kind.TheVariants as kinds
+use Rattle.cborn_lex.specs.declared.classes.Class.{Class}
+use Rattle.cborn_lex.specs.declared.classes.Profile.{Profile}
+use Rattle.cborn_lex.specs.declared.classes.Profile.TheVariants.{One, Two}
+use Rattle.cborn_lex.specs.declared.classes.Token.{Token}
+use Rattle.cborn_lex.specs.declared.faults.LexFault.{LexFault}
+use Rattle.cborn_lex.specs.declared.faults.LexFault.TheVariants.{Refused as LexRefused, OutOfMemory as LexOutOfMemory}
+use Rattle.cborn_lex.proofs.WholeTexts.Progress.{nothing, joins, whole_text, whole_stop, stops}
+use Rattle.cborn_edn.specs.devices.Modest.{AreModest}
+use Rattle.cborn_edn.specs.declared.faults.EdnReason.{EdnReason}
+use Rattle.cborn_edn.specs.declared.faults.EdnReason.TheVariants.{UnexpectedToken, TooDeep}
+use Rattle.cborn_edn.specs.declared.faults.EdnFault.{EdnFault}
+use Rattle.cborn_edn.specs.declared.faults.EdnFault.TheVariants.{Refused}
+use Rattle.cborn_edn.specs.shared.Syntax.{Span, span, token, no_item, after_row, no_pair, after_pairs}
+use Rattle.cborn_edn.specs.Faults.{IsNoNotation}
+use Rattle.cborn_edn.specs.devices.Lexical.{lexical}
+use Rattle.cborn_edn.specs.devices.Levels.{reach}
+use Rattle.cborn_edn.proofs.Grammar.Machine.{in_row, in_key, in_value, in_tag, at_top, in_array, in_embed, State, wants, has, builds, wants_chunk, wants_number, has_number, start, step, step_by}
+use Rattle.cborn_edn.proofs.Grammar.Held.{held, open_levels, deep, commas_held, comma_at, After, Grows}
+use Rattle.cborn_edn.proofs.Grammar.Grows.{grows}
+use Rattle.cborn_edn.proofs.Grammar.Parser.{Answer, Jams, forbids, checked, parse, Meets, parses}
+use Rattle.cborn_edn.specs.devices.Notates.{IsNoTree}
+use Rattle.cborn_edn.proofs.Short.Jammed.{not_had}
+use Rattle.cborn_edn.specs.declared.states.Stand.{Stand}
+use Rattle.cborn_edn.specs.declared.states.Stand.TheVariants.{Wants, WantsMore}
+use Rattle.cborn_edn.specs.declared.states.Stand.TheVariants as stands
+use Rattle.cborn_edn.specs.devices.Kept.{stand_of}
+use Rattle.cborn_edn.specs.devices.Reading.{is_spare, is_closing, Reached}
+use Rattle.cborn_edn.proofs.Reader.Modest.{modest_both}
+
+pub begins : (profile : Profile) (limit : ℕ) (text : List ℕ) → Reached profile limit text 0 start
+begins profile limit text = record { tokens = []; between = nothing profile text 0; modest = tt; held = refl; runs = λ more end. refl }
+
+-- what is reported of a text without tokens
+lexical_told : (profile : Profile) (limit : ℕ) (text : List ℕ) (e : LexFault) → IsStopAt profile text e → IsNoTree profile limit text (lexical e)
+lexical_told profile limit text (LexRefused p r) h = h
+lexical_told profile limit text LexOutOfMemory h = tt
+
+clash : {A : Type 0} → true ≡ false → A
+clash e = absurd (let bad : true ≡ false = e in cc)
+
+one_state : (u v : State) → Some u ≡ Some v → u ≡ v
+one_state u v e = cc
+
+-- what the machine holds after one more token
+held_more : (s u : State) (c : Class) (a : Span) → step_by s c a ≡ Some u → held u ≡ held s ++ (token a c ∷ [])
+held_more s u c a e = go (step_by s c a) (grows s c a) e
+  where
+    go : (o : Option State) → After o (Grows (held s) (max (deep s) (reach (open_levels s) c)) (commas_held s + comma_at s c) (token a c)) → o ≡ Some u → held u ≡ held s ++ (token a c ∷ [])
+    go None g f = absurd (let bad : None ≡ Some u = f in cc)
+    go (Some v) g f = ap held (sym (one_state v u f)) ∙ g.held
+
+-- what a token makes of the answer
+abbrev after_token : Profile → ℕ → ℕ → Token → List Token → Option State → Bool → Answer
+after_token profile limit end t more o b = elim o [ None ↦ Jams t.start UnexpectedToken | Some u ↦ cond b (parse profile limit end more u) (Jams t.start TooDeep) ]
+
+module _ (profile : Profile) (limit : ℕ) (text : List ℕ) (at : ℕ) (s : State) (r : Reached profile limit text at s) where
+  -- after one more token
+  pub goes_on : (stop : ℕ) (t : Token) (u : State) → Between profile text at stop (t ∷ []) → AreModest (t ∷ []) → step s t ≡ Some u → forbids profile (comma_at s t.class) ≡ false → reach (open_levels s) t.class ≤ limit → Reached profile limit text stop u
+  goes_on stop t u next modest takes free low =
+      let here : checked profile limit s t (step s t) ≡ Some u = ap (checked profile limit s t) takes ∙ ap (λ b. cond b None (Some u)) free in
+      let deep : leb (reach (open_levels s) t.class) limit ≡ true = le-leb _ _ low in
+      record {
+        tokens = r.tokens ++ (t ∷ []);
+        between = joins profile text 0 at stop r.tokens (t ∷ []) r.between next;
+        modest = modest_both r.tokens (t ∷ []) r.modest modest;
+        held = held_more s u t.class (span t) takes ∙ ap (λ l. l ++ (t ∷ [])) r.held;
+        runs = λ more end. ap (λ ts. parse profile limit end ts start) (append_assoc r.tokens (t ∷ []) more)
+            ∙ (r.runs (t ∷ more) end ∙ (ap (λ c. after_token profile limit end t more c (leb (reach (open_levels s) t.class) limit)) here ∙ ap (λ b. after_token profile limit end t more (Some u) b) deep));
+      }
+
+  -- with white space and comments alone up to the end
+  pub ends : Between profile text at (length text) [] → Reached profile limit text (length text) s
+  ends last = record {
+    tokens = r.tokens;
+    between = subst (Between profile text 0 (length text)) (append-nil r.tokens) (joins profile text 0 at (length text) r.tokens [] r.between last);
+    modest = r.modest;
+    held = r.held;
+    runs = r.runs;
+  }
+
+  pub stopped : (e : LexFault) → IsStopFrom profile text at e → IsNoNotation profile limit text (lexical e)
+  stopped e h = not_had profile limit text (lexical e) (lexical_told profile limit text e (whole_stop profile text e (stops profile text 0 at r.tokens e r.between h)))
+
+  -- a token that is refused, unless a later part of the text isn't made of tokens
+  jams : (t : Token) (why : EdnReason) (fault : EdnFault) → Between profile text at t.stop (t ∷ []) → ((more : List Token) (end : ℕ) → parse profile limit end (r.tokens ++ (t ∷ more)) start ≡ Jams t.start why)
+      → ((more : List Token) × Between profile text t.stop (length text) more × (fault ≡ Refused t.start why)) ⊎ ((stop : LexFault) × IsStopFrom profile text t.stop stop × (fault ≡ lexical stop)) → IsNoNotation profile limit text fault
+  jams t why fault next told (inl (more, rest, f)) =
+      let all = joins profile text 0 at (length text) r.tokens (t ∷ more) r.between (joins profile text at t.stop (length text) (t ∷ []) more next rest) in
+      let met = subst (Meets profile limit (length text) (r.tokens ++ (t ∷ more))) (told more (length text)) (parses profile limit (length text) (r.tokens ++ (t ∷ more))) in
+      subst (IsNoNotation profile limit text) (sym f) (not_had profile limit text (Refused t.start why) (r.tokens ++ (t ∷ more), whole_text profile text (r.tokens ++ (t ∷ more)) all, met))
+  jams t why fault next told (inr (stop, h, f)) = subst (IsNoNotation profile limit text) (sym f) (stopped stop (stops profile text at t.stop (t ∷ []) stop next h))
+
+  pub unexpected : (t : Token) (fault : EdnFault) → Between profile text at t.stop (t ∷ []) → checked profile limit s t (step s t) ≡ None
+      → ((more : List Token) × Between profile text t.stop (length text) more × (fault ≡ Refused t.start UnexpectedToken)) ⊎ ((stop : LexFault) × IsStopFrom profile text t.stop stop × (fault ≡ lexical stop)) → IsNoNotation profile limit text fault
+  unexpected t fault next none h = jams t UnexpectedToken fault next (λ more end. r.runs (t ∷ more) end ∙ ap (λ c. after_token profile limit end t more c (leb (reach (open_levels s) t.class) limit)) none) h
+
+  pub too_deep : (t : Token) (u : State) (fault : EdnFault) → Between profile text at t.stop (t ∷ []) → step s t ≡ Some u → forbids profile (comma_at s t.class) ≡ false → limit < reach (open_levels s) t.class
+      → ((more : List Token) × Between profile text t.stop (length text) more × (fault ≡ Refused t.start TooDeep)) ⊎ ((stop : LexFault) × IsStopFrom profile text t.stop stop × (fault ≡ lexical stop)) → IsNoNotation profile limit text fault
+  too_deep t u fault next takes free far h =
+      let here : checked profile limit s t (step s t) ≡ Some u = ap (checked profile limit s t) takes ∙ ap (λ b. cond b None (Some u)) free in
+      let high : leb (reach (open_levels s) t.class) limit ≡ false = lt-leb _ _ far in
+      jams t TooDeep fault next (λ more end. r.runs (t ∷ more) end ∙ ap (λ c. after_token profile limit end t more c (leb (reach (open_levels s) t.class) limit)) here ∙ ap (λ b. after_token profile limit end t more (Some u) b) high) h
+
+pub never_taken : (profile : Profile) (limit : ℕ) (s : State) (t : Token) → step s t ≡ None → checked profile limit s t (step s t) ≡ None
+never_taken profile limit s t e = ap (checked profile limit s t) e
+
+free_none : (p : Profile) → forbids p 0 ≡ false
+free_none One = refl
+free_none Two = refl
+
+open_free : (p : Profile) (s : State) (k : Kind) (n : ℕ) (x : List ℕ) → is_closing k ≡ false → forbids p (comma_at s (class_of k n x)) ≡ false
+open_free p (wants st) kinds.ArrayClose n x e = clash e
+open_free p (wants st) kinds.MapClose n x e = clash e
+open_free p (wants st) (kinds.EmbedClose m) n x e = clash e
+open_free p (wants st) _ n x e = free_none p
+open_free p _ k n x e = free_none p
+
+two_free : (c : ℕ) → forbids Two c ≡ false
+two_free c = refl
+
+-- no bracket stands there after a comma
+tight_free : (p : Profile) (s : State) (k : Kind) (n : ℕ) (x : List ℕ) → (stand_of s ≡ WantsMore → ⊥) → forbids p (comma_at s (class_of k n x)) ≡ false
+tight_free p (wants (in_row m (after_row r c))) k n x e = absurd (e refl)
+tight_free p (wants (in_key st s m (after_pairs ps c))) k n x e = absurd (e refl)
+tight_free p (wants (in_row m no_item)) kinds.ArrayClose n x e = free_none p
+tight_free p (wants (in_row m no_item)) (kinds.EmbedClose q) n x e = free_none p
+tight_free p (wants (in_row m no_item)) _ n x e = free_none p
+tight_free p (wants (in_key st s m no_pair)) kinds.ArrayClose n x e = free_none p
+tight_free p (wants (in_key st s m no_pair)) _ n x e = free_none p
+tight_free p (wants (in_value st s m b i c)) kinds.ArrayClose n x e = free_none p
+tight_free p (wants (in_value st s m b i c)) _ n x e = free_none p
+tight_free p (wants (in_tag st s v m)) kinds.ArrayClose n x e = free_none p
+tight_free p (wants (in_tag st s v m)) _ n x e = free_none p
+tight_free p _ k n x e = free_none p
+
+-- not a spare bracket
+pub not_spare : (p : Profile) (s : State) (k : Kind) (n : ℕ) (x : List ℕ) → is_spare p (stand_of s) k ≡ false → forbids p (comma_at s (class_of k n x)) ≡ false
+not_spare Two s k n x e = two_free (comma_at s (class_of k n x))
+not_spare One s k n x e = go (stand_of s) refl e
+  where
+    go : (st : Stand) → stand_of s ≡ st → is_spare One st k ≡ false → forbids One (comma_at s (class_of k n x)) ≡ false
+    go WantsMore f g = open_free One s k n x g
+    go Wants f g = tight_free One s k n x (λ h. absurd (let bad : Wants ≡ WantsMore = sym f ∙ h in cc))
+    go stands.Has f g = tight_free One s k n x (λ h. absurd (let bad : stands.Has ≡ WantsMore = sym f ∙ h in cc))
+    go stands.Builds f g = tight_free One s k n x (λ h. absurd (let bad : stands.Builds ≡ WantsMore = sym f ∙ h in cc))
+    go stands.WantsChunk f g = tight_free One s k n x (λ h. absurd (let bad : stands.WantsChunk ≡ WantsMore = sym f ∙ h in cc))
+    go stands.WantsNumber f g = tight_free One s k n x (λ h. absurd (let bad : stands.WantsNumber ≡ WantsMore = sym f ∙ h in cc))
+    go stands.HasNumber f g = tight_free One s k n x (λ h. absurd (let bad : stands.HasNumber ≡ WantsMore = sym f ∙ h in cc))
+
+forbidden : (limit : ℕ) (s : State) (t : Token) (o : Option State) → forbids One (comma_at s t.class) ≡ true → checked One limit s t o ≡ None
+forbidden limit s t None e = refl
+forbidden limit s t (Some u) e = ap (λ b. cond b None (Some u)) e
+
+-- a spare bracket
+pub spare : (p : Profile) (limit : ℕ) (s : State) (k : Kind) (n start stop : ℕ) (x : List ℕ) → is_spare p (stand_of s) k ≡ true → let t : Token = record { start = start; stop = stop; class = class_of k n x } in checked p limit s t (step s t) ≡ None
+spare Two limit s k n start stop x e = clash (sym e)
+spare One limit s k n start stop x e = go (stand_of s) refl e
+  where
+    t : Kind → Token
+    t q = record { start = start; stop = stop; class = class_of q n x }
+
+    more : (s : State) (k : Kind) → stand_of s ≡ WantsMore → is_closing k ≡ true → checked One limit s (t k) (step s (t k)) ≡ None
+    more (wants (in_row m (after_row r z))) kinds.ArrayClose f g = forbidden limit (wants (in_row m (after_row r z))) (t kinds.ArrayClose) (step (wants (in_row m (after_row r z))) (t kinds.ArrayClose)) refl
+    more (wants (in_row m (after_row r z))) (kinds.EmbedClose q) f g = forbidden limit (wants (in_row m (after_row r z))) (t (kinds.EmbedClose q)) (step (wants (in_row m (after_row r z))) (t (kinds.EmbedClose q))) refl
+    more (wants (in_row at_top (after_row r z))) kinds.MapClose f g = refl
+    more (wants (in_row (in_array st p m) (after_row r z))) kinds.MapClose f g = refl
+    more (wants (in_row (in_embed h o p) (after_row r z))) kinds.MapClose f g = refl
+    more (wants (in_row m (after_row r z))) _ f g = clash (sym g)
+    more (wants (in_key st p m (after_pairs ps z))) kinds.MapClose f g = forbidden limit (wants (in_key st p m (after_pairs ps z))) (t kinds.MapClose) (step (wants (in_key st p m (after_pairs ps z))) (t kinds.MapClose)) refl
+    more (wants (in_key st p m (after_pairs ps z))) kinds.ArrayClose f g = refl
+    more (wants (in_key st p m (after_pairs ps z))) (kinds.EmbedClose q) f g = refl
+    more (wants (in_key st p m (after_pairs ps z))) _ f g = clash (sym g)
+    more (wants (in_row m no_item)) k f g = absurd (let bad : Wants ≡ WantsMore = f in cc)
+    more (wants (in_key st p m no_pair)) k f g = absurd (let bad : Wants ≡ WantsMore = f in cc)
+    more (wants (in_value st p m b i c)) k f g = absurd (let bad : Wants ≡ WantsMore = f in cc)
+    more (wants (in_tag st p v m)) k f g = absurd (let bad : Wants ≡ WantsMore = f in cc)
+    more (has st i) k f g = absurd (let bad : stands.Has ≡ WantsMore = f in cc)
+    more (builds h ps) k f g = absurd (let bad : stands.Builds ≡ WantsMore = f in cc)
+    more (wants_chunk st p b) k f g = absurd (let bad : stands.WantsChunk ≡ WantsMore = f in cc)
+    more (wants_number st p) k f g = absurd (let bad : stands.WantsNumber ≡ WantsMore = f in cc)
+    more (has_number st p b i v m) k f g = absurd (let bad : stands.HasNumber ≡ WantsMore = f in cc)
+
+    go : (st : Stand) → stand_of s ≡ st → is_spare One st k ≡ true → checked One limit s (t k) (step s (t k)) ≡ None
+    go WantsMore f g = more s k f g
+    go _ f g = clash (sym g)

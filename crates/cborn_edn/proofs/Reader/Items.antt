@@ -1,0 +1,93 @@
+-- Tokens of numbers, strings and brackets from what was found at a place of a text.
+use Rattle.std.proofs.Common.{◌≡◌, refl, sym, ap, ◌∙◌, subst, ℕ, ◌+◌, ◌<◌, ◌≤◌, List, [], ◌∷◌, ◌++◌, length, take, drop, get_or, Bool, true, false, not, eqb, Some, Ok, arith, append_assoc, length-append, append-nil}
+use Rattle.std.proofs.lemmas.Bool.{ne_eqb, eqb-true, false≢true}
+use Rattle.std.proofs.lemmas.List.{take-append-drop, length-take-le}
+use Rattle.cborn_lex.specs.declared.classes.Profile.{Profile}
+use Rattle.cborn_lex.specs.declared.classes.Mark.{Mark}
+use Rattle.cborn_lex.specs.declared.classes.Mark.TheVariants.{Absent}
+use Rattle.cborn_lex.specs.declared.classes.Class.{Class}
+use Rattle.cborn_lex.specs.declared.classes.Class.TheVariants.{Number, TagOpen, Text}
+use Rattle.cborn_lex.specs.Tokens.{begins, is_numeral, mark_of}
+use Rattle.cborn_lex.specs.Numbers.{integer, signed}
+use Rattle.std.specs.List.{list_all}
+use Rattle.cborn_lex.specs.Strings.{is_content, IsText}
+use Rattle.cborn_lex.specs.shared.Letters.{is_plain, LettersSoFar}
+use Rattle.cborn_lex.proofs.Runs.{none_yet, run_more, letters_end}
+use Rattle.cborn_lex.specs.Forms.{IsRun, IsIndicator}
+use Rattle.cborn_lex.specs.Good as good
+use Rattle.cborn_lex.specs.Good.{IsMark, IsNumeral, Takes}
+use Rattle.cborn_lex.proofs.GoodFronts.{judge}
+use Rattle.cborn_edn.specs.devices.Ahead.{IsTokenAt}
+use Rattle.cborn_edn.proofs.Reader.CommonTokens.{begins_here, token_here, ended}
+
+numeral : (negative : Bool) (x mark z : List ℕ) (n : ℕ) (m : Mark) → integer negative x ≡ Ok n → IsRun is_numeral x (mark ++ z) → IsMark mark z m → IsNumeral x mark z n m
+numeral negative x mark z n m i r k = let j = judge negative x (Ok n) i in record { literal = j.0; bounded = j.1; run = r; indicator = k }
+
+-- what begins with that character
+first : (c : ℕ) (x : List ℕ) → begins (λ d. eqb d c) x ≡ true → x ≡ c ∷ drop 1 x
+first c [] h = absurd (false≢true h)
+first c (d ∷ x) h = ap (λ b. b ∷ x) (eqb-true d c h)
+
+-- a decimal integer of len digits, and an indicator of size characters after it
+module _ (profile : Profile) (text tail after : List ℕ) (at len size n : ℕ) (m : Mark) (t : tail ≡ drop at text) (a : after ≡ drop len tail) (l : len ≤ length tail) (s : size ≤ length after)
+    (i : integer false (take len tail) ≡ Ok n) (r : IsRun is_numeral (take len tail) (drop len tail)) (k : IsIndicator (take size after) (drop size after)) (o : mark_of (take size after) ≡ Some m) where
+  whole : drop at text ≡ take len tail ++ (take size after ++ drop size after)
+  whole = sym t ∙ sym (take-append-drop len tail) ∙ ap (λ y. take len tail ++ y) (sym a ∙ sym (take-append-drop size after))
+
+  run : IsRun is_numeral (take len tail) (take size after ++ drop size after)
+  run = subst (IsRun is_numeral (take len tail)) (sym a ∙ sym (take-append-drop size after)) r
+
+  sized : length (take len tail ++ take size after) ≡ len + size
+  sized = omega (arith, length-append (take len tail) (take size after), length-take-le len tail l, length-take-le size after s)
+
+  pub number_here : begins (λ c. eqb c 40) (drop size after) ≡ false → IsTokenAt profile text at (at + len + size) (Number false n m)
+  number_here b =
+      let x = take len tail in
+      let z = drop size after in
+      token_here profile text (x ++ take size after) z at (at + len + size) (Number false n m) (whole ∙ sym (append_assoc x (take size after) z)) (omega (arith, sized))
+      (good.positive x (take size after) z n m (numeral false x (take size after) z n m i run (k, o)) b)
+
+  pub tag_here : begins (λ c. eqb c 40) (drop size after) ≡ true → IsTokenAt profile text at (at + len + size + 1) (TagOpen n m)
+  tag_here b =
+      let x = take len tail in
+      let mark = take size after in
+      let z = drop 1 (drop size after) in
+      let split : drop size after ≡ 40 ∷ z = first 40 (drop size after) b in
+      let all : drop at text ≡ (x ++ (mark ++ 40 ∷ [])) ++ z = whole ∙ ap (λ y. x ++ (mark ++ y)) split ∙ ap (λ y. x ++ y) (sym (append_assoc mark (40 ∷ []) z)) ∙ sym (append_assoc x (mark ++ 40 ∷ []) z) in
+      let long : at + len + size + 1 ≡ at + length (x ++ (mark ++ 40 ∷ [])) = omega (arith, length-append x (mark ++ 40 ∷ []), length-append mark (40 ∷ []), length-take-le len tail l, length-take-le size after s) in
+      token_here profile text (x ++ (mark ++ 40 ∷ [])) z at (at + len + size + 1) (TagOpen n m) all long
+      (good.tag x mark z n m (numeral false x mark (40 ∷ z) n m i (subst (λ (y : List ℕ). IsRun is_numeral x (mark ++ y)) split run) (subst (λ (y : List ℕ). IsIndicator mark y) split k, o)))
+
+below_signed : (n : ℕ) → 0 < n → signed true n Absent ≡ Number true n Absent
+below_signed n h = let e : eqb n 0 ≡ false = ne_eqb n 0 (λ f. omega (arith, h, f)) in ap (λ b. Number (not b) n Absent) e
+
+-- a minus, and a decimal integer of len digits without an indicator
+pub negative_here : (profile : Profile) (text tail : List ℕ) (at len n : ℕ) → at < length text → get_or text at 0 ≡ 45 → tail ≡ drop (at + 1) text → len ≤ length tail → 0 < n → integer true (take len tail) ≡ Ok n → IsRun is_numeral (take len tail) (drop len tail) → begins (λ c. eqb c 95) (drop len tail) ≡ false → IsTokenAt profile text at (at + 1 + len) (Number true n Absent)
+negative_here profile text tail at len n h e t l s i r b =
+    let x = take len tail in
+    let z = drop len tail in
+    let all : drop at text ≡ (45 ∷ (x ++ [])) ++ z = begins_here text at 45 h e ∙ ap (λ y. 45 ∷ y) (sym t ∙ sym (take-append-drop len tail) ∙ ap (λ y. y ++ z) (sym (append-nil x))) in
+    let long : at + 1 + len ≡ at + length (45 ∷ (x ++ [])) = omega (arith, ap length (append-nil x), length-take-le len tail l) in
+    token_here profile text (45 ∷ (x ++ [])) z at (at + 1 + len) (Number true n Absent) all long
+    (subst (λ (k : Class). Takes profile (45 ∷ (x ++ [])) z (Some k)) (below_signed n s) (good.negative x [] z n Absent (numeral true x [] z n Absent i r (b, refl))))
+
+-- a bracket, and an indicator of len characters after it
+pub opening_here : (profile : Profile) (text tail : List ℕ) (at c len : ℕ) (m : Mark) (k : Mark → Class) → at < length text → get_or text at 0 ≡ c → tail ≡ drop (at + 1) text → len ≤ length tail → IsIndicator (take len tail) (drop len tail) → mark_of (take len tail) ≡ Some m
+    → ((s z : List ℕ) → IsMark s z m → Takes profile (c ∷ s) z (Some (k m))) → IsTokenAt profile text at (at + 1 + len) (k m)
+opening_here profile text tail at c len m k h e t l i o f =
+    let all : drop at text ≡ (c ∷ take len tail) ++ drop len tail = begins_here text at c h e ∙ ap (λ y. c ∷ y) (sym t ∙ sym (take-append-drop len tail)) in
+    token_here profile text (c ∷ take len tail) (drop len tail) at (at + 1 + len) (k m) all (omega (arith, length-take-le len tail l)) (f (take len tail) (drop len tail) (i, o))
+
+-- a text string without an indicator, whose content of len characters stands for these bytes
+pub text_here : (profile : Profile) (text tail bytes : List ℕ) (at len : ℕ) → at < length text → get_or text at 0 ≡ 34 → tail ≡ drop (at + 1) text → len < length tail → get_or tail len 0 ≡ 34 → is_content 34 (take len tail) ≡ true → IsText 34 (take len tail) bytes → begins (λ c. eqb c 95) (drop (len + 1) tail) ≡ false → IsTokenAt profile text at (at + len + 2) (Text bytes Absent)
+text_here profile text tail bytes at len h e t l q i is b =
+    let s = ended text tail at len 34 34 h e t l q in
+    token_here profile text (34 ∷ take len tail ++ 34 ∷ []) (drop (len + 1) tail) at (at + len + 2) (Text bytes Absent) s.whole s.size (good.text (take len tail) bytes [] (drop (len + 1) tail) Absent i is (b, refl))
+
+-- LAW: plain letters up to a quote are a content, which stands for itself
+pub plain_here : (tail : List ℕ) (len : ℕ) → len < length tail → get_or tail len 0 ≡ 34 → list_all (is_plain 34) (take len tail) ≡ true → (is_content 34 (take len tail) ≡ true) × IsText 34 (take len tail) (take len tail)
+plain_here tail len h e p =
+    let s = run_more 34 tail [] [] (take len tail) 0 len p refl (none_yet 34 tail []) in
+    let zero : 0 + len ≡ len = omega arith in
+    let t = letters_end 34 tail [] (take len tail) len h e (subst (λ (n : ℕ). LettersSoFar 34 tail n [] (take len tail)) zero s) in
+    (t.inside, subst (λ (b : List ℕ). IsText 34 (take len tail) b) (sym t.added) t.is)

@@ -1,0 +1,23 @@
+use Rattle.std.proofs.Common.{refl, ◌∙◌, subst, Option}
+use Rattle.cborn_edn.specs.Says.{piece_slips}
+use Rattle.cborn_edn.specs.declared.slips.Slip.{Slip}
+use Rattle.cborn_edn.specs.devices.Slips.{Notes}
+use Rattle.cborn_edn.proofs.Reader.Closed.{closed_embed}
+use Rattle.cborn_edn.proofs.closings.close_embedded.Goals as goal
+
+pub returns : goal.returns
+returns c = λ h o s a k p e.
+    closed_embed c.args.here.now c.shut-frame.new.here _ c.args.writer.now c.shut-frame.new.writer _ c.shut-frame.result c.in-Some.around c.with_embedded-string.result c.is_none-known.result c.args.mark c.args.place
+    (record {
+      shut = c.shut-frame.ensures.top;
+      known = c.is_none-known.ensures;
+      popped = c.in-Some.ensures;
+      joint = record {
+        alone = λ t n i q l r m g. let d = c.with_embedded-string.ensures.alone t n i q l r m g in (d.0, d.1 ∙ c.earlier-writer.ensures);
+        more = λ start u t n i q r m g. let d = c.with_embedded-string.ensures.more start u t n i q r m g in (d.0, subst (λ (x : Option Slip). Notes x c.with_embedded-string.new.slip (piece_slips u t)) c.earlier-writer.ensures d.1);
+      };
+      frames = refl;
+      chunks = refl;
+      string = refl;
+      out = refl;
+    }) refl h s a k p o e

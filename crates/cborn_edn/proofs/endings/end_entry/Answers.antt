@@ -1,0 +1,23 @@
+use Rattle.std.proofs.Common.{◌≡◌, refl, sym, ap, ◌∙◌, subst, Some}
+use Rattle.cborn_lex.specs.declared.classes.Class.TheVariants.{Comma}
+use Rattle.cborn_edn.specs.shared.Syntax.{row, after_row, pairs, after_pairs}
+use Rattle.cborn_edn.proofs.Grammar.Machine.{Stack, in_row, in_key, wants, has, step_by}
+use Rattle.cborn_edn.specs.devices.Steps.{is_value, is_row}
+use Rattle.cborn_edn.specs.devices.Shows.{Shows}
+use Rattle.cborn_edn.proofs.Reader.Inverted.{value_at, row_at, no_comma}
+use Rattle.cborn_edn.proofs.endings.end_entry.Goals as goal
+
+pub returns-then-is_value : goal.returns-then-is_value
+returns-then-is_value c = λ st i a e.
+    let k = value_at st (ap is_value (sym e.level) ∙ sym c.is_value.ensures ∙ c.if-is_value.true) in
+    let u = wants (in_key k.around k.at k.m (after_pairs (pairs k.b k.k k.colon i) a)) in
+    (u, subst (λ (t : Stack). step_by (has t i) Comma a ≡ Some u) k.is refl, c.comma_of_pairs.ensures c.args.writer.now c.args.writer.now.out.items k.around k.at k.colon a k.m k.b k.k i (subst (λ (t : Stack). Shows c.args.here.now c.args.writer.now c.args.writer.now.out.items (has t i)) (sym k.is) e))
+
+pub returns-then-not-is_row : goal.returns-then-not-is_row
+returns-then-not-is_row c = λ st i a e. no_comma st i a (ap is_value (sym e.level) ∙ sym c.is_value.ensures ∙ c.if-is_value.false) (ap is_row (sym e.level) ∙ sym c.is_row.ensures ∙ c.if-not-is_row.true)
+
+pub returns : goal.returns
+returns c = λ st i a e.
+    let k = row_at st (ap is_row (sym e.level) ∙ sym c.is_row.ensures ∙ c.if-not-is_row.false) in
+    let u = wants (in_row k.n (after_row (row k.b i) a)) in
+    (u, subst (λ (t : Stack). step_by (has t i) Comma a ≡ Some u) k.is refl, c.comma.ensures c.args.writer.now c.args.writer.now.out.items k.n k.b i a (subst (λ (t : Stack). Shows c.args.here.now c.args.writer.now c.args.writer.now.out.items (has t i)) (sym k.is) e))

@@ -1,0 +1,17 @@
+use Rattle.std.proofs.Common.{◌≡◌, refl, sym, ap, ◌∙◌, subst, Some}
+use Rattle.cborn_lex.specs.declared.classes.Class.TheVariants.{ParenClose}
+use Rattle.cborn_edn.specs.shared.Syntax.{tag}
+use Rattle.cborn_edn.proofs.Grammar.Machine.{Stack, has, step_by}
+use Rattle.cborn_edn.specs.devices.Steps.{is_tag}
+use Rattle.cborn_edn.specs.devices.Shows.{Shows}
+use Rattle.cborn_edn.proofs.Reader.Inverted.{tag_at, no_tag}
+use Rattle.cborn_edn.proofs.endings.end_tag.Goals as goal
+
+pub returns-then-not-is_tag : goal.returns-then-not-is_tag
+returns-then-not-is_tag c = λ st i a e. no_tag st i a (ap is_tag (sym e.level) ∙ sym c.is_tag.ensures ∙ c.if-not-is_tag.true)
+
+pub returns : goal.returns
+returns c = λ st i a e.
+    let k = tag_at st (ap is_tag (sym e.level) ∙ sym c.is_tag.ensures ∙ c.if-not-is_tag.false) in
+    let u = has k.around (tag k.at k.n k.m i a) in
+    (u, subst (λ (t : Stack). step_by (has t i) ParenClose a ≡ Some u) k.is refl, c.close_tag.ensures k.around k.at a k.n k.m i (subst (λ (t : Stack). Shows c.args.here.now c.args.writer.now c.args.writer.now.out.items (has t i)) (sym k.is) e))

@@ -1,0 +1,16 @@
+use Rattle.std.proofs.Common.{refl}
+use Rattle.cborn_edn.proofs.openings.open_simple.Goals as goal
+
+pub returns : goal.returns
+returns c = λ st a p e. record {
+  stand = refl;
+  level = e.level;
+  count = e.count;
+  frames = e.frames;
+  around = e.around;
+  string = e.string;
+  chunks = e.chunks;
+  simple = p;
+  slip = e.slip;
+  out = e.out;
+}

@@ -1,0 +1,35 @@
+use Rattle.std.proofs.Common.{List, ◌∷◌, [], ◌++◌, inl, inr, refl, arith}
+use Rattle.cborn_lex.specs.declared.classes.Token.{Token}
+use Rattle.cborn_lex.proofs.GoodTexts.{stop_from}
+use Rattle.cborn_lex.proofs.WholeTexts.Progress.{nothing, joins, inside, few, stops}
+use Rattle.cborn_edn.proofs.Reader.BareTokens.{next_of, last_of}
+use Rattle.cborn_edn.proofs.refusals.first_fault.Goals as goal
+
+pub tokens-init : goal.tokens-init
+tokens-init c = (([], nothing c.args.profile c.args.text.now c.args.at), c.requires)
+
+pub tokens-preserved : goal.tokens-preserved
+tokens-preserved c =
+    let t = c.in-Ok-Some.token in
+    let inv = c.tokens.invariant in
+    let n = next_of c.args.profile c.args.text.now c.tokens.place c.in-Ok-Some.field-0 c.next_token.new.number c.clear.new.self.items c.next_token.new.out.items t c.in-Ok-Some.field-0-is c.in-Ok-Some.ensures.ok in
+    let one : List Token = record { start = t.start; stop = t.stop; class = n.0 } ∷ [] in
+    ((inv.0.0 ++ one, joins c.args.profile c.args.text.now c.args.at c.tokens.place t.stop inv.0.0 one inv.0.1 n.1), (inside c.args.profile c.args.text.now c.tokens.place t.stop one inv.1 n.1).1)
+
+pub tokens-smaller : goal.tokens-smaller
+tokens-smaller c =
+    let t = c.in-Ok-Some.token in
+    let n = next_of c.args.profile c.args.text.now c.tokens.place c.in-Ok-Some.field-0 c.next_token.new.number c.clear.new.self.items c.next_token.new.out.items t c.in-Ok-Some.field-0-is c.in-Ok-Some.ensures.ok in
+    let one : List Token = record { start = t.start; stop = t.stop; class = n.0 } ∷ [] in
+    omega (arith, (inside c.args.profile c.args.text.now c.tokens.place t.stop one c.tokens.invariant.1 n.1).1, few c.args.profile c.args.text.now c.tokens.place t.stop one n.1)
+
+pub returns-in-Ok-None : goal.returns-in-Ok-None
+returns-in-Ok-None c =
+    let inv = c.tokens.invariant in
+    let last = last_of c.args.profile c.args.text.now c.tokens.place c.in-Ok-None.field-0 c.next_token.new.number c.clear.new.self.items c.next_token.new.out.items c.in-Ok-None.field-0-is c.in-Ok-None.ensures.ok in
+    inl (inv.0.0 ++ [], joins c.args.profile c.args.text.now c.args.at c.tokens.place _ inv.0.0 [] inv.0.1 last, refl)
+
+pub returns-in-Err : goal.returns-in-Err
+returns-in-Err c =
+    let inv = c.tokens.invariant in
+    inr (c.in-Err.stop, stops c.args.profile c.args.text.now c.args.at c.tokens.place inv.0.0 c.in-Err.stop inv.0.1 (stop_from c.args.profile c.args.text.now c.tokens.place c.in-Err.stop c.in-Err.ensures.refused), c.from.ensures)

@@ -1,0 +1,10 @@
+use Rattle.std.proofs.Common.{◌≤◌, ◌-◌, List, length}
+use Rattle.cborn_lex.specs.Lex.{Between}
+use Rattle.cborn_lex.specs.declared.classes.Token.{Token}
+use Rattle.cborn_edn.proofs.refusals.first_fault.Given as goal
+
+abbrev pub invariant-tokens : goal.invariant-tokens
+invariant-tokens l = ((ts : List Token) × Between l.fn.profile l.fn.text l.fn.at l.place ts) × (l.place ≤ length l.fn.text)
+
+abbrev pub decreases-tokens : goal.decreases-tokens
+decreases-tokens l = length l.fn.text - l.place

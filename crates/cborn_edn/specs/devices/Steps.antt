@@ -1,0 +1,118 @@
+-- A device of the proofs: one token that the reader takes as the machine of tokens does. No definition cites it.
+use Rattle.std.specs.Prelude.{◌≡◌, ℕ, ◌^◌, ◌<◌, List, [], ◌∷◌, ◌++◌, length, Bool, true, false, Option, Some, None}
+use Rattle.cborn_model.specs.Bytes.{AreBytes}
+use Rattle.cborn_lex.specs.declared.classes.Kind.{Kind}
+use Rattle.cborn_lex.specs.declared.classes.Kind.TheVariants as kinds
+use Rattle.cborn_lex.specs.declared.classes.Class.{Class}
+use Rattle.cborn_lex.specs.declared.classes.Class.TheVariants.{EmbedOpen, Text, Bytes}
+use Rattle.cborn_lex.specs.Kinds.{class_of, content_of}
+use Rattle.cborn_edn.specs.devices.Modest.{AreModest}
+use Rattle.cborn_edn.specs.shared.Syntax.{Span, Pieces}
+use Rattle.cborn_edn.specs.shared.Machine.{Home, State, wants, has, builds, wants_chunk, step_by}
+use Rattle.cborn_edn.specs.shared.Machine.{held}
+use Rattle.cborn_edn.specs.declared.states.Level.{Level}
+use Rattle.cborn_edn.specs.declared.states.Level.TheVariants.{Array, Embedded, Key, Value, Tag}
+use Rattle.cborn_edn.specs.declared.states.Stand.{Stand}
+use Rattle.cborn_edn.specs.declared.states.Stand.TheVariants.{Has}
+use Rattle.cborn_edn.specs.declared.states.Chunks.{Chunks}
+use Rattle.cborn_edn.specs.declared.states.Here.{Here}
+use Rattle.cborn_edn.specs.declared.states.Writer.{Writer}
+use Rattle.cborn_edn.specs.devices.Shows.{Shows}
+
+abbrev pub is_array : Option Level → Bool
+is_array (Some Array) = true
+is_array _ = false
+
+abbrev pub is_embedded : Option Level → Bool
+is_embedded (Some Embedded) = true
+is_embedded _ = false
+
+abbrev pub is_key : Option Level → Bool
+is_key (Some Key) = true
+is_key _ = false
+
+abbrev pub is_value : Option Level → Bool
+is_value (Some Value) = true
+is_value _ = false
+
+abbrev pub is_tag : Option Level → Bool
+is_tag (Some Tag) = true
+is_tag _ = false
+
+abbrev pub is_row : Option Level → Bool
+is_row (Some Array) = true
+is_row (Some Embedded) = true
+is_row None = true
+is_row _ = false
+
+-- where the innermost bracket is a map that may end
+abbrev pub ends_map : Stand → Option Level → Bool
+ends_map Has o = is_value o
+ends_map _ o = is_key o
+
+abbrev pub has_chunks : Option Chunks → Bool
+has_chunks None = false
+has_chunks (Some cs) = true
+
+-- an item is wanted, or stands complete
+abbrev pub MayEnd : State → Type 0
+MayEnd (wants st) = Unit {0}
+MayEnd (has st i) = Unit {0}
+MayEnd _ = ⊥
+
+-- where a string may begin: a byte in the place of its head, and its content
+abbrev pub begun : Class → List ℕ
+begun (Text x m) = 0 ∷ x
+begun (Bytes q x m) = 0 ∷ x
+begun EmbedOpen = 0 ∷ []
+begun _ = []
+
+-- what is appended as a token is read
+abbrev pub appended : State → Class → List ℕ
+appended (wants st) c = begun c
+appended (wants_chunk st s b) c = begun c
+appended (builds h ps) c = content_of c
+appended _ c = []
+
+-- a token of this kind was read, and what it stands for appended to base
+pub record Ready (kind : Kind) (number start : ℕ) (here : Here) (writer : Writer) (s : State) (base : List ℕ) (c : Class) : Type 0 where
+  pub content : List ℕ
+  pub class : c ≡ class_of kind number content
+  pub plain : AreBytes content
+  pub shows : Shows here writer base s
+  pub written : writer.out.items ≡ base ++ appended s c
+  pub from : start ≡ length base
+  pub few : here.count < 2 ^ 63
+  pub modest : AreModest (held s)
+
+abbrev pub IsReady : Kind → ℕ → ℕ → Here → Writer → State → Type 0
+IsReady kind number start here writer s = (base : List ℕ) × ((c : Class) × Ready kind number start here writer s base c)
+
+-- the machine goes on with the token, or has no such token there
+abbrev pub Taken : Bool → State → Class → Span → Here → Writer → Type 0
+Taken true s c a here writer = (u : State) × (step_by s c a ≡ Some u) × Shows here writer writer.out.items u
+Taken false s c a here writer = step_by s c a ≡ None
+
+abbrev pub Takes : Kind → ℕ → ℕ → ℕ → Here → Writer → Here → Writer → Bool → State → Type 0
+Takes kind number start place here writer next left ok s = (base : List ℕ) (c : Class) (a : Span) → place ≡ a.start → Ready kind number start here writer s base c → Taken ok s c a next left
+
+-- the same of a token that appends nothing
+abbrev pub Turns : Kind → ℕ → ℕ → Here → Writer → Here → Writer → Bool → State → Type 0
+Turns kind number place here writer next left ok s = (c : Class) (x : List ℕ) (a : Span) → place ≡ a.start → c ≡ class_of kind number x → Shows here writer writer.out.items s → Taken ok s c a next left
+
+-- it begins no piece of a string
+abbrev pub EndsPieces : Class → Type 0
+EndsPieces (Text x m) = ⊥
+EndsPieces (Bytes q x m) = ⊥
+EndsPieces EmbedOpen = ⊥
+EndsPieces _ = Unit {0}
+
+abbrev pub EndsAt : Kind → ℕ → ℕ → Here → Writer → Here → Writer → Bool → Home → Pieces → Type 0
+EndsAt kind number place here writer next left ok h ps = (c : Class) (x : List ℕ) (a : Span) → place ≡ a.start → c ≡ class_of kind number x → EndsPieces c → Shows here writer writer.out.items (builds h ps) → Taken ok (builds h ps) c a next left
+
+-- it is a piece of a string, or begins one
+abbrev pub is_piece : Kind → Bool
+is_piece (kinds.Text m) = true
+is_piece (kinds.Bytes q m) = true
+is_piece kinds.EmbedOpen = true
+is_piece _ = false

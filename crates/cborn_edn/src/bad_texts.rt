@@ -1,0 +1,90 @@
+//! Texts of nodes that aren't UTF-8.
+
+ghost use Rattle.std.specs.Prelude.{◌≡◌};
+ghost use Rattle.cborn_model.specs.Tree.{trees, entries};
+ghost use Rattle.cborn_edn.specs.devices.Lowest as pure;
+
+use cborn_model::{ByteString, Chunk, Form, Node, Spelled};
+
+/// The lowest place of a text string or a text chunk of the items that isn't UTF-8.
+pub(crate) fn lowest_bad_text(items: &[Spelled]) -> Option<u64>
+    ensures { result ≡ pure.bad_item (trees items.now) }
+{
+    let mut found = None;
+    for item in items {
+        found = lower(found, bad_text(item.node()));
+    }
+    found
+}
+
+/// The same of a node.
+#[cycle(bad_text)]
+fn bad_text(node: &Node) -> Option<u64>
+    ensures { result ≡ pure.bad_text node.now }
+{
+    match &node.form {
+        Form::Text(_, bytes) => bad_bytes(node.place, bytes),
+        Form::TextChunks(chunks) => bad_chunk(chunks),
+        Form::Items(_, items) => bad_item(items),
+        Form::Pairs(_, pairs) => bad_pair(pairs),
+        Form::Tagged(_, _, item) => bad_text(item),
+        _ => None,
+    }
+}
+
+/// The same of the items of an array.
+#[cycle(bad_text)]
+fn bad_item(items: &[Node]) -> Option<u64>
+    ensures { result ≡ pure.bad_item (trees items.now) }
+{
+    let mut found = None;
+    for item in items {
+        found = lower(found, bad_text(item));
+    }
+    found
+}
+
+/// The same of the pairs of a map.
+#[cycle(bad_text)]
+fn bad_pair(pairs: &[(Node, Node)]) -> Option<u64>
+    ensures { result ≡ pure.bad_pair (entries pairs.now) }
+{
+    let mut found = None;
+    for (key, value) in pairs {
+        found = lower(found, lower(bad_text(key), bad_text(value)));
+    }
+    found
+}
+
+/// The same of the chunks of a text string.
+fn bad_chunk(chunks: &[Chunk]) -> Option<u64>
+    ensures { result ≡ pure.bad_chunk chunks.now }
+{
+    let mut found = None;
+    for chunk in chunks {
+        found = lower(found, bad_bytes(chunk.place, &chunk.bytes));
+    }
+    found
+}
+
+/// The place, where the bytes are no text.
+fn bad_bytes(place: u64, bytes: &ByteString) -> Option<u64>
+    ensures { result ≡ pure.bad_bytes place bytes.now }
+{
+    if simdutf8::is_utf8(bytes.as_slice()) {
+        None
+    } else {
+        Some(place)
+    }
+}
+
+/// The lower of two places.
+fn lower(one: Option<u64>, other: Option<u64>) -> Option<u64>
+    ensures { result ≡ pure.lower one other }
+{
+    match (one, other) {
+        (Some(a), Some(b)) => Some(a.min(b)),
+        (Some(a), None) => Some(a),
+        (None, b) => b,
+    }
+}

@@ -1,0 +1,160 @@
+//! What may end where the reader stands: by the innermost bracket.
+
+ghost use Rattle.std.specs.Prelude.{◌≡◌, ◌<◌, ◌^◌, IfOk};
+ghost use Rattle.cborn_lex.specs.declared.classes.Class.TheVariants.{ArrayClose, MapClose, EmbedClose, ParenClose, Comma, Colon};
+ghost use Rattle.cborn_edn.specs.shared.Syntax.{Span as Place, Item};
+ghost use Rattle.cborn_edn.specs.shared.Machine.{Stack, State, has};
+ghost use Rattle.cborn_edn.specs.devices.Shows.{Shows};
+ghost use Rattle.cborn_edn.specs.devices.Steps as pure;
+ghost use Rattle.cborn_edn.specs.devices.Steps.{MayEnd, Taken};
+
+use crate::closings::{
+    close_array, close_embedded, close_map, close_tag, colon, comma, comma_of_pairs,
+};
+use crate::states::{Chunks, Here, Level, Stand, Writer};
+use cborn_lex::Mark;
+use std::alloc::AllocError;
+
+/// Whether it is an array.
+#[inline(always)]
+fn is_array(level: Option<Level>) -> bool
+    ensures { result ≡ pure.is_array level }
+{
+    matches!(level, Some(Level::Array))
+}
+
+/// Whether it is a `<<`.
+#[inline(always)]
+fn is_embedded(level: Option<Level>) -> bool
+    ensures { result ≡ pure.is_embedded level }
+{
+    matches!(level, Some(Level::Embedded))
+}
+
+/// Whether it is a map where a key may stand.
+#[inline(always)]
+fn is_key(level: Option<Level>) -> bool
+    ensures { result ≡ pure.is_key level }
+{
+    matches!(level, Some(Level::Key))
+}
+
+/// Whether it is a map where a value may stand.
+#[inline(always)]
+fn is_value(level: Option<Level>) -> bool
+    ensures { result ≡ pure.is_value level }
+{
+    matches!(level, Some(Level::Value))
+}
+
+/// Whether it is a tag.
+#[inline(always)]
+fn is_tag(level: Option<Level>) -> bool
+    ensures { result ≡ pure.is_tag level }
+{
+    matches!(level, Some(Level::Tag))
+}
+
+/// Whether items stand there with commas between them.
+#[inline(always)]
+fn is_row(level: Option<Level>) -> bool
+    ensures { result ≡ pure.is_row level }
+{
+    matches!(level, None | Some(Level::Array | Level::Embedded))
+}
+
+/// Whether it is a map that may end there.
+#[inline(always)]
+fn ends_map(stand: Stand, level: Option<Level>) -> bool
+    ensures { result ≡ pure.ends_map stand level }
+{
+    match stand {
+        Stand::Has => is_value(level),
+        _ => is_key(level),
+    }
+}
+
+/// Whether chunks are open.
+#[inline(always)]
+pub(crate) fn has_chunks(chunks: Option<Chunks>) -> bool
+    ensures { result ≡ pure.has_chunks chunks }
+{
+    matches!(chunks, Some(_))
+}
+
+/// A `]`. Whether an array may end there.
+pub(crate) fn end_array(here: &mut Here, writer: &mut Writer) -> Result<bool, AllocError>
+    requires few { here.old.count < 2 ^ 63 }
+    requires shows { (s : State) × MayEnd s × Shows here.old writer.old writer.old.out.items s }
+    ensures { IfOk result (λ ok. (s : State) (a : Place) → MayEnd s → Shows here.old writer.old writer.old.out.items s → Taken ok s ArrayClose a here.new writer.new) }
+{
+    if !is_array(here.level) {
+        return Ok(false);
+    }
+    close_array(here, writer)?;
+    Ok(true)
+}
+
+/// A `}`. Whether a map may end there.
+pub(crate) fn end_map(here: &mut Here, writer: &mut Writer) -> Result<bool, AllocError>
+    requires few { here.old.count < 2 ^ 63 }
+    requires shows { (s : State) × MayEnd s × Shows here.old writer.old writer.old.out.items s }
+    ensures { IfOk result (λ ok. (s : State) (a : Place) → MayEnd s → Shows here.old writer.old writer.old.out.items s → Taken ok s MapClose a here.new writer.new) }
+{
+    if !ends_map(here.stand, here.level) {
+        return Ok(false);
+    }
+    close_map(here, writer)?;
+    Ok(true)
+}
+
+/// A `>>` at `place`. Whether a `<<` may end there.
+pub(crate) fn end_embedded(mark: Mark, place: usize, here: &mut Here, writer: &mut Writer) -> bool
+    requires { (s : State) × MayEnd s × Shows here.old writer.old writer.old.out.items s }
+    ensures { (s : State) (a : Place) → place ≡ a.start → MayEnd s → Shows here.old writer.old writer.old.out.items s → Taken result s (EmbedClose mark) a here.new writer.new }
+{
+    if !is_embedded(here.level) {
+        return false;
+    }
+    close_embedded(mark, place, here, writer);
+    true
+}
+
+/// A `)` after an item. Whether a tag may end there.
+pub(crate) fn end_tag(here: &mut Here, writer: &mut Writer) -> bool
+    requires { (st : Stack) × (i : Item) × Shows here.old writer.old writer.old.out.items (has st i) }
+    ensures { (st : Stack) (i : Item) (a : Place) → Shows here.old writer.old writer.old.out.items (has st i) → Taken result (has st i) ParenClose a here.new writer.new }
+{
+    if !is_tag(here.level) {
+        return false;
+    }
+    close_tag(here, writer);
+    true
+}
+
+/// A colon after an item. Whether the item is a key.
+pub(crate) fn end_key(here: &mut Here, writer: &Writer) -> bool
+    ensures { (st : Stack) (i : Item) (a : Place) → Shows here.old writer.now writer.now.out.items (has st i) → Taken result (has st i) Colon a here.new writer.now }
+{
+    if !is_key(here.level) {
+        return false;
+    }
+    colon(here);
+    true
+}
+
+/// A comma after an item. Whether more may follow there.
+pub(crate) fn end_entry(here: &mut Here, writer: &Writer) -> bool
+    requires { here.old.count < 2 ^ 63 }
+    ensures { (st : Stack) (i : Item) (a : Place) → Shows here.old writer.now writer.now.out.items (has st i) → Taken result (has st i) Comma a here.new writer.now }
+{
+    if is_value(here.level) {
+        comma_of_pairs(here);
+        return true;
+    }
+    if !is_row(here.level) {
+        return false;
+    }
+    comma(here);
+    true
+}

@@ -1,0 +1,211 @@
+//! A whole text, read token by token to its bytes or its first fault.
+
+ghost use Rattle.std.specs.Prelude.{◌≡◌, ◌≤◌, ◌<◌, ◌^◌, length, IfOk, IfErr, OnOk};
+ghost use Rattle.cborn_edn.specs.Faults.{IsNoNotation};
+ghost use Rattle.cborn_edn.specs.shared.Machine.{State, start};
+ghost use Rattle.cborn_edn.specs.Spelling.{IsSpelling};
+ghost use Rattle.cborn_edn.specs.devices.Reading as pure;
+ghost use Rattle.cborn_edn.specs.devices.Reading.{IsReading, Judged, Last, AtEnd};
+ghost use Rattle.cborn_edn.specs.devices.Modest.{AreModest};
+ghost use Rattle.cborn_edn.specs.shared.Syntax.{Input};
+ghost use Rattle.cborn_edn.specs.shared.Machine.{held};
+ghost use Rattle.cborn_edn.specs.devices.Shows.{Shows};
+
+use crate::endings::has_chunks;
+use crate::refusals::{first_fault, refused};
+use crate::states::{Arounds, Chunks, Frames, Here, Level, Stand, Writer};
+use crate::steps::take;
+use crate::strings::end_item;
+use crate::tokens::{is_spare, reach_of, read_token};
+use crate::{EdnFault, EdnReason};
+use cborn_lex::Profile;
+use cborn_model::Limit;
+use std::alloc::{AllocError, Global};
+
+/// The bytes that the nodes spell which `text` notates under that profile of the notation, none of
+/// them deeper than `limit` (RFC 8949 section 8, RFC 8610 appendix G). The text is looked at once.
+///
+/// # Errors
+/// A text without tokens is `Lex`. Else `Refused` has the offset, in bytes from the start of the
+/// text, of the first token with which no text of the grammar within the limit goes on, or of the
+/// text's end; else of the meaning error of least place, and there of least number. `OutOfMemory`
+/// where memory was refused.
+pub fn read_text(
+    alloc: Global,
+    limit: Limit,
+    profile: Profile,
+    text: &str,
+) -> Result<Vec<u8>, EdnFault>
+    ensures spelled { IfOk result (λ bytes. IsSpelling profile limit text.now bytes.items) }
+    ensures refused { IfErr result (IsNoNotation profile limit text.now) }
+{
+    let mut writer = Writer::new(alloc, text.len())?;
+    let here = read_tokens(alloc, limit, profile, text, &mut writer)?;
+    finish(limit, profile, text, here, writer)
+}
+
+impl Writer {
+    /// Nothing yet, with room for so many bytes.
+    fn new(alloc: Global, room: usize) -> Result<Writer, AllocError>
+        ensures { IfOk result (λ w. Shows Here.FIRST w w.out.items start) }
+    {
+        Ok(Writer {
+            out: Vec::with_capacity(alloc, room)?,
+            frames: Frames::new(alloc),
+            around: Arounds::new(alloc),
+            string: None,
+            chunks: None,
+            simple: 0,
+            slip: None,
+        })
+    }
+}
+
+/// Reads all tokens, from the start of the text to its end.
+fn read_tokens(
+    alloc: Global,
+    limit: Limit,
+    profile: Profile,
+    text: &str,
+    writer: &mut Writer,
+) -> Result<Here, EdnFault>
+    requires { Shows Here.FIRST writer.old writer.old.out.items start }
+    ensures read { IfOk result (λ here. IsReading profile limit text.now here writer.new) }
+    ensures whole { IfOk result (λ here. here.at ≡ length text.now) }
+    ensures refused { IfErr result (IsNoNotation profile limit text.now) }
+{
+    let mut here = Here::FIRST;
+    'tokens: while here.at < text.len() {
+        step(alloc, limit, profile, text, &mut here, writer)?;
+    }
+    Ok(here)
+}
+
+/// Reads one token.
+fn step(
+    alloc: Global,
+    limit: Limit,
+    profile: Profile,
+    text: &str,
+    here: &mut Here,
+    writer: &mut Writer,
+) -> Result<(), EdnFault>
+    requires reading { IsReading profile limit text.now here.old writer.old }
+    requires more { here.old.at < length text.now }
+    ensures read { OnOk result (IsReading profile limit text.now here.new writer.new) }
+    ensures further { OnOk result (here.old.at < here.new.at) }
+    ensures refused { IfErr result (IsNoNotation profile limit text.now) }
+{
+    let start = bounded_len(&writer.out);
+    let (at, stand) = (here.at, here.stand);
+    let mut number: u128 = 0;
+    let found = read_token(
+        alloc,
+        profile,
+        text,
+        at,
+        stand,
+        &mut number,
+        &mut writer.out,
+    )?;
+    let Some(token) = found else {
+        here.at = text.len();
+        return Ok(());
+    };
+    let reach = reach_of(writer.frames.count(), token.kind, number);
+    let spare = is_spare(profile, stand, token.kind);
+    let taken = take(token, number, start, here, writer)?;
+    if let Some(reason) = judge(spare, taken, reach, limit) {
+        let fault = refused(token.start, reason);
+        return Err(first_fault(alloc, profile, text, token.stop, fault));
+    }
+    here.at = token.stop;
+    Ok(())
+}
+
+/// Why no text of the grammar within the limit goes on with a token, if none does: a bracket may be
+/// `spare`, the grammar may have no such token there, or it may go too deep.
+#[inline(always)]
+fn judge(spare: bool, taken: bool, reach: u64, limit: Limit) -> Option<EdnReason>
+    ensures { Judged spare taken reach limit result }
+{
+    if spare {
+        return Some(EdnReason::UnexpectedToken);
+    }
+    if !taken {
+        return Some(EdnReason::UnexpectedToken);
+    }
+    if reach > limit.get() {
+        return Some(EdnReason::TooDeep);
+    }
+    None
+}
+
+/// How many bytes there are.
+#[inline(always)]
+fn bounded_len(out: &Vec<u8>) -> usize
+    ensures len { result ≡ length out.now.items }
+    ensures small { result < 2 ^ 63 }
+{
+    out.len()
+}
+
+/// The bytes, where the text may end here, or the first meaning error.
+fn finish(
+    limit: Limit,
+    profile: Profile,
+    text: &str,
+    here: Here,
+    writer: Writer,
+) -> Result<Vec<u8>, EdnFault>
+    requires reading { IsReading profile limit text.now here writer }
+    requires whole { here.at ≡ length text.now }
+    ensures spelled { IfOk result (λ bytes. IsSpelling profile limit text.now bytes.items) }
+    ensures refused { IfErr result (IsNoNotation profile limit text.now) }
+{
+    if !may_end(here.stand, here.level, writer.chunks) {
+        return Err(refused(text.len(), EdnReason::UnexpectedEnd));
+    }
+    let mut writer = writer;
+    end_last(here, &mut writer)?;
+    let Writer { out, slip, .. } = writer;
+    match slip {
+        Some(slip) => Err(EdnFault::Refused {
+            place: slip.place,
+            reason: slip.reason,
+        }),
+        None => Ok(out),
+    }
+}
+
+/// Whether the text may end here.
+fn may_end(stand: Stand, level: Option<Level>, chunks: Option<Chunks>) -> bool
+    ensures { result ≡ pure.may_end stand level chunks }
+{
+    match (stand, level) {
+        (Stand::Wants, None) => true,
+        (Stand::Has, None) => true,
+        (Stand::Builds, None) => !has_chunks(chunks),
+        _ => false,
+    }
+}
+
+/// Ends the last string, where the text ends with one.
+fn end_last(here: Here, writer: &mut Writer) -> Result<(), AllocError>
+    requires { (s : State) × (t : Input) × Last s t × Shows here writer.old writer.old.out.items s }
+    ensures { OnOk result ((s : State) (t : Input) → Last s t → AreModest (held s) → Shows here writer.old writer.old.out.items s → AtEnd t writer.new) }
+{
+    let mut here = here;
+    if ends_string(here.stand) {
+        return end_item(&mut here, writer);
+    }
+    Ok(())
+}
+
+/// Whether pieces of a string stand there.
+#[inline(always)]
+fn ends_string(stand: Stand) -> bool
+    ensures { result ≡ pure.ends_string stand }
+{
+    matches!(stand, Stand::Builds)
+}

@@ -1,0 +1,50 @@
+//! Syntax errors: where no text of the grammar goes on.
+
+ghost use Rattle.std.specs.Prelude.{◌≡◌, ◌≤◌, ◌⊎◌, List, length};
+ghost use Rattle.cborn_lex.specs.Lex.{Between, IsStopFrom};
+ghost use Rattle.cborn_lex.specs.declared.classes.Token.{Token};
+ghost use Rattle.cborn_lex.specs.declared.faults.LexFault.{LexFault as LexStop};
+ghost use Rattle.cborn_edn.specs.declared.faults.EdnFault.TheVariants.{Refused};
+ghost use Rattle.cborn_edn.specs.shared.Machine.{lexical};
+
+use crate::{EdnFault, EdnReason};
+use cborn_lex::{Profile, next_token};
+use std::alloc::Global;
+
+/// The refusal of what stands at `place`.
+pub(crate) fn refused(place: usize, reason: EdnReason) -> EdnFault
+    ensures { result ≡ Refused place reason }
+{
+    EdnFault::Refused {
+        place: place as u64,
+        reason,
+    }
+}
+
+/// A syntax error, or the lexical fault that follows from `at` on, which comes first: all lexical
+/// faults are reported before any syntax error.
+#[cold]
+#[inline(never)]
+pub(crate) fn first_fault(
+    alloc: Global,
+    profile: Profile,
+    text: &str,
+    at: usize,
+    fault: EdnFault,
+) -> EdnFault
+    requires { at ≤ length text.now }
+    ensures { ((tokens : List Token) × Between profile text.now at (length text.now) tokens × (result ≡ fault)) ⊎ ((stop : LexStop) × IsStopFrom profile text.now at stop × (result ≡ lexical stop)) }
+{
+    let mut content = Vec::new(alloc);
+    let mut number: u128 = 0;
+    let mut place = at;
+    'tokens: loop {
+        content.clear();
+        let token = match next_token(alloc, profile, text, place, &mut number, &mut content) {
+            Ok(Some(token)) => token,
+            Ok(None) => return fault,
+            Err(stop) => return EdnFault::from(stop),
+        };
+        place = token.stop;
+    }
+}

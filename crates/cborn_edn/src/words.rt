@@ -1,0 +1,104 @@
+//! The words of simple values (RFC 8949 sections 3.3 and 8).
+
+ghost use Rattle.std.specs.Prelude.{◌≡◌, ◌≤◌, ◌||◌, ◌==◌, ◌++◌, ℕ, List, codes, length, IfSome};
+ghost use Rattle.cborn_lex.specs.declared.classes.Profile.{Profile};
+ghost use Rattle.cborn_lex.specs.declared.classes.Class.TheVariants as classes;
+ghost use Rattle.cborn_lex.specs.Tokens.{is_word, begins};
+ghost use Rattle.cborn_lex.specs.Good.{IsName};
+ghost use Rattle.cborn_edn.specs.devices.Ahead.{IsTokenAt};
+
+/// The simple value whose word, `false`, `true`, `null` or `undefined`, stands at the offset `at` of
+/// `text`, and the offset after the word.
+#[inline(always)]
+pub(crate) fn word_at(text: &[u8], at: usize) -> Option<(u8, usize)>
+    requires { at ≤ length text.now }
+    ensures within { IfSome result (λ r. r.1 ≤ length text.now) }
+    ensures token { IfSome result (λ r. (profile : Profile) → IsTokenAt profile text.now at r.1 (classes.Word r.0)) }
+{
+    let (n, rest) = after_name(&text[at..])?;
+    if goes_on(rest) {
+        return None;
+    }
+    Some((n, text.len() - rest.len()))
+}
+
+/// The simple value whose name comes first, and what follows the name.
+#[inline(always)]
+fn after_name(tail: &[u8]) -> Option<(u8, &[u8])>
+    ensures { IfSome result (λ r. (w : List ℕ) × IsName w r.0 × (tail.now ≡ w ++ r.1.now)) }
+{
+    if let Some(rest) = after_true(tail) {
+        return Some((21, rest));
+    }
+    if let Some(rest) = after_null(tail) {
+        return Some((22, rest));
+    }
+    if let Some(rest) = after_false(tail) {
+        return Some((20, rest));
+    }
+    let rest = after_undefined(tail)?;
+    Some((23, rest))
+}
+
+/// What follows `true`.
+#[inline(always)]
+fn after_true(tail: &[u8]) -> Option<&[u8]>
+    ensures { IfSome result (λ rest. tail.now ≡ codes "true" ++ rest.now) }
+{
+    match tail {
+        [b't', b'r', b'u', b'e', rest @ ..] => Some(rest),
+        _ => None,
+    }
+}
+
+/// What follows `null`.
+#[inline(always)]
+fn after_null(tail: &[u8]) -> Option<&[u8]>
+    ensures { IfSome result (λ rest. tail.now ≡ codes "null" ++ rest.now) }
+{
+    match tail {
+        [b'n', b'u', b'l', b'l', rest @ ..] => Some(rest),
+        _ => None,
+    }
+}
+
+/// What follows `false`.
+#[inline(always)]
+fn after_false(tail: &[u8]) -> Option<&[u8]>
+    ensures { IfSome result (λ rest. tail.now ≡ codes "false" ++ rest.now) }
+{
+    match tail {
+        [b'f', b'a', b'l', b's', b'e', rest @ ..] => Some(rest),
+        _ => None,
+    }
+}
+
+/// What follows `undefined`.
+#[inline(always)]
+fn after_undefined(tail: &[u8]) -> Option<&[u8]>
+    ensures { IfSome result (λ rest. tail.now ≡ codes "undefined" ++ rest.now) }
+{
+    match tail {
+        [
+            b'u',
+            b'n',
+            b'd',
+            b'e',
+            b'f',
+            b'i',
+            b'n',
+            b'e',
+            b'd',
+            rest @ ..,
+        ] => Some(rest),
+        _ => None,
+    }
+}
+
+/// Whether a word goes on, or the quote of a string follows it.
+#[inline(always)]
+fn goes_on(rest: &[u8]) -> bool
+    ensures { result ≡ (begins is_word rest.now || begins (λ c. c == 39) rest.now) }
+{
+    rest.len() > 0 && (rest[0].is_ascii_alphanumeric() || rest[0] == b'_' || rest[0] == b'\'')
+}

@@ -1,7 +1,0 @@
-use Rattle.std.proofs.Common.{arith}
-use Rattle.cborn_reader.proofs.Results.{on_ok}
-use Rattle.cborn_reader.proofs.Joints.{length_set}
-use Rattle.cborn_reader.proofs.strings.set_length.Goals as goal
-
-pub returns : goal.returns
-returns c = on_ok c.set_head.result (λ h s base e f. length_set c.args.major c.args.string s base c.args.out.now.items c.set_head.new.out.items c.width_for.result _ e f (omega arith) c.width_for.ensures h) c.set_head.ensures.set

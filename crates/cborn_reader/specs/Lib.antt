@@ -1,3 +1,0 @@
-pub mod Ahead
-pub mod Spelling
-pub mod devices
