@@ -85,7 +85,7 @@ alone_given m w n y f =
     ∙ ap (λ k. head_reason element_or_end false m (info_at k) z) (remainder (code m) (information w n) (low w n f))
     ∙ ap (λ i. head_reason element_or_end false m i z) (info_is w n f)
 
-alone_plain : (m : Major) (w : Width) (n : ℕ) (y : List ℕ) → WidthFits w n → is_other m ≡ false → reason_alone (head m (Given w n) ++ y) ≡ None
+pub alone_plain : (m : Major) (w : Width) (n : ℕ) (y : List ℕ) → WidthFits w n → is_other m ≡ false → reason_alone (head m (Given w n) ++ y) ≡ None
 alone_plain m w n y f h = alone_given m w n y f ∙ plain m w n (following w n ++ y) h
 
 alone_simple : (n : ℕ) (y : List ℕ) → IsTrue (is_simple_value n) → reason_alone (head Other (Given (least n) n) ++ y) ≡ None
@@ -98,7 +98,7 @@ alone_simple n y h = elim (simple_cases n h) [
       ap (λ w. reason_alone (head Other (Given w n) ++ y)) o ∙ alone_given Other One n y big.1 ∙ rw (le-ltb n 32 big.0) refl
 ]
 
-free : (t : Tree) (y : List ℕ) → Fits t → reason_alone (head (opening t).0 (opening t).1 ++ y) ≡ None
+pub free : (t : Tree) (y : List ℕ) → Fits t → reason_alone (head (opening t).0 (opening t).1 ++ y) ≡ None
 free (Uint p w n) y f = alone_plain Unsigned w n y f refl
 free (Nint p w n) y f = alone_plain Negative w n y f refl
 free (Bytes p w b) y f = alone_plain ByteString w (length b) y f.0 refl

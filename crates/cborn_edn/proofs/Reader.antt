@@ -26,3 +26,5 @@ pub mod Going
 pub mod Counts
 pub mod Stepping
 pub mod Ending
+pub mod Settling
+pub mod Taking

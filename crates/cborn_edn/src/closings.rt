@@ -28,6 +28,7 @@ use std::alloc::AllocError;
 
 /// Writes the head of an array or a map of `count` entries in the place of the byte at `start`, or
 /// its break after the entries, and notes what is wrong with its indicator, which stands at `place`.
+#[inline(always)]
 fn set_size(
     major: Major,
     frame: Frame,
@@ -76,6 +77,7 @@ fn shut(here: &mut Here, writer: &mut Writer) -> Frame
 }
 
 /// An array ends.
+#[inline(always)]
 pub(crate) fn close_array(here: &mut Here, writer: &mut Writer) -> Result<(), AllocError>
     requires small { here.old.count < 2 ^ 63 }
     requires open { (st : Stack) × (s : Place) × (m : Indicator) × (c : Content) × Shows here.old writer.old writer.old.out.items (content_state (in_array st s m) c) }
@@ -93,6 +95,7 @@ pub(crate) fn close_array(here: &mut Here, writer: &mut Writer) -> Result<(), Al
 }
 
 /// A map ends.
+#[inline(always)]
 pub(crate) fn close_map(here: &mut Here, writer: &mut Writer) -> Result<(), AllocError>
     requires small { here.old.count < 2 ^ 63 }
     requires open { (st : Stack) × (s : Place) × (m : Indicator) × (f : Fields) × Shows here.old writer.old writer.old.out.items (fields_state st s m f) }
@@ -104,6 +107,7 @@ pub(crate) fn close_map(here: &mut Here, writer: &mut Writer) -> Result<(), Allo
 }
 
 /// A tag ends.
+#[inline(always)]
 pub(crate) fn close_tag(here: &mut Here, writer: &mut Writer)
     requires { 0 < length writer.old.frames }
     ensures { (st : Stack) (s a : Place) (n : ℕ) (m : Indicator) (i : Item) → Leads here.old writer.old here.new writer.new (has (in_tag st s n m) i) (has st (tag s n m i a)) }
@@ -112,6 +116,7 @@ pub(crate) fn close_tag(here: &mut Here, writer: &mut Writer)
 }
 
 /// What is embedded in a string ends with a `>>` at `place`.
+#[inline(always)]
 pub(crate) fn close_embedded(mark: Mark, place: usize, here: &mut Here, writer: &mut Writer)
     requires frames { 0 < length writer.old.frames }
     requires around { 0 < length writer.old.around }
@@ -131,6 +136,7 @@ pub(crate) fn close_embedded(mark: Mark, place: usize, here: &mut Here, writer: 
 
 /// A string with one more piece, which is embedded, and which `known` says to have no fault of
 /// meaning.
+#[inline(always)]
 fn with_embedded(
     before: Option<Joint>,
     frame: Frame,

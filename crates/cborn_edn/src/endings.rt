@@ -1,6 +1,6 @@
 //! What may end where the reader stands: by the innermost bracket.
 
-ghost use Rattle.std.specs.Prelude.{◌≡◌, ◌<◌, ◌^◌, IfOk};
+ghost use Rattle.std.specs.Prelude.{◌≡◌, ◌<◌, ◌^◌, false, IfOk};
 ghost use Rattle.cborn_lex.specs.declared.classes.Class.TheVariants.{ArrayClose, MapClose, EmbedClose, ParenClose, Comma, Colon};
 ghost use Rattle.cborn_edn.specs.shared.Syntax.{Span as Place, Item};
 ghost use Rattle.cborn_edn.specs.shared.Machine.{Stack, State, has};
@@ -83,10 +83,12 @@ pub(crate) fn has_chunks(chunks: Option<Chunks>) -> bool
 }
 
 /// A `]`. Whether an array may end there.
+#[inline(always)]
 pub(crate) fn end_array(here: &mut Here, writer: &mut Writer) -> Result<bool, AllocError>
     requires few { here.old.count < 2 ^ 63 }
     requires shows { (s : State) × MayEnd s × Shows here.old writer.old writer.old.out.items s }
-    ensures { IfOk result (λ ok. (s : State) (a : Place) → MayEnd s → Shows here.old writer.old writer.old.out.items s → Taken ok s ArrayClose a here.new writer.new) }
+    ensures taken { IfOk result (λ ok. (s : State) (a : Place) → MayEnd s → Shows here.old writer.old writer.old.out.items s → Taken ok s ArrayClose a here.new writer.new) }
+    ensures kept { IfOk result (λ ok. ok ≡ false → (here.new ≡ here.old) × (writer.new ≡ writer.old)) }
 {
     if !is_array(here.level) {
         return Ok(false);
@@ -96,10 +98,12 @@ pub(crate) fn end_array(here: &mut Here, writer: &mut Writer) -> Result<bool, Al
 }
 
 /// A `}`. Whether a map may end there.
+#[inline(always)]
 pub(crate) fn end_map(here: &mut Here, writer: &mut Writer) -> Result<bool, AllocError>
     requires few { here.old.count < 2 ^ 63 }
     requires shows { (s : State) × MayEnd s × Shows here.old writer.old writer.old.out.items s }
-    ensures { IfOk result (λ ok. (s : State) (a : Place) → MayEnd s → Shows here.old writer.old writer.old.out.items s → Taken ok s MapClose a here.new writer.new) }
+    ensures taken { IfOk result (λ ok. (s : State) (a : Place) → MayEnd s → Shows here.old writer.old writer.old.out.items s → Taken ok s MapClose a here.new writer.new) }
+    ensures kept { IfOk result (λ ok. ok ≡ false → (here.new ≡ here.old) × (writer.new ≡ writer.old)) }
 {
     if !ends_map(here.stand, here.level) {
         return Ok(false);
@@ -109,9 +113,11 @@ pub(crate) fn end_map(here: &mut Here, writer: &mut Writer) -> Result<bool, Allo
 }
 
 /// A `>>` at `place`. Whether a `<<` may end there.
+#[inline(always)]
 pub(crate) fn end_embedded(mark: Mark, place: usize, here: &mut Here, writer: &mut Writer) -> bool
     requires { (s : State) × MayEnd s × Shows here.old writer.old writer.old.out.items s }
-    ensures { (s : State) (a : Place) → place ≡ a.start → MayEnd s → Shows here.old writer.old writer.old.out.items s → Taken result s (EmbedClose mark) a here.new writer.new }
+    ensures taken { (s : State) (a : Place) → place ≡ a.start → MayEnd s → Shows here.old writer.old writer.old.out.items s → Taken result s (EmbedClose mark) a here.new writer.new }
+    ensures kept { result ≡ false → (here.new ≡ here.old) × (writer.new ≡ writer.old) }
 {
     if !is_embedded(here.level) {
         return false;
@@ -121,9 +127,11 @@ pub(crate) fn end_embedded(mark: Mark, place: usize, here: &mut Here, writer: &m
 }
 
 /// A `)` after an item. Whether a tag may end there.
+#[inline(always)]
 pub(crate) fn end_tag(here: &mut Here, writer: &mut Writer) -> bool
     requires { (st : Stack) × (i : Item) × Shows here.old writer.old writer.old.out.items (has st i) }
-    ensures { (st : Stack) (i : Item) (a : Place) → Shows here.old writer.old writer.old.out.items (has st i) → Taken result (has st i) ParenClose a here.new writer.new }
+    ensures taken { (st : Stack) (i : Item) (a : Place) → Shows here.old writer.old writer.old.out.items (has st i) → Taken result (has st i) ParenClose a here.new writer.new }
+    ensures kept { result ≡ false → (here.new ≡ here.old) × (writer.new ≡ writer.old) }
 {
     if !is_tag(here.level) {
         return false;
@@ -133,8 +141,10 @@ pub(crate) fn end_tag(here: &mut Here, writer: &mut Writer) -> bool
 }
 
 /// A colon after an item. Whether the item is a key.
+#[inline(always)]
 pub(crate) fn end_key(here: &mut Here, writer: &Writer) -> bool
-    ensures { (st : Stack) (i : Item) (a : Place) → Shows here.old writer.now writer.now.out.items (has st i) → Taken result (has st i) Colon a here.new writer.now }
+    ensures taken { (st : Stack) (i : Item) (a : Place) → Shows here.old writer.now writer.now.out.items (has st i) → Taken result (has st i) Colon a here.new writer.now }
+    ensures kept { result ≡ false → here.new ≡ here.old }
 {
     if !is_key(here.level) {
         return false;
@@ -144,9 +154,11 @@ pub(crate) fn end_key(here: &mut Here, writer: &Writer) -> bool
 }
 
 /// A comma after an item. Whether more may follow there.
+#[inline(always)]
 pub(crate) fn end_entry(here: &mut Here, writer: &Writer) -> bool
     requires { here.old.count < 2 ^ 63 }
-    ensures { (st : Stack) (i : Item) (a : Place) → Shows here.old writer.now writer.now.out.items (has st i) → Taken result (has st i) Comma a here.new writer.now }
+    ensures taken { (st : Stack) (i : Item) (a : Place) → Shows here.old writer.now writer.now.out.items (has st i) → Taken result (has st i) Comma a here.new writer.now }
+    ensures kept { result ≡ false → here.new ≡ here.old }
 {
     if is_value(here.level) {
         comma_of_pairs(here);

@@ -6,11 +6,12 @@ ghost use Rattle.cborn_lex.specs.declared.classes.Profile.TheVariants as profile
 ghost use Rattle.cborn_lex.specs.Tokens.{is_white, is_not};
 ghost use Rattle.cborn_lex.specs.Good.{TokensBetween};
 
-use cborn_lex::Profile;
+use cborn_lex::{Profile, plain_run};
 
 /// The offset of the first character, from the offset `at` of `text` on, that is neither white space
 /// nor in a comment, or the text's length. `None` where a comment isn't closed, or where a `#`
 /// begins none.
+#[inline(never)]
 pub(crate) fn skip_gaps(profile: Profile, text: &[u8], at: usize) -> Option<usize>
     requires { at ≤ length text.now }
     ensures within { IfSome result (λ end. end ≤ length text.now) }
@@ -54,7 +55,12 @@ fn slashed_end(profile: Profile, text: &[u8], at: usize) -> Option<usize>
     ensures within { IfSome result (λ end. end ≤ length text.now) }
     ensures gap { IfSome result (λ end. TokensBetween profile text.now at end []) }
 {
-    let len = find(b'/', &text[at + 1..])?;
+    let tail = &text[at + 1..];
+    let run = plain_run(b'/', tail);
+    if run < tail.len() && tail[run] == b'/' {
+        return Some(at + run + 2);
+    }
+    let len = find(b'/', tail)?;
     Some(at + len + 2)
 }
 

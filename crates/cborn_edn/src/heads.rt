@@ -14,6 +14,7 @@ const BLOCK: usize = 256;
 ///
 /// # Errors
 /// `AllocError` where `out` couldn't grow; it is then as it was.
+#[inline(always)]
 pub(crate) fn push_head(
     major: Major,
     width: Width,
@@ -23,8 +24,32 @@ pub(crate) fn push_head(
     ensures added { OnOk result (out.new.items ≡ out.old.items ++ map (λ b. b % 256) (head_bytes (code major) width n)) }
     ensures kept { OnErr result (out.new.items ≡ out.old.items) }
 {
-    let (bytes, len) = cut_head(major, width, n);
-    out.extend_from_slice(&bytes[..len])
+    match width {
+        Width::Direct => {
+            out.push(direct_head(major, n))?;
+            Ok(())
+        }
+        _ => push_wide_head(major, width, n, out),
+    }
+}
+
+/// Appends a head of more than one byte, as `push_head` does.
+///
+/// # Errors
+/// `AllocError` where `out` couldn't grow; it is then as it was.
+#[inline(never)]
+fn push_wide_head(major: Major, width: Width, n: u64, out: &mut Vec<u8>) -> Result<(), AllocError>
+    ensures added { OnOk result (out.new.items ≡ out.old.items ++ map (λ b. b % 256) (head_bytes (code major) width n)) }
+    ensures kept { OnErr result (out.new.items ≡ out.old.items) }
+{
+    let [a, b, c, d, e, f, g, h] = n.to_be_bytes();
+    match width {
+        Width::Direct => out.extend_from_slice(&[direct_head(major, n)]),
+        Width::One => out.extend_from_slice(&[major.initial_byte(24), h]),
+        Width::Two => out.extend_from_slice(&[major.initial_byte(25), g, h]),
+        Width::Four => out.extend_from_slice(&[major.initial_byte(26), e, f, g, h]),
+        Width::Eight => out.extend_from_slice(&[major.initial_byte(27), a, b, c, d, e, f, g, h]),
+    }
 }
 
 /// Puts the shortest head of the major type with the argument `n` in the place of the byte at the
@@ -55,8 +80,31 @@ pub(crate) fn set_shortest_head(
 ///
 /// # Errors
 /// `AllocError` where `out` couldn't grow; it is then as it was.
-#[inline(never)]
+#[inline(always)]
 pub(crate) fn set_head(
+    major: Major,
+    width: Width,
+    n: u64,
+    start: usize,
+    out: &mut Vec<u8>,
+) -> Result<(), AllocError>
+    requires { start < length out.old.items }
+    ensures set { OnOk result (out.new.items ≡ take start out.old.items ++ (map (λ b. b % 256) (head_bytes (code major) width n) ++ drop (start + 1) out.old.items)) }
+    ensures kept { OnErr result (out.new.items ≡ out.old.items) }
+{
+    if let Width::Direct = width {
+        write_at(start, &[direct_head(major, n)], out);
+        return Ok(());
+    }
+    set_wide_head(major, width, n, start, out)
+}
+
+/// Puts a head of more than one byte in the place of a byte, as `set_head` does.
+///
+/// # Errors
+/// `AllocError` where `out` couldn't grow; it is then as it was.
+#[inline(never)]
+fn set_wide_head(
     major: Major,
     width: Width,
     n: u64,

@@ -39,9 +39,10 @@
 //!   string at hand.
 //! - `heads` writes a head at the end of a buffer, or in the place of a byte, and moves what follows
 //!   it.
-//! - `gaps`, `marks`, `integers`, `words`, `texts` and `common` look at a text for what is common:
-//!   white space and comments, brackets and what separates items, and items. What they leave is for
-//!   `next_token` of the lexer.
+//! - `gaps`, `marks`, `integers`, `words` and `texts` look at a text for what is common: white space
+//!   and comments, brackets, and items.
+//! - `quick`, `quick_items` and `quick_ends` take what is common in place, with no token between. What
+//!   they leave is for `next_token` of the lexer and for `steps`.
 //!
 //! Of the bytes `placing` makes nodes, and puts places into them that `starts` finds in the text, by
 //! the shape of its open brackets (`shapes`). `showing` and `writing` show nodes, and `bad_texts`
@@ -54,7 +55,6 @@
 
 mod bad_texts;
 mod closings;
-mod common;
 mod endings;
 mod faults;
 mod gaps;
@@ -66,6 +66,9 @@ mod numbers;
 mod openings;
 mod passes;
 mod placing;
+mod quick;
+mod quick_ends;
+mod quick_items;
 mod readers;
 mod refusals;
 mod shapes;

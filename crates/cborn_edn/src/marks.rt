@@ -1,30 +1,11 @@
-//! Tokens of one character, and opening brackets with their indicators (RFC 8949 section 8).
+//! Brackets with their indicators (RFC 8949 section 8, RFC 8610 appendix G.3).
 
-ghost use Rattle.std.specs.Prelude.{◌≡◌, ◌≤◌, ◌<◌, ◌+◌, ℕ, List, [], length, slice_index, IfSome, IfNone};
+ghost use Rattle.std.specs.Prelude.{◌≡◌, ◌≤◌, ◌<◌, ◌+◌, length, slice_index, true, IfSome};
 ghost use Rattle.cborn_lex.specs.declared.classes.Profile.{Profile};
-ghost use Rattle.cborn_lex.specs.declared.classes.Class.{Class};
 ghost use Rattle.cborn_lex.specs.declared.classes.Class.TheVariants as classes;
-ghost use Rattle.cborn_lex.specs.Forms.{start_of, single};
-ghost use Rattle.cborn_lex.specs.Kinds.{class_of};
 ghost use Rattle.cborn_edn.specs.devices.Ahead.{IsTokenAt};
 
-use cborn_lex::{Kind, Mark, mark_at};
-
-/// The token that the character is, which goes on with no other. `None` where it is none.
-#[inline(always)]
-pub(crate) fn single_kind(c: u8) -> Option<Kind>
-    ensures token { IfSome result (λ k. (profile : Profile) (text : List ℕ) (at n : ℕ) → at < length text → slice_index text at ≡ c → IsTokenAt profile text at (at + 1) (class_of k n [])) }
-    ensures none { IfNone result ((k : Class) → start_of c ≡ single k → ⊥) }
-{
-    match c {
-        b',' => Some(Kind::Comma),
-        b':' => Some(Kind::Colon),
-        b']' => Some(Kind::ArrayClose),
-        b'}' => Some(Kind::MapClose),
-        b')' => Some(Kind::ParenClose),
-        _ => None,
-    }
-}
+use cborn_lex::{Mark, mark_at};
 
 /// The indicator of the opening bracket at the offset `at` of `text`, and the offset after it.
 /// `None` where what follows the bracket begins as an indicator does and is none.
@@ -37,4 +18,52 @@ pub(crate) fn opening_at(text: &[u8], at: usize) -> Option<(Mark, usize)>
 {
     let (mark, len) = mark_at(&text[at + 1..]);
     Some((mark?, at + 1 + len))
+}
+
+/// The indicator of the `>>` at the offset `at` of `text`, where a `>` stands, and the offset after
+/// it. `None` where it is no `>>`, or what follows begins as an indicator does and is none.
+#[inline(always)]
+pub(crate) fn embed_end_at(text: &[u8], at: usize) -> Option<(Mark, usize)>
+    requires inside { at < length text.now }
+    requires greater { slice_index text.now at ≡ 62 }
+    ensures within { IfSome result (λ r. r.1 ≤ length text.now) }
+    ensures token { IfSome result (λ r. (profile : Profile) → IsTokenAt profile text.now at r.1 (classes.EmbedClose r.0)) }
+{
+    let second = at + 1;
+    if second == text.len() || text[second] != b'>' {
+        return None;
+    }
+    let (mark, len) = mark_at(&text[second + 1..]);
+    Some((mark?, second + 1 + len))
+}
+
+/// Whether a `<<` stands at the offset `at` of `text`, where a `<` stands.
+#[inline(always)]
+pub(crate) fn embeds_at(text: &[u8], at: usize) -> bool
+    requires inside { at < length text.now }
+    requires less { slice_index text.now at ≡ 60 }
+    ensures within { result ≡ true → at + 2 ≤ length text.now }
+    ensures token { result ≡ true → (profile : Profile) → IsTokenAt profile text.now at (at + 2) classes.EmbedOpen }
+{
+    let second = at + 1;
+    second < text.len() && text[second] == b'<'
+}
+
+/// Whether a `(_` and a space stand at the offset `at` of `text`, where a `(` stands.
+#[inline(always)]
+pub(crate) fn opens_chunks_at(text: &[u8], at: usize) -> bool
+    requires inside { at < length text.now }
+    requires paren { slice_index text.now at ≡ 40 }
+    ensures within { result ≡ true → at + 2 ≤ length text.now }
+    ensures token { result ≡ true → (profile : Profile) → IsTokenAt profile text.now at (at + 2) classes.ChunkOpen }
+{
+    let second = at + 1;
+    let third = at + 2;
+    if third >= text.len() {
+        return false;
+    }
+    if text[second] != b'_' {
+        return false;
+    }
+    text[third] == b' '
 }

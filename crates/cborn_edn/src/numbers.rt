@@ -39,6 +39,7 @@ pub(crate) fn width_for(mark: Mark, n: u64) -> Width
 }
 
 /// `n` for `n`, and for `-1-n`.
+#[inline(always)]
 fn argument_of(negative: bool, magnitude: u128) -> u128
     ensures { result ≡ says.argument_of negative magnitude }
 {
@@ -50,6 +51,7 @@ fn argument_of(negative: bool, magnitude: u128) -> u128
 }
 
 /// Whether it is below zero; -0 isn't.
+#[inline(always)]
 fn is_below(negative: bool, magnitude: u128) -> bool
     ensures { result ≡ says.is_below negative magnitude }
 {
@@ -65,6 +67,7 @@ pub(crate) fn is_small(negative: bool, magnitude: u128) -> bool
 }
 
 /// Appends an integer: `magnitude`, or `-magnitude`.
+#[inline(always)]
 pub(crate) fn push_number(
     negative: bool,
     magnitude: u128,
@@ -195,6 +198,7 @@ fn is_simple(negative: bool, magnitude: u128) -> bool
 }
 
 /// An integer, as an item.
+#[inline(always)]
 pub(crate) fn put_number(
     negative: bool,
     magnitude: u128,
@@ -217,6 +221,7 @@ pub(crate) fn put_number(
 }
 
 /// A word for the simple value `n`, as an item.
+#[inline(always)]
 pub(crate) fn put_word(n: u8, here: &mut Here, writer: &mut Writer) -> Result<(), AllocError>
     ensures { OnOk result ((st : Stack) (a : Place) → Leads here.old writer.old here.new writer.new (wants st) (has st (word a n))) }
 {
@@ -226,6 +231,7 @@ pub(crate) fn put_word(n: u8, here: &mut Here, writer: &mut Writer) -> Result<()
 }
 
 /// The number in `simple(..)`.
+#[inline(always)]
 pub(crate) fn put_simple(
     negative: bool,
     magnitude: u128,

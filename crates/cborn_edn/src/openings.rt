@@ -15,6 +15,7 @@ use cborn_model::Major;
 use std::alloc::AllocError;
 
 /// An array opens at `place`.
+#[inline(always)]
 pub(crate) fn open_array(
     mark: Mark,
     place: usize,
@@ -29,6 +30,7 @@ pub(crate) fn open_array(
 }
 
 /// A map opens at `place`.
+#[inline(always)]
 pub(crate) fn open_map(
     mark: Mark,
     place: usize,
@@ -43,6 +45,7 @@ pub(crate) fn open_map(
 }
 
 /// Writes a byte in the place of a head, or the head where the length is indefinite.
+#[inline(always)]
 fn push_place(major: Major, mark: Mark, out: &mut Vec<u8>) -> Result<(), AllocError>
     ensures { OnOk result (out.new.items ≡ out.old.items ++ place_of major mark) }
 {
@@ -55,6 +58,7 @@ fn push_place(major: Major, mark: Mark, out: &mut Vec<u8>) -> Result<(), AllocEr
 }
 
 /// A tag opens at `place`.
+#[inline(always)]
 pub(crate) fn open_tag(
     number: u128,
     mark: Mark,
@@ -70,6 +74,7 @@ pub(crate) fn open_tag(
 
 /// A sequence opens at `place` inside a string. Before it stand the bytes of the pieces so far; or,
 /// where there are none, a byte in the place of the string's head, at `start`.
+#[inline(always)]
 pub(crate) fn open_embedded(
     start: usize,
     place: usize,
@@ -96,6 +101,7 @@ pub(crate) fn open_embedded(
 }
 
 /// A string in chunks opens.
+#[inline(always)]
 pub(crate) fn open_chunks(here: &mut Here, writer: &mut Writer) -> Result<(), AllocError>
     ensures { OnOk result ((st : Stack) (a : Place) → Leads here.old writer.old here.new writer.new (wants st) (wants_chunk st a no_string)) }
 {
@@ -115,6 +121,7 @@ pub(crate) fn open_simple(place: usize, here: &mut Here, writer: &mut Writer)
 }
 
 /// One more frame, in which an item is wanted.
+#[inline(always)]
 fn open_frame(
     level: Level,
     mark: Mark,

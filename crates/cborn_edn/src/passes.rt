@@ -12,6 +12,7 @@ ghost use Rattle.cborn_edn.specs.shared.Machine.{held};
 ghost use Rattle.cborn_edn.specs.devices.Shows.{Shows};
 
 use crate::endings::has_chunks;
+use crate::quick::take_common;
 use crate::refusals::{first_fault, refused};
 use crate::states::{Arounds, Chunks, Frames, Here, Level, Stand, Writer};
 use crate::steps::take;
@@ -76,7 +77,11 @@ fn read_tokens(
 {
     let mut here = Here::FIRST;
     'tokens: while here.at < text.len() {
-        step(alloc, limit, profile, text, &mut here, writer)?;
+        if !take_common(limit, profile, text, &mut here, writer)? && here.at < text.len() {
+            let mut next = here.same();
+            step(alloc, limit, profile, text, &mut next, writer)?;
+            here.become_next(next);
+        }
     }
     Ok(here)
 }
@@ -143,7 +148,7 @@ fn judge(spare: bool, taken: bool, reach: u64, limit: Limit) -> Option<EdnReason
 
 /// How many bytes there are.
 #[inline(always)]
-fn bounded_len(out: &Vec<u8>) -> usize
+pub(crate) fn bounded_len(out: &Vec<u8>) -> usize
     ensures len { result ≡ length out.now.items }
     ensures small { result < 2 ^ 63 }
 {

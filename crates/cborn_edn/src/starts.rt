@@ -4,7 +4,7 @@
 //! it stands. Which tokens begin a node or a chunk depends on the shape of what is open (`shapes`),
 //! so heads are counted token by token. What stands in `<<..>>` becomes bytes, and counts as none.
 
-ghost use Rattle.std.specs.Prelude.{◌≡◌, ℕ, suc, ◌+◌, ◌<◌, ◌^◌, ◌++◌, replicate, IfSome, Some, IfOk, OnOk, slice_get};
+ghost use Rattle.std.specs.Prelude.{◌≡◌, ℕ, suc, ◌+◌, ◌<◌, ◌^◌, ◌++◌, replicate, IfOk, OnOk, slice_get};
 ghost use Rattle.cborn_model.specs.Tree.{Trees};
 ghost use Rattle.cborn_edn.specs.Grammar.{Notates};
 ghost use Rattle.cborn_edn.specs.Starts.{starts_all};
@@ -20,33 +20,44 @@ use std::alloc::{AllocError, Global};
 /// first token, in bytes from the start of the text. An integer outside 64 bits is two nodes at one
 /// place, a tag and the byte string under it (RFC 8949 section 3.4.3).
 ///
-/// The answer is that of the nodes that the text notates. `None` where there are no more nodes and
-/// chunks, and also where memory was refused; of a text that notates nothing, nothing is said.
-/// Memory goes to one byte for each open bracket and to the token at hand.
-pub fn start_at(alloc: Global, profile: Profile, text: &str, index: u64) -> Option<u64>
-    ensures { IfSome result (λ place. (limit : ℕ) (nodes : Trees) → Notates profile limit text.now nodes → slice_get (starts_all nodes) index ≡ Some place) }
+/// The answer is that of the nodes that the text notates: `None` where these and their chunks are
+/// fewer. Of a text that notates nothing, nothing is said. Memory goes to one byte for each open
+/// bracket and to the token at hand.
+///
+/// # Errors
+/// A growth of the memory was refused.
+pub fn start_at(
+    alloc: Global,
+    profile: Profile,
+    text: &str,
+    index: u64,
+) -> Result<Option<u64>, AllocError>
+    ensures { IfOk result (λ place. (limit : ℕ) (nodes : Trees) → Notates profile limit text.now nodes → slice_get (starts_all nodes) index ≡ place) }
 {
     let mut shape = Shape::new(alloc);
     let mut embedded = 0;
     let mut left = index;
     let mut at = 0;
     'tokens: loop {
-        let Ok(Some(token)) = token_from(alloc, profile, text, at) else {
-            return None;
+        let token = match token_from(alloc, profile, text, at) {
+            Ok(Some(token)) => token,
+            Ok(None) => return Ok(None),
+            Err(LexFault::Refused { .. }) => return Ok(None),
+            Err(LexFault::OutOfMemory) => return Err(AllocError),
         };
         let place = token.start;
         at = token.stop;
         let count = begun(embedded, shape.stand, &token.class);
         embedded = embedded_after(embedded, &token.class);
-        let taken = shape.step(profile, &token.class);
+        let taken = shape.step(Profile::Two, &token.class)?;
         drop(token);
         if left < count {
-            return Some(place);
+            return Ok(Some(place));
         }
         left -= count;
-        let Ok(true) = taken else {
-            return None;
-        };
+        if !taken {
+            return Ok(None);
+        }
     }
 }
 

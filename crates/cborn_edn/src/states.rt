@@ -49,6 +49,8 @@ pub(crate) struct Here {
 }
 
 impl Here {
+    ghost use Rattle.std.specs.Prelude.{◌≡◌};
+
     /// Before the first token.
     pub(crate) const FIRST: Here = Here {
         at: 0,
@@ -56,6 +58,30 @@ impl Here {
         stand: Stand::Wants,
         level: None,
     };
+
+    /// A copy, made field by field: a copy of the whole goes through memory.
+    #[inline(always)]
+    pub(crate) fn same(&self) -> Here
+        ensures { result ≡ self.now }
+    {
+        Here {
+            at: self.at,
+            count: self.count,
+            stand: self.stand,
+            level: self.level,
+        }
+    }
+
+    /// Takes on what stands in another, field by field.
+    #[inline(always)]
+    pub(crate) fn become_next(&mut self, next: Here)
+        ensures { self.new ≡ next }
+    {
+        self.at = next.at;
+        self.count = next.count;
+        self.stand = next.stand;
+        self.level = next.level;
+    }
 }
 
 /// An open bracket. `count` and `level` are those around it, `place` is its offset in the text, and
@@ -155,6 +181,7 @@ impl Frames {
 
     /// One more, inside the others.
     #[tactic(auto, using(crate::proofs::Reader::Opened::innermost))]
+    #[inline(always)]
     pub(crate) fn open(&mut self, frame: Frame) -> Result<(), AllocError>
         ensures { OnOk result (self.new ≡ frame ∷ self.old) }
     {

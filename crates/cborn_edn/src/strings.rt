@@ -211,6 +211,7 @@ pub(crate) fn join(kind: StringKind, place: usize, mark: Mark, writer: &mut Writ
 }
 
 /// The string ends, as an item.
+#[inline(always)]
 pub(crate) fn end_item(here: &mut Here, writer: &mut Writer) -> Result<(), AllocError>
     requires { (st : Stack) × (ps : Joined) × Shows here.old writer.old writer.old.out.items (builds (as_item st) ps) }
     ensures { OnOk result ((st : Stack) (ps : Joined) → AreModest (tokens_of_pieces ps) → Leads here.old writer.old here.new writer.new (builds (as_item st) ps) (has st (string ps))) }
@@ -224,6 +225,7 @@ pub(crate) fn end_item(here: &mut Here, writer: &mut Writer) -> Result<(), Alloc
 }
 
 /// The string ends, as a chunk.
+#[inline(always)]
 pub(crate) fn end_chunk(here: &mut Here, writer: &mut Writer) -> Result<(), AllocError>
     requires { (st : Stack) × (s : Place) × (b : StringsBefore) × (ps : Joined) × Shows here.old writer.old writer.old.out.items (builds (as_chunk st s b) ps) }
     ensures { OnOk result ((st : Stack) (s a : Place) (b : StringsBefore) (ps : Joined) → AreModest (tokens_of_pieces ps) → Leads here.old writer.old here.new writer.new (builds (as_chunk st s b) ps) (wants_chunk st s (after_strings (strings b ps) a))) }
@@ -277,6 +279,7 @@ fn close_chunk(
 }
 
 /// The chunks end, of which there is one at least.
+#[inline(always)]
 pub(crate) fn end_chunks(here: &mut Here, writer: &mut Writer) -> Result<(), AllocError>
     requires { (st : Stack) × (s : Place) × (a : Place) × (ss : Strings) × Shows here.old writer.old writer.old.out.items (wants_chunk st s (after_strings ss a)) }
     ensures { OnOk result ((st : Stack) (s a e : Place) (ss : Strings) → Leads here.old writer.old here.new writer.new (wants_chunk st s (after_strings ss a)) (has st (chunked s ss e))) }

@@ -1,4 +1,5 @@
 -- What the calls answer: for an input that is refused, that holds items, or that wasn't read to its end.
+pub mod Listed
 pub mod Told
 pub mod Unanswered
 pub mod Untold
@@ -9,4 +10,3 @@ pub mod Telling
 pub mod AtHand
 pub mod Malformed
 pub mod Flawed
-pub mod Respelled

@@ -39,7 +39,9 @@ pub fn check<O: KeyOrder, R: Source>(
     check_input::<O>(alloc, limit, &input)
 }
 
-/// The first defect of these bytes, or the fault of their content. No fault is the reader's.
+/// The first defect of these bytes, or the fault of their content. No fault is the reader's. A defect
+/// is told only where the bytes hold items; where they hold none, a reason is found. Where memory was
+/// refused, the bytes are told to be at fault if they are.
 ///
 /// # Errors
 /// The fault of their content, or `OutOfMemory`.
@@ -52,13 +54,19 @@ pub fn check_input<O: KeyOrder>(
     ensures malformed { TellsFault kinds.Wire limit input.now result }
     ensures failures { (n : ℕ) → read_failures result n ≡ n }
 {
-    let departure = first_departure::<O>(alloc, limit, input);
-    if let Departure::Deterministic = departure {
-        return Ok(None);
-    }
-    judge_bytes(alloc, limit, input)?;
-    match departure {
-        Departure::First(defect) => Ok(Some(defect)),
-        _ => Err(EngineFault::OutOfMemory),
+    match first_departure::<O>(alloc, limit, input) {
+        Ok(Departure::Deterministic) => Ok(None),
+        Ok(Departure::First(defect)) => {
+            judge_bytes(alloc, limit, input)?;
+            Ok(Some(defect))
+        }
+        Ok(Departure::Nothing) => {
+            judge_bytes(alloc, limit, input)?;
+            unreachable!()
+        }
+        Err(refused) => {
+            judge_bytes(alloc, limit, input)?;
+            Err(EngineFault::from(refused))
+        }
     }
 }

@@ -15,7 +15,7 @@ ghost use Rattle.cborn_engine.specs.Whole.{TellsFault};
 use crate::faults::EngineFault;
 use crate::inputs::MOST;
 use crate::kinds::{Kind, profile_of};
-use crate::refusals::flaw_of_text;
+use crate::refusals::{fault_of_bytes, fault_or_refusal, flaw_of_text};
 use crate::texts::bytes_of_text;
 use cborn_judge::Invalid;
 use cborn_lex::Profile;
@@ -23,7 +23,6 @@ use cborn_model::{KeyOrder, Limit};
 use cborn_search::{Validity, first_flaw};
 use cborn_streams::{Source, read_bytes};
 use cborn_transcode::{deterministic_front, transcode_after};
-use cborn_wire::{WireFault, scan};
 use std::alloc::Global;
 
 /// The deterministic encodings of what the whole input holds, one after another. Bytes that are
@@ -76,6 +75,7 @@ pub fn encode_input<O: KeyOrder>(
     front: usize,
     input: &[u8],
 ) -> Result<Vec<u8>, EngineFault>
+    requires short { length input.now ≤ most_bytes }
     requires within { front ≤ length input.now }
     requires own { IsTranscoded O.order limit (take front input.now) (take front input.now) }
     ensures answers { length input.now ≤ most_bytes → EncodeAnswers O.order kind limit most_bytes input.now result }
@@ -128,14 +128,12 @@ pub fn judge_bytes(alloc: Global, limit: Limit, input: &[u8]) -> Result<(), Engi
     ensures failures { (n : ℕ) → read_failures result n ≡ n }
 {
     match first_flaw(alloc, limit, input) {
-        Validity::Valid => Ok(()),
-        Validity::Flaw { place, reason } => {
+        Ok(Validity::Valid) => Ok(()),
+        Ok(Validity::Flaw { place, reason }) => {
             Err(EngineFault::Invalid(Invalid::Refused { place, reason }))
         }
-        Validity::Unknown => match scan(limit, input) {
-            Some((place, reason)) => Err(EngineFault::Wire(WireFault::Refused { place, reason })),
-            None => Err(EngineFault::OutOfMemory),
-        },
+        Ok(Validity::Malformed) => Err(fault_of_bytes(limit, input)),
+        Err(refused) => Err(fault_or_refusal(limit, input, refused)),
     }
 }
 
@@ -147,6 +145,7 @@ fn encode_text<O: KeyOrder>(
     profile: Profile,
     input: &[u8],
 ) -> Result<Vec<u8>, EngineFault>
+    requires { length input.now ≤ most_bytes }
     ensures answers { length input.now ≤ most_bytes → EncodeAnswers O.order (kind_of profile) limit most_bytes input.now result }
     ensures failures { (n : ℕ) → read_failures result n ≡ n }
 {

@@ -3,7 +3,7 @@ ghost use Rattle.std.specs.Prelude.{◌≡◌, ◌≢◌, ◌≤◌, ◌⊎◌, 
 ghost use Rattle.cborn_model.specs.Tree.{Tree};
 ghost use Rattle.cborn_paths.specs.Paths.{EndsAt};
 ghost use Rattle.cborn_paths.specs.declared.paths.Step.TheVariants.{Item};
-ghost use Rattle.cborn_spell.specs.Descent.{IsSpelling};
+ghost use Rattle.cborn_edn.specs.Spelling.{IsSpelling};
 ghost use Rattle.cborn_engine.specs.declared.faults.EngineFault.TheVariants as fault;
 ghost use Rattle.cborn_engine.specs.declared.kinds.Kind.TheVariants as kinds;
 ghost use Rattle.cborn_engine.specs.declared.one_faults.OneFault.TheVariants as one;
@@ -12,7 +12,6 @@ ghost use Rattle.cborn_engine.specs.Holding.{Spells};
 ghost use Rattle.cborn_engine.specs.OneItem.{SpellsOne, IsNotOne};
 ghost use Rattle.cborn_engine.specs.Reading.{most_bytes};
 
-use crate::faults::EngineFault;
 use crate::kinds::{Kind, profile_of};
 use crate::one_faults::OneFault;
 use crate::texts::{bytes_of_text, text_of};
@@ -96,7 +95,8 @@ fn second_in_text(
         unreachable!();
     };
     match place_in_text(alloc, profile, text, bytes, end as u64) {
-        Some(place) => OneFault::MoreItems(place),
-        None => OneFault::Engine(EngineFault::OutOfMemory),
+        Ok(Some(place)) => OneFault::MoreItems(place),
+        Ok(None) => unreachable!(),
+        Err(refused) => OneFault::from(refused),
     }
 }

@@ -5,7 +5,8 @@
 ghost use Rattle.std.specs.Prelude.{◌≡◌, ◌≤◌, ◌⊎◌, ℕ, length, IfErr, IsUtf8};
 ghost use Rattle.cborn_engine.specs.declared.faults.EngineFault.TheVariants as fault;
 ghost use Rattle.cborn_wire.specs.Faults.{IsWellformed};
-ghost use Rattle.cborn_spell.specs.Descent.{IsSpelling};
+ghost use Rattle.cborn_edn.specs.Spelling.{IsSpelling};
+ghost use Rattle.cborn_transcode.specs.Transcoding.{HoldsNoItems};
 ghost use Rattle.cborn_engine.specs.devices.Malformed.{IsWireFault};
 ghost use Rattle.cborn_engine.specs.devices.Counting.{read_failures, read_failures_at};
 ghost use Rattle.cborn_engine.specs.devices.Encoding.{kind_of};
@@ -44,8 +45,8 @@ pub fn fault_or_refusal(limit: Limit, input: &[u8], refused: AllocError) -> Engi
     }
 }
 
-/// Why a text has no answer that spells these bytes, for which a pass over bytes had none: the first
-/// flaw of its items; where they have none, memory was refused.
+/// Why a text has no answer that spells these bytes, which hold no items: their first flaw, or that
+/// memory was refused.
 pub fn flaw_of_text(
     alloc: Global,
     limit: Limit,
@@ -53,19 +54,25 @@ pub fn flaw_of_text(
     input: &[u8],
     bytes: &[u8],
 ) -> EngineFault
+    requires short { length input.now ≤ most_bytes }
     requires text { IsUtf8 input.now }
     requires spelled { IsSpelling profile limit input.now bytes.now }
+    requires none { HoldsNoItems limit bytes.now }
     ensures refused { length input.now ≤ most_bytes → IsRefused (kind_of profile) limit most_bytes input.now result }
     ensures failures { (n : ℕ) → read_failures_at result n ≡ n }
 {
-    let Validity::Flaw { place, reason } = first_flaw(alloc, limit, bytes) else {
-        return EngineFault::OutOfMemory;
+    let (place, reason) = match first_flaw(alloc, limit, bytes) {
+        Ok(Validity::Flaw { place, reason }) => (place, reason),
+        Ok(Validity::Valid) => unreachable!(),
+        Ok(Validity::Malformed) => unreachable!(),
+        Err(refused) => return EngineFault::from(refused),
     };
     let Ok(text) = text_of(input) else {
         unreachable!();
     };
     match place_in_text(alloc, profile, text, bytes, place) {
-        Some(place) => EngineFault::Invalid(Invalid::Refused { place, reason }),
-        None => EngineFault::OutOfMemory,
+        Ok(Some(place)) => EngineFault::Invalid(Invalid::Refused { place, reason }),
+        Ok(None) => unreachable!(),
+        Err(refused) => EngineFault::from(refused),
     }
 }

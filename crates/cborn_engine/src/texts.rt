@@ -1,7 +1,7 @@
 //! The text that the bytes of an input are.
 ghost use Rattle.std.specs.Prelude.{◌≡◌, ◌≤◌, ℕ, length, IfOk, IfErr, IsUtf8};
 ghost use Rattle.cborn_lex.specs.declared.classes.Profile.{Profile as ProfileSpec};
-ghost use Rattle.cborn_spell.specs.Descent.{IsSpelling};
+ghost use Rattle.cborn_edn.specs.Spelling.{IsSpelling};
 ghost use Rattle.cborn_engine.specs.devices.Encoding.{kind_of};
 ghost use Rattle.cborn_engine.specs.Loading.{IsNoFlaw};
 ghost use Rattle.cborn_engine.specs.devices.Counting.{read_failures};
@@ -11,7 +11,6 @@ use crate::faults::EngineFault;
 use cborn_edn::read_text;
 use cborn_lex::Profile;
 use cborn_model::Limit;
-use cborn_spell::spell_text;
 use simdutf8::compat::from_utf8;
 use std::alloc::Global;
 
@@ -31,8 +30,7 @@ pub fn text_of(bytes: &[u8]) -> Result<&str, EngineFault>
     }
 }
 
-/// The bytes that the nodes spell which a text notates. The quick pass says of no text why it leaves
-/// it; the reader takes each, and says why it notates no nodes.
+/// The bytes that the nodes spell which a text notates.
 ///
 /// # Errors
 /// `TextInput` where the text isn't UTF-8, `Edn` with the fault of its tokens, of its syntax or of its
@@ -48,8 +46,5 @@ pub fn bytes_of_text(
     ensures failures { (n : ℕ) → read_failures result n ≡ n }
 {
     let text = text_of(input)?;
-    match spell_text(alloc, limit, profile, text) {
-        Some(bytes) => Ok(bytes),
-        None => Ok(read_text(alloc, limit, profile, text)?),
-    }
+    Ok(read_text(alloc, limit, profile, text)?)
 }

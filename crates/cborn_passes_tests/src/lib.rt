@@ -11,4 +11,4 @@ mod orders;
 #[cfg(test)]
 mod places;
 #[cfg(test)]
-mod spell;
+mod texts;

@@ -1,9 +1,10 @@
-//! That a place in a text is told of the place of a flaw in its bytes. That none is told breaks no
-//! contract, and the engine reads the text by nodes then. Which place it is, a clause says of a flaw
-//! alone, so each case is one, but for that of a place where nothing starts.
+//! That a place in a text is told of the place of a flaw in its bytes, where by its contract the call
+//! could answer each time that memory was refused. Which place it is, a clause says of a flaw and of a
+//! node; here chunks are tried, and a place where nothing starts.
 
 use cborn_lex::Profile;
 use cborn_places::place_in_text;
+use std::test::Fail;
 
 /// Texts with the bytes that they spell, and a place in these with the one in the text.
 const PLACES: [(&str, &[u8], u64, Option<u64>); 6] = [
@@ -32,9 +33,10 @@ const PLACES: [(&str, &[u8], u64, Option<u64>); 6] = [
 
 /// Catches a walk that loses its count behind what is embedded, a bignum or chunks.
 #[test]
-fn finds_places_in_texts(rt: HostRuntime) {
+fn finds_places_in_texts(rt: HostRuntime) -> Result<(), Fail> {
     for (text, bytes, place, want) in PLACES {
-        let there = place_in_text(rt.alloc(), Profile::One, text, bytes, place);
+        let there = place_in_text(rt.alloc(), Profile::One, text, bytes, place)?;
         assert_eq!(rt; there, want, "{text}");
     }
+    Ok(())
 }

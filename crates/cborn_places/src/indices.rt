@@ -1,6 +1,6 @@
 //! Which node or chunk of some bytes a place is the start of, counted from the first.
 
-ghost use Rattle.std.specs.Prelude.{◌≡◌, ◌≢◌, ◌<◌, ◌≤◌, ◌/◌, ◌%◌, ◌++◌, ℕ, List, length, true, Some, IfSome, slice_get};
+ghost use Rattle.std.specs.Prelude.{◌≡◌, ◌≢◌, ◌<◌, ◌≤◌, ◌/◌, ◌%◌, ◌++◌, ℕ, List, length, true, None, Some, IfSome, slice_get};
 ghost use Rattle.cborn_model.specs.Spelled.{Wellformed};
 ghost use Rattle.cborn_model.specs.Placed.{PlacedAll};
 ghost use Rattle.cborn_model.specs.Tree.{Trees};
@@ -13,10 +13,11 @@ use cborn_model::{BREAK, Major};
 use cborn_wire::{Argument, Head, HeadRead, read_head};
 
 /// How many nodes and chunks start before the one that starts at `place`, an offset in bytes. Goes
-/// from head to head, and takes no memory. None where none starts there; nothing is promised of
-/// input that isn't well-formed.
+/// from head to head, and takes no memory. None where none starts there. Of input that isn't
+/// well-formed nothing is said.
 pub(crate) fn index_at(input: &[u8], place: u64) -> Option<u64>
-    ensures { IfSome result (λ index. (limit : ℕ) (nodes : Trees) → Wellformed limit nodes input.now → PlacedAll 0 nodes → slice_get (starts_all nodes) index ≡ Some place) }
+    ensures some { IfSome result (λ index. (limit : ℕ) (nodes : Trees) → Wellformed limit nodes input.now → PlacedAll 0 nodes → slice_get (starts_all nodes) index ≡ Some place) }
+    ensures none { result ≡ None → (limit : ℕ) (nodes : Trees) → Wellformed limit nodes input.now → PlacedAll 0 nodes → (i : ℕ) → slice_get (starts_all nodes) i ≡ Some place → ⊥ }
 {
     let mut index = 0;
     let mut at = 0;
@@ -35,12 +36,13 @@ pub(crate) fn index_at(input: &[u8], place: u64) -> Option<u64>
     Some(index)
 }
 
-/// The length of the head at the front, and of a definite string's bytes with it. None where they
-/// aren't all there.
+/// The length of the head at the front, and of a definite string's bytes with it. None where no
+/// such piece stands there.
 #[inline(always)]
 fn piece_len(bytes: &[u8]) -> Option<usize>
     ensures some { IfSome result (λ len. 0 < len) }
     ensures within { IfSome result (λ len. len ≤ length bytes.now) }
+    ensures none { result ≡ None → (p : Piece) (rest : List ℕ) → IsPiece p → bytes.now ≡ piece_bytes p ++ rest → ⊥ }
     ensures whole { IfSome result (λ len. (p : Piece) (rest : List ℕ) → IsPiece p → bytes.now ≡ piece_bytes p ++ rest → len ≡ length (piece_bytes p)) }
 {
     let first = *bytes.first()?;

@@ -1,5 +1,5 @@
 -- A key joins what is known of its map: one that was encoded, and so has no flaw, and one that was searched.
-use Rattle.std.proofs.Common.{◌≡◌, ℕ, suc, ◌-◌, ◌<◌, ◌⊎◌, ◌^◌, inl, inr, List, [], ◌∷◌, ◌++◌, length, Bool, true, refl, sym, ap, ◌∙◌, subst, arith, length-append, Option, None, Some}
+use Rattle.std.proofs.Common.{◌≡◌, ℕ, suc, ◌-◌, ◌<◌, ◌^◌, List, [], ◌∷◌, ◌++◌, length, Bool, true, refl, sym, ap, ◌∙◌, subst, arith, length-append, Option, None, Some}
 use Rattle.std.specs.Option.{is_some}
 use Rattle.cborn_model.specs.Orders.{bytewise}
 use Rattle.cborn_model.specs.Tree.{Tree}
@@ -11,13 +11,13 @@ use Rattle.cborn_wire.specs.Parts.{Leaves}
 use Rattle.cborn_wire.proofs.Spelled.AsPlaced.{spelled-from, depth-from, fits-from, placed-from}
 use Rattle.cborn_det.specs.Det.{Det}
 use Rattle.cborn_judge.specs.Flaws.{Flaw}
-use Rattle.cborn_judge.proofs.Meaning.Judging.{no_flaw}
+use Rattle.cborn_judge.proofs.Meaning.Judging.{no_flaw, meaning}
 use Rattle.cborn_judge.proofs.Meaning.Meanings.{meaning_valid, some_bytes}
 use Rattle.cborn_judge.proofs.SameKeys.Pushing.{keys_push, keys_skip}
-use Rattle.cborn_transcode.specs.Transcoding.{ItemTranscoded}
+use Rattle.cborn_transcode.specs.Transcoding.{ItemTranscoded, HoldsNoItem}
 use Rattle.cborn_transcode.proofs.Opening.{stands}
 use Rattle.cborn_transcode.proofs.Placing.{means-from}
-use Rattle.cborn_search.specs.Flawed.{Told, FindsTold, IsEarliestTold, Searched, SeenKey, seen_bytes, seen_position, seen_place}
+use Rattle.cborn_search.specs.Flawed.{Told, FindsTold, IsEarliestTold, IsSound, NodeAt, Searched, SeenKey, seen_bytes, seen_position, seen_place}
 use Rattle.cborn_search.specs.devices.Marks.{AreMarked, KeyTaken, KeyJoined}
 use Rattle.cborn_search.specs.declared.keys.Keys.{Keys}
 use Rattle.cborn_search.specs.declared.searched_maps.SearchedMap.{SearchedMap}
@@ -106,5 +106,19 @@ module _ (room total : ℕ) (pairs x : List ℕ) (old new : SearchedMap) where
   joined_last s last = subst (KeyJoined room total pairs x old new) (sym (last (spelled s.2.key.node) s.0 s.2.key.read s.1)) s.2
 
 -- something stands there
-pub some_key : (room : ℕ) (x rest out : List ℕ) → ItemTranscoded bytewise room x rest [] out → 0 < length x
-some_key room x rest out s = omega (arith, some_bytes s.node, ap length s.read ∙ length-append (spelled s.node) rest)
+pub some_key : (room : ℕ) (x rest key out : List ℕ) → x ≡ key ++ rest → ItemTranscoded bytewise room x rest [] out → 0 < length key
+some_key room x rest key out e s = omega (arith, some_bytes s.node, ap length s.read ∙ length-append (spelled s.node) rest, ap length e ∙ length-append key rest)
+
+-- a key without a flaw means something
+pub sound_key : (room total : ℕ) (x : List ℕ) → (rest : List ℕ) × NodeAt IsSound room total x rest → HoldsNoItem room x → ⊥
+unfolding HoldsNoItem
+sound_key room total x s none =
+    let t = s.1 in
+    let m = meaning t.node t.holds.1 in
+    none s.0 (record { node = t.node; read = t.read; fits = t.fits; shallow = t.shallow; holds = tt }) m.0 m.1
+
+-- as a search finds it
+pub sound_of : (room total : ℕ) (x : List ℕ) (flaw : Option Told) (s : Bool) {left : ℕ} → flaw ≡ None → Leaves (λ rest. Searched room total x rest flaw s) left → (rest : List ℕ) × NodeAt IsSound room total x rest
+sound_of room total x flaw s e l =
+    let t = l.2 in
+    (l.0, record { node = t.node; read = t.read; fits = t.fits; shallow = t.shallow; holds = (t.holds.0, subst (λ (o : Option Told). FindsTold (Flaw t.node) o) e t.holds.1.0) })

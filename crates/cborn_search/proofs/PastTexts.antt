@@ -1,5 +1,5 @@
 -- How far a search for bad texts is, and what it found.
-use Rattle.std.proofs.Common.{◌≡◌, ℕ, suc, ◌+◌, ◌-◌, ◌<◌, ◌≤◌, ◌^◌, ◌⊎◌, inl, inr, List, [], ◌∷◌, ◌++◌, length, drop, get_or, Bool, true, false, refl, sym, ap, ◌∙◌, subst, arith, length-append, append-nil, Option, None, Some}
+use Rattle.std.proofs.Common.{◌≡◌, ℕ, suc, ◌+◌, ◌≤◌, ◌⊎◌, inl, inr, List, [], ◌∷◌, ◌++◌, length, Bool, true, false, refl, sym, ap, ◌∙◌, subst, arith, length-append, Option, None, Some}
 use Rattle.std.specs.Prelude.{◌↔◌, IsUtf8}
 use Rattle.std.specs.List.{flat_map}
 use Rattle.cborn_model.specs.declared.heads.Major.{Major}
@@ -9,19 +9,18 @@ use Rattle.cborn_model.specs.declared.heads.Size.TheVariants.{Fixed, Endless}
 use Rattle.cborn_model.specs.declared.heads.Width.{Width}
 use Rattle.cborn_model.specs.declared.nodes.Chunk.{Chunk}
 use Rattle.cborn_model.specs.Heads.{Argument, Given, Unbounded, head, argument}
-use Rattle.cborn_model.specs.Placed.{PlacedAll}
-use Rattle.cborn_model.specs.Spelled.{spelled, spelled_all, spelled_entries, chunk_bytes, ending, Wellformed}
+use Rattle.cborn_model.specs.Spelled.{spelled, spelled_all, spelled_entries, chunk_bytes, ending}
 use Rattle.cborn_model.specs.Tree.{Tree, Uint, Nint, Bytes, Text, ByteChunks, TextChunks, Items, Pairs, Tagged, Simple, Trees, no_item, more, Entries, no_entry, entry, trees, entries, count, count_entries}
 use Rattle.cborn_model.proofs.Listed.Trees.{count-trees, count_entries-entries}
-use Rattle.cborn_wire.specs.Parts.{Pair, NodesRead}
+use Rattle.cborn_wire.specs.Parts.{Pair}
 use Rattle.cborn_wire.specs.Places.{placed_from, all_from, entries_from, chunks_from}
-use Rattle.cborn_judge.specs.Flaws.{Within, WithinAll, WithinEntries, FlawAt, Flaw, HasBadChunk}
+use Rattle.cborn_judge.specs.Flaws.{WithinAll, WithinEntries, FlawAt, Flaw}
 use Rattle.cborn_judge.specs.shared.Judged.{FlawIn, FlawAmong}
 use Rattle.cborn_judge.specs.declared.faults.InvalidReason.{InvalidReason}
 use Rattle.cborn_judge.specs.declared.faults.InvalidReason.TheVariants.{NotUtf8, BadBignum, DuplicateKey}
 use Rattle.cborn_judge.proofs.FirstFlaw.Steps.{flaw_items, flaw_pairs, flaw_tagged}
 use Rattle.cborn_descent.specs.Descending.{integer_node, string_node, chunks_node, major_of}
-use Rattle.cborn_search.specs.devices.Texts.{IsLeast, IsPast, IsBad, BadIn, BadAmong, BadInPairs, BadChunks, is_endless, break_len, NodePast, ChunksPast, ItemsPast, PairsPast, ValuePast, TagPast, AreFine}
+use Rattle.cborn_search.specs.devices.Texts.{IsLeast, IsPast, IsBad, BadIn, BadAmong, BadInPairs, BadChunks, is_endless, break_len, NodePast, ChunksPast, ItemsPast, PairsPast, TagPast, AreFine}
 use Rattle.cborn_search.specs.declared.bad_texts.TextSearch.{TextSearch}
 
 -- ---- the least of the places

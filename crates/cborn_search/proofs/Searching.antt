@@ -15,19 +15,21 @@ use Rattle.cborn_model.specs.Tree.{Tree, Text, TextChunks, Items, Tagged, trees}
 use Rattle.cborn_wire.specs.declared.heads.Argument.{Argument}
 use Rattle.cborn_wire.specs.declared.heads.Head.{Head}
 use Rattle.cborn_wire.specs.HeadReading.{major_at, IsHeadOf, seen_argument, ArgumentFits}
-use Rattle.cborn_wire.specs.Parts.{StringRead, IsSimpleArgument, Leaves}
+use Rattle.cborn_wire.specs.Parts.{StringRead, IsSimpleArgument}
 use Rattle.cborn_wire.proofs.Parts.Heads.{read_from}
 use Rattle.cborn_wire.proofs.Parts.Strings.{bytes_read, text_read, no_chunk, chunk_more, byte_chunks_read, text_chunks_read}
 use Rattle.cborn_wire.proofs.Parts.Nodes.{uint_read, nint_read, simple_read, node_more, array_read, endless_array_read, tagged_read}
 use Rattle.cborn_judge.specs.Flaws.{FlawAt, Flaw, flaw_rank}
 use Rattle.cborn_judge.specs.shared.Judged.{FlawIn, ChunkFlaw}
 use Rattle.cborn_judge.specs.declared.faults.InvalidReason.{InvalidReason}
-use Rattle.cborn_judge.specs.declared.faults.InvalidReason.TheVariants.{NotUtf8, BadBignum}
+use Rattle.cborn_judge.specs.declared.faults.InvalidReason.TheVariants.{BadBignum}
 use Rattle.cborn_judge.proofs.Loops.Firsts.{Either, found_both, found_alike}
 use Rattle.cborn_judge.proofs.FirstFlaw.Steps.{flaw_items, flaw_tagged}
 use Rattle.cborn_judge.proofs.FirstFlaw.Texts.{bad_after, bad_before, bad_last}
 use Rattle.cborn_judge.proofs.FirstFlaw.Walking.{one_more}
 use Rattle.cborn_search.specs.Flawed.{Told, told_place, told_reason, IsEarliestTold, FindsTold, TextFlaw, BadChunk, ChunkSeen, ChunksSeen, IsKind, HasFlaw, Searched, HaveFlaw, SearchedAll}
+use Rattle.cborn_search.specs.devices.Ending.{NodeSearched}
+use Rattle.cborn_search.specs.declared.finding.Search.{Search}
 use Rattle.cborn_search.proofs.Places.{node_placed, chunk_placed, items_placed, inside}
 
 pub both_told : (F G : ℕ → InvalidReason → Type 0) (a b o : Option Told) → FindsTold F a → FindsTold G b → IsEarliestTold a b o → FindsTold (Either F G) o
@@ -42,11 +44,11 @@ still None = refl
 still (Some x) = refl
 
 -- what is behind a head that was read
-pub seen_from : (room total : ℕ) (flaw : Option Told) (s : Bool) {x tail : List ℕ} {h : Head} {n left : ℕ} {m : Major} {a : Argument} → tail ≡ drop n x → IsHeadOf x h n → major_at h.major ≡ m → h.argument ≡ a → length x ≤ total
-    → (ArgumentFits (seen_argument a) → length (head m (seen_argument a) ++ tail) ≤ total → total - length x ≡ total - length (head m (seen_argument a) ++ tail) → Leaves (λ rest. Searched room total (head m (seen_argument a) ++ tail) rest flaw s) left)
-    → Leaves (λ rest. Searched room total x rest flaw s) left
-seen_from room total flaw s {x} {left = left} t i e f l done =
-    read_from (λ (y : List ℕ). length y ≤ total → total - length x ≡ total - length y → Leaves (λ rest. Searched room total y rest flaw s) left) t i e f done l refl
+pub seen_from : (room total : ℕ) (flaw : Option Told) (s : Bool) {x tail : List ℕ} {h : Head} {n : ℕ} {m : Major} {a : Argument} (r : Search) → tail ≡ drop n x → IsHeadOf x h n → major_at h.major ≡ m → h.argument ≡ a → length x ≤ total
+    → (ArgumentFits (seen_argument a) → length (head m (seen_argument a) ++ tail) ≤ total → total - length x ≡ total - length (head m (seen_argument a) ++ tail) → NodeSearched room total (head m (seen_argument a) ++ tail) flaw s r)
+    → NodeSearched room total x flaw s r
+seen_from room total flaw s {x} r t i e f l done =
+    read_from (λ (y : List ℕ). length y ≤ total → total - length x ≡ total - length y → NodeSearched room total y flaw s r) t i e f done l refl
 
 -- ---- leaves
 

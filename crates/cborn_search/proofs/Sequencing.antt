@@ -1,5 +1,5 @@
 -- What is found of nodes one after another is what is found of a whole input.
-use Rattle.std.proofs.Common.{◌≡◌, ℕ, ◌+◌, ◌-◌, ◌≤◌, inl, inr, List, [], ◌∷◌, ◌++◌, length, refl, sym, ◌∙◌, subst, arith, Bool, true, false, Option, None, Some}
+use Rattle.std.proofs.Common.{◌≡◌, ℕ, ◌+◌, ◌-◌, ◌≤◌, inl, inr, List, [], ◌∷◌, ◌++◌, length, sym, ◌∙◌, subst, arith, Bool, Option, None, Some}
 use Rattle.std.specs.List.{AllZip}
 use Rattle.std.specs.Option.{option_or}
 use Rattle.std.proofs.lemmas.List.{nil_from_length}
@@ -11,15 +11,13 @@ use Rattle.cborn_model.specs.Value.{Value}
 use Rattle.cborn_judge.specs.Flaws.{Flaw, IsRefusal, IsRefusalOfAll}
 use Rattle.cborn_judge.specs.declared.faults.Invalid.TheVariants.{Refused, OutOfMemory}
 use Rattle.cborn_judge.specs.declared.faults.InvalidReason.{InvalidReason}
-use Rattle.cborn_judge.specs.declared.faults.InvalidReason.TheVariants.{NotUtf8}
 use Rattle.cborn_wire.proofs.Parts.Nodes.{no_node, node_more, wellformed}
 use Rattle.cborn_wire.proofs.Spelled.AsPlaced.{same_all-from}
 use Rattle.cborn_wire.proofs.Spelled.OneReading.{one_spelling}
-use Rattle.cborn_judge.specs.shared.Judged.{FlawIn}
 use Rattle.cborn_judge.proofs.Meaning.Judging.{meaning}
 use Rattle.cborn_judge.proofs.FirstFlaw.Sequences.{mean_more}
-use Rattle.cborn_search.specs.Flawed.{Told, FindsTold, NodesAt, Searched, HaveFlaw, SearchedAll}
-use Rattle.cborn_search.specs.Searching.{FlawVerdict, IsFirstFlawOf, HasBadText, IsFirstBadText}
+use Rattle.cborn_search.specs.Flawed.{Told, FindsTold, NodesAt, Searched}
+use Rattle.cborn_search.specs.Searching.{FlawVerdict, IsFirstFlawOf}
 use Rattle.cborn_search.proofs.Places.{node_placed}
 
 refused_last : (ts : List Tree) (vs : List Value) (t : Tree) (f : Told) → AllZip Means ts vs → IsRefusal t (Refused f.0 f.1) → IsRefusalOfAll (ts ++ t ∷ []) (Refused f.0 f.1)

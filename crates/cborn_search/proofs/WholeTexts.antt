@@ -1,18 +1,17 @@
 -- The first bad text of a whole input.
-use Rattle.std.proofs.Common.{◌≡◌, ℕ, ◌+◌, ◌<◌, ◌≤◌, ◌^◌, ◌*◌, ◌==◌, true, false, inl, inr, List, [], ◌∷◌, ◌++◌, length, drop, get_or, refl, sym, ap, ◌∙◌, subst, arith, length-append, append-nil, Option, None, Some}
+use Rattle.std.proofs.Common.{◌≡◌, ℕ, ◌+◌, ◌<◌, ◌^◌, ◌*◌, inl, inr, List, [], ◌∷◌, ◌++◌, length, drop, get_or, refl, sym, ap, ◌∙◌, subst, arith, Option, None, Some}
 use Rattle.std.proofs.lemmas.List.{drop_more}
 use Rattle.cborn_model.specs.declared.heads.Width.TheVariants.{Direct}
 use Rattle.cborn_model.specs.Placed.{PlacedAll}
-use Rattle.cborn_model.specs.Spelled.{spelled, spelled_all, Wellformed}
+use Rattle.cborn_model.specs.Spelled.{spelled_all, Wellformed}
 use Rattle.cborn_model.specs.Tree.{Tree, Uint, Trees, no_item, more, trees}
-use Rattle.cborn_wire.specs.Faults.{IsWellformed}
 use Rattle.cborn_wire.specs.Parts.{NodeRead, NodesRead}
 use Rattle.cborn_wire.specs.Places.{all_from}
 use Rattle.cborn_wire.proofs.Parts.Nodes.{no_node, node_more, wellformed}
-use Rattle.cborn_wire.proofs.Spelled.AsPlaced.{spelled_all-from, depth_all-from, fits_all-from, placed_all-from}
+use Rattle.cborn_wire.proofs.Spelled.AsPlaced.{spelled_all-from, fits_all-from, placed_all-from}
 use Rattle.cborn_judge.specs.Flaws.{WithinAll, FlawAt}
 use Rattle.cborn_judge.specs.declared.faults.InvalidReason.TheVariants.{NotUtf8}
-use Rattle.cborn_search.specs.Searching.{HasBadText, FirstBadText, HaveFirstBadText}
+use Rattle.cborn_search.specs.Searching.{FirstBadText, HaveFirstBadText}
 use Rattle.cborn_search.specs.devices.Texts.{IsLeast, IsPast, BadAmong, NodePast, AreFine}
 use Rattle.cborn_search.specs.declared.bad_texts.TextSearch.{TextSearch}
 use Rattle.cborn_search.proofs.PastTexts.{least_same, one_past, past_step, among_append, all_length}

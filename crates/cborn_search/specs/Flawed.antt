@@ -1,5 +1,5 @@
 -- What the search for flaws finds.
-use Rattle.std.specs.Prelude.{◌≡◌, ℕ, ◌-◌, List, length, Bool, true, false, IsUtf8, Option, MatchBool}
+use Rattle.std.specs.Prelude.{◌≡◌, ℕ, ◌-◌, List, length, Bool, IsUtf8, Option, MatchBool}
 use Rattle.cborn_model.specs.declared.heads.Major.{Major}
 use Rattle.cborn_model.specs.declared.heads.Major.TheVariants.{TextString}
 use Rattle.cborn_model.specs.Meaning.{IsByteString}

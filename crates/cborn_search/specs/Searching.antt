@@ -1,5 +1,5 @@
 -- What a search of a whole input answers.
-use Rattle.std.specs.Prelude.{ℕ, ◌≤◌, List, Option, None, Some, ⊤}
+use Rattle.std.specs.Prelude.{ℕ, ◌≤◌, List, Option, None, Some}
 use Rattle.std.specs.List.{AllZip}
 use Rattle.cborn_model.specs.Meaning.{Means}
 use Rattle.cborn_model.specs.Placed.{PlacedAll}
@@ -14,7 +14,7 @@ use Rattle.cborn_search.specs.Flawed.{Told}
 use Rattle.cborn_search.specs.declared.bad_texts.TextValidity.{TextValidity}
 use Rattle.cborn_search.specs.declared.bad_texts.TextValidity.TheVariants as texts
 use Rattle.cborn_search.specs.declared.sequences.Validity.{Validity}
-use Rattle.cborn_search.specs.declared.sequences.Validity.TheVariants.{Valid, Flaw, Unknown}
+use Rattle.cborn_search.specs.declared.sequences.Validity.TheVariants.{Valid, Flaw, Malformed}
 
 -- each node means an item, or the first that means nothing has this first flaw
 abbrev pub FlawVerdict : List Tree → Option Told → Type 0
@@ -28,11 +28,11 @@ pub record IsFirstFlawOf (limit : ℕ) (input : List ℕ) (flaw : Option Told) :
   pub placed : PlacedAll 0 (trees nodes)
   pub verdict : FlawVerdict nodes flaw
 
--- each item that the bytes spell means something; or this is the first flaw of the first that doesn't; or nothing is known
+-- each item that the bytes spell means something; or this is the first flaw of the first that doesn't; or the bytes aren't well-formed under the limit
 abbrev pub IsValidity : ℕ → List ℕ → Validity → Type 0
 IsValidity limit input Valid = IsFirstFlawOf limit input None
 IsValidity limit input (Flaw place reason) = IsFirstFlawOf limit input (Some (place, reason))
-IsValidity limit input Unknown = ⊤
+IsValidity limit input Malformed = IsWellformed limit input → ⊥
 
 -- a text string in these nodes, or a chunk of one, stands at this place and is not UTF-8
 abbrev pub HasBadText : Trees → ℕ → Type 0

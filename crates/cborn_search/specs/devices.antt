@@ -1,3 +1,4 @@
+pub mod Ending
 pub mod Marks
 pub mod Rising
 pub mod Texts

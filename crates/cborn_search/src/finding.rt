@@ -1,6 +1,7 @@
 //! What a search for flaws finds.
 
 use cborn_judge::InvalidReason;
+use std::alloc::AllocError;
 
 /// What was found of the item that was passed last: its first flaw, and whether it is a byte
 /// string.
@@ -8,4 +9,15 @@ use cborn_judge::InvalidReason;
 pub(crate) struct Finding {
     pub flaw: Option<(u64, InvalidReason)>,
     pub is_string: bool,
+}
+
+/// What became of a search. Each case has at most one number, so that it comes back in registers.
+#[derive(Clone, Copy)]
+pub(crate) enum Search {
+    /// What was looked for was read; so many bytes follow it.
+    Behind(usize),
+    /// It doesn't stand there, or is nested too deep.
+    Malformed,
+    /// The error of a growth that was refused.
+    Refused(AllocError),
 }

@@ -4,59 +4,41 @@
 //! registers, and writes what it found to one place that all share: so the frames of a deep nest
 //! stay small.
 
-ghost use Rattle.std.specs.Prelude.{◌≡◌, ◌≢◌, ◌≤◌, ◌-◌, ◌++◌, ◌∷◌, ◌⊎◌, ℕ, List, false, length, IfSome};
+ghost use Rattle.std.specs.Prelude.{◌≡◌, ◌≢◌, ◌≤◌, ◌-◌, ◌++◌, ◌⊎◌, ℕ, List, false, length, MatchResult};
 ghost use Rattle.cborn_model.specs.declared.heads.Width.{Width};
 ghost use Rattle.cborn_model.specs.declared.heads.Major.TheVariants.{Array, Map, Tag};
 ghost use Rattle.cborn_model.specs.Heads.{Given, Unbounded, head, WidthFits};
-ghost use Rattle.cborn_wire.specs.Parts.{Leaves};
-ghost use Rattle.cborn_search.specs.Flawed.{Searched, SearchedAll};
+ghost use Rattle.cborn_descent.specs.Descending.{Only, Never, ItemsFail, PairsFail};
+ghost use Rattle.cborn_search.specs.Flawed.{SearchedAll};
+ghost use Rattle.cborn_search.specs.devices.Ending.{Ends, Lacks, AllRead, NodeSearched};
 ghost use Rattle.cborn_search.specs.devices.Marks.{KeyJoined, MapSeen};
 
-use crate::finding::Finding;
+use crate::finding::{Finding, Search};
 use crate::keys::Taken;
 use crate::leaves::{
-    integer_len, is_bignum, is_simple, search_long_bytes, search_long_text, search_text, string_at,
+    integer_len, is_bignum, search_long_bytes, search_long_text, search_text, string_at,
 };
 use crate::searched_maps::{SearchedMap, SpareMaps};
 use cborn_judge::{InvalidReason, earliest};
 use cborn_model::Major;
 use cborn_wire::{Argument, HeadRead, behind_break, is_done, last, read_head};
 
-/// The item at the front of `bytes`, the last of `total`: what follows it. None promises nothing.
-#[cycle(searched)]
-#[inline(always)]
-pub(crate) fn search_item<'a>(
-    maps: &mut SpareMaps,
-    room: u64,
-    total: u64,
-    bytes: &'a [u8],
-    found: &mut Finding,
-) -> Option<&'a [u8]>
-    requires room { room ≤ 1024 }
-    requires within { length bytes.now ≤ total }
-    ensures { IfSome result (λ rest. Searched room total bytes.now rest.now found.new.flaw found.new.is_string) }
-{
-    let left = search_node(maps, room, total, bytes, found)?;
-    last(bytes, left)
-}
-
-/// Searches the item at the front of `bytes`, and answers how many bytes follow it: a number comes
-/// back in a register, and a slice doesn't. None promises nothing.
+/// Searches the item at the front of `bytes`, the last of `total`.
 #[cycle(searched)]
 #[inline(never)]
-fn search_node(
+pub(crate) fn search_node(
     maps: &mut SpareMaps,
     room: u64,
     total: u64,
     bytes: &[u8],
     found: &mut Finding,
-) -> Option<usize>
+) -> Search
     requires room { room ≤ 1024 }
     requires within { length bytes.now ≤ total }
-    ensures { IfSome result (Leaves (λ rest. Searched room total bytes.now rest found.new.flaw found.new.is_string)) }
+    ensures { NodeSearched room total bytes.now found.new.flaw found.new.is_string result }
 {
     let HeadRead::Full(head, len) = read_head(bytes) else {
-        return None;
+        return Search::Malformed;
     };
     let rest = &bytes[len..];
     let place = total - bytes.len() as u64;
@@ -67,13 +49,15 @@ fn search_node(
     let major = head.major_type();
     match head.argument {
         Argument::Given(_, n) => match major {
-            Major::Unsigned => Some(rest.len()),
-            Major::Negative => Some(rest.len()),
-            Major::ByteString => {
-                let (_, after) = string_at(n, rest)?;
-                found.is_string = true;
-                Some(after.len())
-            }
+            Major::Unsigned => Search::Behind(rest.len()),
+            Major::Negative => Search::Behind(rest.len()),
+            Major::ByteString => match string_at(n, rest) {
+                Some((_, after)) => {
+                    found.is_string = true;
+                    Search::Behind(after.len())
+                }
+                None => Search::Malformed,
+            },
             Major::TextString => search_text(place, n, rest, found),
             Major::Array => search_fixed_array(maps, room, total, n, rest, found),
             Major::Map => search_fixed_map(maps, room, total, n, rest, found),
@@ -84,25 +68,19 @@ fn search_node(
                     search_tagged(maps, room, total, rest, found)
                 }
             }
-            Major::Other => {
-                if is_simple(head.argument) {
-                    Some(rest.len())
-                } else {
-                    None
-                }
-            }
+            Major::Other => Search::Behind(rest.len()),
         },
         Argument::Endless => match major {
             Major::ByteString => search_long_bytes(total, rest, found),
             Major::TextString => search_long_text(total, rest, found),
             Major::Array => search_endless_array(maps, room, total, rest, found),
             Major::Map => search_endless_map(maps, room, total, rest, found),
-            _ => None,
+            _ => Search::Malformed,
         },
     }
 }
 
-/// The array of the `n` items at the front.
+/// Searches an array of `n` items, which stand at the front of `bytes`.
 #[cycle(searched)]
 #[inline(never)]
 fn search_fixed_array(
@@ -112,26 +90,27 @@ fn search_fixed_array(
     n: u64,
     bytes: &[u8],
     found: &mut Finding,
-) -> Option<usize>
+) -> Search
     requires room { room ≤ 1024 }
     requires within { length bytes.now ≤ total }
-    ensures { IfSome result (λ left. (w : Width) → WidthFits w n → length (head Array (Given w n) ++ bytes.now) ≤ total → Leaves (λ rest. Searched room total (head Array (Given w n) ++ bytes.now) rest found.new.flaw found.new.is_string) left) }
+    ensures { (w : Width) → WidthFits w n → length (head Array (Given w n) ++ bytes.now) ≤ total → NodeSearched room total (head Array (Given w n) ++ bytes.now) found.new.flaw found.new.is_string result }
 {
     if room == 0 {
-        return None;
+        return Search::Malformed;
     }
-    let (rest, count, flaw) = search_items(maps, room - 1, total, n, false, bytes, found)?;
-    if count != n {
-        return None;
+    match search_items(maps, room - 1, total, n, false, bytes, found) {
+        Ok((rest, flaw)) => {
+            *found = Finding {
+                flaw,
+                is_string: false,
+            };
+            Search::Behind(rest.len())
+        }
+        Err(search) => search,
     }
-    *found = Finding {
-        flaw,
-        is_string: false,
-    };
-    Some(rest.len())
 }
 
-/// The array of the items at the front, up to a break.
+/// Searches an array of indefinite length, whose items stand at the front of `bytes`.
 #[cycle(searched)]
 #[inline(never)]
 fn search_endless_array(
@@ -140,25 +119,39 @@ fn search_endless_array(
     total: u64,
     bytes: &[u8],
     found: &mut Finding,
-) -> Option<usize>
+) -> Search
     requires room { room ≤ 1024 }
     requires within { length bytes.now ≤ total }
-    ensures { IfSome result (λ left. length (head Array Unbounded ++ bytes.now) ≤ total → Leaves (λ rest. Searched room total (head Array Unbounded ++ bytes.now) rest found.new.flaw found.new.is_string) left) }
+    ensures { length (head Array Unbounded ++ bytes.now) ≤ total → NodeSearched room total (head Array Unbounded ++ bytes.now) found.new.flaw found.new.is_string result }
 {
     if room == 0 {
-        return None;
+        return Search::Malformed;
     }
-    let (rest, _, flaw) = search_items(maps, room - 1, total, u64::MAX, true, bytes, found)?;
-    let after = behind_break(rest)?;
-    *found = Finding {
-        flaw,
-        is_string: false,
-    };
-    Some(after.len())
+    match search_items(
+        maps,
+        room - 1,
+        total,
+        bytes.len() as u64,
+        true,
+        bytes,
+        found,
+    ) {
+        Ok((rest, flaw)) => {
+            let Some(after) = behind_break(rest) else {
+                return Search::Malformed;
+            };
+            *found = Finding {
+                flaw,
+                is_string: false,
+            };
+            Search::Behind(after.len())
+        }
+        Err(search) => search,
+    }
 }
 
-/// The items at the front, at most `most`, and where there may be an end up to a break: what
-/// follows them, how many they are, and their first flaw.
+/// Searches the items of an array up to the count `most`, or, if `may_end`, up to a break. Answers
+/// what follows them, and their first flaw.
 #[cycle(searched)]
 #[inline(always)]
 fn search_items<'a>(
@@ -169,31 +162,36 @@ fn search_items<'a>(
     may_end: bool,
     bytes: &'a [u8],
     found: &mut Finding,
-) -> Option<(&'a [u8], u64, Option<(u64, InvalidReason)>)>
+) -> Result<(&'a [u8], Option<(u64, InvalidReason)>), Search>
     requires room { room ≤ 1024 }
     requires within { length bytes.now ≤ total }
-    ensures { IfSome result (λ r. SearchedAll room total r.1 bytes.now r.0.now r.2) }
+    ensures { MatchResult result (λ r. (n : ℕ) × SearchedAll room total n bytes.now r.0.now r.1 × AllRead n most may_end r.0.now) (Lacks (ItemsFail Never room most may_end bytes.now)) }
 {
     let mut rest = bytes;
     let mut count = 0;
     let mut first: Option<(u64, InvalidReason)> = None;
-    'items: for _ in 0..bytes.len() {
-        if is_done(count, most, may_end, rest) {
-            break;
-        }
+    'items: while !is_done(count, most, may_end, rest) {
         if let Some(len) = integer_len(rest) {
             rest = &rest[len..];
             count += 1;
             continue;
         }
-        rest = search_item(maps, room, total, rest, found)?;
+        match search_node(maps, room, total, rest, found) {
+            Search::Behind(left) => {
+                let Some(after) = last(rest, left) else {
+                    return Err(Search::Malformed);
+                };
+                rest = after;
+            }
+            other => return Err(other),
+        }
         first = earliest(first, found.flaw);
         count += 1;
     }
-    Some((rest, count, first))
+    Ok((rest, first))
 }
 
-/// The map of the `n` pairs at the front.
+/// Searches a map of `n` pairs, which stand at the front of `bytes`.
 #[cycle(searched)]
 #[inline(never)]
 fn search_fixed_map(
@@ -203,22 +201,21 @@ fn search_fixed_map(
     n: u64,
     bytes: &[u8],
     found: &mut Finding,
-) -> Option<usize>
+) -> Search
     requires room { room ≤ 1024 }
     requires within { length bytes.now ≤ total }
-    ensures { IfSome result (λ left. (w : Width) → WidthFits w n → length (head Map (Given w n) ++ bytes.now) ≤ total → Leaves (λ rest. Searched room total (head Map (Given w n) ++ bytes.now) rest found.new.flaw found.new.is_string) left) }
+    ensures { (w : Width) → WidthFits w n → length (head Map (Given w n) ++ bytes.now) ≤ total → NodeSearched room total (head Map (Given w n) ++ bytes.now) found.new.flaw found.new.is_string result }
 {
     if room == 0 {
-        return None;
+        return Search::Malformed;
     }
-    let (rest, count) = search_pairs(maps, room - 1, total, n, false, bytes, found)?;
-    if count != n {
-        return None;
+    match search_pairs(maps, room - 1, total, n, false, bytes, found) {
+        Ok(rest) => Search::Behind(rest.len()),
+        Err(search) => search,
     }
-    Some(rest.len())
 }
 
-/// The map of the pairs at the front, up to a break.
+/// Searches a map of indefinite length, whose pairs stand at the front of `bytes`.
 #[cycle(searched)]
 #[inline(never)]
 fn search_endless_map(
@@ -227,21 +224,36 @@ fn search_endless_map(
     total: u64,
     bytes: &[u8],
     found: &mut Finding,
-) -> Option<usize>
+) -> Search
     requires room { room ≤ 1024 }
     requires within { length bytes.now ≤ total }
-    ensures { IfSome result (λ left. length (head Map Unbounded ++ bytes.now) ≤ total → Leaves (λ rest. Searched room total (head Map Unbounded ++ bytes.now) rest found.new.flaw found.new.is_string) left) }
+    ensures { length (head Map Unbounded ++ bytes.now) ≤ total → NodeSearched room total (head Map Unbounded ++ bytes.now) found.new.flaw found.new.is_string result }
 {
     if room == 0 {
-        return None;
+        return Search::Malformed;
     }
-    let (rest, _) = search_pairs(maps, room - 1, total, u64::MAX, true, bytes, found)?;
-    let after = behind_break(rest)?;
-    Some(after.len())
+    match search_pairs(
+        maps,
+        room - 1,
+        total,
+        bytes.len() as u64,
+        true,
+        bytes,
+        found,
+    ) {
+        Ok(rest) => {
+            let Some(after) = behind_break(rest) else {
+                return Search::Malformed;
+            };
+            Search::Behind(after.len())
+        }
+        Err(search) => search,
+    }
 }
 
-/// The pairs at the front, as `search_items` takes items; the flaw is the first of the map that they
-/// are. What is known of the map is on the heap, out of the frames of a deep nest.
+/// Searches the pairs of a map up to the count `most`, or, if `may_end`, up to a break. Answers what
+/// follows them; the flaw is the first of the map that they are. What is known of the map is on the
+/// heap, out of the frames of a deep nest.
 #[cycle(searched)]
 #[inline(always)]
 fn search_pairs<'a>(
@@ -252,83 +264,104 @@ fn search_pairs<'a>(
     may_end: bool,
     bytes: &'a [u8],
     found: &mut Finding,
-) -> Option<(&'a [u8], u64)>
+) -> Result<&'a [u8], Search>
     requires room { room ≤ 1024 }
     requires within { length bytes.now ≤ total }
-    ensures { IfSome result (λ r. MapSeen room total r.1 bytes.now r.0.now found.new.flaw × (found.new.is_string ≡ false)) }
+    ensures { MatchResult result (λ rest. (n : ℕ) × MapSeen room total n bytes.now rest.now found.new.flaw × (found.new.is_string ≡ false) × AllRead n most may_end rest.now) (Lacks (PairsFail Never room most may_end bytes.now)) }
 {
-    let mut map = maps.fresh_map()?;
+    let mut map = match maps.fresh_map() {
+        Ok(map) => map,
+        Err(e) => return Err(Search::Refused(e)),
+    };
     let mut rest = bytes;
     let mut count = 0;
     'pairs: while !is_done(count, most, may_end, rest) {
-        let middle = search_key(maps, &mut *map, room, total, bytes, rest, found)?;
-        rest = search_value(maps, room, total, middle, found)?;
+        let middle = match search_key(maps, &mut *map, room, total, bytes, rest, found) {
+            Search::Behind(left) => {
+                let Some(after) = last(rest, left) else {
+                    return Err(Search::Malformed);
+                };
+                after
+            }
+            other => return Err(other),
+        };
+        match search_value(maps, room, total, middle, found) {
+            Search::Behind(left) => {
+                let Some(after) = last(middle, left) else {
+                    return Err(Search::Malformed);
+                };
+                rest = after;
+            }
+            other => return Err(other),
+        }
         map.note(found.flaw);
         count += 1;
     }
-    map.conclude(total, bytes, found)?;
+    map.conclude(total, bytes, found);
     maps.put_back(map);
-    Some((rest, count))
+    Ok(rest)
 }
 
-/// The key at the front of `bytes`, which `pairs` end with. It joins what is known of its map: what
-/// follows it. None promises nothing: where it wasn't taken in and has no flaw, memory was refused.
+/// Searches the key at the front of `bytes`, which `pairs` end with. It joins what is known of its
+/// map. One that is searched and has no flaw is taken in then.
 #[cycle(searched)]
 #[inline(always)]
-fn search_key<'a>(
+fn search_key(
     maps: &mut SpareMaps,
     map: &mut SearchedMap,
     room: u64,
     total: u64,
     pairs: &[u8],
-    bytes: &'a [u8],
+    bytes: &[u8],
     found: &mut Finding,
-) -> Option<&'a [u8]>
+) -> Search
     requires room { room ≤ 1024 }
     requires within { length pairs.now ≤ total }
     requires behind { (front : List ℕ) × (pairs.now ≡ front ++ bytes.now) }
-    ensures { IfSome result (λ rest. KeyJoined room total pairs.now bytes.now map.old map.new rest.now) }
+    ensures { Ends (KeyJoined room total pairs.now bytes.now map.old map.new) (Only Never room bytes.now) result }
 {
     match map.take(maps, room, total, pairs, bytes) {
-        Taken::Behind(left) => last(bytes, left),
-        Taken::Not => {
-            let left = search_node(maps, room, total, bytes, found)?;
-            if found.flaw.is_none() {
-                return None;
+        Taken::Behind(left) => Search::Behind(left),
+        Taken::Not => match search_node(maps, room, total, bytes, found) {
+            Search::Behind(left) => {
+                if found.flaw.is_none() {
+                    return map.take_sound(maps, room, total, pairs, bytes);
+                }
+                map.note(found.flaw);
+                Search::Behind(left)
             }
-            map.note(found.flaw);
-            last(bytes, left)
-        }
-        Taken::Unknown => None,
+            other => other,
+        },
+        Taken::Refused(e) => Search::Refused(e),
     }
 }
 
-/// Searches the item at the front of `bytes`, and answers what follows it. Quicker than
-/// `search_item` where an integer comes first.
+/// Searches the item at the front of `bytes`. Quicker than `search_node` where an integer comes
+/// first.
 #[cycle(searched)]
 #[inline(always)]
-fn search_value<'a>(
+fn search_value(
     maps: &mut SpareMaps,
     room: u64,
     total: u64,
-    bytes: &'a [u8],
+    bytes: &[u8],
     found: &mut Finding,
-) -> Option<&'a [u8]>
+) -> Search
     requires room { room ≤ 1024 }
     requires within { length bytes.now ≤ total }
-    ensures { IfSome result (λ rest. Searched room total bytes.now rest.now found.new.flaw found.new.is_string) }
+    ensures { NodeSearched room total bytes.now found.new.flaw found.new.is_string result }
 {
     if let Some(len) = integer_len(bytes) {
         *found = Finding {
             flaw: None,
             is_string: false,
         };
-        return Some(&bytes[len..]);
+        return Search::Behind(bytes.len() - len);
     }
-    search_item(maps, room, total, bytes, found)
+    search_node(maps, room, total, bytes, found)
 }
 
-/// The bignum at `place` over the item at the front, which has to be a byte string.
+/// Searches the bignum at `place` over the item at the front, which has to be a byte string.
 #[cycle(searched)]
 #[inline(never)]
 fn search_bignum(
@@ -338,29 +371,33 @@ fn search_bignum(
     place: u64,
     bytes: &[u8],
     found: &mut Finding,
-) -> Option<usize>
+) -> Search
     requires room { room ≤ 1024 }
     requires within { length bytes.now ≤ total }
-    ensures { IfSome result (λ left. (w : Width) (n : ℕ) → (n ≡ 2) ⊎ (n ≡ 3) → WidthFits w n → length (head Tag (Given w n) ++ bytes.now) ≤ total → place ≡ total - length (head Tag (Given w n) ++ bytes.now) → Leaves (λ rest. Searched room total (head Tag (Given w n) ++ bytes.now) rest found.new.flaw found.new.is_string) left) }
+    ensures { (w : Width) (n : ℕ) → (n ≡ 2) ⊎ (n ≡ 3) → WidthFits w n → length (head Tag (Given w n) ++ bytes.now) ≤ total → place ≡ total - length (head Tag (Given w n) ++ bytes.now) → NodeSearched room total (head Tag (Given w n) ++ bytes.now) found.new.flaw found.new.is_string result }
 {
     if room == 0 {
-        return None;
+        return Search::Malformed;
     }
-    let left = search_node(maps, room - 1, total, bytes, found)?;
-    if found.is_string {
-        found.is_string = false;
-        return Some(left);
+    match search_node(maps, room - 1, total, bytes, found) {
+        Search::Behind(left) => {
+            if found.is_string {
+                found.is_string = false;
+                return Search::Behind(left);
+            }
+            let own = Some((place, InvalidReason::BadBignum));
+            let flaw = earliest(own, found.flaw);
+            *found = Finding {
+                flaw,
+                is_string: false,
+            };
+            Search::Behind(left)
+        }
+        other => other,
     }
-    let own = Some((place, InvalidReason::BadBignum));
-    let flaw = earliest(own, found.flaw);
-    *found = Finding {
-        flaw,
-        is_string: false,
-    };
-    Some(left)
 }
 
-/// Another tag over the item at the front.
+/// Searches another tag over the item at the front.
 #[cycle(searched)]
 #[inline(never)]
 fn search_tagged(
@@ -369,15 +406,19 @@ fn search_tagged(
     total: u64,
     bytes: &[u8],
     found: &mut Finding,
-) -> Option<usize>
+) -> Search
     requires room { room ≤ 1024 }
     requires within { length bytes.now ≤ total }
-    ensures { IfSome result (λ left. (w : Width) (n : ℕ) → n ≢ 2 → n ≢ 3 → WidthFits w n → length (head Tag (Given w n) ++ bytes.now) ≤ total → Leaves (λ rest. Searched room total (head Tag (Given w n) ++ bytes.now) rest found.new.flaw found.new.is_string) left) }
+    ensures { (w : Width) (n : ℕ) → n ≢ 2 → n ≢ 3 → WidthFits w n → length (head Tag (Given w n) ++ bytes.now) ≤ total → NodeSearched room total (head Tag (Given w n) ++ bytes.now) found.new.flaw found.new.is_string result }
 {
     if room == 0 {
-        return None;
+        return Search::Malformed;
     }
-    let left = search_node(maps, room - 1, total, bytes, found)?;
-    found.is_string = false;
-    Some(left)
+    match search_node(maps, room - 1, total, bytes, found) {
+        Search::Behind(left) => {
+            found.is_string = false;
+            Search::Behind(left)
+        }
+        other => other,
+    }
 }

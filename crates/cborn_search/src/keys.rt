@@ -1,16 +1,19 @@
 //! The keys of a map.
 
-ghost use Rattle.std.specs.Prelude.{◌≡◌, ◌≤◌, ◌++◌, ℕ, List, [], length, take, drop, IfSome, OnSome, IsPermutation};
+ghost use Rattle.std.specs.Prelude.{◌≡◌, ◌≤◌, ◌++◌, ℕ, List, [], length, take, drop, OnOk, MatchOption, IsPermutation};
+ghost use Rattle.std.specs.Ordering.{is_lt};
+ghost use Rattle.std.specs.List.Sorted.{IsSortedBy};
 ghost use Rattle.cborn_model.specs.Tree.{entries};
 ghost use Rattle.cborn_judge.specs.shared.Judged.{RepeatFlaw};
 ghost use Rattle.cborn_search.specs.Flawed.{FindsTold, SeenKey, AreSeen};
-ghost use Rattle.cborn_search.specs.devices.Marks.{mark_bytes, mark_place, AreMarked, IsPushed, IsWritten, Takes, InPlace, ComesAfter, TieAfter, TieFlaw};
+ghost use Rattle.cborn_search.specs.devices.Marks.{mark_bytes, mark_place, mark_order, number_at, AreMarked, IsPushed, IsWritten, Takes, InPlace, ComesAfter, TieAfter, TieFlaw};
 ghost use Rattle.cborn_wire.specs.Parts.{Pair};
+ghost use Rattle.cborn_transcode.specs.Transcoding.{HoldsNoItem};
 
 use cborn_judge::{InvalidReason, earliest};
 use cborn_model::{Bytewise, KeyOrder};
 use cborn_transcode::{OpenKeys, split_item, transcode_item};
-use std::alloc::Global;
+use std::alloc::{AllocError, AllocFailed, Global};
 use std::cmp::Ordering;
 use std::mem;
 
@@ -19,10 +22,10 @@ use std::mem;
 pub(crate) struct Mark {
     /// A number that rises with the encoding, as a rule. Nothing but speed rests on it.
     hint: u64,
-    /// Where it begins in the pairs of the map; or behind these, in what was written.
-    start: u32,
-    /// Its length in bytes.
-    len: u32,
+    /// Where it begins in the pairs of the map; the greatest number where it isn't the key itself.
+    start: usize,
+    /// Its length in bytes; or, where it isn't the key itself, where it ends in what was written.
+    len: usize,
 }
 
 /// What became of a key before it was searched. Each case has at most one number, so that it comes
@@ -31,16 +34,16 @@ pub(crate) struct Mark {
 pub(crate) enum Taken {
     /// It means something, and is taken in; so many bytes follow it.
     Behind(usize),
-    /// It isn't taken in: it wasn't tried, it has a flaw, or memory was refused.
+    /// It isn't taken in: it wasn't tried, it has a flaw, or no key stands there.
     Not,
-    /// Nothing is promised: memory was refused, or a mark has no room for where it lies.
-    Unknown,
+    /// The error of a growth that was refused.
+    Refused(AllocError),
 }
 
 /// The deterministic encodings of the keys of a map that mean something. A key that is its own
 /// encoding stays in the pairs of the map, which are told at each call: the bytes from the first pair
 /// on to the end of the input. The encodings of the others are written, and behind each the place of
-/// its key, in 4 bytes.
+/// its key and its length, in 8 bytes each.
 #[derive(Drop)]
 pub(crate) struct Keys {
     written: Vec<u8>,
@@ -89,173 +92,194 @@ impl Keys {
         requires room { room ≤ 1024 }
         requires within { length pairs.now ≤ total }
         requires behind { (front : List ℕ) × (pairs.now ≡ front ++ bytes.now) }
-        ensures { Takes room total pairs.now bytes.now self.old self.new result }
+        ensures { Takes (HoldsNoItem room bytes.now) room total pairs.now bytes.now self.old self.new result }
     {
         if let Some((key, rest)) = split_item::<Bytewise>(room, bytes) {
-            let start = (pairs.len() - bytes.len()) as u64;
-            return match self.push(start, key) {
-                Some(_) => Taken::Behind(rest.len()),
-                None => Taken::Unknown,
+            return match self.push(hint(key), pairs.len() - bytes.len(), key.len()) {
+                Ok(()) => Taken::Behind(rest.len()),
+                Err(e) => Taken::Refused(e),
             };
         }
-        let Some(_) = make_room(bytes.len(), encoding) else {
-            return Taken::Unknown;
-        };
+        if let Err(e) = make_room(bytes.len(), encoding) {
+            return Taken::Refused(e);
+        }
         let rest = match transcode_item::<Bytewise>(alloc, open, room, bytes, encoding) {
             Ok(Some(rest)) => rest,
             Ok(None) => return Taken::Not,
-            Err(_) => return Taken::Unknown,
+            Err(e) => return Taken::Refused(e),
         };
-        match self.write(total - bytes.len() as u64, pairs, encoding) {
-            Some(_) => Taken::Behind(rest.len()),
-            None => Taken::Unknown,
+        match self.write(total - bytes.len() as u64, encoding) {
+            Ok(()) => Taken::Behind(rest.len()),
+            Err(e) => Taken::Refused(e),
         }
     }
 
     /// Marks the encoding of the key at `place`, and keeps it. A long one isn't copied, where none was
-    /// written before. None promises nothing.
-    fn write(&mut self, place: u64, pairs: &[u8], encoding: &mut Vec<u8>) -> Option<()>
-        ensures { OnSome result (IsWritten place (length pairs.now) encoding.old.items self.old self.new) }
+    /// written before.
+    ///
+    /// # Errors
+    /// Memory was refused.
+    fn write(&mut self, place: u64, encoding: &mut Vec<u8>) -> Result<(), AllocError>
+        ensures { OnOk result (IsWritten place encoding.old.items self.old self.new) }
     {
-        let place = narrow(place)?;
-        let start = (pairs.len() as u64).checked_add(self.written.len() as u64)?;
-        self.push(start, encoding)?;
+        let hint = hint(encoding);
+        let len = encoding.len() as u64;
         if self.written.is_empty() && encoding.len() >= encoding.capacity() / 2 {
             mem::swap(&mut self.written, encoding);
         } else {
-            self.written.extend_from_slice(encoding).ok()?;
+            self.written.extend_from_slice(encoding)?;
         }
-        self.written.extend_from_slice(&place.to_be_bytes()).ok()
+        let end = self.written.len();
+        self.push(hint, usize::MAX, end)?;
+        self.written.extend_from_slice(&place.to_be_bytes())?;
+        self.written.extend_from_slice(&len.to_be_bytes())
     }
 
-    /// Marks the encoding that begins at `start`. None promises nothing.
-    fn push(&mut self, start: u64, encoding: &[u8]) -> Option<()>
-        ensures { OnSome result (IsPushed start encoding.now self.old self.new) }
+    /// Adds a mark.
+    ///
+    /// # Errors
+    /// Memory was refused.
+    #[inline]
+    fn push(&mut self, hint: u64, start: usize, len: usize) -> Result<(), AllocError>
+        ensures { OnOk result (IsPushed start len self.old self.new) }
     {
-        let mark = Mark {
-            hint: hint(encoding),
-            start: narrow(start)?,
-            len: narrow(encoding.len() as u64)?,
-        };
-        self.marks.push(mark).ok()?;
-        Some(())
+        self.marks.push(Mark { hint, start, len })?;
+        Ok(())
     }
 
-    /// The first key that is the same as an earlier one. None promises nothing.
+    /// The first key that is the same as an earlier one. The marks are sorted by their hints, and only
+    /// where these don't suit, by the encodings alone.
     #[inline(never)]
-    pub(crate) fn first_repeat(
-        &mut self,
-        total: u64,
-        pairs: &[u8],
-    ) -> Option<Option<(u64, InvalidReason)>>
-        ensures { IfSome result (λ first. (ns : List Pair) (ks : List SeenKey) (end : ℕ) → AreMarked total pairs.now end ks self.old → AreSeen ks ns → FindsTold (RepeatFlaw (entries ns)) first) }
+    pub(crate) fn first_repeat(&mut self, total: u64, pairs: &[u8]) -> Option<(u64, InvalidReason)>
+        requires { (ks : List SeenKey) × (end : ℕ) × AreMarked total pairs.now end ks self.old }
+        ensures { (ns : List Pair) (ks : List SeenKey) (end : ℕ) → AreMarked total pairs.now end ks self.old → AreSeen ks ns → FindsTold (RepeatFlaw (entries ns)) result }
     {
         if let Some(first) = first_tie(total, pairs, &self.written, &self.marks) {
-            return Some(first);
+            return first;
         }
         sort(total, pairs, &self.written, &mut self.marks);
-        first_tie(total, pairs, &self.written, &self.marks)
+        if let Some(first) = first_tie(total, pairs, &self.written, &self.marks) {
+            return first;
+        }
+        sort_by_bytes(total, pairs, &self.written, &mut self.marks);
+        match first_tie(total, pairs, &self.written, &self.marks) {
+            Some(first) => first,
+            None => unreachable!(),
+        }
     }
 }
 
 /// Empties the list. One without room gets it for `most` bytes, so that it needn't grow: while it
-/// does, it may be in memory twice. None: memory was refused.
-fn make_room(most: usize, bytes: &mut Vec<u8>) -> Option<()>
-    ensures { OnSome result (bytes.new.items ≡ []) }
+/// does, it may be in memory twice.
+///
+/// # Errors
+/// Memory was refused.
+fn make_room(most: usize, bytes: &mut Vec<u8>) -> Result<(), AllocError>
+    ensures { OnOk result (bytes.new.items ≡ []) }
 {
     bytes.clear();
     if bytes.capacity() == 0 {
-        bytes.reserve(most).ok()?;
+        bytes.reserve(most)?;
     }
-    Some(())
+    Ok(())
 }
 
-/// The number, where it fits 32 bits.
-fn narrow(n: u64) -> Option<u32>
-    ensures { IfSome result (λ m. m ≡ n) }
+/// The bytes from `start` on.
+fn from(bytes: &[u8], start: usize) -> &[u8]
+    ensures { result.now ≡ drop start bytes.now }
 {
-    u32::try_from(n).ok()
+    if start > bytes.len() {
+        return &[];
+    }
+    let (_, rest) = bytes.split_at(start);
+    rest
 }
 
 /// As many as `len` of the bytes from `start` on.
 fn part(bytes: &[u8], start: usize, len: usize) -> &[u8]
     ensures { result.now ≡ take len (drop start bytes.now) }
 {
-    if start > bytes.len() {
-        return &[];
+    let rest = from(bytes, start);
+    if len > rest.len() {
+        return rest;
     }
-    let (_, behind) = bytes.split_at(start);
-    if len > behind.len() {
-        return behind;
-    }
-    let (found, _) = behind.split_at(len);
+    let (found, _) = rest.split_at(len);
     found
 }
 
-/// The bytes that are marked.
+/// The encoding that is marked.
 fn bytes_of<'a>(pairs: &'a [u8], written: &'a [u8], mark: &Mark) -> &'a [u8]
     ensures { result.now ≡ mark_bytes pairs.now written.now mark.now }
 {
-    let start = mark.start as usize;
-    let len = mark.len as usize;
-    if start < pairs.len() {
-        part(pairs, start, len)
-    } else {
-        part(written, start - pairs.len(), len)
+    if mark.start < pairs.len() {
+        return part(pairs, mark.start, mark.len);
     }
+    let len = first_number(from(from(written, mark.len), 8)) as usize;
+    part(written, mark.len.saturating_sub(len), len)
 }
 
-/// The place of the key that is marked. None promises nothing.
-fn place_of(total: u64, pairs: &[u8], written: &[u8], mark: &Mark) -> Option<u64>
-    ensures { IfSome result (λ place. place ≡ mark_place total pairs.now written.now mark.now) }
+/// The place of the key that is marked.
+fn place_of(total: u64, pairs: &[u8], written: &[u8], mark: &Mark) -> u64
+    ensures { result ≡ mark_place total pairs.now written.now mark.now }
 {
-    let start = mark.start as usize;
-    if start < pairs.len() {
-        return total
-            .checked_sub(pairs.len() as u64)?
-            .checked_add(start as u64);
+    if mark.start < pairs.len() {
+        return total.saturating_sub((pairs.len() - mark.start) as u64);
     }
-    let behind = (start - pairs.len()).checked_add(mark.len as usize)?;
-    let place = part(written, behind, 4).first_chunk::<4>()?;
-    Some(u64::from(u32::from_be_bytes(*place)))
+    first_number(from(written, mark.len))
 }
 
-/// Arranges the marks by their bytes, and those of the same bytes by the places of the keys. Where
-/// the last comes before the first they are turned round at first, since keys that fall then rise.
+/// The number in the first eight bytes, or 0 where there are fewer.
+fn first_number(bytes: &[u8]) -> u64
+    ensures { result ≡ number_at bytes.now }
+{
+    match bytes.first_chunk::<8>() {
+        Some(eight) => u64::from_be_bytes(*eight),
+        None => 0,
+    }
+}
+
+/// Arranges the marks by their bytes, and those of the same bytes by the places of the keys, where
+/// the hints suit. Where the last comes before the first they are turned round at first, since keys
+/// that fall then rise.
 fn sort(total: u64, pairs: &[u8], written: &[u8], marks: &mut Vec<Mark>)
     ensures { IsPermutation marks.old.items marks.new.items }
 {
-    if is_falling(pairs, written, marks) {
+    if is_falling(total, pairs, written, marks) {
         marks.reverse();
     }
-    marks.sort_unstable_by(|a, b| compare_marks(total, pairs, written, a, b));
+    marks.sort_unstable_by(|a, b| match a.hint.cmp(&b.hint) {
+        Ordering::Equal => compare_marks(total, pairs, written, a, b),
+        unequal => unequal,
+    });
 }
 
 /// Whether the last mark comes before the first.
-fn is_falling(pairs: &[u8], written: &[u8], marks: &[Mark]) -> bool {
+fn is_falling(total: u64, pairs: &[u8], written: &[u8], marks: &[Mark]) -> bool {
     match marks {
-        [first, .., last] => bytes_of(pairs, written, last) < bytes_of(pairs, written, first),
+        [first, .., last] => { bytes_of(pairs, written, last) < bytes_of(pairs, written, first) }
         _ => false,
     }
 }
 
-/// How two marks compare by their bytes, and those of the same bytes by the places of the keys.
-#[inline(always)]
-fn compare_marks(total: u64, pairs: &[u8], written: &[u8], a: &Mark, b: &Mark) -> Ordering {
-    match a.hint.cmp(&b.hint) {
-        Ordering::Equal => compare_bytes(total, pairs, written, a, b),
-        unequal => unequal,
-    }
+/// Arranges the marks by their bytes, and those of the same bytes by the places of the keys.
+fn sort_by_bytes(total: u64, pairs: &[u8], written: &[u8], marks: &mut Vec<Mark>)
+    ensures moved { IsPermutation marks.old.items marks.new.items }
+    ensures sorted { IsSortedBy (λ x y. is_lt (mark_order total pairs.now written.now x y)) marks.new.items }
+{
+    marks.sort_unstable_by(|a, b| compare_marks(total, pairs, written, a, b));
 }
 
-/// How two marks with one hint compare. Out of line, so that a sort has little code at each of its
-/// comparisons.
+/// How two marks compare by their bytes, and those of the same bytes by the places of the keys. Out
+/// of line, so that a sort has little code at each of its comparisons.
 #[inline(never)]
-fn compare_bytes(total: u64, pairs: &[u8], written: &[u8], a: &Mark, b: &Mark) -> Ordering {
-    match bytes_of(pairs, written, a).cmp(bytes_of(pairs, written, b)) {
-        Ordering::Equal => {
-            place_of(total, pairs, written, a).cmp(&place_of(total, pairs, written, b))
-        }
+fn compare_marks(total: u64, pairs: &[u8], written: &[u8], a: &Mark, b: &Mark) -> Ordering
+    ensures { result ≡ mark_order total pairs.now written.now a.now b.now }
+{
+    let bytes = Bytewise::compare(bytes_of(pairs, written, a), bytes_of(pairs, written, b));
+    match bytes {
+        Ordering::Equal => place_of(total, pairs, written, a).cmp(&place_of(
+            total, pairs, written, b,
+        )),
         unequal => unequal,
     }
 }
@@ -283,14 +307,16 @@ fn first_tie(
     written: &[u8],
     marks: &[Mark],
 ) -> Option<Option<(u64, InvalidReason)>>
-    ensures { IfSome result (λ first. InPlace total pairs.now written.now marks.now × FindsTold (TieFlaw total pairs.now written.now marks.now) first) }
+    ensures { MatchOption result (InPlace total pairs.now written.now marks.now → ⊥) (λ first. InPlace total pairs.now written.now marks.now × FindsTold (TieFlaw total pairs.now written.now marks.now) first) }
 {
     let mut first: Option<(u64, InvalidReason)> = None;
-    let mut before: Option<Mark> = None;
+    let mut last: Option<Mark> = None;
     for mark in marks {
-        let next = tie_with(total, pairs, written, before, mark)?;
+        let Some(next) = tie_with(total, pairs, written, last, mark) else {
+            return None;
+        };
         first = earliest(first, next);
-        before = Some(*mark);
+        last = Some(*mark);
     }
     Some(first)
 }
@@ -300,23 +326,22 @@ fn tie_with(
     total: u64,
     pairs: &[u8],
     written: &[u8],
-    before: Option<Mark>,
+    last: Option<Mark>,
     mark: &Mark,
 ) -> Option<Option<(u64, InvalidReason)>>
-    ensures { IfSome result (λ next. ComesAfter total pairs.now written.now before mark.now × FindsTold (TieAfter total pairs.now written.now before mark.now) next) }
+    ensures { MatchOption result (ComesAfter total pairs.now written.now last mark.now → ⊥) (λ next. ComesAfter total pairs.now written.now last mark.now × FindsTold (TieAfter total pairs.now written.now last mark.now) next) }
 {
-    let Some(before) = before else {
+    let Some(last) = last else {
         return Some(None);
     };
     match Bytewise::compare(
-        bytes_of(pairs, written, &before),
+        bytes_of(pairs, written, &last),
         bytes_of(pairs, written, mark),
     ) {
         Ordering::Less => Some(None),
         Ordering::Equal => {
-            let earlier = place_of(total, pairs, written, &before)?;
-            let place = place_of(total, pairs, written, mark)?;
-            if earlier >= place {
+            let place = place_of(total, pairs, written, mark);
+            if place_of(total, pairs, written, &last) >= place {
                 return None;
             }
             Some(Some((place, InvalidReason::DuplicateKey)))

@@ -1,16 +1,17 @@
 //! Items without children.
 
-ghost use Rattle.std.specs.Prelude.{◌≡◌, ◌≢◌, ◌≤◌, ◌-◌, ◌++◌, ◌⊎◌, ℕ, Bool, None, true, false, length, drop, IsTrue, IfSome, MatchBool};
+ghost use Rattle.std.specs.Prelude.{◌≡◌, ◌≢◌, ◌<◌, ◌≤◌, ◌-◌, ◌++◌, ◌∷◌, ◌⊎◌, ℕ, List, None, true, false, length, drop, IfSome, MatchBool, MatchOption};
 ghost use Rattle.cborn_model.specs.declared.heads.Width.{Width};
 ghost use Rattle.cborn_model.specs.declared.heads.Major.TheVariants.{ByteString, TextString};
 ghost use Rattle.cborn_model.specs.Heads.{Given, Unbounded, head, WidthFits};
-ghost use Rattle.cborn_wire.specs.HeadReading.{ArgumentFits, seen_argument};
-ghost use Rattle.cborn_wire.specs.Parts.{StringRead, IsSimpleArgument, Leaves};
+ghost use Rattle.cborn_wire.specs.Parts.{StringRead};
+ghost use Rattle.cborn_descent.specs.Descending.{ChunkFails, major_of};
 ghost use Rattle.cborn_search.specs.Flawed.{FindsTold, TextFlaw, ChunkSeen, ChunksSeen, Searched};
+ghost use Rattle.cborn_search.specs.devices.Ending.{ChunksFail, NodeSearched};
 
-use crate::finding::Finding;
+use crate::finding::{Finding, Search};
 use cborn_judge::{InvalidReason, earliest};
-use cborn_model::{Major, is_simple_value, shortest};
+use cborn_model::Major;
 use cborn_wire::{Argument, HeadRead, behind_break, read_head, read_mixed_head};
 
 /// Whether the tag is that of a bignum.
@@ -44,10 +45,11 @@ pub(crate) fn integer_len(bytes: &[u8]) -> Option<usize>
     }
 }
 
-/// The content of a string of `n` bytes at the front, and what follows.
+/// The content of a string of `n` bytes at the front, and what follows. None where so many don't
+/// stand there.
 #[inline]
 pub(crate) fn string_at(n: u64, bytes: &[u8]) -> Option<(&[u8], &[u8])>
-    ensures { IfSome result (λ r. StringRead n bytes.now r.0.now r.1.now) }
+    ensures { MatchOption result (length bytes.now < n) (λ r. StringRead n bytes.now r.0.now r.1.now) }
 {
     if n > bytes.len() as u64 {
         return None;
@@ -69,116 +71,120 @@ pub(crate) fn text_flaw(place: u64, bytes: &[u8]) -> Option<(u64, InvalidReason)
     }
 }
 
-/// Whether the argument is that of a simple value.
-pub(crate) fn is_simple(argument: Argument) -> bool
-    requires { ArgumentFits (seen_argument argument) }
-    ensures { IsTrue result → IsSimpleArgument argument }
-{
-    match argument {
-        Argument::Given(width, n) => is_simple_value(n) && width == shortest(n),
-        Argument::Endless => false,
-    }
-}
-
-/// Chunks up to a break: what follows them, and of a text their first flaw.
+/// Chunks up to a break: what follows them, and of a text their first flaw. None where one of them is
+/// none of the kind, or cut short.
 pub(crate) fn search_chunks(
-    major: Major,
+    text: bool,
     total: u64,
     bytes: &[u8],
 ) -> Option<(&[u8], Option<(u64, InvalidReason)>)>
     requires { length bytes.now ≤ total }
-    ensures { IfSome result (λ r. ChunksSeen major total bytes.now r.0.now r.1) }
+    ensures { MatchOption result (ChunksFail (major_of text) bytes.now) (λ r. (after : List ℕ) × (after ≡ 255 ∷ r.0.now) × ChunksSeen (major_of text) total bytes.now after r.1) }
 {
     let mut rest = bytes;
     let mut first: Option<(u64, InvalidReason)> = None;
-    'chunks: for _ in 0..bytes.len() {
-        if let [255, ..] = rest {
-            break;
+    'chunks: loop {
+        if let Some(end) = behind_break(rest) {
+            return Some((end, first));
         }
-        let (after, flaw) = search_chunk(major, total, rest)?;
+        let Some((after, flaw)) = search_chunk(text, total, rest) else {
+            return None;
+        };
         rest = after;
         first = earliest(first, flaw);
     }
-    Some((rest, first))
 }
 
-/// A chunk.
+/// A chunk of a string of this kind: what follows it, and its flaw. None where none stands there.
 fn search_chunk(
-    major: Major,
+    text: bool,
     total: u64,
     bytes: &[u8],
 ) -> Option<(&[u8], Option<(u64, InvalidReason)>)>
     requires { length bytes.now ≤ total }
-    ensures { IfSome result (λ r. ChunkSeen major total bytes.now r.0.now r.1) }
+    ensures { MatchOption result (ChunkFails (λ _. ⊥) (major_of text) bytes.now) (λ r. ChunkSeen (major_of text) total bytes.now r.0.now r.1) }
 {
     let HeadRead::Full(head, len) = read_head(bytes) else {
         return None;
     };
-    if head.major_type() != major {
+    if !is_string(text, head.major_type()) {
         return None;
     }
+    let Argument::Given(_, n) = head.argument else {
+        return None;
+    };
+    let Some((content, after)) = string_at(n, &bytes[len..]) else {
+        return None;
+    };
     let place = total - bytes.len() as u64;
-    match head.argument {
-        Argument::Given(_, n) => {
-            let (content, after) = string_at(n, &bytes[len..])?;
-            Some((after, chunk_flaw(major, place, content)))
-        }
-        Argument::Endless => None,
-    }
+    Some((after, chunk_flaw(text, place, content)))
 }
 
-/// The flaw of a chunk of a text.
-#[inline]
-fn chunk_flaw(major: Major, place: u64, bytes: &[u8]) -> Option<(u64, InvalidReason)>
-    ensures { major ≡ TextString → FindsTold (TextFlaw place bytes.now) result }
+/// Whether the major type is that of text strings, or else of byte strings.
+#[inline(always)]
+fn is_string(text: bool, major: Major) -> bool
+    ensures good { result ≡ true → major ≡ major_of text }
+    ensures bad { result ≡ true ⊎ (major ≢ major_of text) }
 {
-    if major == Major::TextString {
-        text_flaw(place, bytes)
+    if text {
+        major == Major::TextString
     } else {
-        None
+        major == Major::ByteString
     }
 }
 
-/// The text of `n` bytes at the front, whose head is at `place`; answers how many bytes follow it.
-#[inline(never)]
-pub(crate) fn search_text(place: u64, n: u64, bytes: &[u8], found: &mut Finding) -> Option<usize>
-    ensures { IfSome result (λ left. (room total : ℕ) (w : Width) → WidthFits w n → place ≡ total - length (head TextString (Given w n) ++ bytes.now) → Leaves (λ rest. Searched room total (head TextString (Given w n) ++ bytes.now) rest found.new.flaw found.new.is_string) left) }
+/// The flaw of a chunk, which only that of a text may have.
+#[inline]
+fn chunk_flaw(text: bool, place: u64, bytes: &[u8]) -> Option<(u64, InvalidReason)>
+    ensures { major_of text ≡ TextString → FindsTold (TextFlaw place bytes.now) result }
 {
-    let (content, after) = string_at(n, bytes)?;
+    if text { text_flaw(place, bytes) } else { None }
+}
+
+/// Searches a text of `n` bytes at the front, whose head is at `place`.
+#[inline(never)]
+pub(crate) fn search_text(place: u64, n: u64, bytes: &[u8], found: &mut Finding) -> Search
+    ensures { (room total : ℕ) (w : Width) → WidthFits w n → place ≡ total - length (head TextString (Given w n) ++ bytes.now) → NodeSearched room total (head TextString (Given w n) ++ bytes.now) found.new.flaw found.new.is_string result }
+{
+    let Some((content, after)) = string_at(n, bytes) else {
+        return Search::Malformed;
+    };
     let flaw = text_flaw(place, content);
     *found = Finding {
         flaw,
         is_string: false,
     };
-    Some(after.len())
+    Search::Behind(after.len())
 }
 
-/// The chunks at the front of a byte string, and its break; answers how many bytes follow it.
+/// Searches the chunks of a byte string at the front, up to its break.
 #[inline(never)]
-pub(crate) fn search_long_bytes(total: u64, bytes: &[u8], found: &mut Finding) -> Option<usize>
+pub(crate) fn search_long_bytes(total: u64, bytes: &[u8], found: &mut Finding) -> Search
     requires { length bytes.now ≤ total }
-    ensures { IfSome result (λ left. (room : ℕ) → length (head ByteString Unbounded ++ bytes.now) ≤ total → Leaves (λ rest. Searched room total (head ByteString Unbounded ++ bytes.now) rest found.new.flaw found.new.is_string) left) }
+    ensures { (room : ℕ) → length (head ByteString Unbounded ++ bytes.now) ≤ total → NodeSearched room total (head ByteString Unbounded ++ bytes.now) found.new.flaw found.new.is_string result }
 {
-    let (after, _) = search_chunks(Major::ByteString, total, bytes)?;
-    let end = behind_break(after)?;
+    let Some((end, _)) = search_chunks(false, total, bytes) else {
+        return Search::Malformed;
+    };
     *found = Finding {
         flaw: None,
         is_string: true,
     };
-    Some(end.len())
+    Search::Behind(end.len())
 }
 
-/// The chunks at the front of a text, and its break; answers how many bytes follow it.
+/// Searches the chunks of a text at the front, up to its break.
 #[inline(never)]
-pub(crate) fn search_long_text(total: u64, bytes: &[u8], found: &mut Finding) -> Option<usize>
+pub(crate) fn search_long_text(total: u64, bytes: &[u8], found: &mut Finding) -> Search
     requires { length bytes.now ≤ total }
-    ensures { IfSome result (λ left. (room : ℕ) → length (head TextString Unbounded ++ bytes.now) ≤ total → Leaves (λ rest. Searched room total (head TextString Unbounded ++ bytes.now) rest found.new.flaw found.new.is_string) left) }
+    ensures { (room : ℕ) → length (head TextString Unbounded ++ bytes.now) ≤ total → NodeSearched room total (head TextString Unbounded ++ bytes.now) found.new.flaw found.new.is_string result }
 {
-    let (after, flaw) = search_chunks(Major::TextString, total, bytes)?;
-    let end = behind_break(after)?;
+    let Some((end, flaw)) = search_chunks(true, total, bytes) else {
+        return Search::Malformed;
+    };
     *found = Finding {
         flaw,
         is_string: false,
     };
-    Some(end.len())
+    Search::Behind(end.len())
 }

@@ -1,14 +1,15 @@
 //! What a search for flaws knows of a map, and the maps that it is done with.
 
-ghost use Rattle.std.specs.Prelude.{◌≡◌, ◌≤◌, ◌++◌, ℕ, List, None, [], false, length, IfSome, OnSome};
-ghost use Rattle.cborn_search.specs.Flawed.{IsEarliestTold};
-ghost use Rattle.cborn_search.specs.devices.Marks.{Concludes, Takes};
+ghost use Rattle.std.specs.Prelude.{◌≡◌, ◌≤◌, ◌++◌, ℕ, List, None, [], false, length, IfOk, ⊤};
+ghost use Rattle.cborn_search.specs.Flawed.{IsEarliestTold, NodeAt, IsSound, SeenKey};
+ghost use Rattle.cborn_search.specs.devices.Ending.{Ends};
+ghost use Rattle.cborn_search.specs.devices.Marks.{AreMarked, Concludes, KeyTaken, Takes};
 
-use crate::finding::Finding;
+use crate::finding::{Finding, Search};
 use crate::keys::{Keys, Taken};
 use cborn_judge::{InvalidReason, earliest};
 use cborn_transcode::OpenKeys;
-use std::alloc::Global;
+use std::alloc::{AllocError, AllocFailed, Global};
 
 /// A map of more keys gives its room back once it is done with.
 const MOST_KEPT: usize = 1000;
@@ -56,7 +57,7 @@ impl SearchedMap {
         requires room { room ≤ 1024 }
         requires within { length pairs.now ≤ total }
         requires behind { (front : List ℕ) × (pairs.now ≡ front ++ bytes.now) }
-        ensures keys { Takes room total pairs.now bytes.now self.old.keys self.new.keys result }
+        ensures keys { Takes ⊤ room total pairs.now bytes.now self.old.keys self.new.keys result }
         ensures first { self.new.first ≡ self.old.first }
     {
         if maps.flawed.has_key(bytes.len()) {
@@ -73,6 +74,38 @@ impl SearchedMap {
         )
     }
 
+    /// Takes in the key at the front of `bytes`, which was searched and has no flaw.
+    #[inline(never)]
+    pub(crate) fn take_sound(
+        &mut self,
+        maps: &mut SpareMaps,
+        room: u64,
+        total: u64,
+        pairs: &[u8],
+        bytes: &[u8],
+    ) -> Search
+        requires room { room ≤ 1024 }
+        requires within { length pairs.now ≤ total }
+        requires behind { (front : List ℕ) × (pairs.now ≡ front ++ bytes.now) }
+        requires sound { (rest : List ℕ) × NodeAt IsSound room total bytes.now rest }
+        ensures keys { Ends (KeyTaken room total pairs.now bytes.now self.old.keys self.new.keys) ⊥ result }
+        ensures first { self.new.first ≡ self.old.first }
+    {
+        match self.keys.take(
+            maps.alloc,
+            &mut maps.flawed,
+            &mut maps.encoding,
+            room,
+            total,
+            pairs,
+            bytes,
+        ) {
+            Taken::Behind(left) => Search::Behind(left),
+            Taken::Not => unreachable!(),
+            Taken::Refused(e) => Search::Refused(e),
+        }
+    }
+
     /// Takes in the flaw of a key or of a value, which has none as a rule.
     #[inline(always)]
     pub(crate) fn note(&mut self, flaw: Option<(u64, InvalidReason)>)
@@ -84,18 +117,19 @@ impl SearchedMap {
         }
     }
 
-    /// Tells the first flaw of the map whose pairs these are. None promises nothing.
+    /// Tells the first flaw of the map whose pairs these are.
     #[inline(never)]
-    pub(crate) fn conclude(&mut self, total: u64, pairs: &[u8], found: &mut Finding) -> Option<()>
-        ensures { OnSome result (Concludes total pairs.now self.old.keys self.old.first found.new.flaw × (found.new.is_string ≡ false)) }
+    pub(crate) fn conclude(&mut self, total: u64, pairs: &[u8], found: &mut Finding)
+        requires { (ks : List SeenKey) × (end : ℕ) × AreMarked total pairs.now end ks self.old.keys }
+        ensures flaw { Concludes total pairs.now self.old.keys self.old.first found.new.flaw }
+        ensures kind { found.new.is_string ≡ false }
     {
-        let repeat = self.keys.first_repeat(total, pairs)?;
+        let repeat = self.keys.first_repeat(total, pairs);
         let flaw = earliest(self.first, repeat);
         *found = Finding {
             flaw,
             is_string: false,
         };
-        Some(())
     }
 }
 
@@ -122,17 +156,23 @@ impl SpareMaps {
         }
     }
 
-    /// A map before its first pair. None where memory was refused.
+    /// A map before its first pair.
+    ///
+    /// # Errors
+    /// Memory was refused.
     #[inline(never)]
-    pub(crate) fn fresh_map(&mut self) -> Option<Box<SearchedMap>>
-        ensures { IfSome result (λ map. (map.value.keys.marks.items ≡ []) × (map.value.first ≡ None)) }
+    pub(crate) fn fresh_map(&mut self) -> Result<Box<SearchedMap>, AllocError>
+        ensures { IfOk result (λ map. (map.value.keys.marks.items ≡ []) × (map.value.first ≡ None)) }
     {
         match self.spare.pop() {
             Some(mut map) => {
                 map.clear();
-                Some(map)
+                Ok(map)
             }
-            None => Box::new(self.alloc, SearchedMap::new(self.alloc)).ok(),
+            None => {
+                let map = Box::new(self.alloc, SearchedMap::new(self.alloc))?;
+                Ok(map)
+            }
         }
     }
 

@@ -1,17 +1,15 @@
 //! The first flaw of a whole input.
 
-ghost use Rattle.std.specs.Prelude.{ℕ, IfSome};
-ghost use Rattle.cborn_model.specs.Placed.{PlacedAll};
-ghost use Rattle.cborn_model.specs.Spelled.{Wellformed};
-ghost use Rattle.cborn_model.specs.Tree.{Trees};
-ghost use Rattle.cborn_search.specs.Searching.{IsValidity, IsFirstBadText};
+ghost use Rattle.std.specs.Prelude.{IfOk};
+ghost use Rattle.cborn_search.specs.Searching.{IsValidity};
 
-use crate::finding::Finding;
-use crate::flaws::search_item;
+use crate::finding::{Finding, Search};
+use crate::flaws::search_node;
 use crate::searched_maps::SpareMaps;
-use cborn_judge::{InvalidReason, earliest};
+use cborn_judge::InvalidReason;
 use cborn_model::Limit;
-use std::alloc::Global;
+use cborn_wire::last;
+use std::alloc::{AllocError, Global};
 
 /// Whether each of the items that bytes spell means something (RFC 8949 section 5.3.1).
 #[derive(Clone, Copy, PartialEq, Eq, Debug)]
@@ -25,17 +23,18 @@ pub enum Validity {
         /// Why it means nothing.
         reason: InvalidReason,
     },
-    /// Nothing is promised: the bytes aren't well-formed, or memory was refused.
-    Unknown,
+    /// The bytes hold no items within the limit.
+    Malformed,
 }
 
 /// The first flaw of the first item of the bytes that means nothing (RFC 8949 sections 3.1, 3.4.3
-/// and 5.6); or that each item means something.
+/// and 5.6); or that each item means something; or that the bytes aren't well-formed under the limit
+/// (section 3). It takes memory only for the keys of maps.
 ///
-/// It takes memory only for the keys of maps. Nothing is known where the bytes aren't well-formed
-/// under the limit, and where memory was refused. Of an input of 4 GB and more nothing is promised.
-pub fn first_flaw(alloc: Global, limit: Limit, bytes: &[u8]) -> Validity
-    ensures { IsValidity limit bytes.now result }
+/// # Errors
+/// A growth of the memory was refused.
+pub fn first_flaw(alloc: Global, limit: Limit, bytes: &[u8]) -> Result<Validity, AllocError>
+    ensures { IfOk result (IsValidity limit bytes.now) }
 {
     let total = bytes.len() as u64;
     let room = limit.get();
@@ -46,21 +45,21 @@ pub fn first_flaw(alloc: Global, limit: Limit, bytes: &[u8]) -> Validity
         flaw: None,
         is_string: false,
     };
-    'items: for _ in 0..bytes.len() {
-        if rest.is_empty() {
-            break;
+    'items: while !rest.is_empty() {
+        match search_node(&mut maps, room, total, rest, &mut found) {
+            Search::Behind(left) => {
+                let Some(behind) = last(rest, left) else {
+                    return Ok(Validity::Malformed);
+                };
+                rest = behind;
+            }
+            Search::Malformed => return Ok(Validity::Malformed),
+            Search::Refused(e) => return Err(e),
         }
-        let Some(behind) = search_item(&mut maps, room, total, rest, &mut found) else {
-            return Validity::Unknown;
-        };
-        rest = behind;
         first = first.or(found.flaw);
     }
-    if !rest.is_empty() {
-        return Validity::Unknown;
-    }
     match first {
-        Some((place, reason)) => Validity::Flaw { place, reason },
-        None => Validity::Valid,
+        Some((place, reason)) => Ok(Validity::Flaw { place, reason }),
+        None => Ok(Validity::Valid),
     }
 }

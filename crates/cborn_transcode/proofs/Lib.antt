@@ -11,6 +11,7 @@ pub mod Opening
 pub mod Departing
 pub mod Departed
 pub mod Telling
+pub mod Answering
 pub mod Standing
 pub mod Fronting
 pub mod Straying

@@ -49,6 +49,10 @@ pub blamed_after : {P : List Tree → Type 0} {E : Type 0} (refused : Option E) 
 blamed_after None room n input rest e s some only = none_after MeansNothing room n input rest (λ t b. b) s some only
 blamed_after (Some x) room n input rest e s some only = cc
 
+pub nothing_after : {P : List Tree → Type 0} (room n : ℕ) (input rest : List ℕ) → NodesRead P room n input rest → (rest ≡ [] → ⊥) → HoldsNoItem room rest → HoldsNoItems room input
+unfolding Only HoldsNoItem
+nothing_after room n input rest s some h = none_after MeansNothing room n input rest (λ t b. b) s some (λ tail t. h tail t)
+
 -- the nodes behind those that stand at the front
 record Behind (limit : ℕ) (mid : List ℕ) : Type 0 where
   nodes : List Tree

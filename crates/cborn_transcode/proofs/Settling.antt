@@ -22,6 +22,14 @@ settled order laws x input key out left above short l k h tail total t rest y s 
     let same : out ≡ y = one_code order laws t c.1.0 e.0 out y (meaning_valid t c.1.0 s.fits below c.1.1) c.1.1 e.1 c.1.2 e.2 in
     subst (λ z. IsTrue above ↔ (order x z ≡ Less)) same h
 
+-- the same of the key at the front of these bytes
+pub compared : (order : List ℕ → List ℕ → Ordering) → IsKeyOrder order → (x input rest out : List ℕ) (above : Bool) → length input < 2 ^ 64 → ItemTranscoded order 1024 input rest [] out → (IsTrue above ↔ (order x out ≡ Less)) → KeyIs order x input above
+compared order laws x input rest out above short i h total t tail y s e =
+    let c = coded order 1024 total t input tail rest out s i in
+    let below : length (spelled t) < 2 ^ 64 = omega (arith, short, ap length s.read, length-append (spelled t) tail) in
+    let same : out ≡ y = one_code order laws t c.1.0 e.0 out y (meaning_valid t c.1.0 s.fits below c.1.1) c.1.1 e.1 c.1.2 e.2 in
+    subst (λ z. IsTrue above ↔ (order x z ≡ Less)) same h
+
 pub lt_is : (o : Ordering) → IsTrue (is_lt o) ↔ (o ≡ Less)
 lt_is Less = ((λ e. refl), (λ e. refl))
 lt_is Equal = ((λ e. absurd cc), (λ e. absurd cc))

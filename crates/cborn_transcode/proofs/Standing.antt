@@ -61,7 +61,7 @@ given_free m Eight n y o f = free_front m 27 (Next Eight) (following Eight n ++ 
 one_free : (n : ℕ) (y : List ℕ) → 32 ≤ n → head_reason element_or_end false Other (Next One) (n ∷ y) ≡ None
 one_free n y l = rw (le-ltb n 32 l) refl
 
-simple_free : (n : ℕ) (y : List ℕ) → (n < 24) ⊎ ((32 ≤ n) × (n < 256)) → reason_alone (head Other (Given (least n) n) ++ y) ≡ None
+pub simple_free : (n : ℕ) (y : List ℕ) → (n < 24) ⊎ ((32 ≤ n) × (n < 256)) → reason_alone (head Other (Given (least n) n) ++ y) ≡ None
 simple_free n y (inl l) = subst (λ w. reason_alone (head Other (Given w n) ++ y) ≡ None) (sym (least_direct n l)) (free_front Other n (Now n) y (omega arith) (info_at-now n l) refl)
 simple_free n y (inr l) = subst (λ w. reason_alone (head Other (Given w n) ++ y) ≡ None) (sym (least_one n (omega (arith, l.0)) l.1)) (free_front Other 24 (Next One) (n ∷ y) (omega arith) refl (one_free n y l.0))
 

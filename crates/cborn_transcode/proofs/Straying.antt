@@ -1,13 +1,13 @@
--- A walk that finds neither what follows an item nor its departure: whatever item stands there has a defect, or is too deep.
+-- A walk that finds neither what follows an item nor its departure: no item stands there, or whatever item does has a defect, or is too deep.
 use Rattle.std.proofs.Common.{◌≡◌, ◌⊎◌, ◌^◌, ℕ, suc, ◌-◌, ◌<◌, ◌≤◌, inl, inr, List, [], ◌∷◌, ◌++◌, length, take, refl, sym, ap, ◌∙◌, subst, arith, length-append, Option, None, Bor, Ordering, take_at}
-use Rattle.std.specs.Prelude.{IsTrue, IsUtf8}
+use Rattle.std.specs.Prelude.{IsTrue, IsUtf8, true, false}
 use Rattle.cborn_model.specs.declared.heads.Major.{Major}
 use Rattle.cborn_model.specs.declared.heads.Major.TheVariants.{Unsigned, Negative, ByteString, TextString, Array, Map, Tag, Other}
 use Rattle.cborn_model.specs.declared.heads.Width.{Width}
 use Rattle.cborn_model.specs.Heads.{Argument, Given, head, WidthFits, least, is_simple_value}
 use Rattle.cborn_model.specs.Meaning.{IsByteString}
 use Rattle.cborn_model.specs.Orders.{IsKeyOrder}
-use Rattle.cborn_model.specs.Spelled.{spelled_all, spelled_entries, spelled}
+use Rattle.cborn_model.specs.Spelled.{spelled_all, spelled_entries, spelled, Fits}
 use Rattle.cborn_model.specs.Tree.{Tree, Bytes, Text, ByteChunks, TextChunks, Tagged, Simple, Trees, no_item, more, Entries, no_entry, entry, depth, depth_all, depth_entries}
 use Rattle.cborn_det.specs.shared.KeyBefore.{Below}
 use Rattle.cborn_judge.specs.Defects.{IsLong, IsLoose}
@@ -17,20 +17,24 @@ use Rattle.cborn_judge.specs.declared.defects.DefectReason.{DefectReason}
 use Rattle.cborn_judge.specs.declared.defects.DefectReason.TheVariants.{LongHead, LooseBignum}
 use Rattle.cborn_wire.specs.declared.heads.Argument.TheVariants as arguments
 use Rattle.cborn_wire.specs.declared.heads.Head.{Head}
-use Rattle.cborn_wire.specs.HeadReading.{major_at, seen_argument, IsHeadOf, ArgumentFits}
+use Rattle.cborn_wire.specs.declared.heads.HeadRead.{HeadRead}
+use Rattle.cborn_wire.specs.declared.heads.HeadRead.TheVariants.{Full}
+use Rattle.cborn_wire.specs.HeadReading.{major_at, seen_argument, reason_alone, IsHeadOf, ArgumentFits, ReadsHead}
 use Rattle.cborn_wire.specs.Parts.{Leaves}
 use Rattle.cborn_wire.specs.Places.{placed_from}
 use Rattle.cborn_wire.proofs.Spelled.AsPlaced.{spelled-from, fits-from, placed-from, depth-from}
 use Rattle.cborn_transcode.specs.declared.departures.Walked.{Walked}
 use Rattle.cborn_transcode.specs.declared.departures.Walked.TheVariants.{Behind}
-use Rattle.cborn_transcode.specs.devices.Departing.{Stands, AllStand, PairsStand, NoneStands, NoContent, Stops, Strays, StraysBehind, Walks, Remain, RemainAmong, Leads, LeadsPairs}
+use Rattle.cborn_transcode.specs.devices.Departing.{Lacking, any_item, without_defect, Stands, AllStand, PairsStand, NoneStands, HasNoString, HasNoLeastHead, IsTight, TellsLoose, NoContent, IsOf, Stops, Lacks, LacksBehind, Strays, StraysBehind, Walks, Remain, RemainAmong, Leads, LeadsPairs}
 use Rattle.cborn_transcode.specs.shared.Walking.{ItemWalked, LeastHeadRead}
 use Rattle.cborn_transcode.proofs.Departing.{number_of, width_of, is_array, first_stands, item_clears}
 use Rattle.cborn_transcode.proofs.Departed.{long_stops}
 use Rattle.cborn_transcode.proofs.Falling.{is_map, key_stands, value_stands}
-use Rattle.cborn_transcode.specs.Transcoding.{ItemTranscoded}
+use Rattle.cborn_transcode.specs.Transcoding.{ItemTranscoded, HoldsNoItem}
 use Rattle.cborn_transcode.proofs.Placing.{means-from}
-use Rattle.cborn_wire.proofs.Parts.Openings.{opening, contents, opened}
+use Rattle.cborn_wire.proofs.Parts.Openings.{opening, contents, opened, one_argument}
+use Rattle.cborn_model.proofs.Numbers.Simples.{simple_cases}
+use Rattle.cborn_transcode.proofs.Standing.{no_head_stands, given_free, simple_free}
 use Rattle.cborn_transcode.proofs.Fronting.{own_walked}
 use Rattle.cborn_transcode.proofs.Tagging.{is_tag, string_under}
 use Rattle.cborn_transcode.proofs.Telling.{tell_none}
@@ -78,7 +82,49 @@ simple_least : (t : Tree) (w : Width) (k : ℕ) → (opening t).0 ≡ Other → 
 simple_least (Simple q n) w k o e = sym (ap (λ z. width_of z w) e) ∙ ap least (ap (λ z. number_of z k) e)
 simple_least t w k o e = absurd cc
 
+-- ---- heads that aren't the shortest
+
+simple_stands : (t : Tree) (w : Width) (k : ℕ) → Fits t → (opening t).0 ≡ Other → (opening t).1 ≡ Given w k → (w ≡ least k) × IsTrue (is_simple_value k)
+simple_stands (Simple q n) w k f o e = (sym (ap (λ z. width_of z w) e) ∙ ap least (ap (λ z. number_of z k) e), subst (λ j. IsTrue (is_simple_value j)) (ap (λ z. number_of z k) e) f)
+simple_stands t w k f o e = absurd cc
+
+given_head : (n k : ℕ) (w : Width) (input : List ℕ) (h : Head) → (i : IsHeadOf input h n) → h.argument ≡ arguments.Given w k → w ≡ least k → LeastHeadRead (major_at h.major) k input i.rest
+given_head n k w input h i g e =
+    let is : seen_argument h.argument ≡ Given (least k) k = ap seen_argument g ∙ ap (λ v. Given v k) e in
+    record { fits = subst ArgumentFits is i.fits; read = i.whole ∙ ap (λ a. head (major_at h.major) a ++ i.rest) is }
+
+-- a head that is one of what no item has, or the shortest
+pub head_lacks : (n k : ℕ) (w : Width) (input : List ℕ) (h : Head) → IsHeadOf input h n → h.argument ≡ arguments.Given w k → (major_at h.major ≡ Other) ⊎ (w ≡ least k) → HasNoLeastHead input → NoneStands input
+head_lacks n k w input h i g e none total t rest s = elim (other_or_not (major_at h.major)) [
+  | inl o ↦
+      let b = opened t (major_at h.major) (seen_argument h.argument) i.rest rest s.fits i.fits (sym s.read ∙ i.whole) in
+      let simple = simple_stands t w k s.fits (b.0 ∙ o) (b.1 ∙ ap seen_argument g) in
+      none (major_at h.major) k i.rest (given_head n k w input h i g simple.0) (λ z. simple.1)
+  | inr o ↦ none (major_at h.major) k i.rest (given_head n k w input h i g (elim e [ inl z ↦ absurd (o z) | inr z ↦ z ])) (λ z. absurd (o z))
+]
+
+-- what no head is read of
+pub no_least : (input : List ℕ) (r : HeadRead) → ReadsHead input r → ((h : Head) (n : ℕ) → r ≡ Full h n → ⊥) → HasNoLeastHead input
+no_least input r i other m n rest h simple = elim (other_or_not m) [
+  | inl o ↦ no_head_stands m (Given (least n) n) input rest r i other h.fits (subst (λ z. reason_alone (head z (Given (least n) n) ++ rest) ≡ None) (sym o) (simple_free n rest (simple_cases n (simple o)))) h.read
+  | inr o ↦ no_head_stands m (Given (least n) n) input rest r i other h.fits (given_free m (least n) n rest o h.fits) h.read
+]
+
+-- and what another head is read of
+pub other_least : (n : ℕ) (input : List ℕ) (h : Head) → IsHeadOf input h n → ((k : ℕ) → seen_argument h.argument ≡ Given (least k) k → ⊥) → HasNoLeastHead input
+other_least n input h i not m k rest r simple =
+    not k (sym (one_argument m (major_at h.major) (Given (least k) k) (seen_argument h.argument) rest i.rest r.fits i.fits (sym r.read ∙ i.whole)).1)
+
 -- ---- the content of a bignum
+
+pub string_shallow : (t : Tree) (b : List ℕ) → IsByteString t b → depth t ≤ 0
+string_shallow (Bytes q w c) b e = omega arith
+string_shallow (ByteChunks q cs) b e = omega arith
+string_shallow t b e = absurd e
+
+pub no_string : (input : List ℕ) → HoldsNoItem 0 input → HasNoString input
+unfolding HoldsNoItem
+no_string input h total t rest b s is = h rest (record { node = t; read = s.read; fits = s.fits; shallow = string_shallow t b is; holds = tt }) s.item s.meant
 
 string_opening : (t : Tree) (b : List ℕ) → IsByteString t b → (opening t).0 ≡ ByteString
 string_opening (Bytes q w c) b e = refl
@@ -109,102 +155,124 @@ first_content b tail content rest n e l c loose =
     subst IsLoose (c ∙ ap (take n) (sym e) ∙ take_at b rest n l) loose
 
 module _ (order : List ℕ → List ℕ → Ordering) where
-  pub none_strays : (room : ℕ) (input : List ℕ) → NoneStands input → Strays order room input
-  none_strays room input h total t rest l s d f = h total t rest s
+  pub none_lacks : (k : Lacking) (room : ℕ) (input : List ℕ) → NoneStands input → Lacks order k room input
+  none_lacks k room input h total t rest l s d f = h total t rest s
 
-  pub content_strays : (room : ℕ) (major k : Major) (n : ℕ) (input : List ℕ) → major ≡ k → (k ≡ ByteString) ⊎ (k ≡ TextString) → NoContent k n input → StraysBehind order room major n input
-  content_strays room major k n input e s h fits = subst (λ m. Strays order room (head m (Given (least n) n) ++ input)) (sym e) (none_strays room (head k (Given (least n) n) ++ input) (content_none k (least n) n input s fits h))
+  pub content_lacks : (z : Lacking) (room : ℕ) (major k : Major) (n : ℕ) (input : List ℕ) → major ≡ k → (k ≡ ByteString) ⊎ (k ≡ TextString) → NoContent k n input → LacksBehind order z room major n input
+  content_lacks z room major k n input e s h fits = subst (λ m. Lacks order z room (head m (Given (least n) n) ++ input)) (sym e) (none_lacks z room (head k (Given (least n) n) ++ input) (content_none k (least n) n input s fits h))
 
-  pub simple_strays : (room : ℕ) (major : Major) (n : ℕ) (input : List ℕ) → major ≡ Other → (IsTrue (is_simple_value n) → ⊥) → StraysBehind order room major n input
-  simple_strays room major n input e h fits =
-      subst (λ m. Strays order room (head m (Given (least n) n) ++ input)) (sym e)
-      (none_strays room (head Other (Given (least n) n) ++ input) (simple_none (Given (least n) n) input fits (λ j same simple. h (subst (λ k. IsTrue (is_simple_value k)) (sym (ap (λ z. number_of z n) same)) simple))))
+  pub simple_lacks : (z : Lacking) (room : ℕ) (major : Major) (n : ℕ) (input : List ℕ) → major ≡ Other → (IsTrue (is_simple_value n) → ⊥) → LacksBehind order z room major n input
+  simple_lacks z room major n input e h fits =
+      subst (λ m. Lacks order z room (head m (Given (least n) n) ++ input)) (sym e)
+      (none_lacks z room (head Other (Given (least n) n) ++ input) (simple_none (Given (least n) n) input fits (λ j same simple. h (subst (λ k. IsTrue (is_simple_value k)) (sym (ap (λ z. number_of z n) same)) simple))))
 
   pub stops_strays : (room : ℕ) (input : List ℕ) (r : DefectReason) (left : ℕ) → Stops order input r left → Strays order room input
   stops_strays room input r left h total t rest l s d f = f (total - left) r (h.1 total t rest l s).is
 
+  lacks_strays : (k : Lacking) (room : ℕ) (input : List ℕ) → Lacks order k room input → Strays order room input
+  lacks_strays any_item room input x = λ total t rest l s d f. x total t rest l s d tt
+  lacks_strays without_defect room input x = x
+
   pub walked_strays : (room : ℕ) (input : List ℕ) (w : Walked) → ((n : ℕ) → w ≡ Behind n → ⊥) → Walks order room input w → Strays order room input
-  walked_strays room input w other h = tell_none (Leaves (ItemWalked order room input)) (λ n. ⊥) (Stops order input) (λ r n. ⊥) (Strays order room input) (Strays order room input) w other (λ r left x. stops_strays room input r left x) (λ s. s) h
+  walked_strays room input w other h = tell_none (Leaves (ItemWalked order room input)) (λ n. ⊥) (Stops order input) (λ r n. ⊥) (λ k. Lacks order k room input) (λ k. ⊥) (Strays order room input) w other (λ r left x. stops_strays room input r left x) (λ k x. lacks_strays k room input x) h
+
+  -- what is without a defect holds only what is
+  heir : (k : Lacking) (t u : Tree) → ((p : ℕ) (r : DefectReason) → DefectIn order u p r → DefectIn order t p r) → IsOf order k t → IsOf order k u
+  heir any_item t u m f = tt
+  heir without_defect t u m f = λ p r g. f p r (m p r g)
 
   -- ---- heads
 
   pub long_strays : (room n k : ℕ) (w : Width) (input : List ℕ) (h : Head) → IsHeadOf input h n → h.argument ≡ arguments.Given w k → IsLong w k → Strays order room input
   long_strays room n k w input h i g long = elim (other_or_not (major_at h.major)) [
     | inr o ↦ stops_strays room input LongHead (length input) (long_stops order n k w input h i o g long)
-    | inl o ↦ none_strays room input (λ total t rest s.
+    | inl o ↦ none_lacks without_defect room input (λ total t rest s.
         let b = opened t (major_at h.major) (seen_argument h.argument) i.rest rest s.fits i.fits (sym s.read ∙ i.whole) in
         long (simple_least t w k (b.0 ∙ o) (b.1 ∙ ap seen_argument g)))
   ]
 
   -- ---- arrays
 
-  pub array_shallow : (n : ℕ) (input : List ℕ) → StraysBehind order 0 Array n input
-  array_shallow n input fits total t rest l s d f =
+  pub array_shallow : (z : Lacking) (n : ℕ) (input : List ℕ) → LacksBehind order z 0 Array n input
+  array_shallow z n input fits total t rest l s d f =
       let i = is_array total n t input rest l fits s in
       let deep : suc (depth_all i.items) ≤ 0 = subst (λ z. depth z ≤ 0) i.is d in
       absurd (omega (arith, deep))
 
-  element_at : (room k : ℕ) (ts us : Trees) (half : List ℕ) (total : ℕ) (rest : List ℕ) → length half ≤ total → suc (depth_all ts) ≤ room → AllStand total k us half rest → Remain order us ts → Strays order (room - 1) half → ((p : ℕ) (r : DefectReason) → DefectInAll order ts p r → ⊥) → 0 < k → ⊥
-  element_at room k ts no_item half total rest l d s m x c some = absurd (omega (arith, s.count, some))
-  element_at room k ts (more u us) half total rest l d s m x c some =
-      x total u (spelled_all us ++ rest) l (first_stands order total k u us half rest s) (omega (arith, m.0, d)) (λ p r g. c p r (m.1 p r (g.0, inl g.1, g.2)))
+  element_at : (z : Lacking) (room k : ℕ) (t : Tree) (ts us : Trees) (half : List ℕ) (total : ℕ) (rest : List ℕ) → length half ≤ total → suc (depth_all ts) ≤ room → AllStand total k us half rest → Remain order us ts → Lacks order z (room - 1) half → ((p : ℕ) (r : DefectReason) → DefectInAll order ts p r → DefectIn order t p r) → IsOf order z t → 0 < k → ⊥
+  element_at z room k t ts no_item half total rest l d s m x c f some = absurd (omega (arith, s.count, some))
+  element_at z room k t ts (more u us) half total rest l d s m x c f some =
+      x total u (spelled_all us ++ rest) l (first_stands order total k u us half rest s) (omega (arith, m.0, d)) (heir z t u (λ p r g. c p r (m.1 p r (g.0, inl g.1, g.2))) f)
 
-  pub array_strays : (room n k : ℕ) (input half : List ℕ) → length half ≤ length input → 0 < k → Leads order n k input half → Strays order (room - 1) half → StraysBehind order room Array n input
-  array_strays room n k input half w some leads x fits total t rest l s d f =
+  pub array_lacks : (z : Lacking) (room n k : ℕ) (input half : List ℕ) → length half ≤ length input → 0 < k → Leads order n k input half → Lacks order z (room - 1) half → LacksBehind order z room Array n input
+  array_lacks z room n k input half w some leads x fits total t rest l s d f =
       let i = is_array total n t input rest l fits s in
       let within : length input ≤ total = omega (arith, l, length-append (head Array (Given (least n) n)) input) in
       let q = leads total i.items rest within i.stand in
       let deep : suc (depth_all i.items) ≤ room = subst (λ z. depth z ≤ room) i.is d in
-      element_at room k i.items q.0 half total rest (omega (arith, within, w)) deep q.1 q.3 x (λ p r g. f p r (subst (λ z. DefectIn order z p r) (sym i.is) (g.0, inr g.1, g.2))) some
+      element_at z room k t i.items q.0 half total rest (omega (arith, within, w)) deep q.1 q.3 x (λ p r g. subst (λ y. DefectIn order y p r) (sym i.is) (g.0, inr g.1, g.2)) f some
 
   -- ---- maps
 
-  pub map_shallow : (n : ℕ) (input : List ℕ) → StraysBehind order 0 Map n input
-  map_shallow n input fits total t rest l s d f =
+  pub map_shallow : (z : Lacking) (n : ℕ) (input : List ℕ) → LacksBehind order z 0 Map n input
+  map_shallow z n input fits total t rest l s d f =
       let i = is_map total n t input rest l fits s in
       let deep : suc (depth_entries i.pairs) ≤ 0 = subst (λ z. depth z ≤ 0) i.is d in
       absurd (omega (arith, deep))
 
-  module _ (laws : IsKeyOrder order) (room n k : ℕ) (before : Option (Bor (List ℕ))) (input half : List ℕ) (short : length input < 2 ^ 64) (w : length half ≤ length input) (some : 0 < k) (leads : LeadsPairs order n k before input half) where
-    key_at : (es us : Entries) (total : ℕ) (rest : List ℕ) → length half ≤ total → suc (depth_entries es) ≤ room → PairsStand total k us half rest → RemainAmong order us es → Strays order (room - 1) half → ((p : ℕ) (r : DefectReason) → DefectAmong order es p r → ⊥) → ⊥
-    key_at es no_entry total rest l d s m x c = absurd (omega (arith, s.count, some))
-    key_at es (entry a b us) total rest l d s m x c =
-        x total a (spelled b ++ (spelled_entries us ++ rest)) l (key_stands order laws total k a b us half rest l (omega (arith, short, w)) s) (omega (arith, m.0, d)) (λ p r g. c p r (m.1 p r (g.0, inl g.1, g.2)))
+  module _ (z : Lacking) (laws : IsKeyOrder order) (room n k : ℕ) (before : Option (Bor (List ℕ))) (input half : List ℕ) (short : length input < 2 ^ 64) (w : length half ≤ length input) (some : 0 < k) (leads : LeadsPairs order n k before input half) where
+    key_at : (t : Tree) (es us : Entries) (total : ℕ) (rest : List ℕ) → length half ≤ total → suc (depth_entries es) ≤ room → PairsStand total k us half rest → RemainAmong order us es → Lacks order z (room - 1) half → ((p : ℕ) (r : DefectReason) → DefectAmong order es p r → DefectIn order t p r) → IsOf order z t → ⊥
+    key_at t es no_entry total rest l d s m x c f = absurd (omega (arith, s.count, some))
+    key_at t es (entry a b us) total rest l d s m x c f =
+        x total a (spelled b ++ (spelled_entries us ++ rest)) l (key_stands order laws total k a b us half rest l (omega (arith, short, w)) s) (omega (arith, m.0, d)) (heir z t a (λ p r g. c p r (m.1 p r (g.0, inl g.1, g.2))) f)
 
-    value_at : (mid y : List ℕ) (es us : Entries) (total : ℕ) (rest : List ℕ) → ItemWalked order (room - 1) half mid → half ≡ y ++ mid → Below order before y → length half ≤ total → suc (depth_entries es) ≤ room → PairsStand total k us half rest → RemainAmong order us es → Strays order (room - 1) mid → ((p : ℕ) (r : DefectReason) → DefectAmong order es p r → ⊥) → ⊥
-    value_at mid y es no_entry total rest key e above l d s m x c = absurd (omega (arith, s.count, some))
-    value_at mid y es (entry a b us) total rest key e above l d s m x c =
-        x total b (spelled_entries us ++ rest) (omega (arith, l, ap length e, length-append y mid)) (value_stands order laws total k a b us half rest l (omega (arith, short, w)) s (room - 1) mid y before key e above) (omega (arith, m.0, d)) (λ p r g. c p r (m.1 p r (g.0, inr (inl g.1), g.2)))
+    value_at : (t : Tree) (mid y : List ℕ) (es us : Entries) (total : ℕ) (rest : List ℕ) → ItemWalked order (room - 1) half mid → half ≡ y ++ mid → Below order before y → length half ≤ total → suc (depth_entries es) ≤ room → PairsStand total k us half rest → RemainAmong order us es → Lacks order z (room - 1) mid → ((p : ℕ) (r : DefectReason) → DefectAmong order es p r → DefectIn order t p r) → IsOf order z t → ⊥
+    value_at t mid y es no_entry total rest key e above l d s m x c f = absurd (omega (arith, s.count, some))
+    value_at t mid y es (entry a b us) total rest key e above l d s m x c f =
+        x total b (spelled_entries us ++ rest) (omega (arith, l, ap length e, length-append y mid)) (value_stands order laws total k a b us half rest l (omega (arith, short, w)) s (room - 1) mid y before key e above) (omega (arith, m.0, d)) (heir z t b (λ p r g. c p r (m.1 p r (g.0, inr (inl g.1), g.2))) f)
 
-    pub key_strays : Strays order (room - 1) half → StraysBehind order room Map n input
-    key_strays x fits total t rest l s d f =
+    pub key_lacks : Lacks order z (room - 1) half → LacksBehind order z room Map n input
+    key_lacks x fits total t rest l s d f =
         let i = is_map total n t input rest l fits s in
         let within : length input ≤ total = omega (arith, l, length-append (head Map (Given (least n) n)) input) in
         let q = leads total i.pairs rest within i.stand in
         let deep : suc (depth_entries i.pairs) ≤ room = subst (λ z. depth z ≤ room) i.is d in
-        key_at i.pairs q.0 total rest (omega (arith, within, w)) deep q.1 q.3 x (λ p r g. f p r (subst (λ z. DefectIn order z p r) (sym i.is) (g.0, inr g.1, g.2)))
+        key_at t i.pairs q.0 total rest (omega (arith, within, w)) deep q.1 q.3 x (λ p r g. subst (λ y. DefectIn order y p r) (sym i.is) (g.0, inr g.1, g.2)) f
 
-    pub value_strays : (mid y : List ℕ) → ItemWalked order (room - 1) half mid → half ≡ y ++ mid → Below order before y → Strays order (room - 1) mid → StraysBehind order room Map n input
-    value_strays mid y key e above x fits total t rest l s d f =
+    pub value_lacks : (mid y : List ℕ) → ItemWalked order (room - 1) half mid → half ≡ y ++ mid → Below order before y → Lacks order z (room - 1) mid → LacksBehind order z room Map n input
+    value_lacks mid y key e above x fits total t rest l s d f =
         let i = is_map total n t input rest l fits s in
         let within : length input ≤ total = omega (arith, l, length-append (head Map (Given (least n) n)) input) in
         let q = leads total i.pairs rest within i.stand in
         let deep : suc (depth_entries i.pairs) ≤ room = subst (λ z. depth z ≤ room) i.is d in
-        value_at mid y i.pairs q.0 total rest key e above (omega (arith, within, w)) deep q.1 q.3 x (λ p r g. f p r (subst (λ z. DefectIn order z p r) (sym i.is) (g.0, inr g.1, g.2)))
+        value_at t mid y i.pairs q.0 total rest key e above (omega (arith, within, w)) deep q.1 q.3 x (λ p r g. subst (λ w. DefectIn order w p r) (sym i.is) (g.0, inr g.1, g.2)) f
 
   -- ---- tags
 
-  pub tag_shallow : (n : ℕ) (input : List ℕ) → StraysBehind order 0 Tag n input
-  tag_shallow n input fits total t rest l s d f =
+  pub tag_shallow : (z : Lacking) (n : ℕ) (input : List ℕ) → LacksBehind order z 0 Tag n input
+  tag_shallow z n input fits total t rest l s d f =
       let i = is_tag total n t input rest l fits s in
       let deep : suc (depth i.content) ≤ 0 = subst (λ z. depth z ≤ 0) i.is d in
       absurd (omega (arith, deep))
 
-  pub tag_strays : (room n : ℕ) (input : List ℕ) → Strays order (room - 1) input → StraysBehind order room Tag n input
-  tag_strays room n input x fits total t rest l s d f =
+  pub tag_lacks : (z : Lacking) (room n : ℕ) (input : List ℕ) → Lacks order z (room - 1) input → LacksBehind order z room Tag n input
+  tag_lacks z room n input x fits total t rest l s d f =
       let i = is_tag total n t input rest l fits s in
       let deep : suc (depth i.content) ≤ room = subst (λ z. depth z ≤ room) i.is d in
-      x total i.content rest (omega (arith, l, length-append (head Tag (Given (least n) n)) input)) i.stand (omega (arith, deep)) (λ p r g. f p r (subst (λ z. DefectIn order z p r) (sym i.is) (g.0, inr g.1, g.2)))
+      x total i.content rest (omega (arith, l, length-append (head Tag (Given (least n) n)) input)) i.stand (omega (arith, deep)) (heir z t i.content (λ p r g. subst (λ y. DefectIn order y p r) (sym i.is) (g.0, inr g.1, g.2)) f)
+
+  -- of tag 2 or 3, over no byte string
+  pub string_lacks : (z : Lacking) (room n : ℕ) (input : List ℕ) → (n ≡ 2) ⊎ (n ≡ 3) → HasNoString input → LacksBehind order z room Tag n input
+  string_lacks z room n input tag none fits total t rest l s d f =
+      let i = is_tag total n t input rest l fits s in
+      let q = total - length (head Tag (Given (least n) n) ++ input) in
+      let b = string_under q i.width n i.content i.item tag i.meant in
+      none total i.content rest b.0 i.stand b.1
+
+  -- of tag 2 or 3, over bytes that aren't loose
+  pub tight_lacks : (z : Lacking) (room n : ℕ) (input : List ℕ) → (n ≡ 2) ⊎ (n ≡ 3) → TellsLoose input false → IsTight input → (HasNoLeastHead input → NoneStands input) → LacksBehind order z room Tag n input
+  tight_lacks z room n input tag tells (inl none) u = tag_lacks z room n input (none_lacks z (room - 1) input (u none))
+  tight_lacks z room n input tag tells (inr loose) u = string_lacks z room n input tag (λ total t rest b s is. (let e : false ≡ true = (tells total t rest b s is).1 (loose total t rest b s is) in cc))
 
   -- of tag 2 or 3, over bytes that are loose
   pub loose_strays : (room n : ℕ) (input : List ℕ) → (n ≡ 2) ⊎ (n ≡ 3) → ((total : ℕ) (t : Tree) (rest b : List ℕ) → length input ≤ total → Stands total t input rest → IsByteString t b → FindsDefect (DefectIn order t) None → IsLoose b) → StraysBehind order room Tag n input
@@ -215,6 +283,28 @@ module _ (order : List ℕ → List ℕ → Ordering) where
       let clear : FindsDefect (DefectIn order i.content) None = λ p r g. f p r (subst (λ z. DefectIn order z p r) (sym i.is) (g.0, inr g.1, g.2)) in
       let loose : IsLoose b.0 = h total i.content rest b.0 (omega (arith, l, length-append (head Tag (Given (least n) n)) input)) i.stand b.1 clear in
       f q LooseBignum (subst (λ z. DefectIn order z q LooseBignum) (sym i.is) (Tagged q i.width n i.content, inl refl, (refl, inr (refl, tag, b.0, b.1, loose))))
+
+  -- ---- no item
+
+  -- each node is placed somewhere
+  pub lacks_item : (room : ℕ) (input : List ℕ) → Lacks order any_item room input → HoldsNoItem room input
+  unfolding HoldsNoItem
+  lacks_item room input x rest i v m =
+      let total : ℕ = length input in
+      let t : Tree = placed_from (total - length input) i.node in
+      let spells : spelled t ≡ spelled i.node = spelled-from i.node (total - length input) in
+      let s : Stands total t input rest = record {
+        item = v;
+        read = i.read ∙ ap (λ l. l ++ rest) (sym spells);
+        fits = fits-from i.node (total - length input) i.fits;
+        placed = placed-from i.node (total - length input);
+        meant = means-from i.node (total - length input) v m;
+      } in
+      x total t rest (omega arith) s (subst (λ d. d ≤ room) (sym (depth-from i.node (total - length input))) i.shallow) tt
+
+  pub item_lacks : (most room : ℕ) (input : List ℕ) → room ≤ most → HoldsNoItem most input → Lacks order any_item room input
+  unfolding HoldsNoItem
+  item_lacks most room input w h total t rest l s d f = h rest (record { node = t; read = s.read; fits = s.fits; shallow = omega (arith, d, w); holds = tt }) s.item s.meant
 
   -- ---- one item
 

@@ -2,7 +2,7 @@
 use Rattle.std.proofs.Common.{◌≡◌, ◌≢◌, ◌⊎◌, ℕ, ◌+◌, ◌-◌, ◌≤◌, inl, inr, List, [], ◌++◌, length, refl, sym, ap, ◌∙◌, subst, arith, length-append, Option, None, Some, Ordering}
 use Rattle.std.specs.Prelude.{◌↔◌, IsTrue, true, false}
 use Rattle.cborn_model.specs.declared.heads.Major.{Major}
-use Rattle.cborn_model.specs.declared.heads.Major.TheVariants.{ByteString, Tag}
+use Rattle.cborn_model.specs.declared.heads.Major.TheVariants.{ByteString, Tag, Other}
 use Rattle.cborn_model.specs.declared.heads.Width.{Width}
 use Rattle.cborn_model.specs.Heads.{Given, head, WidthFits, least}
 use Rattle.cborn_model.specs.Meaning.{IsByteString, Means}
@@ -21,7 +21,7 @@ use Rattle.cborn_judge.proofs.FirstDefect.Departing.{alike, tag_found}
 use Rattle.cborn_judge.proofs.Meaning.Meanings.{means_once}
 use Rattle.cborn_judge.proofs.Meaning.Placing.{defect_within}
 use Rattle.cborn_transcode.specs.Transcoding.{ItemTranscoded}
-use Rattle.cborn_transcode.specs.devices.Departing.{Stands, Stops, StopsBehind, TellsLoose}
+use Rattle.cborn_transcode.specs.devices.Departing.{Stands, HasNoLeastHead, Stops, StopsBehind, TellsLoose}
 use Rattle.cborn_transcode.specs.shared.Walking.{LeastHeadRead}
 use Rattle.cborn_transcode.proofs.Departing.{width_of, number_of, coded}
 use Rattle.cborn_wire.proofs.Parts.Heads.{behind}
@@ -153,3 +153,11 @@ content_is order total k t input rest tail out content b m s is i h =
     let d = subst (λ v. Det order v out) same c.1.2 in
     let front : d.0 ≡ head ByteString (Given (least (length b)) (length b)) = d.1.1 in
     (one_argument m ByteString (Given (least k) k) (Given (least (length b)) (length b)) content b h.fits d.1.0 (sym h.read ∙ d.2 ∙ ap (λ z. z ++ b) front)).2
+
+-- whose head is the shortest
+pub string_head : (order : List ℕ → List ℕ → Ordering) (total : ℕ) (t : Tree) (input rest tail out b : List ℕ) → Stands total t input rest → IsByteString t b → ItemTranscoded order 0 input tail [] out → HasNoLeastHead out → ⊥
+string_head order total t input rest tail out b s is i none =
+    let c = coded order 0 total t input rest tail out s i in
+    let same : c.1.0 ≡ bytes b = means_once t c.1.0 (bytes b) c.1.1 (string_means t b is) in
+    let d = subst (λ v. Det order v out) same c.1.2 in
+    none ByteString (length b) b (record { fits = d.1.0; read = d.2 ∙ ap (λ z. z ++ b) d.1.1 }) (λ e. (let z : ByteString ≡ Other = e in cc))

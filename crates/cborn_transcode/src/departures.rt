@@ -1,10 +1,13 @@
 //! Where a walk stops: at the first departure from the deterministic encoding (RFC 8949 section
-//! 4.2). Nothing here runs for bytes that don't depart, so all of it stands out of line.
+//! 4.2), or where no item stands. Nothing here runs for bytes that don't depart, so all of it stands
+//! out of line.
 
-ghost use Rattle.std.specs.Prelude.{◌≡◌, ◌⊎◌, ◌-◌, ◌≤◌, ℕ, List, IfSome};
+ghost use Rattle.std.specs.Prelude.{◌≡◌, ◌⊎◌, ◌-◌, ◌≤◌, ℕ, List, Some, IfOk, OnOk, MatchOption, IsTrue, false};
 ghost use Rattle.std.specs.declared.cmp.Ordering.{Ordering};
 ghost use Rattle.cborn_model.specs.declared.heads.Major.TheVariants.{Tag};
-ghost use Rattle.cborn_transcode.specs.devices.Departing.{Departs, Halts, HaltsBehind, KeyIs, KeyStops, Tells, TellsLoose};
+ghost use Rattle.cborn_transcode.specs.Transcoding.{HoldsNoItem};
+ghost use Rattle.cborn_transcode.specs.declared.departures.Walked.TheVariants as walks;
+ghost use Rattle.cborn_transcode.specs.devices.Departing.{Halts, HasNoString, IsAt, IsKept, IsKnown, IsNotAt, IsSettled, IsTold, IsTight, KeyIs, KeyStops, StraysBehind, TellsLoose, Within, WalksBehind};
 
 use crate::items::{put_item, put_key};
 use crate::noting::Nothing;
@@ -13,7 +16,7 @@ use crate::walked_leaves::read_least;
 use cborn_judge::{Defect, DefectReason, loose_defect};
 use cborn_model::{KeyOrder, Major, shortest};
 use cborn_wire::{Argument, HeadRead, read_head};
-use std::alloc::Global;
+use std::alloc::{AllocError, Global};
 
 /// Whether bytes depart from the deterministic encodings of the items that they hold.
 #[derive(Clone, Copy, PartialEq, Eq, Debug)]
@@ -22,65 +25,133 @@ pub enum Departure {
     Deterministic,
     /// If the bytes hold items, this is their first departure.
     First(Defect),
-    /// Nothing is promised: the bytes may hold no items, or memory was refused.
-    Unknown,
+    /// The bytes hold no items: they aren't well-formed within the limit, or an item in them isn't
+    /// valid.
+    Nothing,
 }
 
 /// What a walk is asked.
+#[derive(Clone, Copy)]
+pub(crate) enum Ask {
+    /// Whether the bytes depart. Where a bignum or a key does, it isn't told where.
+    Whether,
+    /// Where they first depart. A key in which they do waits, since its own place in the order isn't
+    /// known yet.
+    Place(Global),
+    /// The same, once the keys that waited are settled. No key waits.
+    Settled(Global),
+}
+
+/// What a walk is asked, and what it keeps on its way.
 #[derive(Drop)]
 pub(crate) struct Asked<'a, O: KeyOrder> {
-    /// None where it is asked only whether the bytes depart: where a bignum or a key does, the answer
-    /// is unknown then.
-    alloc: Option<Global>,
+    pub(crate) ask: Ask,
     /// The keys around the departure that have to wait until they are encoded, if there are any.
     waiting: Option<Box<WaitingKeys<'a, O>>>,
+    /// Where memory was refused, the error of that growth.
+    pub(crate) refused: Option<AllocError>,
 }
 
 impl<'a, O: KeyOrder> Asked<'a, O> {
-    /// Whether the bytes depart.
+    /// Nothing is kept yet.
     #[inline(always)]
-    pub(crate) fn whether() -> Asked<'a, O> {
+    pub(crate) fn new(ask: Ask) -> Asked<'a, O> {
         Asked {
-            alloc: None,
+            ask,
             waiting: None,
+            refused: None,
         }
     }
 
-    /// Where they first depart.
-    pub(crate) fn place(alloc: Global) -> Asked<'a, O> {
-        Asked {
-            alloc: Some(alloc),
-            waiting: None,
-        }
-    }
-
-    /// Whether the key at the front of `bytes` is above the one before. None promises nothing.
-    fn is_above(&mut self, before: &[u8], bytes: &[u8]) -> Option<bool>
-        ensures { IfSome result (KeyIs O.order before.now bytes.now) }
+    /// Keeps the error of a growth that was refused.
+    pub(crate) fn refuse(&mut self, refused: AllocError) -> Walked
+        ensures refused { result ≡ walks.Refused }
+        ensures ask { self.new.ask ≡ self.old.ask }
+        ensures kept { self.new.refused ≡ Some refused }
     {
-        let keys = self.waiting.as_mut()?;
-        keys.is_above(before, bytes)
+        self.refused = Some(refused);
+        Walked::Refused
     }
 
-    /// The key at the front of `bytes`, which holds a departure, waits. None: memory was refused.
-    fn wait(&mut self, before: &'a [u8], bytes: &'a [u8]) -> Option<()> {
+    /// The key at the front of `bytes`, in which the bytes depart after the key `before`, waits.
+    fn wait(&mut self, alloc: Global, before: &'a [u8], bytes: &'a [u8]) -> Result<(), AllocError>
+        ensures { self.new.ask ≡ self.old.ask }
+    {
         if self.waiting.is_none() {
-            let alloc = self.alloc?;
-            self.waiting = Some(Box::new(alloc, WaitingKeys::new(alloc)).ok()?);
+            self.waiting = Some(Box::new(alloc, WaitingKeys::new(alloc))?);
         }
-        let keys = self.waiting.as_mut()?;
-        keys.wait(before, bytes)
+        match &mut self.waiting {
+            Some(keys) => keys.wait(before, bytes),
+            None => Ok(()),
+        }
     }
 
-    /// The same of the key around one that waits. The first of a map doesn't wait.
-    fn wait_around(&mut self, before: Option<&'a [u8]>, bytes: &'a [u8]) -> Option<()> {
-        if self.waiting.is_none() {
-            return Some(());
+    /// Settles the keys that wait: the outermost is encoded, and with it those inside. None waits
+    /// from now on.
+    ///
+    /// # Errors
+    /// Memory was refused.
+    pub(crate) fn settle(&mut self, alloc: Global) -> Result<(), AllocError>
+        ensures { OnOk result (IsSettled self.new.ask) }
+    {
+        self.ask = Ask::Settled(alloc);
+        let Some(keys) = &mut self.waiting else {
+            return Ok(());
+        };
+        let Some(bytes) = keys.outermost() else {
+            return Ok(());
+        };
+        let mut out = Vec::new(alloc);
+        put_key::<O, WaitingKeys<O>>(alloc, keys, 1024, bytes, &mut out)?;
+        Ok(())
+    }
+
+    /// Whether the key at the front of `bytes` is above the one before. None where no key stands
+    /// there.
+    ///
+    /// # Errors
+    /// Memory was refused.
+    fn is_above(
+        &mut self,
+        alloc: Global,
+        before: &[u8],
+        bytes: &[u8],
+    ) -> Result<Option<bool>, AllocError>
+        ensures above { IfOk result (λ found. MatchOption found (HoldsNoItem 1024 bytes.now) (KeyIs O.order before.now bytes.now)) }
+        ensures ask { self.new.ask ≡ self.old.ask }
+    {
+        if let Some(keys) = &mut self.waiting {
+            if let Some(is_above) = keys.is_above(before, bytes) {
+                return Ok(Some(is_above));
+            }
         }
-        match before {
-            Some(before) => self.wait(before, bytes),
-            None => Some(()),
-        }
+        is_encoded_above::<O>(alloc, before, bytes)
+    }
+
+    /// What `stop` tells of an input of `total` bytes, where the walk stopped.
+    ///
+    /// # Errors
+    /// Memory was refused.
+    #[inline(never)]
+    pub(crate) fn answer(&self, stop: Walked, total: usize) -> Result<Departure, AllocError>
+        requires within { Within total stop }
+        requires kept { IsKept stop self.now.refused }
+        ensures { IfOk result (IsTold total stop) }
+    {
+        let (left, reason) = match stop {
+            Walked::LongHead(left) => (left, DefectReason::LongHead),
+            Walked::EndlessLength(left) => (left, DefectReason::EndlessLength),
+            Walked::LooseBignum(left) => (left, DefectReason::LooseBignum),
+            Walked::KeyOrder(left) => (left, DefectReason::KeyOrder),
+            Walked::Nothing => return Ok(Departure::Nothing),
+            Walked::Refused => match self.refused {
+                Some(refused) => return Err(refused),
+                None => unreachable!(),
+            },
+            Walked::Behind(_) | Walked::Unknown => unreachable!(),
+        };
+        let place = (total - left) as u64;
+        Ok(Departure::First(Defect { place, reason }))
     }
 }
 
@@ -98,48 +169,31 @@ pub(crate) enum Walked {
     LooseBignum(usize),
     /// Its first departure is the order of a key, with so many bytes from there on.
     KeyOrder(usize),
-    /// No item that is its own encoding stands there; where one departs isn't known.
+    /// No item that is its own encoding stands there. Where one departs isn't known: the walk isn't
+    /// asked, or a key waits.
     Unknown,
+    /// No item stands there.
+    Nothing,
+    /// The same as `Unknown`, since memory was refused.
+    Refused,
 }
 
 impl Walked {
-    /// The departure, in an input of `total` bytes. None promises nothing.
-    #[inline(never)]
-    pub(crate) fn defect(self, total: usize) -> Option<Defect>
-        ensures { IfSome result (Tells total self) }
+    /// Whether it stays what is found of a key with `len` bytes from its start on, whatever the key's
+    /// place in the order: nothing stands there, memory was refused, or the departure is at the start.
+    fn is_at(self, len: usize) -> bool
+        ensures at { IsTrue result → IsAt len self }
+        ensures later { result ≡ false → IsNotAt len self }
     {
         match self {
-            Walked::LongHead(left) => told(total, left, DefectReason::LongHead),
-            Walked::EndlessLength(left) => told(total, left, DefectReason::EndlessLength),
-            Walked::LooseBignum(left) => told(total, left, DefectReason::LooseBignum),
-            Walked::KeyOrder(left) => told(total, left, DefectReason::KeyOrder),
-            _ => None,
+            Walked::LongHead(left) => left == len,
+            Walked::EndlessLength(left) => left == len,
+            Walked::LooseBignum(left) => left == len,
+            Walked::KeyOrder(left) => left == len,
+            Walked::Nothing | Walked::Refused => true,
+            Walked::Behind(_) | Walked::Unknown => false,
         }
     }
-
-    /// How many bytes there are from the departure on. None: no departure was found.
-    fn left(self) -> Option<usize>
-        ensures { IfSome result (λ left. Departs (λ r n. n ≡ left) self) }
-    {
-        match self {
-            Walked::LongHead(left) => Some(left),
-            Walked::EndlessLength(left) => Some(left),
-            Walked::LooseBignum(left) => Some(left),
-            Walked::KeyOrder(left) => Some(left),
-            _ => None,
-        }
-    }
-}
-
-/// The defect with `left` of `total` bytes from there on.
-fn told(total: usize, left: usize, reason: DefectReason) -> Option<Defect>
-    ensures { IfSome result (λ defect. (left ≤ total) × (defect.place ≡ total - left) × (defect.reason ≡ reason)) }
-{
-    if left > total {
-        return None;
-    }
-    let place = (total - left) as u64;
-    Some(Defect { place, reason })
 }
 
 /// Where the item at the front departs, whose head isn't the shortest.
@@ -148,12 +202,12 @@ pub(crate) fn head_departure(bytes: &[u8]) -> Walked
     ensures { (order : List ℕ → List ℕ → Ordering) → Halts order bytes.now result }
 {
     let HeadRead::Full(head, _) = read_head(bytes) else {
-        return Walked::Unknown;
+        return Walked::Nothing;
     };
     match head.argument {
         Argument::Given(width, n) => {
             if head.major_type() == Major::Other || width == shortest(n) {
-                return Walked::Unknown;
+                return Walked::Nothing;
             }
             Walked::LongHead(bytes.len())
         }
@@ -163,36 +217,71 @@ pub(crate) fn head_departure(bytes: &[u8]) -> Walked
 
 /// Where a bignum departs, whose content at the front isn't the shortest, or is loose.
 #[inline(never)]
-pub(crate) fn bignum_departure<O: KeyOrder>(asked: &Asked<O>, n: u64, bytes: &[u8]) -> Walked
-    requires { (n ≡ 2) ⊎ (n ≡ 3) }
-    ensures { HaltsBehind O.order Tag n bytes.now result }
+pub(crate) fn bignum_departure<'a, O: KeyOrder>(
+    asked: &mut Asked<'a, O>,
+    n: u64,
+    bytes: &[u8],
+) -> Walked
+    requires tag { (n ≡ 2) ⊎ (n ≡ 3) }
+    requires strays { (room : ℕ) → StraysBehind O.order room Tag n bytes.now }
+    requires tight { IsTight bytes.now }
+    ensures walks { (room : ℕ) → WalksBehind O.order room Tag n bytes.now result }
+    ensures ask { asked.new.ask ≡ asked.old.ask }
+    ensures known { IsKnown asked.old.ask result }
+    ensures kept { IsKept result asked.new.refused }
 {
-    let Some(alloc) = asked.alloc else {
-        return Walked::Unknown;
+    let alloc = match asked.ask {
+        Ask::Whether => return Walked::Unknown,
+        Ask::Place(alloc) | Ask::Settled(alloc) => alloc,
     };
     match is_loose::<O>(alloc, bytes) {
-        Some(true) => Walked::LooseBignum(bytes.len() + 1),
-        Some(false) => head_departure(bytes),
-        None => Walked::Unknown,
+        Ok(Some(true)) => Walked::LooseBignum(bytes.len() + 1),
+        Ok(Some(false)) => head_departure(bytes),
+        Ok(None) => Walked::Nothing,
+        Err(refused) => asked.refuse(refused),
     }
 }
 
-/// Whether the byte string at the front, whole or in chunks, is loose as a bignum. None promises
-/// nothing.
-fn is_loose<O: KeyOrder>(alloc: Global, bytes: &[u8]) -> Option<bool>
-    ensures { IfSome result (TellsLoose bytes.now) }
+/// Whether the byte string at the front, whole or in chunks, is loose as a bignum. None where no byte
+/// string stands there.
+///
+/// # Errors
+/// Memory was refused.
+fn is_loose<O: KeyOrder>(alloc: Global, bytes: &[u8]) -> Result<Option<bool>, AllocError>
+    ensures { IfOk result (λ found. MatchOption found (HasNoString bytes.now) (TellsLoose bytes.now)) }
 {
     let mut out = Vec::new(alloc);
-    let Ok(Some(_rest)) = put_item::<O, Nothing>(alloc, &mut Nothing, 0, bytes, &mut out) else {
-        return None;
+    let Some(_rest) = put_item::<O, Nothing>(alloc, &mut Nothing, 0, bytes, &mut out)? else {
+        return Ok(None);
     };
-    let (_, _, content) = read_least(&out)?;
-    Some(loose_defect(0, content).is_some())
+    let Some((_, _, content)) = read_least(&out) else {
+        return Ok(None);
+    };
+    Ok(Some(loose_defect(0, content).is_some()))
+}
+
+/// Whether the key at the front of `bytes`, encoded, is above the one before. None where no key
+/// stands there.
+///
+/// # Errors
+/// Memory was refused.
+fn is_encoded_above<O: KeyOrder>(
+    alloc: Global,
+    before: &[u8],
+    bytes: &[u8],
+) -> Result<Option<bool>, AllocError>
+    ensures { IfOk result (λ found. MatchOption found (HoldsNoItem 1024 bytes.now) (KeyIs O.order before.now bytes.now)) }
+{
+    let mut out = Vec::new(alloc);
+    match put_item::<O, Nothing>(alloc, &mut Nothing, 1024, bytes, &mut out)? {
+        Some(_rest) => Ok(Some(O::compare(before, &out).is_lt())),
+        None => Ok(None),
+    }
 }
 
 /// Where a map departs at the key at the front, in which `found` is the first departure, after the
 /// key `before`: a key that isn't above the one before it departs at its own place. As long as that
-/// isn't known, the key waits, and the answer is unknown.
+/// isn't known, the key waits.
 #[inline(never)]
 pub(crate) fn key_departure<'a, O: KeyOrder>(
     asked: &mut Asked<'a, O>,
@@ -200,47 +289,31 @@ pub(crate) fn key_departure<'a, O: KeyOrder>(
     bytes: &'a [u8],
     found: Walked,
 ) -> Walked
-    ensures { KeyStops O.order before.entry bytes.now found result }
+    requires stop { (n : ℕ) → found ≡ walks.Behind n → ⊥ }
+    requires known { IsKnown asked.old.ask found }
+    requires kept { IsKept found asked.old.refused }
+    ensures stops { KeyStops O.order before.entry bytes.now found result }
+    ensures ask { asked.new.ask ≡ asked.old.ask }
+    ensures known { IsKnown asked.old.ask result }
+    ensures kept { IsKept result asked.new.refused }
 {
-    if asked.alloc.is_none() {
-        return Walked::Unknown;
-    }
-    let Some(left) = found.left() else {
-        asked.wait_around(before, bytes);
-        return Walked::Unknown;
-    };
-    if left == bytes.len() {
-        return found;
-    }
     let Some(before) = before else {
         return found;
     };
-    match asked.is_above(before, bytes) {
-        Some(true) => found,
-        Some(false) => Walked::KeyOrder(bytes.len()),
-        None => {
-            asked.wait(before, bytes);
-            Walked::Unknown
-        }
+    if found.is_at(bytes.len()) {
+        return found;
     }
-}
-
-/// Settles the keys that wait, if there are any: the outermost is encoded, and with it those inside.
-/// Whether that was done.
-#[inline(never)]
-pub(crate) fn settle<O: KeyOrder>(asked: &mut Asked<O>) -> bool {
-    let Some(alloc) = asked.alloc else {
-        return false;
-    };
-    let Some(keys) = &mut asked.waiting else {
-        return false;
-    };
-    let Some(bytes) = keys.outermost() else {
-        return false;
-    };
-    let mut out = Vec::new(alloc);
-    matches!(
-        put_key::<O, WaitingKeys<O>>(alloc, keys, 1024, bytes, &mut out),
-        Ok(true)
-    )
+    match asked.ask {
+        Ask::Whether => Walked::Unknown,
+        Ask::Place(alloc) => match asked.wait(alloc, before, bytes) {
+            Ok(()) => Walked::Unknown,
+            Err(refused) => asked.refuse(refused),
+        },
+        Ask::Settled(alloc) => match asked.is_above(alloc, before, bytes) {
+            Ok(Some(true)) => found,
+            Ok(Some(false)) => Walked::KeyOrder(bytes.len()),
+            Ok(None) => Walked::Nothing,
+            Err(refused) => asked.refuse(refused),
+        },
+    }
 }

@@ -30,19 +30,17 @@ impl<'k, O: KeyOrder> WaitingKeys<'k, O> {
         }
     }
 
-    /// The key at the front of `bytes` waits, where none is settled. None: memory was refused.
-    pub(crate) fn wait(&mut self, before: &'k [u8], bytes: &'k [u8]) -> Option<()> {
-        if self.settled.is_empty() {
-            self.waiting.push((bytes, before)).ok()?;
-        }
-        Some(())
+    /// The key at the front of `bytes` waits, around those that wait already.
+    ///
+    /// # Errors
+    /// Memory was refused.
+    pub(crate) fn wait(&mut self, before: &'k [u8], bytes: &'k [u8]) -> Result<(), AllocError> {
+        self.waiting.push((bytes, before))?;
+        Ok(())
     }
 
-    /// The outermost key that waits, from there on to the end of the input; none where all are settled.
+    /// The outermost key that waits, from there on to the end of the input; none where none waits.
     pub(crate) fn outermost(&self) -> Option<&'k [u8]> {
-        if !self.settled.is_empty() {
-            return None;
-        }
         let (bytes, _) = self.waiting.last()?;
         Some(bytes)
     }
@@ -70,7 +68,8 @@ impl<'k, O: KeyOrder> WaitingKeys<'k, O> {
         Ok(())
     }
 
-    /// Whether the key at the front of `bytes` is above the one before. None promises nothing.
+    /// Whether the key at the front of `bytes` is above the one before. None where it isn't the next
+    /// of those that are settled.
     pub(crate) fn is_above(&mut self, before: &[u8], bytes: &[u8]) -> Option<bool>
         ensures { IfSome result (KeyIs O.order before.now bytes.now) }
     {

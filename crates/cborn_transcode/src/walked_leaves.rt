@@ -6,7 +6,7 @@ ghost use Rattle.cborn_det.specs.shared.KeyBefore.{Below};
 ghost use Rattle.cborn_judge.specs.Defects.{IsLoose};
 ghost use Rattle.cborn_model.specs.Bytes.{IsShortest};
 ghost use Rattle.cborn_model.specs.declared.heads.Major.TheVariants.{ByteString, TextString, Array, Map, Tag};
-ghost use Rattle.cborn_transcode.specs.devices.Departing.{IsFallen, NoContent, Strays, StraysBehind};
+ghost use Rattle.cborn_transcode.specs.devices.Departing.{any_item, HasNoLeastHead, IsFallen, IsTight, LacksBehind, NoContent, Strays, StraysBehind};
 ghost use Rattle.cborn_wire.specs.Parts.{Leaves};
 ghost use Rattle.cborn_transcode.specs.shared.Walking.{IsLast, LeastHeadRead, ContentWalked, BignumWalked, WalkedBehind};
 
@@ -20,6 +20,7 @@ use cborn_wire::{Argument, HeadRead, read_head};
 pub(crate) fn read_least(bytes: &[u8]) -> Option<(Major, u64, &[u8])>
     ensures read { IfSome result (λ r. LeastHeadRead r.0 r.1 bytes.now r.2.now) }
     ensures strays { result ≡ None → (order : List ℕ → List ℕ → Ordering) (room : ℕ) → Strays order room bytes.now }
+    ensures none { result ≡ None → HasNoLeastHead bytes.now }
 {
     let HeadRead::Full(head, len) = read_head(bytes) else {
         return None;
@@ -34,11 +35,11 @@ pub(crate) fn read_least(bytes: &[u8]) -> Option<(Major, u64, &[u8])>
 }
 
 /// How many bytes follow what stands behind the shortest head of the major type with the argument
-/// `n`, where that head begins no item that holds others.
+/// `n`, where that head begins no item that holds others. None: no item stands there.
 #[inline(always)]
 pub(crate) fn walk_leaf(major: Major, n: u64, bytes: &[u8]) -> Option<usize>
     ensures walked { IfSome result (λ left. (order : List ℕ → List ℕ → Ordering) (room : ℕ) → Leaves (WalkedBehind order room major n bytes.now) left) }
-    ensures strays { result ≡ None → major ≢ Array → major ≢ Map → major ≢ Tag → (order : List ℕ → List ℕ → Ordering) (room : ℕ) → StraysBehind order room major n bytes.now }
+    ensures none { result ≡ None → major ≢ Array → major ≢ Map → major ≢ Tag → (order : List ℕ → List ℕ → Ordering) (room : ℕ) → LacksBehind order any_item room major n bytes.now }
 {
     match major {
         Major::Unsigned => Some(bytes.len()),
@@ -74,11 +75,12 @@ fn walk_content(major: Major, n: u64, bytes: &[u8]) -> Option<usize>
 }
 
 /// How many bytes follow the byte string of a bignum, which is neither within 64 bits nor begins
-/// with a zero (RFC 8949 section 3.4.3).
+/// with a zero (RFC 8949 section 3.4.3). None: whatever bignum stands there departs.
 #[inline(never)]
 pub(crate) fn walk_bignum(bytes: &[u8]) -> Option<usize>
     ensures walked { IfSome result (Leaves (BignumWalked bytes.now)) }
     ensures strays { result ≡ None → (order : List ℕ → List ℕ → Ordering) (room tag : ℕ) → (tag ≡ 2) ⊎ (tag ≡ 3) → StraysBehind order room Tag tag bytes.now }
+    ensures tight { result ≡ None → IsTight bytes.now }
 {
     let (major, n, rest) = read_least(bytes)?;
     if major != Major::ByteString || n <= 8 || n > rest.len() as u64 {

@@ -1,19 +1,20 @@
 //! A walk over bytes up to their first departure from the deterministic encoding: nothing is
 //! written, and nothing is kept but the key before.
 
-ghost use Rattle.std.specs.Prelude.{◌≡◌, ◌≤◌, ◌++◌, ℕ, List, [], length, take, IfSome};
+ghost use Rattle.std.specs.Prelude.{◌≡◌, ◌≤◌, ◌++◌, ℕ, List, [], length, take, IfSome, IfOk};
 ghost use Rattle.cborn_model.specs.declared.heads.Major.TheVariants.{Array, Map, Tag};
 ghost use Rattle.cborn_transcode.specs.Departing.{IsFirstDeparture};
 ghost use Rattle.cborn_transcode.specs.Transcoding.{ItemTranscoded, IsTranscoded};
-ghost use Rattle.cborn_transcode.specs.devices.Departing.{Walks, WalksBehind};
+ghost use Rattle.cborn_transcode.specs.declared.departures.Walked.TheVariants as walks;
+ghost use Rattle.cborn_transcode.specs.devices.Departing.{IsKept, IsKnown, Strays, Walks, WalksBehind};
 
 use crate::departures::{
-    Asked, Departure, Walked, bignum_departure, head_departure, key_departure, settle,
+    Ask, Asked, Departure, Walked, bignum_departure, head_departure, key_departure,
 };
 use crate::walked_integers::int_len;
 use crate::walked_leaves::{last, read_least, rises_above, split_before, walk_bignum, walk_leaf};
 use cborn_model::{KeyOrder, Limit, Major};
-use std::alloc::Global;
+use std::alloc::{AllocError, Global};
 
 /// How many bytes at the front are the deterministic encodings of items, one after another, none
 /// deeper than `limit`, the keys of maps in the order `O` (RFC 8949 section 4.2). It is the longest
@@ -34,56 +35,87 @@ pub fn deterministic_front<O: KeyOrder>(limit: Limit, bytes: &[u8]) -> usize
 
 /// Where the bytes first depart from the deterministic encodings of the items that they hold, one
 /// after another, none deeper than `limit`, the keys of maps in the order `O` (RFC 8949 section
-/// 4.2); or that they nowhere do.
+/// 4.2); that they nowhere do; or that they hold no items.
 ///
 /// The bytes are walked over once, in place, up to the departure. What stands behind it isn't
 /// looked at, so that a departure promises nothing of bytes that hold no items. Memory is taken only
 /// where a bignum or a key departs, for its encoding; where a key does that isn't the first of its
 /// map, the item is walked over once more.
-pub fn first_departure<O: KeyOrder>(alloc: Global, limit: Limit, bytes: &[u8]) -> Departure
-    ensures { IsFirstDeparture O.order limit bytes.now result }
+///
+/// # Errors
+/// A growth of the memory was refused.
+pub fn first_departure<O: KeyOrder>(
+    alloc: Global,
+    limit: Limit,
+    bytes: &[u8],
+) -> Result<Departure, AllocError>
+    ensures { IfOk result (IsFirstDeparture O.order limit bytes.now) }
 {
-    departure::<O>(&mut Asked::place(alloc), limit, bytes)
+    departure::<O>(alloc, &mut Asked::new(Ask::Place(alloc)), limit, bytes)
 }
 
-/// The first departure of what the bytes hold, if there is one.
-fn departure<'a, O: KeyOrder>(asked: &mut Asked<'a, O>, limit: Limit, bytes: &'a [u8]) -> Departure
-    ensures { IsFirstDeparture O.order limit bytes.now result }
+/// What `first_departure` answers.
+///
+/// # Errors
+/// Memory was refused.
+fn departure<'a, O: KeyOrder>(
+    alloc: Global,
+    asked: &mut Asked<'a, O>,
+    limit: Limit,
+    bytes: &'a [u8],
+) -> Result<Departure, AllocError>
+    ensures { IfOk result (IsFirstDeparture O.order limit bytes.now) }
 {
     let room = limit.get();
     let mut rest = bytes;
     'items: while !rest.is_empty() {
-        match walk_item::<O>(asked, room, rest) {
+        match walk_settled::<O>(alloc, asked, room, rest) {
             Walked::Behind(behind) => rest = last(rest, behind),
-            stop => {
-                let settled = walk_settled::<O>(asked, room, rest, stop);
-                return match settled.defect(bytes.len()) {
-                    Some(defect) => Departure::First(defect),
-                    None => Departure::Unknown,
-                };
-            }
+            stop => return asked.answer(stop, bytes.len()),
         }
     }
-    Departure::Deterministic
+    Ok(Departure::Deterministic)
 }
 
-/// Where the item at the front first departs, in which a walk stopped there. Where it stopped in keys
-/// that wait, these are settled, and it is walked over once more.
-#[inline(never)]
+/// How many bytes follow the item at the front, or where it first departs. Where keys wait until that
+/// is known, these are settled, and the item is walked over once more.
+#[inline(always)]
 fn walk_settled<'a, O: KeyOrder>(
+    alloc: Global,
     asked: &mut Asked<'a, O>,
     room: u64,
     bytes: &'a [u8],
-    stop: Walked,
+) -> Walked
+    requires { room ≤ 1024 }
+    ensures walks { Walks O.order room bytes.now result }
+    ensures known { result ≡ walks.Unknown → ⊥ }
+    ensures kept { IsKept result asked.new.refused }
+{
+    let walked = walk_item::<O>(asked, room, bytes);
+    if let Walked::Unknown = walked {
+        return walk_again::<O>(alloc, asked, room, bytes);
+    }
+    walked
+}
+
+/// The same, where a key waits.
+#[inline(never)]
+fn walk_again<'a, O: KeyOrder>(
+    alloc: Global,
+    asked: &mut Asked<'a, O>,
+    room: u64,
+    bytes: &'a [u8],
 ) -> Walked
     requires room { room ≤ 1024 }
-    requires stop { Walks O.order room bytes.now stop }
-    ensures { Walks O.order room bytes.now result }
+    requires strays { Strays O.order room bytes.now }
+    ensures walks { Walks O.order room bytes.now result }
+    ensures known { result ≡ walks.Unknown → ⊥ }
+    ensures kept { IsKept result asked.new.refused }
 {
-    if settle::<O>(asked) {
-        return walk_item::<O>(asked, room, bytes);
+    match asked.settle(alloc) {
+        Ok(()) => walk_item::<O>(asked, room, bytes),
+        Err(refused) => asked.refuse(refused),
     }
-    stop
 }
 
 /// The item at the front of the bytes, which is its own deterministic encoding, no deeper than
@@ -96,19 +128,22 @@ pub fn split_item<O: KeyOrder>(room: u64, bytes: &[u8]) -> Option<(&[u8], &[u8])
     ensures item { IfSome result (λ r. ItemTranscoded O.order room bytes.now r.1.now [] r.0.now) }
     ensures none { result ≡ None → (front rest : List ℕ) → bytes.now ≡ front ++ rest → ItemTranscoded O.order room bytes.now rest [] front → ⊥ }
 {
-    let Walked::Behind(behind) = walk_item::<O>(&mut Asked::whether(), room, bytes) else {
+    let Walked::Behind(behind) = walk_item::<O>(&mut Asked::new(Ask::Whether), room, bytes) else {
         return None;
     };
     Some(split_before(bytes, behind))
 }
 
 /// How many bytes follow the item at the front, which is no deeper than `room`, or where it first
-/// departs.
+/// departs, or that no item stands there.
 #[cycle(walked)]
 #[inline(always)]
 fn walk_item<'a, O: KeyOrder>(asked: &mut Asked<'a, O>, room: u64, bytes: &'a [u8]) -> Walked
     requires { room ≤ 1024 }
-    ensures { Walks O.order room bytes.now result }
+    ensures walks { Walks O.order room bytes.now result }
+    ensures ask { asked.new.ask ≡ asked.old.ask }
+    ensures known { IsKnown asked.old.ask result }
+    ensures kept { IsKept result asked.new.refused }
 {
     let Some((major, n, rest)) = read_least(bytes) else {
         return head_departure(bytes);
@@ -119,7 +154,7 @@ fn walk_item<'a, O: KeyOrder>(asked: &mut Asked<'a, O>, room: u64, bytes: &'a [u
         Major::Tag => walk_tagged::<O>(asked, room, n, rest),
         _ => match walk_leaf(major, n, rest) {
             Some(behind) => Walked::Behind(behind),
-            None => Walked::Unknown,
+            None => Walked::Nothing,
         },
     }
 }
@@ -134,10 +169,13 @@ fn walk_array<'a, O: KeyOrder>(
     bytes: &'a [u8],
 ) -> Walked
     requires { room ≤ 1024 }
-    ensures { WalksBehind O.order room Array n bytes.now result }
+    ensures walks { WalksBehind O.order room Array n bytes.now result }
+    ensures ask { asked.new.ask ≡ asked.old.ask }
+    ensures known { IsKnown asked.old.ask result }
+    ensures kept { IsKept result asked.new.refused }
 {
     if room == 0 {
-        return Walked::Unknown;
+        return Walked::Nothing;
     }
     let mut rest = bytes;
     let mut left = n;
@@ -156,7 +194,10 @@ fn walk_array<'a, O: KeyOrder>(
 #[inline(always)]
 fn walk_element<'a, O: KeyOrder>(asked: &mut Asked<'a, O>, room: u64, bytes: &'a [u8]) -> Walked
     requires { room ≤ 1024 }
-    ensures { Walks O.order room bytes.now result }
+    ensures walks { Walks O.order room bytes.now result }
+    ensures ask { asked.new.ask ≡ asked.old.ask }
+    ensures known { IsKnown asked.old.ask result }
+    ensures kept { IsKept result asked.new.refused }
 {
     let len = int_len(bytes);
     if len > 0 {
@@ -170,12 +211,15 @@ fn walk_element<'a, O: KeyOrder>(asked: &mut Asked<'a, O>, room: u64, bytes: &'a
 #[inline(never)]
 fn walk_map<'a, O: KeyOrder>(asked: &mut Asked<'a, O>, room: u64, n: u64, bytes: &'a [u8]) -> Walked
     requires { room ≤ 1024 }
-    ensures { WalksBehind O.order room Map n bytes.now result }
+    ensures walks { WalksBehind O.order room Map n bytes.now result }
+    ensures ask { asked.new.ask ≡ asked.old.ask }
+    ensures known { IsKnown asked.old.ask result }
+    ensures kept { IsKept result asked.new.refused }
 {
     // for the prover: a length in memory is below 2^64
     let _most = bytes.len() as u64;
     if room == 0 {
-        return Walked::Unknown;
+        return Walked::Nothing;
     }
     let mut rest = bytes;
     let mut before: Option<&[u8]> = None;
@@ -209,10 +253,13 @@ fn walk_tagged<'a, O: KeyOrder>(
     bytes: &'a [u8],
 ) -> Walked
     requires { room ≤ 1024 }
-    ensures { WalksBehind O.order room Tag n bytes.now result }
+    ensures walks { WalksBehind O.order room Tag n bytes.now result }
+    ensures ask { asked.new.ask ≡ asked.old.ask }
+    ensures known { IsKnown asked.old.ask result }
+    ensures kept { IsKept result asked.new.refused }
 {
     if room == 0 {
-        return Walked::Unknown;
+        return Walked::Nothing;
     }
     if n == 2 {
         return match walk_bignum(bytes) {

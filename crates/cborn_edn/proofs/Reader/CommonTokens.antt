@@ -3,11 +3,13 @@ use Rattle.std.proofs.Common.{◌≡◌, refl, sym, ap, ◌∙◌, subst, ℕ, �
 use Rattle.std.proofs.Math.Seq.{drop-append_seam}
 use Rattle.std.proofs.lemmas.List.{drop-drop, drop_more, take-append-drop, length-take-le}
 use Rattle.std.specs.List.{list_all}
+use Rattle.std.proofs.lemmas.Bool.{and_parts, and_from}
 use Rattle.cborn_lex.specs.declared.classes.Profile.{Profile}
 use Rattle.cborn_lex.specs.declared.classes.Profile.TheVariants.{Two}
 use Rattle.cborn_lex.specs.declared.classes.Class.{Class}
 use Rattle.cborn_lex.specs.declared.classes.Token.{Token}
 use Rattle.cborn_lex.specs.Tokens.{is_white, is_not}
+use Rattle.cborn_lex.specs.shared.Letters.{is_plain}
 use Rattle.cborn_lex.specs.Good as good
 use Rattle.cborn_lex.specs.Good.{Takes, Covers, TokensBetween}
 use Rattle.cborn_lex.proofs.GoodTexts.{covers, through}
@@ -75,6 +77,13 @@ ended_here profile text tail at i c q h e t l f k =
 
 pub comment_here : (profile : Profile) (text tail : List ℕ) (at i : ℕ) → at < length text → get_or text at 0 ≡ 47 → tail ≡ drop (at + 1) text → i < length tail → list_all (is_not 47) (take i tail) ≡ true → get_or tail i 0 ≡ 47 → TokensBetween profile text at (at + i + 2) []
 comment_here profile text tail at i h e t l a f = ended_here profile text tail at i 47 47 h e t l f (λ z. good.comment (take i tail) z a)
+
+-- LAW: no slash stands among letters that are plain in a string between slashes
+pub plain_comment : (x : List ℕ) → list_all (is_plain 47) x ≡ true → list_all (is_not 47) x ≡ true
+plain_comment [] e = refl
+plain_comment (c ∷ x) e =
+    let h = and_parts (is_plain 47 c) (list_all (is_plain 47) x) e in
+    and_from (is_not 47 c) (list_all (is_not 47) x) ((and_parts _ _ h.0).1) (plain_comment x h.1)
 
 pub line_here : (text tail : List ℕ) (at i : ℕ) → at < length text → get_or text at 0 ≡ 35 → tail ≡ drop (at + 1) text → i < length tail → list_all (is_not 10) (take i tail) ≡ true → get_or tail i 0 ≡ 10 → TokensBetween Two text at (at + i + 2) []
 line_here text tail at i h e t l a f = ended_here Two text tail at i 35 10 h e t l f (λ z. good.line (take i tail) z refl a)

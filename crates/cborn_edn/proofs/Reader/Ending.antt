@@ -1,5 +1,5 @@
 -- The end of a text: its bytes, or why it has none.
-use Rattle.std.proofs.Common.{◌≡◌, refl, sym, ap, ◌∙◌, subst, ℕ, List, [], length, Bool, true, false, Option, Some, None, append-nil, inr}
+use Rattle.std.proofs.Common.{◌≡◌, refl, sym, ap, ◌∙◌, subst, ℕ, List, [], length, Bool, true, false, Option, Some, None, inr}
 use Rattle.cborn_model.specs.Spelled.{spelled_all}
 use Rattle.cborn_lex.specs.Lex.{Lex}
 use Rattle.cborn_lex.specs.declared.classes.Profile.{Profile}
@@ -95,7 +95,7 @@ module _ (p : Profile) (limit : ℕ) (text : List ℕ) (s : State) (r : Reached 
 
   met : (o : Option Input) → finish s ≡ o → Meets p limit (length text) r.tokens (at_end (length text) o)
   met o e =
-      let on : parse p limit (length text) r.tokens start ≡ at_end (length text) o = ap (λ ts. parse p limit (length text) ts start) (sym (append-nil r.tokens)) ∙ r.runs [] (length text) ∙ ap (at_end (length text)) e in
+      let on : parse p limit (length text) r.tokens start ≡ at_end (length text) o = r.stops (length text) ∙ ap (at_end (length text)) e in
       subst (Meets p limit (length text) r.tokens) on (parses p limit (length text) r.tokens)
 
   pub cut_short : finish s ≡ None → IsNoNotation p limit text (Refused (length text) UnexpectedEnd)

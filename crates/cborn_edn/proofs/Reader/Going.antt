@@ -36,7 +36,7 @@ use Rattle.cborn_edn.specs.devices.Reading.{is_spare, is_closing, Reached}
 use Rattle.cborn_edn.proofs.Reader.Modest.{modest_both}
 
 pub begins : (profile : Profile) (limit : ℕ) (text : List ℕ) → Reached profile limit text 0 start
-begins profile limit text = record { tokens = []; between = nothing profile text 0; modest = tt; held = refl; runs = λ more end. refl }
+begins profile limit text = record { tokens = []; between = nothing profile text 0; modest = tt; held = refl; runs = λ t stop b more end. refl; stops = λ end. refl }
 
 -- what is reported of a text without tokens
 lexical_told : (profile : Profile) (limit : ℕ) (text : List ℕ) (e : LexFault) → IsStopAt profile text e → IsNoTree profile limit text (lexical e)
@@ -58,7 +58,7 @@ held_more s u c a e = go (step_by s c a) (grows s c a) e
     go (Some v) g f = ap held (sym (one_state v u f)) ∙ g.held
 
 -- what a token makes of the answer
-abbrev after_token : Profile → ℕ → ℕ → Token → List Token → Option State → Bool → Answer
+abbrev pub after_token : Profile → ℕ → ℕ → Token → List Token → Option State → Bool → Answer
 after_token profile limit end t more o b = elim o [ None ↦ Jams t.start UnexpectedToken | Some u ↦ cond b (parse profile limit end more u) (Jams t.start TooDeep) ]
 
 module _ (profile : Profile) (limit : ℕ) (text : List ℕ) (at : ℕ) (s : State) (r : Reached profile limit text at s) where
@@ -67,24 +67,31 @@ module _ (profile : Profile) (limit : ℕ) (text : List ℕ) (at : ℕ) (s : Sta
   goes_on stop t u next modest takes free low =
       let here : checked profile limit s t (step s t) ≡ Some u = ap (checked profile limit s t) takes ∙ ap (λ b. cond b None (Some u)) free in
       let deep : leb (reach (open_levels s) t.class) limit ≡ true = le-leb _ _ low in
+      let on : (more : List Token) (end : ℕ) → parse profile limit end ((r.tokens ++ (t ∷ [])) ++ more) start ≡ parse profile limit end more u = λ more end. ap (λ ts. parse profile limit end ts start) (append_assoc r.tokens (t ∷ []) more)
+      ∙ (r.runs t stop next more end ∙ (ap (λ c. after_token profile limit end t more c (leb (reach (open_levels s) t.class) limit)) here ∙ ap (λ b. after_token profile limit end t more (Some u) b) deep)) in
       record {
         tokens = r.tokens ++ (t ∷ []);
         between = joins profile text 0 at stop r.tokens (t ∷ []) r.between next;
         modest = modest_both r.tokens (t ∷ []) r.modest modest;
         held = held_more s u t.class (span t) takes ∙ ap (λ l. l ++ (t ∷ [])) r.held;
-        runs = λ more end. ap (λ ts. parse profile limit end ts start) (append_assoc r.tokens (t ∷ []) more)
-            ∙ (r.runs (t ∷ more) end ∙ (ap (λ c. after_token profile limit end t more c (leb (reach (open_levels s) t.class) limit)) here ∙ ap (λ b. after_token profile limit end t more (Some u) b) deep));
+        runs = λ v last b more end. on (v ∷ more) end;
+        stops = λ end. ap (λ ts. parse profile limit end ts start) (sym (append-nil (r.tokens ++ (t ∷ [])))) ∙ on [] end;
       }
+
+  -- after white space and comments
+  pub skips : (stop : ℕ) → Between profile text at stop [] → Reached profile limit text stop s
+  skips stop blank = record {
+    tokens = r.tokens;
+    between = subst (Between profile text 0 stop) (append-nil r.tokens) (joins profile text 0 at stop r.tokens [] r.between blank);
+    modest = r.modest;
+    held = r.held;
+    runs = λ t last b. r.runs t last (joins profile text at stop last [] (t ∷ []) blank b);
+    stops = r.stops;
+  }
 
   -- with white space and comments alone up to the end
   pub ends : Between profile text at (length text) [] → Reached profile limit text (length text) s
-  ends last = record {
-    tokens = r.tokens;
-    between = subst (Between profile text 0 (length text)) (append-nil r.tokens) (joins profile text 0 at (length text) r.tokens [] r.between last);
-    modest = r.modest;
-    held = r.held;
-    runs = r.runs;
-  }
+  ends last = skips (length text) last
 
   pub stopped : (e : LexFault) → IsStopFrom profile text at e → IsNoNotation profile limit text (lexical e)
   stopped e h = not_had profile limit text (lexical e) (lexical_told profile limit text e (whole_stop profile text e (stops profile text 0 at r.tokens e r.between h)))
@@ -100,19 +107,19 @@ module _ (profile : Profile) (limit : ℕ) (text : List ℕ) (at : ℕ) (s : Sta
 
   pub unexpected : (t : Token) (fault : EdnFault) → Between profile text at t.stop (t ∷ []) → checked profile limit s t (step s t) ≡ None
       → ((more : List Token) × Between profile text t.stop (length text) more × (fault ≡ Refused t.start UnexpectedToken)) ⊎ ((stop : LexFault) × IsStopFrom profile text t.stop stop × (fault ≡ lexical stop)) → IsNoNotation profile limit text fault
-  unexpected t fault next none h = jams t UnexpectedToken fault next (λ more end. r.runs (t ∷ more) end ∙ ap (λ c. after_token profile limit end t more c (leb (reach (open_levels s) t.class) limit)) none) h
+  unexpected t fault next none h = jams t UnexpectedToken fault next (λ more end. r.runs t t.stop next more end ∙ ap (λ c. after_token profile limit end t more c (leb (reach (open_levels s) t.class) limit)) none) h
 
   pub too_deep : (t : Token) (u : State) (fault : EdnFault) → Between profile text at t.stop (t ∷ []) → step s t ≡ Some u → forbids profile (comma_at s t.class) ≡ false → limit < reach (open_levels s) t.class
       → ((more : List Token) × Between profile text t.stop (length text) more × (fault ≡ Refused t.start TooDeep)) ⊎ ((stop : LexFault) × IsStopFrom profile text t.stop stop × (fault ≡ lexical stop)) → IsNoNotation profile limit text fault
   too_deep t u fault next takes free far h =
       let here : checked profile limit s t (step s t) ≡ Some u = ap (checked profile limit s t) takes ∙ ap (λ b. cond b None (Some u)) free in
       let high : leb (reach (open_levels s) t.class) limit ≡ false = lt-leb _ _ far in
-      jams t TooDeep fault next (λ more end. r.runs (t ∷ more) end ∙ ap (λ c. after_token profile limit end t more c (leb (reach (open_levels s) t.class) limit)) here ∙ ap (λ b. after_token profile limit end t more (Some u) b) high) h
+      jams t TooDeep fault next (λ more end. r.runs t t.stop next more end ∙ ap (λ c. after_token profile limit end t more c (leb (reach (open_levels s) t.class) limit)) here ∙ ap (λ b. after_token profile limit end t more (Some u) b) high) h
 
 pub never_taken : (profile : Profile) (limit : ℕ) (s : State) (t : Token) → step s t ≡ None → checked profile limit s t (step s t) ≡ None
 never_taken profile limit s t e = ap (checked profile limit s t) e
 
-free_none : (p : Profile) → forbids p 0 ≡ false
+pub free_none : (p : Profile) → forbids p 0 ≡ false
 free_none One = refl
 free_none Two = refl
 
@@ -127,7 +134,7 @@ two_free : (c : ℕ) → forbids Two c ≡ false
 two_free c = refl
 
 -- no bracket stands there after a comma
-tight_free : (p : Profile) (s : State) (k : Kind) (n : ℕ) (x : List ℕ) → (stand_of s ≡ WantsMore → ⊥) → forbids p (comma_at s (class_of k n x)) ≡ false
+pub tight_free : (p : Profile) (s : State) (k : Kind) (n : ℕ) (x : List ℕ) → (stand_of s ≡ WantsMore → ⊥) → forbids p (comma_at s (class_of k n x)) ≡ false
 tight_free p (wants (in_row m (after_row r c))) k n x e = absurd (e refl)
 tight_free p (wants (in_key st s m (after_pairs ps c))) k n x e = absurd (e refl)
 tight_free p (wants (in_row m no_item)) kinds.ArrayClose n x e = free_none p

@@ -6,8 +6,8 @@ use Rattle.cborn_lex.specs.declared.classes.Profile.{Profile}
 use Rattle.cborn_lex.specs.declared.classes.Mark.{Mark}
 use Rattle.cborn_lex.specs.declared.classes.Mark.TheVariants.{Absent}
 use Rattle.cborn_lex.specs.declared.classes.Class.{Class}
-use Rattle.cborn_lex.specs.declared.classes.Class.TheVariants.{Number, TagOpen, Text}
-use Rattle.cborn_lex.specs.Tokens.{begins, is_numeral, mark_of}
+use Rattle.cborn_lex.specs.declared.classes.Class.TheVariants.{Number, TagOpen, Text, EmbedClose, ChunkOpen}
+use Rattle.cborn_lex.specs.Tokens.{begins, is_numeral, is_word, mark_of}
 use Rattle.cborn_lex.specs.Numbers.{integer, signed}
 use Rattle.std.specs.List.{list_all}
 use Rattle.cborn_lex.specs.Strings.{is_content, IsText}
@@ -77,6 +77,24 @@ pub opening_here : (profile : Profile) (text tail : List ℕ) (at c len : ℕ) (
 opening_here profile text tail at c len m k h e t l i o f =
     let all : drop at text ≡ (c ∷ take len tail) ++ drop len tail = begins_here text at c h e ∙ ap (λ y. c ∷ y) (sym t ∙ sym (take-append-drop len tail)) in
     token_here profile text (c ∷ take len tail) (drop len tail) at (at + 1 + len) (k m) all (omega (arith, length-take-le len tail l)) (f (take len tail) (drop len tail) (i, o))
+
+-- the end of what is embedded, and an indicator of len characters after it
+pub embed_end_here : (profile : Profile) (text tail : List ℕ) (at len stop : ℕ) (m : Mark) → at + 1 < length text → get_or text at 0 ≡ 62 → get_or text (at + 1) 0 ≡ 62 → tail ≡ drop (at + 1 + 1) text → len ≤ length tail → IsIndicator (take len tail) (drop len tail) → mark_of (take len tail) ≡ Some m → stop ≡ at + 2 + len
+    → IsTokenAt profile text at stop (EmbedClose m)
+embed_end_here profile text tail at len stop m h e f t l i o s =
+    let two : at + 2 ≡ at + 1 + 1 = omega arith in
+    let next : drop (at + 1) text ≡ 62 ∷ drop (at + 2) text = begins_here text (at + 1) 62 h f ∙ ap (λ n. 62 ∷ drop n text) (sym two) in
+    let all : drop at text ≡ (62 ∷ 62 ∷ take len tail) ++ drop len tail = begins_here text at 62 (omega (arith, h)) e ∙ ap (λ y. 62 ∷ y) (next ∙ ap (λ y. 62 ∷ y) (ap (λ n. drop n text) two ∙ sym t ∙ sym (take-append-drop len tail))) in
+    token_here profile text (62 ∷ 62 ∷ take len tail) (drop len tail) at stop (EmbedClose m) all (omega (arith, s, length-take-le len tail l)) (good.embed_close (take len tail) (drop len tail) m (i, o))
+
+-- `(_` and a space
+pub chunks_here : (profile : Profile) (text : List ℕ) (at : ℕ) → at + 2 < length text → get_or text at 0 ≡ 40 → get_or text (at + 1) 0 ≡ 95 → get_or text (at + 2) 0 ≡ 32 → IsTokenAt profile text at (at + 2) ChunkOpen
+chunks_here profile text at h e f g =
+    let two : at + 1 + 1 ≡ at + 2 = omega arith in
+    let space : drop (at + 2) text ≡ 32 ∷ drop (at + 2 + 1) text = begins_here text (at + 2) 32 h g in
+    let all : drop at text ≡ 40 ∷ 95 ∷ drop (at + 2) text = begins_here text at 40 (omega (arith, h)) e ∙ ap (λ y. 40 ∷ y) (begins_here text (at + 1) 95 (omega (arith, h)) f ∙ ap (λ n. 95 ∷ drop n text) two) in
+    let bare : begins is_word (drop (at + 2) text) ≡ false = ap (begins is_word) space in
+    token_here profile text (40 ∷ 95 ∷ []) (drop (at + 2) text) at (at + 2) ChunkOpen all refl (good.chunk_open (drop (at + 2) text) bare)
 
 -- a text string without an indicator, whose content of len characters stands for these bytes
 pub text_here : (profile : Profile) (text tail bytes : List ℕ) (at len : ℕ) → at < length text → get_or text at 0 ≡ 34 → tail ≡ drop (at + 1) text → len < length tail → get_or tail len 0 ≡ 34 → is_content 34 (take len tail) ≡ true → IsText 34 (take len tail) bytes → begins (λ c. eqb c 95) (drop (len + 1) tail) ≡ false → IsTokenAt profile text at (at + len + 2) (Text bytes Absent)

@@ -193,7 +193,7 @@ pieces_known (also ps (tree.bytes at q x m)) e = both_true (str ps).known true (
 pieces_known (also ps (tree.embedded at c end m)) e = both_true (str ps).known (is_nil (faults_in c)) (pieces_known ps (no_left (faults_of_pieces ps) _ e)) (ap is_nil (no_left (faults_in c) _ (no_right (faults_of_pieces ps) _ e)))
 
 mutual
-  item_bytes : (i : Item) → AreModest (tokens_of i) → faults i ≡ [] → AreBytes (spelled (node i))
+  pub item_bytes : (i : Item) → AreModest (tokens_of i) → faults i ≡ [] → AreBytes (spelled (node i))
   item_bytes (tree.number at n v m) h e = number_bytes at.start n v m h.0 e
   item_bytes (tree.word at n) h e = least_bytes Other n
   item_bytes (tree.tag at n m i end) h e = bytes-append (head Tag (Given (width m n) n)) (spelled (node i)) (tag_bytes at.start m n (no_left (tag_slips at.start m n) (faults i) e)) (item_bytes i (modest_left (tokens_of i) _ h.1) (no_right (tag_slips at.start m n) (faults i) e))

@@ -9,9 +9,7 @@ use Rattle.cborn_lex.specs.declared.classes.Token.{Token}
 use Rattle.cborn_lex.specs.Tokens.{Blank, Read}
 use Rattle.cborn_lex.specs.Forms.{Start, single, start_of, ReadsFrom, Reads}
 use Rattle.cborn_lex.specs.Lex as lex
-use Rattle.cborn_lex.specs.Lex.{Through}
-use Rattle.cborn_lex.specs.Good.{TokensBetween}
-use Rattle.cborn_lex.proofs.GoodTexts.{through}
+use Rattle.cborn_lex.specs.Lex.{Through, Between}
 use Rattle.cborn_lex.proofs.OneFront.Alone.{one_front}
 use Rattle.cborn_edn.specs.shared.Syntax.{Span, Pieces, string}
 use Rattle.cborn_edn.proofs.Grammar.Machine.{Stack, as_item, builds, has, step_by}
@@ -95,6 +93,6 @@ none_begins profile (lex.token n m k [] x y ts r h) t e f = r
 none_begins profile (lex.token n m k (c ∷ s) x y ts r h) t e f = omega (arith, ap length e)
 
 -- LAW: the next token there is such a one
-pub next_single : (profile : Profile) (text : List ℕ) (n : ℕ) (t : Token) → NoPieceAt text n → TokensBetween profile text n t.stop (t ∷ []) → is_single t.class ≡ true
-next_single profile text n t (inl e) h = absurd (none_begins profile (through profile h) t (drop_all n text (omega (arith, e))) refl)
-next_single profile text n t (inr h) k = first profile (through profile k) (get_or text n 0) (drop (n + 1) text) t (alone (get_or text n 0) h.1) (begins_here text n (get_or text n 0) h.0 refl) refl
+pub next_single : (profile : Profile) (text : List ℕ) (n m : ℕ) (t : Token) → NoPieceAt text n → Between profile text n m (t ∷ []) → is_single t.class ≡ true
+next_single profile text n m t (inl e) h = absurd (none_begins profile h t (drop_all n text (omega (arith, e))) refl)
+next_single profile text n m t (inr h) k = first profile k (get_or text n 0) (drop (n + 1) text) t (alone (get_or text n 0) h.1) (begins_here text n (get_or text n 0) h.0 refl) refl

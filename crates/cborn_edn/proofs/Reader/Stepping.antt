@@ -39,7 +39,7 @@ recontent (kinds.Text m) n x = refl
 recontent (kinds.Bytes q m) n x = refl
 recontent _ n x = refl
 
-modest_here : (c : Class) → IsModestThere c → IsModest c
+pub modest_here : (c : Class) → IsModestThere c → IsModest c
 modest_here (classes.Number n v m) h = h
 modest_here (classes.Text x m) h = h
 modest_here (classes.Bytes q x m) h = h

@@ -3,7 +3,7 @@ use Rattle.std.proofs.Common.{◌≡◌, refl, sym, ap, ◌∙◌, subst, ℕ, z
 use Rattle.std.proofs.lemmas.Bool.{lt-ltb}
 use Rattle.cborn_model.specs.Tree.{Trees}
 use Rattle.cborn_lex.specs.declared.classes.Profile.{Profile}
-use Rattle.cborn_lex.specs.declared.classes.Profile.TheVariants.{One as ProfileOne, Two as ProfileTwo}
+use Rattle.cborn_lex.specs.declared.classes.Profile.TheVariants.{Two as ProfileTwo}
 use Rattle.cborn_lex.specs.declared.classes.Class.{Class}
 use Rattle.cborn_lex.specs.declared.classes.Class.TheVariants.{ArrayClose, MapClose, ParenClose, Comma, Colon, EmbedOpen, EmbedClose, Number, Text, Bytes}
 use Rattle.cborn_lex.specs.declared.classes.Token.{Token}
@@ -60,18 +60,6 @@ length-copies (suc n) p = ap suc (length-copies n p)
 pub copies_are : (n p : ℕ) → replicate n p ≡ copies n p
 copies_are zero p = refl
 copies_are (suc n) p = ap (λ w. p ∷ w) (copies_are n p)
-
--- both profiles come to one shape
-wants_more : (p : Profile) (ls : List Level) (c : Class) (e : Shape) → shape_step p (at ls WantsMore) c ≡ Some e → shape_step ProfileTwo (at ls WantsMore) c ≡ Some e
-wants_more ProfileTwo ls c e h = h
-wants_more ProfileOne ls ArrayClose e h = absurd (let f : None ≡ Some e = h in cc)
-wants_more ProfileOne ls MapClose e h = absurd (let f : None ≡ Some e = h in cc)
-wants_more ProfileOne ls (EmbedClose m) e h = absurd (let f : None ≡ Some e = h in cc)
-wants_more ProfileOne ls _ e h = h
-
-pub same_step : (p : Profile) (ls : List Level) (s : Stand) (c : Class) (e : Shape) → shape_step p (at ls s) c ≡ Some e → shape_step ProfileTwo (at ls s) c ≡ Some e
-same_step p ls WantsMore c e h = wants_more p ls c e h
-same_step p ls _ c e h = h
 
 -- How many `<<` are open.
 

@@ -60,13 +60,14 @@ abbrev pub is_spare : Profile → Stand → Kind → Bool
 is_spare One WantsMore k = is_closing k
 is_spare _ _ k = false
 
--- the tokens up to a place lead to a state
+-- the tokens up to a place lead to a state, for what the text has there
 pub record Reached (profile : Profile) (limit : ℕ) (text : List ℕ) (at : ℕ) (s : State) : Type 0 where
   pub tokens : List Token
   pub between : Between profile text 0 at tokens
   pub modest : AreModest tokens
   pub held : held s ≡ tokens
-  pub runs : (more : List Token) (end : ℕ) → parse profile limit end (tokens ++ more) start ≡ parse profile limit end more s
+  pub runs : (t : Token) (stop : ℕ) → Between profile text at stop (t ∷ []) → (more : List Token) (end : ℕ) → parse profile limit end (tokens ++ (t ∷ more)) start ≡ parse profile limit end (t ∷ more) s
+  pub stops : (end : ℕ) → parse profile limit end tokens start ≡ parse profile limit end [] s
 
 -- the reader has come to a place of the text
 pub record IsReading (profile : Profile) (limit : ℕ) (text : List ℕ) (here : Here) (writer : Writer) : Type 0 where

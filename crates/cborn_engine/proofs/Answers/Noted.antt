@@ -1,5 +1,6 @@
 -- A text that a pass takes holds what the bytes mean that it notates, and is shown as they are.
-use Rattle.std.proofs.Common.{◌≡◌, ◌≤◌, ◌⊎◌, inl, inr, ℕ, List, length, sym, ◌∙◌, Ordering, arith}
+use Rattle.std.proofs.Common.{◌≡◌, ◌≤◌, ◌⊎◌, inl, inr, ℕ, List, length, sym, subst, ◌∙◌, Ordering, arith}
+use Rattle.cborn_engine.proofs.Answers.Listed.{nodes_of, notated_of, spells_of}
 use Rattle.std.specs.Prelude.{IsUtf8}
 use Rattle.cborn_model.specs.Tree.{Tree, trees}
 use Rattle.cborn_model.specs.Spelled.{FitsAll}
@@ -11,7 +12,7 @@ use Rattle.cborn_edn.proofs.Shown.SameText.{same_notation}
 use Rattle.cborn_edn.proofs.Short.Facts.{notated_fits}
 use Rattle.cborn_edn.proofs.RoundTrip.Unplaced.{same_meaning}
 use Rattle.cborn_show.specs.Passed.{IsShownText}
-use Rattle.cborn_spell.specs.Descent.{IsSpelling}
+use Rattle.cborn_edn.specs.Spelling.{IsSpelling}
 use Rattle.cborn_transcode.specs.Transcoding.{IsTranscoded}
 use Rattle.cborn_transcode.proofs.Lists.{all_mean}
 use Rattle.cborn_engine.specs.declared.kinds.Kind.{Kind}
@@ -29,27 +30,31 @@ spells profile.One limit text nodes h = h
 spells profile.Two limit text nodes h = h
 
 module _ (p : Profile) (limit : ℕ) (text bytes : List ℕ) (u : IsUtf8 text) (s : IsSpelling p limit text bytes) where
-  notated : Spells (kind_of p) limit text s.nodes
-  notated = spells p limit text s.nodes (u, s.notated)
+  notated : Spells (kind_of p) limit text (nodes_of s)
+  notated = spells p limit text (nodes_of s) (u, (notated_of s))
 
-  fits : length text ≤ most_bytes → FitsAll (trees s.nodes)
-  fits l = (notated_fits p limit text (trees s.nodes) (utf8_bytes text u) (omega (arith, l)) s.notated).0
+  fits : length text ≤ most_bytes → FitsAll (trees (nodes_of s))
+  fits l = (notated_fits p limit text (trees (nodes_of s)) (utf8_bytes text u) (omega (arith, l)) (notated_of s)).0
 
   pub encoded : (order : List ℕ → List ℕ → Ordering) (answer : List ℕ) → IsTranscoded order limit bytes answer → length text ≤ most_bytes → IsEncoded order (kind_of p) limit text answer
   encoded order answer n l =
-      let same = same_nodes (trees n.nodes) (trees s.nodes) n.read.fit (fits l) (n.read.spells ∙ sym s.spells) in
+      let same = same_nodes (trees n.nodes) (trees (nodes_of s)) n.read.fit (fits l) (n.read.spells ∙ sym (spells_of s)) in
       record {
         items = n.items;
-        held = record { nodes = s.nodes; spelled = notated; meant = zip_mean s.nodes n.items (same_meaning (trees n.nodes) (trees s.nodes) same (values_of n.items) (all_mean n.nodes n.items n.meant)) };
+        held = record { nodes = (nodes_of s); spelled = notated; meant = zip_mean (nodes_of s) n.items (same_meaning (trees n.nodes) (trees (nodes_of s)) same (values_of n.items) (all_mean n.nodes n.items n.meant)) };
         encoded = n.encoded;
       }
+
+  -- their bytes are told
+  pub as_bytes : (out : Kind) → out ≡ kind.Wire → IsShown (kind_of p) out limit text bytes
+  as_bytes out w = record { nodes = (nodes_of s); spelled = notated; shown = subst (λ k. IsSpelledAs k (nodes_of s) bytes) (sym w) (sym (spells_of s)) }
 
   -- their text is told
   pub as_text : (out : Kind) → (out ≡ kind.Wire → ⊥) → (answer : List ℕ) → IsShownText limit bytes answer → length text ≤ most_bytes → IsShown (kind_of p) out limit text answer
   as_text out never answer t l =
-      let same = same_nodes (trees t.nodes) (trees s.nodes) t.read.fit (fits l) (t.read.spells ∙ sym s.spells) in
-      let shown = same_notation (trees t.nodes) (trees s.nodes) answer same t.shown in
-      record { nodes = s.nodes; spelled = notated; shown = notation out never (λ k. IsSpelledAs k s.nodes answer) shown shown }
+      let same = same_nodes (trees t.nodes) (trees (nodes_of s)) t.read.fit (fits l) (t.read.spells ∙ sym (spells_of s)) in
+      let shown = same_notation (trees t.nodes) (trees (nodes_of s)) answer same t.shown in
+      record { nodes = (nodes_of s); spelled = notated; shown = notation out never (λ k. IsSpelledAs k (nodes_of s) answer) shown shown }
 
 pub never_wire : (out : Kind) → (out ≡ kind.Notation) ⊎ (out ≡ kind.Notation2) → out ≡ kind.Wire → ⊥
 never_wire out (inl e) w = cc

@@ -1,5 +1,6 @@
 -- The text strings of what is notated are UTF-8, so its bytes have a notation.
 use Rattle.std.proofs.Common.{◌≡◌, ◌≤◌, ℕ, List, [], ◌∷◌, ◌++◌, Bool, true, false, ◌&&◌, length, refl, arith, if◌then◌else◌}
+use Rattle.cborn_engine.proofs.Answers.Listed.{nodes_of, notated_of, spells_of}
 use Rattle.std.specs.Prelude.{IsUtf8}
 use Rattle.std.specs.Str.{is_utf8}
 use Rattle.cborn_model.specs.declared.heads.Width.{Width}
@@ -19,7 +20,7 @@ use Rattle.cborn_edn.specs.Grammar.{IsItem, IsPiece, ArePieces, AreChunks, AreIt
 use Rattle.cborn_edn.specs.shared.Texts.{AreTexts, IsShowable, EachShowable, ArePairsShowable}
 use Rattle.cborn_edn.proofs.Shown.Lowests.{are_showable}
 use Rattle.cborn_edn.proofs.Short.Facts.{notated_fits}
-use Rattle.cborn_spell.specs.Descent.{IsSpelling}
+use Rattle.cborn_edn.specs.Spelling.{IsSpelling}
 use Rattle.cborn_show.specs.Passed.{HasNoNotation}
 use Rattle.cborn_engine.specs.Reading.{most_bytes}
 
@@ -148,5 +149,5 @@ text_shows (items h) e = items_show h e
 pub spelled_shows : (p : Profile) (limit : ℕ) (text bytes : List ℕ) → length text ≤ most_bytes → IsUtf8 text → IsSpelling p limit text bytes → HasNoNotation limit bytes → ⊥
 unfolding HasNoNotation
 spelled_shows p limit text bytes within u s none =
-    let f = notated_fits p limit text (trees s.nodes) (utf8_bytes text u) (omega (arith, within)) s.notated in
-    none (trees s.nodes) (record { spells = s.spells; fit = f.0; shallow = f.1 }) (are_showable (trees s.nodes) (text_shows s.notated.2 refl))
+    let f = notated_fits p limit text (trees (nodes_of s)) (utf8_bytes text u) (omega (arith, within)) (notated_of s) in
+    none (trees (nodes_of s)) (record { spells = (spells_of s); fit = f.0; shallow = f.1 }) (are_showable (trees (nodes_of s)) (text_shows (notated_of s).2 refl))

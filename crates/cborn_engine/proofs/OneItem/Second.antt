@@ -1,7 +1,8 @@
 -- Where the second item of an input starts: where the first ends.
 use Rattle.std.proofs.Common.{◌≡◌, ◌≢◌, refl, sym, ap, ◌∙◌, subst, ℕ, suc, ◌+◌, ◌<◌, ◌≤◌, List, [], ◌∷◌, ◌++◌, length, take, drop, arith, append-nil, length-append}
+use Rattle.cborn_engine.proofs.Answers.Listed.{nodes_of, notated_of, spells_of}
 use Rattle.std.proofs.lemmas.List.{take-append-drop, length-take-le}
-use Rattle.std.specs.Prelude.{IsUtf8}
+use Rattle.std.specs.Prelude.{IsUtf8, Some, slice_get}
 use Rattle.std.specs.List.{AllZip}
 use Rattle.cborn_model.specs.Tree.{Tree, Uint, Nint, Bytes, Text, ByteChunks, TextChunks, Items, Pairs, Tagged, Simple, Trees, no_item, more, trees, place}
 use Rattle.cborn_model.specs.Placed.{Placed, PlacedAll}
@@ -15,7 +16,9 @@ use Rattle.cborn_wire.proofs.Parts.Openings.{one_front}
 use Rattle.cborn_lex.specs.declared.classes.Profile.{Profile}
 use Rattle.cborn_lex.specs.declared.classes.Profile.TheVariants as profile
 use Rattle.cborn_edn.specs.Grammar.{Notates}
-use Rattle.cborn_spell.specs.Descent.{IsSpelling}
+use Rattle.cborn_edn.specs.Starts.{starts, starts_all}
+use Rattle.cborn_engine.proofs.Answers.Flawed.{HasNoStart}
+use Rattle.cborn_edn.specs.Spelling.{IsSpelling}
 use Rattle.cborn_paths.specs.declared.paths.Step.{Step}
 use Rattle.cborn_paths.specs.declared.paths.Step.TheVariants.{Item}
 use Rattle.cborn_paths.specs.Paths.{EndsAt, steps, step_in}
@@ -101,6 +104,28 @@ placed_there (Pairs q s es) p h = h.0
 placed_there (Tagged q w n t) p h = h.0
 placed_there (Simple q n) p h = h
 
+-- a node starts with itself
+own_start : (t : Tree) → (rest : List ℕ) × (starts t ≡ place t ∷ rest)
+own_start (Uint q w n) = ([], refl)
+own_start (Nint q w n) = ([], refl)
+own_start (Bytes q w b) = ([], refl)
+own_start (Text q w b) = ([], refl)
+own_start (ByteChunks q cs) = (_, refl)
+own_start (TextChunks q cs) = (_, refl)
+own_start (Items q s ts) = (_, refl)
+own_start (Pairs q s es) = (_, refl)
+own_start (Tagged q w n t) = (_, refl)
+own_start (Simple q n) = ([], refl)
+
+behind : (xs ys : List ℕ) (y : ℕ) → slice_get (xs ++ y ∷ ys) (length xs) ≡ Some y
+behind [] ys y = refl
+behind (x ∷ xs) ys y = behind xs ys y
+
+second_start : (t u : Tree) (us : List Tree) → slice_get (starts_all (trees (t ∷ u ∷ us))) (length (starts t)) ≡ Some (place u)
+second_start t u us =
+    let own = own_start u in
+    ap (λ (xs : List ℕ). slice_get (starts t ++ (xs ++ starts_all (trees us))) (length (starts t))) own.1 ∙ behind (starts t) (own.0 ++ starts_all (trees us)) (place u)
+
 -- nodes in their places
 pub in_places : (limit : ℕ) (ns : List Tree) (x : List ℕ) → Wellformed limit (trees ns) x → (ms : List Tree) × SpellsInPlace kind.Wire limit x ms
 in_places limit ns x w =
@@ -143,35 +168,45 @@ notated_there profile.One limit x ns h = h
 notated_there profile.Two limit x ns h = h
 
 module _ (p : Profile) (limit : ℕ) (text bytes : List ℕ) (short : length text ≤ most_bytes) (utf8 : IsUtf8 text) (s : IsSpelling p limit text bytes) where
-  is_notation : IsNotation p limit text s.nodes
-  is_notation = (utf8, s.notated)
+  is_notation : IsNotation p limit text (nodes_of s)
+  is_notation = (utf8, (notated_of s))
 
-  pub spelled_well : Wellformed limit (trees s.nodes) bytes
-  spelled_well = let f = fits p limit text s.nodes is_notation short in record { spells = s.spells; fit = f.0; shallow = f.1 }
+  pub spelled_well : Wellformed limit (trees (nodes_of s)) bytes
+  spelled_well = let f = fits p limit text (nodes_of s) is_notation short in record { spells = (spells_of s); fit = f.0; shallow = f.1 }
 
-  pub none_in_text : trees s.nodes ≡ no_item → Spells (kind_of p) limit text []
-  none_in_text e = subst (Spells (kind_of p) limit text) (no_nodes s.nodes e) (notated p limit text s.nodes is_notation)
+  pub none_in_text : trees (nodes_of s) ≡ no_item → Spells (kind_of p) limit text []
+  none_in_text e = subst (Spells (kind_of p) limit text) (no_nodes (nodes_of s) e) (notated p limit text (nodes_of s) is_notation)
 
   pub one_in_text : (end : ℕ) → end ≤ length bytes → EndsAt (take end bytes) (Item 1 ∷ []) → end ≡ length bytes → SpellsOne (kind_of p) limit text
-  one_in_text end l e at = let a = alone limit bytes s.nodes end spelled_well l e at in (a.0, subst (Spells (kind_of p) limit text) a.1 (notated p limit text s.nodes is_notation))
+  one_in_text end l e at = let a = alone limit bytes (nodes_of s) end spelled_well l e at in (a.0, subst (Spells (kind_of p) limit text) a.1 (notated p limit text (nodes_of s) is_notation))
 
   pub second_in_text : (end there : ℕ) → end ≤ length bytes → EndsAt (take end bytes) (Item 1 ∷ []) → end ≢ length bytes
       → ((limit : ℕ) (nodes others : List Tree) → Notates p limit text (trees nodes) → spelled_all (trees nodes) ≡ bytes → Wellformed limit (trees others) bytes → PlacedAll 0 (trees others) → AllZip (λ t u. place u ≡ end → place t ≡ there) nodes others)
       → SecondStarts (kind_of p) limit text there
   second_in_text end there l e at zip =
-      let m = in_places limit s.nodes bytes spelled_well in
-      let ours = follows limit bytes s.nodes end spelled_well l e at in
+      let m = in_places limit (nodes_of s) bytes spelled_well in
+      let ours = follows limit bytes (nodes_of s) end spelled_well l e at in
       let theirs = follows limit bytes m.0 end m.1.0 l e at in
       let placed : PlacedAll 0 (trees (theirs.first ∷ theirs.second ∷ theirs.others)) = subst (λ (ts : List Tree). PlacedAll 0 (trees ts)) theirs.are m.1.1 in
       let at_end : place theirs.second ≡ end = omega (arith, placed_there theirs.second _ placed.1.0, theirs.long) in
-      let both = zip limit s.nodes m.0 s.notated s.spells m.1.0 m.1.1 in
+      let both = zip limit (nodes_of s) m.0 (notated_of s) (spells_of s) m.1.0 m.1.1 in
       let zipped : AllZip (λ t u. place u ≡ end → place t ≡ there) (ours.first ∷ ours.second ∷ ours.others) (theirs.first ∷ theirs.second ∷ theirs.others)
       = subst (λ (us : List Tree). AllZip (λ t u. place u ≡ end → place t ≡ there) us (theirs.first ∷ theirs.second ∷ theirs.others)) ours.are
-      (subst (λ (us : List Tree). AllZip (λ t u. place u ≡ end → place t ≡ there) s.nodes us) theirs.are both) in
+      (subst (λ (us : List Tree). AllZip (λ t u. place u ≡ end → place t ≡ there) (nodes_of s) us) theirs.are both) in
       record {
         first = ours.first;
         second = ours.second;
         rest = ours.others;
-        spelled = subst (SpellsInPlace (kind_of p) limit text) ours.are (notated_there p limit text s.nodes is_notation);
+        spelled = subst (SpellsInPlace (kind_of p) limit text) ours.are (notated_there p limit text (nodes_of s) is_notation);
         here = zipped.1.0 at_end;
       }
+
+  -- and the second has a place
+  pub second_placed : (end : ℕ) → end ≤ length bytes → EndsAt (take end bytes) (Item 1 ∷ []) → end ≢ length bytes → HasNoStart p text bytes end → ⊥
+  second_placed end l e at none =
+      let m = in_places limit (nodes_of s) bytes spelled_well in
+      let theirs = follows limit bytes m.0 end m.1.0 l e at in
+      let placed : PlacedAll 0 (trees (theirs.first ∷ theirs.second ∷ theirs.others)) = subst (λ (ts : List Tree). PlacedAll 0 (trees ts)) theirs.are m.1.1 in
+      let at_end : place theirs.second ≡ end = omega (arith, placed_there theirs.second _ placed.1.0, theirs.long) in
+      none (omega (arith, short)) limit (nodes_of s) m.0 (notated_of s) (spells_of s) m.1.0 m.1.1 (length (starts theirs.first))
+      (ap (λ (ts : List Tree). slice_get (starts_all (trees ts)) (length (starts theirs.first))) theirs.are ∙ second_start theirs.first theirs.second theirs.others ∙ ap Some at_end)

@@ -1,6 +1,6 @@
 -- The first flaw that is found in bytes is the first flaw of the nodes of a text that spell these bytes, where the same start stands in the text.
-use Rattle.std.proofs.Common.{◌≡◌, ℕ, ◌^◌, ◌<◌, inl, inr, List, [], ◌∷◌, length, map, sym, ap, ◌∙◌, subst, Some, option_map}
-use Rattle.std.specs.Prelude.{slice_get}
+use Rattle.std.proofs.Common.{◌≡◌, ℕ, zero, suc, ◌^◌, ◌<◌, ◌≤◌, inl, inr, List, [], ◌∷◌, length, map, sym, ap, ◌∙◌, subst, None, Some, arith, option_map}
+use Rattle.std.specs.Prelude.{slice_get, Option, Result, Ok, Err, IfOk, IfSome}
 use Rattle.std.proofs.lemmas.List.{map-append}
 use Rattle.std.proofs.lemmas.Option.{slice_get-map, same_Some}
 use Rattle.cborn_model.specs.Bytes.{AreBytes}
@@ -26,6 +26,15 @@ use Rattle.cborn_places.proofs.Carrying.Moved.{moved, moved_all, moved-trees, pl
 use Rattle.cborn_places.proofs.Carrying.Matching.{starts_all-from, all_back}
 use Rattle.cborn_places.proofs.Carrying.FlawsMoved.{means_moved, flaw_moved, flaw_back}
 use Rattle.cborn_places.proofs.Carrying.Spots.{starts_rise, spots_all_part, flaw_spot}
+
+-- there are as many starts in the text as in the bytes
+as_many : (limit : ℕ) (bytes : List ℕ) (nodes others : List Tree) → FitsAll (trees nodes) → spelled_all (trees nodes) ≡ bytes → Wellformed limit (trees others) bytes → PlacedAll 0 (trees others)
+    → (all_from 0 (trees nodes) ≡ trees others) × (length (starts_all (trees others)) ≡ length (starts_all (trees nodes)))
+as_many limit bytes nodes others fit spells whole placed =
+    let ns = trees nodes in
+    let us = trees others in
+    let same : all_from 0 ns ≡ us = one_spelling ns us fit whole.fit (spells ∙ sym whole.spells) 0 ∙ same_all-from us 0 placed in
+    (same, ap (λ (ts : Trees). length (starts_all ts)) (sym same) ∙ starts_all-from ns 0)
 
 -- Nodes are moved, and their spots still rise.
 module _ (f : ℕ → ℕ) where
@@ -56,9 +65,8 @@ moves_to : (limit : ℕ) (bytes : List ℕ) (nodes others : List Tree) → FitsA
 moves_to limit bytes nodes others fit spells whole placed i off place at there =
     let ns = trees nodes in
     let us = trees others in
-    let same : all_from 0 ns ≡ us = one_spelling ns us fit whole.fit (spells ∙ sym whole.spells) 0 ∙ same_all-from us 0 placed in
+    let (same, long) = as_many limit bytes nodes others fit spells whole placed in
     let rises = starts_rise us 0 placed in
-    let long : length (starts_all us) ≡ length (starts_all ns) = ap (λ (ts : Trees). length (starts_all ts)) (sym same) ∙ starts_all-from ns 0 in
     let m = map_to (starts_all us) (starts_all ns) rises long in
     let f = m.0 in
     let gone : moved_all f us ≡ ns = ap (moved_all f) (sym same) ∙ all_back f ns 0 (ap (λ (ts : Trees). map f (starts_all ts)) same ∙ m.1) in
@@ -97,3 +105,37 @@ place_told profile text bytes index offset place are_bytes short at there limit 
     let fit = (notated_fits profile limit text (trees nodes) are_bytes short notated).0 in
     let (f, moves, gone, told) = moves_to limit bytes nodes others fit spells whole placed index offset place (at limit (trees others) whole placed) (there limit (trees nodes) notated) in
     subst (λ (ts : List Tree). AllZip (λ t u. place_of u ≡ offset → place_of t ≡ place) ts others) moves (places_moved f offset place others told)
+
+-- Where one of both has a start of that number, the other has one.
+within : (xs : List ℕ) (i p : ℕ) → slice_get xs i ≡ Some p → i < length xs
+within [] i p e = absurd cc
+within (x ∷ xs) zero p e = omega arith
+within (x ∷ xs) (suc i) p e = let l = within xs i p e in omega (arith, l)
+
+beyond : (xs : List ℕ) (i : ℕ) → slice_get xs i ≡ None → length xs ≤ i
+beyond [] i e = omega arith
+beyond (x ∷ xs) zero e = absurd cc
+beyond (x ∷ xs) (suc i) e = let l = beyond xs i e in omega (arith, l)
+
+pub start_told : (profile : Profile) (text bytes : List ℕ) (index offset : ℕ) → AreBytes text → length text < 2 ^ 56
+    → ((limit : ℕ) (nodes : Trees) → Wellformed limit nodes bytes → PlacedAll 0 nodes → slice_get (starts_all nodes) index ≡ Some offset)
+    → ((limit : ℕ) (nodes : Trees) → Notates profile limit text nodes → slice_get (starts_all nodes) index ≡ None)
+    → (limit : ℕ) (nodes others : List Tree) → Notates profile limit text (trees nodes) → spelled_all (trees nodes) ≡ bytes → Wellformed limit (trees others) bytes → PlacedAll 0 (trees others) → ⊥
+start_told profile text bytes index offset are_bytes short at none limit nodes others notated spells whole placed =
+    let fit = (notated_fits profile limit text (trees nodes) are_bytes short notated).0 in
+    let (same, long) = as_many limit bytes nodes others fit spells whole placed in
+    let there : index < length (starts_all (trees others)) = within (starts_all (trees others)) index offset (at limit (trees others) whole placed) in
+    let here : length (starts_all (trees nodes)) ≤ index = beyond (starts_all (trees nodes)) index (none limit (trees nodes) notated) in
+    omega (arith, there, here, long)
+
+-- ---- what was found, if memory wasn't refused
+
+pub some_ok : {T E : Type 0} (P : Option T → Type 0) (Q : T → Type 0) (r : Result (Option T) E) → IfOk r P → ((v : T) → P (Some v) → Q v) → IfOk r (λ o. IfSome o Q)
+some_ok P Q (Ok (Some v)) h f = f v h
+some_ok P Q (Ok None) h f = tt
+some_ok P Q (Err e) h f = tt
+
+pub none_ok : {T E : Type 0} (P : Option T → Type 0) (Q : Type 0) (r : Result (Option T) E) → IfOk r P → (P None → Q) → IfOk r (λ o. o ≡ None → Q)
+none_ok P Q (Ok (Some v)) h f = λ e. absurd cc
+none_ok P Q (Ok None) h f = λ e. f h
+none_ok P Q (Err e) h f = tt

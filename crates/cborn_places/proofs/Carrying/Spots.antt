@@ -1,12 +1,14 @@
 -- The starts of nodes in their bytes rise, the spots are some of them, and each flaw stands at a spot.
-use Rattle.std.proofs.Common.{◌≡◌, ℕ, ◌+◌, inl, inr, List, [], ◌∷◌, ◌++◌, length, map, refl, sym, ap, subst}
+use Rattle.std.proofs.Common.{◌≡◌, ◌∙◌, ℕ, suc, ◌+◌, inl, inr, List, [], ◌∷◌, ◌++◌, length, map, refl, sym, ap, subst, Some}
+use Rattle.std.specs.Prelude.{slice_get}
 use Rattle.cborn_model.specs.declared.nodes.Chunk.{Chunk}
-use Rattle.cborn_model.specs.Tree.{Tree, Uint, Nint, Bytes, Text, ByteChunks, TextChunks, Items, Pairs, Tagged, Simple, Trees, no_item, more, Entries, no_entry, entry, place}
+use Rattle.cborn_model.specs.Tree.{Tree, Uint, Nint, Bytes, Text, ByteChunks, TextChunks, Items, Pairs, Tagged, Simple, Trees, no_item, more, Entries, no_entry, entry, place, trees}
 use Rattle.cborn_model.specs.Spelled.{spelled_all}
 use Rattle.cborn_model.specs.Placed.{PlacedAll}
 use Rattle.cborn_model.proofs.SameItems.Rearranging.{IsIn}
 use Rattle.cborn_edn.specs.Starts.{starts_of_chunks, starts, starts_all, starts_entries, unless_bytes, spots, spots_all, spots_entries, IsRising}
-use Rattle.cborn_judge.specs.Flaws.{Within, WithinAll, WithinEntries, IsRepeated, HasRepeat, HasBadChunk, FlawAt, Flaw}
+use Rattle.cborn_judge.specs.Flaws.{Within, WithinAll, WithinEntries, IsRepeated, HasRepeat, HasBadChunk, FlawAt, Flaw, IsRefusalOfAll}
+use Rattle.cborn_judge.specs.declared.faults.Invalid.TheVariants.{Refused}
 use Rattle.cborn_judge.specs.declared.faults.InvalidReason.{InvalidReason}
 use Rattle.cborn_judge.proofs.Meaning.Placing.{places, places_all, places_entries, places_all_rise}
 use Rattle.cborn_places.proofs.Carrying.Rising.{IsPart, part_itself, part_append, rising_within, in_left, in_right}
@@ -150,3 +152,27 @@ module _ (q : Tree) (p : ℕ) (r : InvalidReason) (h : FlawAt q p r) where
 
 pub flaw_spot : (t : Tree) (p : ℕ) (r : InvalidReason) → Flaw t p r → IsIn p (spots t)
 flaw_spot t p r (q, i, h) = spot_in q p r h t i
+
+-- ---- and so at starts
+
+start_in : (p : ℕ) (xs ys : List ℕ) → IsPart xs ys → IsIn p xs → IsIn p ys
+start_in p [] ys h i = absurd i
+start_in p (x ∷ xs) [] h i = absurd h
+start_in p (x ∷ xs) (y ∷ ys) (inl h) (inl e) = inl (e ∙ h.0)
+start_in p (x ∷ xs) (y ∷ ys) (inl h) (inr i) = inr (start_in p xs ys h.1 i)
+start_in p (x ∷ xs) (y ∷ ys) (inr h) i = inr (start_in p (x ∷ xs) ys h i)
+
+numbered : (p : ℕ) (xs : List ℕ) → IsIn p xs → (i : ℕ) × (slice_get xs i ≡ Some p)
+numbered p [] i = absurd i
+numbered p (x ∷ xs) (inl e) = (0, ap Some (sym e))
+numbered p (x ∷ xs) (inr i) = let n = numbered p xs i in (suc n.0, n.1)
+
+refusal_spot : (ts : List Tree) (p : ℕ) (r : InvalidReason) → IsRefusalOfAll ts (Refused p r) → IsIn p (spots_all (trees ts))
+refusal_spot [] p r h = cc
+refusal_spot (t ∷ ts) p r h = elim h [
+  | inl k ↦ in_left p (spots t) (spots_all (trees ts)) (flaw_spot t p r k.is)
+  | inr k ↦ in_right p (spots t) (spots_all (trees ts)) (refusal_spot ts p r k.1)
+]
+
+pub flaw_starts : (ts : List Tree) (p : ℕ) (r : InvalidReason) → IsRefusalOfAll ts (Refused p r) → (i : ℕ) × (slice_get (starts_all (trees ts)) i ≡ Some p)
+flaw_starts ts p r h = numbered p (starts_all (trees ts)) (start_in p (spots_all (trees ts)) (starts_all (trees ts)) (spots_all_part (trees ts)) (refusal_spot ts p r h))

@@ -1,16 +1,20 @@
 -- What a head at the front of some bytes says is what the piece there is.
-use Rattle.std.proofs.Common.{◌≡◌, refl, sym, ap, ◌∙◌, ℕ, ◌+◌, ◌/◌, ◌%◌, ◌<◌, List, ◌∷◌, ◌++◌, length, get_or, true, false, arith, append_assoc, length-append}
+use Rattle.std.proofs.Common.{◌≡◌, refl, sym, ap, ◌∙◌, ℕ, ◌+◌, ◌/◌, ◌%◌, ◌<◌, List, [], ◌∷◌, ◌++◌, length, get_or, true, false, Option, None, Some, arith, append_assoc, append-nil, length-append}
 use Rattle.cborn_model.specs.declared.heads.Width.{Width}
 use Rattle.cborn_model.specs.declared.heads.Width.TheVariants.{Direct, One, Two, Four, Eight}
 use Rattle.cborn_model.specs.declared.heads.Major.{Major}
 use Rattle.cborn_model.specs.declared.heads.Major.TheVariants.{Unsigned, Negative, ByteString, TextString, Array, Map, Tag, Other}
 use Rattle.cborn_model.specs.Heads.{Argument, Given, Unbounded, code, head}
 use Rattle.cborn_model.proofs.Numbers.OneHead.{one_head}
+use Rattle.cborn_wire.specs.declared.faults.WireReason.{WireReason}
 use Rattle.cborn_wire.specs.declared.heads.Head.{Head}
-use Rattle.cborn_wire.specs.HeadReading.{major_at, seen_argument, ArgumentFits, IsHeadOf}
+use Rattle.cborn_wire.specs.declared.heads.HeadRead.{HeadRead}
+use Rattle.cborn_wire.specs.declared.heads.HeadRead.TheVariants.{Full, Short, Bad}
+use Rattle.cborn_wire.specs.HeadReading.{major_at, seen_argument, reason_alone, ArgumentFits, IsHeadOf, ReadsHead}
 use Rattle.cborn_wire.specs.shared.InitialBytes.{Unended, info_at, info_for}
 use Rattle.cborn_wire.specs.shared.Scanning.{content_of}
 use Rattle.cborn_wire.proofs.Machine.Pieces.{major_of_head, info_of_head}
+use Rattle.cborn_wire.proofs.Parts.Openings.{one_argument}
 use Rattle.cborn_places.specs.devices.Pieces.{Piece, piece_bytes, IsPiece, is_end}
 
 pub head_some : (m : Major) (a : Argument) → 0 < length (head m a)
@@ -83,6 +87,26 @@ pub read_length : (x : List ℕ) (h : Head) (n k : ℕ) → IsHeadOf x h n → k
 read_length x h n k i content p rest is e =
     let both : head (major_at h.major) (seen_argument h.argument) ++ i.rest ≡ head p.major p.argument ++ (p.content ++ rest) = sym i.whole ∙ e ∙ append_assoc (head p.major p.argument) p.content rest in
     omega (arith, i.len, content, piece_length p is, one_length (major_at h.major) p.major (seen_argument h.argument) p.argument i.rest (p.content ++ rest) i.fits is.fits both)
+
+-- At the front of a piece a head is read.
+none_some : (o : Option WireReason) (q : WireReason) → o ≡ None → o ≡ Some q → ⊥
+none_some None q e h = cc
+none_some (Some r) q e h = cc
+
+pub no_piece : (x : List ℕ) (r : HeadRead) → ReadsHead x r → ((h : Head) (n : ℕ) → r ≡ Full h n → ⊥) → (p : Piece) (rest : List ℕ) → IsPiece p → x ≡ piece_bytes p ++ rest → ⊥
+no_piece x (Full h n) i other p rest is e = other h n refl
+no_piece x Short i other p rest is e =
+    let y : List ℕ = p.content ++ rest in
+    let read : x ≡ head p.major p.argument ++ y = e ∙ append_assoc (head p.major p.argument) p.content rest in
+    let whole : head p.major p.argument ++ (y ++ i.missing) ≡ head i.major i.argument ++ [] = sym (append_assoc (head p.major p.argument) y i.missing) ∙ ap (λ l. l ++ i.missing) (sym read) ∙ i.whole ∙ sym (append-nil (head i.major i.argument)) in
+    let none = (one_argument p.major i.major p.argument i.argument (y ++ i.missing) [] is.fits i.fits whole).2 in
+    absurd (omega (arith, ap length none, length-append y i.missing, i.some))
+no_piece x (Bad r) i other p rest is e =
+    let read : x ≡ head p.major p.argument ++ (p.content ++ rest) = e ∙ append_assoc (head p.major p.argument) p.content rest in
+    none_some (reason_alone x) r (ap reason_alone read ∙ is.free (p.content ++ rest)) i
+
+pub piece_some : (p : Piece) → 0 < length (piece_bytes p)
+piece_some p = omega (arith, head_some p.major p.argument, length-append (head p.major p.argument) p.content)
 
 -- A break is the byte 255, and no other piece begins with it.
 pub break_first : (p : Piece) (x rest : List ℕ) → IsPiece p → x ≡ piece_bytes p ++ rest → get_or x 0 0 ≡ 255 → is_end p.major p.argument ≡ true

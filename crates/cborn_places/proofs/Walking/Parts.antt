@@ -1,5 +1,5 @@
 -- What nodes spell is pieces, which start where the nodes and their chunks do.
-use Rattle.std.proofs.Common.{◌≡◌, refl, sym, ap, ◌∙◌, ℕ, suc, ◌+◌, List, [], ◌∷◌, ◌++◌, length, false, cond, arith, append_assoc, append-nil, length-append, add-one}
+use Rattle.std.proofs.Common.{◌≡◌, refl, sym, ap, ◌∙◌, ℕ, suc, ◌+◌, List, [], ◌∷◌, ◌++◌, length, false, cond, None, arith, append_assoc, append-nil, length-append, add-one}
 use Rattle.std.proofs.lemmas.List.Concat.{flat_map-append}
 use Rattle.std.specs.List.{flat_map}
 use Rattle.cborn_model.specs.declared.heads.Width.{Width}
@@ -13,9 +13,10 @@ use Rattle.cborn_model.specs.Tree.{Tree, Uint, Nint, Bytes, Text, ByteChunks, Te
 use Rattle.cborn_model.specs.Spelled.{ending, string, chunk_bytes, spelled, spelled_all, spelled_entries, ChunksFit, Fits, FitsAll, FitsEntries}
 use Rattle.cborn_model.specs.Placed.{ChunksPlaced, Placed, PlacedAll, PlacedEntries}
 use Rattle.cborn_model.proofs.Numbers.Simples.{simple_fits}
-use Rattle.cborn_wire.specs.HeadReading.{ArgumentFits}
+use Rattle.cborn_wire.specs.HeadReading.{ArgumentFits, reason_alone}
 use Rattle.cborn_wire.specs.shared.Scanning.{content_of}
 use Rattle.cborn_wire.proofs.Machine.TakesItems.{size_fits}
+use Rattle.cborn_descent.proofs.Heads.{free, alone_plain}
 use Rattle.cborn_edn.specs.Starts.{starts_of_chunks, starts, starts_all, starts_entries}
 use Rattle.cborn_places.specs.devices.Pieces.{Piece, piece_bytes, all_bytes, IsPiece, ArePieces, is_end, start_of, starts_from}
 
@@ -60,49 +61,53 @@ nothing = record { pieces = []; are = tt; spell = refl; start = refl }
 one : (at : ℕ) (p : Piece) → IsPiece p → Parts at (piece_bytes p) (start_of at p)
 one at p h = record { pieces = p ∷ []; are = (h, tt); spell = append-nil (piece_bytes p); start = append-nil (start_of at p) }
 
--- a string, and a head that starts_one content follows
-string_part : (at q : ℕ) (m : Major) (w : Width) (b : List ℕ) → q ≡ at → WidthFits w (length b) → length b ≡ content_of m (Given w (length b)) → is_end m (Given w (length b)) ≡ false → Parts at (string m w b) (q ∷ [])
-string_part at q m w b place fits full starts_one =
-    let p : Piece = record { major = m; argument = Given w (length b); content = b } in
-    written refl refl (ap (λ c. cond c [] (at ∷ [])) starts_one ∙ ap (λ k. k ∷ []) (sym place)) (one at p (record { fits = fits; full = full }))
+-- it is refused nowhere
+abbrev IsFree : Major → Argument → Type 0
+IsFree m a = (y : List ℕ) → reason_alone (head m a ++ y) ≡ None
 
-head_part : (at q : ℕ) (m : Major) (a : Argument) → q ≡ at → ArgumentFits a → 0 ≡ content_of m a → is_end m a ≡ false → Parts at (head m a) (q ∷ [])
-head_part at q m a place fits full starts_one =
+-- a string, and a head that starts_one content follows
+string_part : (at q : ℕ) (m : Major) (w : Width) (b : List ℕ) → IsFree m (Given w (length b)) → q ≡ at → WidthFits w (length b) → length b ≡ content_of m (Given w (length b)) → is_end m (Given w (length b)) ≡ false → Parts at (string m w b) (q ∷ [])
+string_part at q m w b free place fits full starts_one =
+    let p : Piece = record { major = m; argument = Given w (length b); content = b } in
+    written refl refl (ap (λ c. cond c [] (at ∷ [])) starts_one ∙ ap (λ k. k ∷ []) (sym place)) (one at p (record { free = free; fits = fits; full = full }))
+
+head_part : (at q : ℕ) (m : Major) (a : Argument) → IsFree m a → q ≡ at → ArgumentFits a → 0 ≡ content_of m a → is_end m a ≡ false → Parts at (head m a) (q ∷ [])
+head_part at q m a free place fits full starts_one =
     let p : Piece = record { major = m; argument = a; content = [] } in
-    written refl (append-nil (head m a)) (ap (λ c. cond c [] (at ∷ [])) starts_one ∙ ap (λ k. k ∷ []) (sym place)) (one at p (record { fits = fits; full = full }))
+    written refl (append-nil (head m a)) (ap (λ c. cond c [] (at ∷ [])) starts_one ∙ ap (λ k. k ∷ []) (sym place)) (one at p (record { free = free; fits = fits; full = full }))
 
 -- A break starts nothing.
 ended : {at : ℕ} {x s : List ℕ} (z : Size) → Parts at x s → Parts at (x ++ ending z) s
 ended {at} {x} {s} (Fixed w) h = written refl (sym (append-nil x)) refl h
 ended {at} {x} {s} Endless h =
-    written refl refl (append-nil s) (both h (one (at + length x) (record { major = Other; argument = Unbounded; content = [] }) (record { fits = tt; full = refl })))
+    written refl refl (append-nil s) (both h (one (at + length x) (record { major = Other; argument = Unbounded; content = [] }) (record { free = λ y. refl; fits = tt; full = refl })))
 
-chunk_parts : (m : Major) (at : ℕ) (cs : List Chunk) → ((w : Width) (n : ℕ) → n ≡ content_of m (Given w n)) → ((a : Argument) → is_end m a ≡ false) → ChunksFit cs → ChunksPlaced m at cs → Parts at (flat_map (chunk_bytes m) cs) (starts_of_chunks cs)
-chunk_parts m at [] full starts_one h placed = nothing
-chunk_parts m at (c ∷ cs) full starts_one h placed =
-    both (string_part at c.place m c.width c.bytes placed.0 h.0.0 (full c.width (length c.bytes)) (starts_one (Given c.width (length c.bytes)))) (chunk_parts m (at + length (chunk_bytes m c)) cs full starts_one h.1 placed.1)
+chunk_parts : (m : Major) (at : ℕ) (cs : List Chunk) → ((w : Width) (n : ℕ) → n ≡ content_of m (Given w n)) → ((a : Argument) → is_end m a ≡ false) → ((w : Width) (n : ℕ) → WidthFits w n → IsFree m (Given w n)) → ChunksFit cs → ChunksPlaced m at cs → Parts at (flat_map (chunk_bytes m) cs) (starts_of_chunks cs)
+chunk_parts m at [] full starts_one given h placed = nothing
+chunk_parts m at (c ∷ cs) full starts_one given h placed =
+    both (string_part at c.place m c.width c.bytes (given c.width (length c.bytes) h.0.0) placed.0 h.0.0 (full c.width (length c.bytes)) (starts_one (Given c.width (length c.bytes)))) (chunk_parts m (at + length (chunk_bytes m c)) cs full starts_one given h.1 placed.1)
 
-chunked : (m : Major) (at q : ℕ) (cs : List Chunk) → ((w : Width) (n : ℕ) → n ≡ content_of m (Given w n)) → 0 ≡ content_of m Unbounded → ((a : Argument) → is_end m a ≡ false) → ChunksFit cs → q ≡ at → ChunksPlaced m (suc at) cs
+chunked : (m : Major) (at q : ℕ) (cs : List Chunk) → ((w : Width) (n : ℕ) → n ≡ content_of m (Given w n)) → 0 ≡ content_of m Unbounded → ((a : Argument) → is_end m a ≡ false) → IsFree m Unbounded → ((w : Width) (n : ℕ) → WidthFits w n → IsFree m (Given w n)) → ChunksFit cs → q ≡ at → ChunksPlaced m (suc at) cs
     → Parts at ((head m Unbounded ++ flat_map (chunk_bytes m) cs) ++ ending Endless) (q ∷ starts_of_chunks cs)
-chunked m at q cs full none starts_one h place placed =
-    ended Endless (both (head_part at q m Unbounded place tt none (starts_one Unbounded)) (written (sym (add-one at)) refl refl (chunk_parts m (suc at) cs full starts_one h placed)))
+chunked m at q cs full none starts_one long given h place placed =
+    ended Endless (both (head_part at q m Unbounded long place tt none (starts_one Unbounded)) (written (sym (add-one at)) refl refl (chunk_parts m (suc at) cs full starts_one given h placed)))
 
 mutual
   pub parts : (t : Tree) (at : ℕ) → Fits t → Placed at t → Parts at (spelled t) (starts t)
-  parts (Uint q w n) at h placed = head_part at q Unsigned (Given w n) placed h refl refl
-  parts (Nint q w n) at h placed = head_part at q Negative (Given w n) placed h refl refl
-  parts (Bytes q w b) at h placed = string_part at q ByteString w b placed h.0 refl refl
-  parts (Text q w b) at h placed = string_part at q TextString w b placed h.0 refl refl
-  parts (ByteChunks q cs) at h placed = chunked ByteString at q cs (λ w n. refl) refl (λ a. refl) h placed.0 placed.1
-  parts (TextChunks q cs) at h placed = chunked TextString at q cs (λ w n. refl) refl (λ a. refl) h placed.0 placed.1
+  parts (Uint q w n) at h placed = head_part at q Unsigned (Given w n) (λ y. free (Uint q w n) y h) placed h refl refl
+  parts (Nint q w n) at h placed = head_part at q Negative (Given w n) (λ y. free (Nint q w n) y h) placed h refl refl
+  parts (Bytes q w b) at h placed = string_part at q ByteString w b (λ y. free (Bytes q w b) y h) placed h.0 refl refl
+  parts (Text q w b) at h placed = string_part at q TextString w b (λ y. free (Text q w b) y h) placed h.0 refl refl
+  parts (ByteChunks q cs) at h placed = chunked ByteString at q cs (λ w n. refl) refl (λ a. refl) (λ y. refl) (λ w n f y. alone_plain ByteString w n y f refl) h placed.0 placed.1
+  parts (TextChunks q cs) at h placed = chunked TextString at q cs (λ w n. refl) refl (λ a. refl) (λ y. refl) (λ w n f y. alone_plain TextString w n y f refl) h placed.0 placed.1
   parts (Items q s ts) at h placed =
       let a = argument s (count ts) in
-      ended s (both (head_part at q Array a placed.0 (size_fits s (count ts) h.0) refl refl) (all_parts ts (at + length (head Array a)) h.1 placed.1))
+      ended s (both (head_part at q Array a (λ y. free (Items q s ts) y h) placed.0 (size_fits s (count ts) h.0) refl refl) (all_parts ts (at + length (head Array a)) h.1 placed.1))
   parts (Pairs q s es) at h placed =
       let a = argument s (count_entries es) in
-      ended s (both (head_part at q Map a placed.0 (size_fits s (count_entries es) h.0) refl refl) (entry_parts es (at + length (head Map a)) h.1 placed.1))
-  parts (Tagged q w n t) at h placed = both (head_part at q Tag (Given w n) placed.0 h.0 refl refl) (parts t (at + length (head Tag (Given w n))) h.1 placed.1)
-  parts (Simple q n) at h placed = head_part at q Other (Given (least n) n) placed (simple_fits n h) refl refl
+      ended s (both (head_part at q Map a (λ y. free (Pairs q s es) y h) placed.0 (size_fits s (count_entries es) h.0) refl refl) (entry_parts es (at + length (head Map a)) h.1 placed.1))
+  parts (Tagged q w n t) at h placed = both (head_part at q Tag (Given w n) (λ y. free (Tagged q w n t) y h) placed.0 h.0 refl refl) (parts t (at + length (head Tag (Given w n))) h.1 placed.1)
+  parts (Simple q n) at h placed = head_part at q Other (Given (least n) n) (λ y. free (Simple q n) y h) placed (simple_fits n h) refl refl
 
   pub all_parts : (ts : Trees) (at : ℕ) → FitsAll ts → PlacedAll at ts → Parts at (spelled_all ts) (starts_all ts)
   all_parts no_item at h placed = nothing

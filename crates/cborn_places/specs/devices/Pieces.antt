@@ -1,10 +1,10 @@
 -- A device of the proofs: bytes in pieces, each a head with the bytes of its string, whatever is open there. No public contract cites it; the contracts of the crate's own functions do.
-use Rattle.std.specs.Prelude.{◌≡◌, ℕ, ◌+◌, List, [], ◌∷◌, ◌++◌, length, Bool, true, false, if◌then◌else◌}
+use Rattle.std.specs.Prelude.{◌≡◌, ℕ, ◌+◌, List, [], ◌∷◌, ◌++◌, length, Bool, true, false, None, if◌then◌else◌}
 use Rattle.std.specs.List.{flat_map, AllByRecursion}
 use Rattle.cborn_model.specs.declared.heads.Major.{Major}
 use Rattle.cborn_model.specs.declared.heads.Major.TheVariants.{Other}
 use Rattle.cborn_model.specs.Heads.{Argument, Unbounded, head}
-use Rattle.cborn_wire.specs.HeadReading.{ArgumentFits}
+use Rattle.cborn_wire.specs.HeadReading.{ArgumentFits, reason_alone}
 use Rattle.cborn_wire.specs.shared.Scanning.{content_of}
 
 -- a head, of a break too, and the bytes of a definite string behind it
@@ -19,7 +19,9 @@ piece_bytes p = head p.major p.argument ++ p.content
 abbrev pub all_bytes : List Piece → List ℕ
 all_bytes = flat_map piece_bytes
 
+-- the head is one that may stand somewhere
 pub record IsPiece (p : Piece) : Type 0 where
+  pub free : (y : List ℕ) → reason_alone (head p.major p.argument ++ y) ≡ None
   pub fits : ArgumentFits p.argument
   pub full : length p.content ≡ content_of p.major p.argument
 

@@ -1,9 +1,11 @@
 -- A device of the proofs: the keys of a map, as they are kept while its pairs are searched. No public contract cites it.
 use Rattle.std.specs.Prelude.{◌≡◌, ℕ, suc, ◌+◌, ◌-◌, ◌<◌, ◌≤◌, ◌^◌, ◌⊎◌, List, [], ◌∷◌, ◌++◌, length, take, drop, Bool, true, false, Option, None, Some, ⊤}
 use Rattle.std.specs.Int.{from_be_bytes, to_be_bytes}
-use Rattle.std.proofs.Common.{w32}
+use Rattle.std.proofs.Common.{w64, cond}
 use Rattle.std.proofs.Math.Dec.{ltb}
 use Rattle.std.specs.List.{AllZip}
+use Rattle.std.specs.Ordering.{ordering_then, nat_cmp}
+use Rattle.std.specs.declared.cmp.Ordering.{Ordering}
 use Rattle.std.specs.declared.cmp.Ordering.TheVariants.{Less}
 use Rattle.cborn_model.specs.Orders.{bytewise}
 use Rattle.cborn_model.specs.Tree.{Tree, entries}
@@ -16,30 +18,46 @@ use Rattle.cborn_search.specs.Flawed.{Told, IsEarliestTold, FindsTold, NodeAt, P
 use Rattle.cborn_search.specs.declared.keys.Keys.{Keys}
 use Rattle.cborn_search.specs.declared.keys.Mark.{Mark}
 use Rattle.cborn_search.specs.declared.keys.Taken.{Taken}
-use Rattle.cborn_search.specs.declared.keys.Taken.TheVariants.{Behind, Not, Unknown}
+use Rattle.cborn_search.specs.declared.keys.Taken.TheVariants.{Behind, Not, Refused}
 use Rattle.cborn_search.specs.declared.searched_maps.SearchedMap.{SearchedMap}
 
 -- ---- of a map whose pairs begin the last bytes of an input, which has so many in all
 
--- which encoding is marked: it stands in the pairs, or it was written
+-- the number in the first eight bytes
+abbrev pub number_at : List ℕ → ℕ
+number_at x = cond (ltb (length x) 8) 0 (from_be_bytes w64 (take 8 x))
+
+-- an encoding that ends before its place and its length
+abbrev pub written_at : ℕ → List ℕ → List ℕ
+written_at end written = take (number_at (drop 8 (drop end written))) (drop (end - number_at (drop 8 (drop end written))) written)
+
+-- which encoding is marked: a key in the pairs that is its own, or one that was written
 abbrev pub bytes_at : Bool → List ℕ → List ℕ → Mark → List ℕ
 bytes_at true pairs written m = take m.len (drop m.start pairs)
-bytes_at false pairs written m = take m.len (drop (m.start - length pairs) written)
+bytes_at false pairs written m = written_at m.len written
 
--- and where its key stands: there, or where the four bytes tell that were written behind it
+-- and where its key stands in an input of so many bytes, which ends with the pairs: there, or where the eight bytes tell that were written behind it
 abbrev pub place_at : Bool → ℕ → List ℕ → List ℕ → Mark → ℕ
-place_at true total pairs written m = total - length pairs + m.start
-place_at false total pairs written m = from_be_bytes w32 (take 4 (drop (m.start - length pairs + m.len) written))
+place_at true total pairs written m = total - (length pairs - m.start)
+place_at false total pairs written m = number_at (drop m.len written)
+
+-- it is the key itself
+abbrev pub is_own : List ℕ → Mark → Bool
+is_own pairs m = ltb m.start (length pairs)
 
 abbrev pub mark_bytes : List ℕ → List ℕ → Mark → List ℕ
-mark_bytes pairs written m = bytes_at (ltb m.start (length pairs)) pairs written m
+mark_bytes pairs written m = bytes_at (is_own pairs m) pairs written m
 
 abbrev pub mark_place : ℕ → List ℕ → List ℕ → Mark → ℕ
-mark_place total pairs written m = place_at (ltb m.start (length pairs)) total pairs written m
+mark_place total pairs written m = place_at (is_own pairs m) total pairs written m
 
--- the mark lies within either
+-- by their bytes, and those of the same bytes by the places of the keys
+abbrev pub mark_order : ℕ → List ℕ → List ℕ → Mark → Mark → Ordering
+mark_order total pairs written x y = ordering_then (bytewise (mark_bytes pairs written x) (mark_bytes pairs written y)) (nat_cmp (mark_place total pairs written x) (mark_place total pairs written y))
+
+-- what the mark tells was written
 abbrev pub IsInside : List ℕ → List ℕ → Mark → Type 0
-IsInside pairs written m = (m.start < length pairs) ⊎ ((length pairs ≤ m.start) × (m.start + m.len + 4 ≤ length pairs + length written))
+IsInside pairs written m = length pairs ≤ m.start → (m.len + 16 ≤ length written) × (number_at (drop 8 (drop m.len written)) ≤ m.len)
 
 -- the mark is that of the key
 abbrev pub IsMark : ℕ → List ℕ → List ℕ → Mark → SeenKey → Type 0
@@ -55,14 +73,14 @@ pub record AreMarked (total : ℕ) (pairs : List ℕ) (end : ℕ) (ks : List See
   pub are : AllZip (IsMark total pairs keys.written.items) keys.marks.items ks
   pub rise : PlacesRise 0 ks end
 
--- one mark more, of an encoding that begins there
-abbrev pub IsPushed : ℕ → List ℕ → Keys → Keys → Type 0
-IsPushed start encoding old new = (m : Mark) × (new.written.items ≡ old.written.items) × (new.marks.items ≡ old.marks.items ++ m ∷ []) × (m.start ≡ start) × (m.len ≡ length encoding)
+-- one mark more
+abbrev pub IsPushed : ℕ → ℕ → Keys → Keys → Type 0
+IsPushed start len old new = (m : Mark) × (new.written.items ≡ old.written.items) × (new.marks.items ≡ old.marks.items ++ m ∷ []) × (m.start ≡ start) × (m.len ≡ len)
 
--- the same of an encoding that was written behind n bytes and those that were written before, and its place behind it
-abbrev pub IsWritten : ℕ → ℕ → List ℕ → Keys → Keys → Type 0
-IsWritten place n encoding old new =
-    (m : Mark) × (place < 2 ^ 32) × (new.written.items ≡ (old.written.items ++ encoding) ++ to_be_bytes w32 place) × (new.marks.items ≡ old.marks.items ++ m ∷ []) × (m.start ≡ n + length old.written.items) × (m.len ≡ length encoding)
+-- the same of an encoding that was written, with its place and its length behind it
+abbrev pub IsWritten : ℕ → List ℕ → Keys → Keys → Type 0
+IsWritten place encoding old new =
+    (m : Mark) × (place < 2 ^ 64) × (length encoding < 2 ^ 64) × (new.written.items ≡ ((old.written.items ++ encoding) ++ to_be_bytes w64 place) ++ to_be_bytes w64 (length encoding)) × (new.marks.items ≡ old.marks.items ++ m ∷ []) × (m.start ≡ 2 ^ 64 - 1) × (m.len ≡ length (old.written.items ++ encoding))
 
 -- what the next pair does to the keys that are known
 abbrev pub Joins : ℕ → Tree → List SeenKey → List SeenKey → Type 0
@@ -77,11 +95,11 @@ pub record KeyTaken (room total : ℕ) (pairs input : List ℕ) (old new : Keys)
   pub key : NodeAt IsSound room total input rest
   pub pushed : Pushes total pairs (total - length input) key.node old new
 
--- what became of the key at the front
-abbrev pub Takes : ℕ → ℕ → List ℕ → List ℕ → Keys → Keys → Taken → Type 0
-Takes room total pairs input old new (Behind left) = Leaves (KeyTaken room total pairs input old new) left
-Takes room total pairs input old new Not = new ≡ old
-Takes room total pairs input old new Unknown = ⊤
+-- what became of the key at the front: N holds where it isn't taken
+abbrev pub Takes : Type 0 → ℕ → ℕ → List ℕ → List ℕ → Keys → Keys → Taken → Type 0
+Takes N room total pairs input old new (Behind left) = Leaves (KeyTaken room total pairs input old new) left
+Takes N room total pairs input old new Not = (new ≡ old) × N
+Takes N room total pairs input old new (Refused e) = ⊤
 
 -- a key and its first flaw, which joins what is known of the map: the keys that are kept, if it has no flaw
 pub record KeyJoined (room total : ℕ) (pairs input : List ℕ) (old new : SearchedMap) (rest : List ℕ) : Type 0 where

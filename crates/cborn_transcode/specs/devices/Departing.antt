@@ -1,10 +1,12 @@
 -- A device of the proofs: what a walk knows that stops at the first departure of bytes that hold items. It speaks of any nodes that the bytes may spell. No public contract cites it.
 use Rattle.std.specs.Prelude.{◌≡◌, ◌≢◌, ◌⊎◌, ◌↔◌, ℕ, ◌-◌, ◌≤◌, List, [], ◌++◌, length, Bool, true, false, IsTrue, Option, None, Some, ⊤}
+use Rattle.std.specs.declared.alloc.AllocError.{AllocError}
 use Rattle.std.specs.declared.cmp.Ordering.{Ordering}
 use Rattle.std.specs.declared.cmp.Ordering.TheVariants.{Less}
 use Rattle.std.proofs.Common.{Bor}
 use Rattle.cborn_model.specs.declared.heads.Major.{Major}
-use Rattle.cborn_model.specs.Heads.{Given, head, WidthFits, least}
+use Rattle.cborn_model.specs.declared.heads.Major.TheVariants.{Other}
+use Rattle.cborn_model.specs.Heads.{Given, head, WidthFits, least, is_simple_value}
 use Rattle.cborn_model.specs.Meaning.{IsByteString, Means, AllMean, EntriesMean}
 use Rattle.cborn_model.specs.Placed.{Placed, PlacedAll, PlacedEntries}
 use Rattle.cborn_model.specs.Spelled.{spelled, spelled_all, spelled_entries, Fits, FitsAll, FitsEntries}
@@ -17,11 +19,16 @@ use Rattle.cborn_judge.specs.shared.Checked.{DefectIn, DefectInAll, DefectAmong,
 use Rattle.cborn_judge.specs.declared.defects.Defect.{Defect}
 use Rattle.cborn_judge.specs.declared.defects.DefectReason.{DefectReason}
 use Rattle.cborn_judge.specs.declared.defects.DefectReason.TheVariants as reasons
+use Rattle.cborn_transcode.specs.declared.departures.Ask.{Ask}
+use Rattle.cborn_transcode.specs.declared.departures.Ask.TheVariants.{Settled}
+use Rattle.cborn_transcode.specs.declared.departures.Departure.{Departure}
+use Rattle.cborn_transcode.specs.declared.departures.Departure.TheVariants.{Deterministic, First}
+use Rattle.cborn_transcode.specs.declared.departures.Departure.TheVariants as departures
 use Rattle.cborn_transcode.specs.declared.departures.Walked.{Walked}
-use Rattle.cborn_transcode.specs.declared.departures.Walked.TheVariants.{Behind, LongHead, EndlessLength, LooseBignum, KeyOrder, Unknown}
-use Rattle.cborn_transcode.specs.Transcoding.{IsContent, IsEncodedAs}
+use Rattle.cborn_transcode.specs.declared.departures.Walked.TheVariants.{Behind, LongHead, EndlessLength, LooseBignum, KeyOrder, Unknown, Nothing, Refused}
+use Rattle.cborn_transcode.specs.Transcoding.{IsContent, IsEncodedAs, HoldsNoItem}
 use Rattle.cborn_wire.specs.Parts.{Leaves, StringRead}
-use Rattle.cborn_transcode.specs.shared.Walking.{ItemWalked, WalkedBehind}
+use Rattle.cborn_transcode.specs.shared.Walking.{ItemWalked, LeastHeadRead, WalkedBehind}
 
 -- the node stands at the front of the input, and means an item
 pub record Stands (total : ℕ) (t : Tree) (input rest : List ℕ) : Type 0 where
@@ -57,22 +64,79 @@ NoneStands input = (total : ℕ) (t : Tree) (rest : List ℕ) → Stands total t
 abbrev pub NoContent : Major → ℕ → List ℕ → Type 0
 NoContent major n input = (content rest : List ℕ) → StringRead n input content rest → IsContent major content → ⊥
 
--- what is known of what a walk found: that so many bytes follow the item, that so many follow the place of its first departure, or that neither is known
-abbrev pub Tell : (ℕ → Type 0) → (DefectReason → ℕ → Type 0) → Type 0 → Walked → Type 0
-Tell behind stops unknown (Behind left) = behind left
-Tell behind stops unknown (LongHead left) = stops reasons.LongHead left
-Tell behind stops unknown (EndlessLength left) = stops reasons.EndlessLength left
-Tell behind stops unknown (LooseBignum left) = stops reasons.LooseBignum left
-Tell behind stops unknown (KeyOrder left) = stops reasons.KeyOrder left
-Tell behind stops unknown Unknown = unknown
+-- of which items a walk knows that none stands at the front: of any, or of those without a defect
+pub data Lacking : Type 0 where
+  any_item : Lacking
+  without_defect : Lacking
+
+-- what is known of what a walk found: that so many bytes follow the item, that so many follow the place of its first departure, or that no such item stands there
+abbrev pub Tell : (ℕ → Type 0) → (DefectReason → ℕ → Type 0) → (Lacking → Type 0) → Walked → Type 0
+Tell behind stops lacks (Behind left) = behind left
+Tell behind stops lacks (LongHead left) = stops reasons.LongHead left
+Tell behind stops lacks (EndlessLength left) = stops reasons.EndlessLength left
+Tell behind stops lacks (LooseBignum left) = stops reasons.LooseBignum left
+Tell behind stops lacks (KeyOrder left) = stops reasons.KeyOrder left
+Tell behind stops lacks Unknown = lacks without_defect
+Tell behind stops lacks Nothing = lacks any_item
+Tell behind stops lacks Refused = lacks without_defect
 
 -- it is a departure of which this holds
 abbrev pub Departs : (DefectReason → ℕ → Type 0) → Walked → Type 0
-Departs stops = Tell (λ left. ⊥) stops ⊥
+Departs stops = Tell (λ left. ⊥) stops (λ k. ⊥)
+
+-- the keys that waited are settled
+abbrev pub IsSettled : Ask → Type 0
+IsSettled (Settled a) = Unit {0}
+IsSettled _ = ⊥
+
+-- where the item departs stays unknown only as long as keys wait
+abbrev pub IsKnown : Ask → Walked → Type 0
+IsKnown ask Unknown = IsSettled ask → ⊥
+IsKnown ask _ = Unit {0}
+
+-- memory was refused only where the error of that growth is kept
+abbrev pub IsKept : Walked → Option AllocError → Type 0
+IsKept Refused o = o ≡ None → ⊥
+IsKept _ o = Unit {0}
+
+-- it is known, and lies within so many bytes
+abbrev pub Within : ℕ → Walked → Type 0
+Within total (Behind left) = ⊥
+Within total Unknown = ⊥
+Within total Nothing = Unit {0}
+Within total Refused = Unit {0}
+Within total w = Departs (λ r left. left ≤ total) w
+
+-- of a key with so many bytes from its start on: there its departure is, or it has none
+abbrev pub IsAt : ℕ → Walked → Type 0
+IsAt len = Tell (λ left. ⊥) (λ r left. left ≡ len) (λ k. ⊤)
+
+abbrev pub IsNotAt : ℕ → Walked → Type 0
+IsNotAt len Nothing = ⊥
+IsNotAt len Refused = ⊥
+IsNotAt len w = Tell (λ left. ⊤) (λ r left. left ≢ len) (λ k. ⊤) w
 
 -- of an input of so many bytes it is this defect
 abbrev pub Tells : ℕ → Walked → Defect → Type 0
 Tells total w d = Departs (λ r left. (left ≤ total) × (d.place ≡ total - left) × (d.reason ≡ r)) w
+
+-- what is told of an input of so many bytes
+abbrev pub IsTold : ℕ → Walked → Departure → Type 0
+IsTold total w Deterministic = ⊥
+IsTold total w (First d) = Tells total w d
+IsTold total w departures.Nothing = w ≡ Nothing
+
+-- no byte string stands at the front
+abbrev pub HasNoString : List ℕ → Type 0
+HasNoString input = (total : ℕ) (t : Tree) (rest b : List ℕ) → Stands total t input rest → IsByteString t b → ⊥
+
+-- no shortest head does, but one of what is no simple value
+abbrev pub HasNoLeastHead : List ℕ → Type 0
+HasNoLeastHead input = (m : Major) (n : ℕ) (rest : List ℕ) → LeastHeadRead m n input rest → (m ≡ Other → IsTrue (is_simple_value n)) → ⊥
+
+-- a byte string at the front is loose as a bignum, if its head is the shortest
+abbrev pub IsTight : List ℕ → Type 0
+IsTight input = HasNoLeastHead input ⊎ ((total : ℕ) (t : Tree) (rest b : List ℕ) → Stands total t input rest → IsByteString t b → IsLoose b)
 
 -- whether a byte string at the front is loose as a bignum
 abbrev pub TellsLoose : List ℕ → Bool → Type 0
@@ -91,27 +155,34 @@ module _ (order : List ℕ → List ℕ → Ordering) where
   abbrev pub StopsBehind : Major → ℕ → List ℕ → DefectReason → ℕ → Type 0
   StopsBehind m n input r left = WidthFits (least n) n → Stops (head m (Given (least n) n) ++ input) r left
 
-  -- where the item at the front stops a walk
+  -- where the item at the front stops a walk, if its head isn't the shortest
   abbrev pub Halts : List ℕ → Walked → Type 0
-  Halts input = Tell (λ left. ⊥) (Stops input) ⊤
+  Halts input = Tell (λ left. ⊥) (Stops input) (λ k. (k ≡ any_item) × (HasNoLeastHead input → NoneStands input))
+
+  abbrev pub IsOf : Lacking → Tree → Type 0
+  IsOf any_item t = Unit {0}
+  IsOf without_defect t = FindsDefect (DefectIn order t) None
+
+  -- no such item, no deeper than the room, stands at the front
+  abbrev pub Lacks : Lacking → ℕ → List ℕ → Type 0
+  Lacks k room input = (total : ℕ) (t : Tree) (rest : List ℕ) → length input ≤ total → Stands total t input rest → depth t ≤ room → IsOf k t → ⊥
 
   -- the same of an item behind the shortest head of this major type with the argument n
-  abbrev pub HaltsBehind : Major → ℕ → List ℕ → Walked → Type 0
-  HaltsBehind m n input = Tell (λ left. ⊥) (StopsBehind m n input) ⊤
+  abbrev pub LacksBehind : Lacking → ℕ → Major → ℕ → List ℕ → Type 0
+  LacksBehind k room m n input = WidthFits (least n) n → Lacks k room (head m (Given (least n) n) ++ input)
 
   -- whatever item stands at the front, no deeper than the room, has a defect
   abbrev pub Strays : ℕ → List ℕ → Type 0
-  Strays room input = (total : ℕ) (t : Tree) (rest : List ℕ) → length input ≤ total → Stands total t input rest → depth t ≤ room → FindsDefect (DefectIn order t) None → ⊥
+  Strays = Lacks without_defect
 
-  -- the same of an item behind the shortest head of this major type with the argument n
   abbrev pub StraysBehind : ℕ → Major → ℕ → List ℕ → Type 0
-  StraysBehind room m n input = WidthFits (least n) n → Strays room (head m (Given (least n) n) ++ input)
+  StraysBehind = LacksBehind without_defect
 
   abbrev pub Walks : ℕ → List ℕ → Walked → Type 0
-  Walks room input = Tell (Leaves (ItemWalked order room input)) (Stops input) (Strays room input)
+  Walks room input = Tell (Leaves (ItemWalked order room input)) (Stops input) (λ k. Lacks k room input)
 
   abbrev pub WalksBehind : ℕ → Major → ℕ → List ℕ → Walked → Type 0
-  WalksBehind room m n input = Tell (Leaves (WalkedBehind order room m n input)) (StopsBehind m n input) (StraysBehind room m n input)
+  WalksBehind room m n input = Tell (Leaves (WalkedBehind order room m n input)) (StopsBehind m n input) (λ k. LacksBehind k room m n input)
 
   -- what is found of these nodes is found of those
   abbrev pub Decides : Trees → Trees → Type 0
@@ -171,6 +242,7 @@ module _ (order : List ℕ → List ℕ → Ordering) where
   -- where a map departs at the key at the front, in which this was found first
   abbrev pub KeyStops : Option (Bor (List ℕ)) → List ℕ → Walked → Walked → Type 0
   KeyStops before input found w =
-      (w ≡ Unknown)
-      ⊎ ((w ≡ found) × Departs (λ r left. (left ≡ length input) ⊎ IsAbove before input) found)
+      ((w ≡ Unknown) ⊎ (w ≡ Refused))
+      ⊎ ((w ≡ found) × Tell (λ left. ⊥) (λ r left. (left ≡ length input) ⊎ IsAbove before input) (λ k. ⊤) found)
       ⊎ ((w ≡ KeyOrder (length input)) × Departs (λ r left. left ≢ length input) found × IsNotAbove before input)
+      ⊎ ((w ≡ Nothing) × HoldsNoItem 1024 input)

@@ -7,11 +7,11 @@ use Rattle.cborn_edn.specs.devices.Shows.{Shows}
 use Rattle.cborn_edn.proofs.Reader.Inverted.{tag_at, no_tag}
 use Rattle.cborn_edn.proofs.endings.end_tag.Goals as goal
 
-pub returns-then-not-is_tag : goal.returns-then-not-is_tag
-returns-then-not-is_tag c = λ st i a e. no_tag st i a (ap is_tag (sym e.level) ∙ sym c.is_tag.ensures ∙ c.if-not-is_tag.true)
+pub returns-then-not-is_tag-clause-taken : goal.returns-then-not-is_tag-clause-taken
+returns-then-not-is_tag-clause-taken c = λ st i a e. no_tag st i a (ap is_tag (sym e.level) ∙ sym c.is_tag.ensures ∙ c.if-not-is_tag.true)
 
-pub returns : goal.returns
-returns c = λ st i a e.
+pub returns-clause-taken : goal.returns-clause-taken
+returns-clause-taken c = λ st i a e.
     let k = tag_at st (ap is_tag (sym e.level) ∙ sym c.is_tag.ensures ∙ c.if-not-is_tag.false) in
     let u = has k.around (tag k.at k.n k.m i a) in
     (u, subst (λ (t : Stack). step_by (has t i) ParenClose a ≡ Some u) k.is refl, c.close_tag.ensures k.around k.at a k.n k.m i (subst (λ (t : Stack). Shows c.args.here.now c.args.writer.now c.args.writer.now.out.items (has t i)) (sym k.is) e))

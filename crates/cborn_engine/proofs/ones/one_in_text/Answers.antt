@@ -1,4 +1,5 @@
 use Rattle.std.specs.Prelude.{IfErr, ◌⊎◌}
+use Rattle.cborn_engine.proofs.Answers.Listed.{nodes_of}
 use Rattle.std.proofs.Common.{◌≡◌, ◌≤◌, List, [], ◌∷◌, ℕ, length, take, inl, inr, refl, sym, ap, subst, arith}
 use Rattle.cborn_model.specs.Tree.{trees}
 use Rattle.cborn_model.specs.Spelled.{Wellformed}
@@ -20,8 +21,8 @@ returns-in_default-clause-refused c =
     let s = read.ensures.spelled.1 in
     let low : c.args.limit ≤ 1024 = omega (arith, c.get-most.ensures.value, c.get-most.ensures.most) in
     let well = spelled_well c.args.profile c.args.limit c.args.input.now read.bytes.items c.requires.short read.ensures.spelled.0 s in
-    let here : Wellformed c.args.limit (trees s.nodes) c.deref.result.now = subst (λ (x : List ℕ). Wellformed c.args.limit (trees s.nodes) x) (sym c.deref.ensures.value) well in
-    inr (none_in_text c.args.profile c.args.limit c.args.input.now read.bytes.items c.requires.short read.ensures.spelled.0 s (c.in_ok-end.ensures.none c.in_default.is c.args.limit (trees s.nodes) low here), refl)
+    let here : Wellformed c.args.limit (trees (nodes_of s)) c.deref.result.now = subst (λ (x : List ℕ). Wellformed c.args.limit (trees (nodes_of s)) x) (sym c.deref.ensures.value) well in
+    inr (none_in_text c.args.profile c.args.limit c.args.input.now read.bytes.items c.requires.short read.ensures.spelled.0 s (c.in_ok-end.ensures.none c.in_default.is c.args.limit (trees (nodes_of s)) low here), refl)
 
 pub returns-then-end-len-clause-one : goal.returns-then-end-len-clause-one
 returns-then-end-len-clause-one c =

@@ -1,12 +1,31 @@
-use Rattle.std.proofs.Common.{ℕ, List, subst}
-use Rattle.cborn_engine.proofs.Answers.Flawed.{IsCarried, flawed}
+use Rattle.std.proofs.Common.{ℕ, List, Option, subst}
+use Rattle.std.specs.Prelude.{IfSome}
+use Rattle.cborn_search.specs.Searching.{IsValidity}
+use Rattle.cborn_transcode.proofs.Nothings.{some_items}
+use Rattle.cborn_engine.proofs.Answers.Flawed.{IsCarried, HasNoStart, flawed, flaw_placed, spells_well}
 use Rattle.cborn_engine.proofs.refusals.flaw_of_text.Goals as goal
 
-pub returns-in-Some-clause-refused : goal.returns-in-Some-clause-refused
-returns-in-Some-clause-refused c =
-    let input = c.args.input.now in
-    flawed c.args.profile c.args.limit input c.args.bytes.now c.requires.text c.requires.spelled c.in-Flaw.place c.in-Some.place c.in-Flaw.reason c.in-Flaw.ensures
-    (subst (λ (x : List ℕ). IsCarried c.args.profile x c.args.bytes.now c.in-Flaw.place c.in-Some.place) c.in-Ok.ensures.text.0 c.in-Some.ensures.flaw)
-
 pub unreachable-requires : goal.unreachable-requires
-unreachable-requires c = c.in_default-text_of.ensures.none c.requires.text
+unreachable-requires c =
+    let v = subst (IsValidity c.args.limit c.args.bytes.now) c.in-Ok-Valid.field-0-is c.in-Ok-Valid.ensures in
+    some_items c.args.limit c.args.bytes.now v.nodes v.verdict.0 c.requires.none v.read v.verdict.1
+
+pub unreachable-requires-in-Ok-Malformed : goal.unreachable-requires-in-Ok-Malformed
+unreachable-requires-in-Ok-Malformed c =
+    subst (IsValidity c.args.limit c.args.bytes.now) c.in-Ok-Malformed.field-0-is c.in-Ok-Malformed.ensures
+    (spells_well c.args.profile c.args.limit c.args.input.now c.args.bytes.now c.requires.text c.requires.spelled c.requires.short)
+
+pub unreachable-requires-in-Ok-None : goal.unreachable-requires-in-Ok-None
+unreachable-requires-in-Ok-None c =
+    flaw_placed c.args.profile c.args.limit c.args.input.now c.args.bytes.now c.requires.short c.requires.spelled c.in-Ok-Flaw.place c.in-Ok-Flaw.reason
+    (subst (IsValidity c.args.limit c.args.bytes.now) c.in-Ok-Flaw.field-0-is c.in-Ok-Flaw.ensures)
+    (subst (λ (x : List ℕ). HasNoStart c.args.profile x c.args.bytes.now c.in-Ok-Flaw.place) c.in-Ok.ensures.text.0 (c.in-Ok-None.ensures.none c.in-Ok-None.field-0-is))
+
+pub returns-in-Ok-Some-clause-refused : goal.returns-in-Ok-Some-clause-refused
+returns-in-Ok-Some-clause-refused c =
+    let input = c.args.input.now in
+    let told : IsCarried c.args.profile c.in-Ok.text.now c.args.bytes.now c.in-Ok-Flaw.place c.in-Ok-Some.place
+    = subst (λ (o : Option ℕ). IfSome o (IsCarried c.args.profile c.in-Ok.text.now c.args.bytes.now c.in-Ok-Flaw.place)) c.in-Ok-Some.field-0-is c.in-Ok-Some.ensures.flaw in
+    flawed c.args.profile c.args.limit input c.args.bytes.now c.requires.text c.requires.spelled c.in-Ok-Flaw.place c.in-Ok-Some.place c.in-Ok-Flaw.reason
+    (subst (IsValidity c.args.limit c.args.bytes.now) c.in-Ok-Flaw.field-0-is c.in-Ok-Flaw.ensures)
+    (subst (λ (x : List ℕ). IsCarried c.args.profile x c.args.bytes.now c.in-Ok-Flaw.place c.in-Ok-Some.place) c.in-Ok.ensures.text.0 told)

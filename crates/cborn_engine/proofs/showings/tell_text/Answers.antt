@@ -4,7 +4,7 @@ use Rattle.cborn_engine.specs.Reading.{most_bytes}
 use Rattle.cborn_engine.specs.devices.Encoding.{kind_of}
 use Rattle.cborn_engine.specs.Showing.{TellAnswers}
 use Rattle.cborn_engine.proofs.Answers.Told.{told}
-use Rattle.cborn_engine.proofs.Answers.Noted.{as_text, never_wire}
+use Rattle.cborn_engine.proofs.Answers.Noted.{as_bytes, as_text, never_wire}
 use Rattle.cborn_engine.proofs.Answers.Telling.{refused}
 use Rattle.cborn_engine.proofs.Held.BadTexts.{malformed_unshown}
 use Rattle.cborn_engine.proofs.Held.NotatedTexts.{spelled_shows}
@@ -14,6 +14,11 @@ pub returns-in_err-bytes-clause-answers : goal.returns-in_err-bytes-clause-answe
 returns-in_err-bytes-clause-answers c within =
     told (TellAnswers (kind_of c.args.profile) c.args.out_kind c.args.limit most_bytes c.args.input.now) _ _ c.from_residual.ensures.1
     (refused (kind_of c.args.profile) c.args.out_kind c.args.limit most_bytes c.args.input.now c.in_err-bytes.field-0.0 (c.in_err-bytes.ensures.refused most_bytes within))
+
+pub returns-in-Wire-clause-answers : goal.returns-in-Wire-clause-answers
+returns-in-Wire-clause-answers c within =
+    let read = c.in_ok-bytes in
+    (within, as_bytes c.args.profile c.args.limit c.args.input.now read.bytes.items read.ensures.spelled.0 read.ensures.spelled.1 c.args.out_kind c.in-Wire.is)
 
 pub returns-in-Text : goal.returns-in-Text
 returns-in-Text c =

@@ -4,7 +4,7 @@ use Rattle.cborn_places.proofs.indices.index_at.Given as goal
 
 -- the starts before this offset are counted
 abbrev pub invariant-heads : goal.invariant-heads
-invariant-heads l = (l.at ≤ length l.input) × (l.index ≤ l.at) × IsPassed l.input l.at l.index
+invariant-heads l = (l.at ≤ length l.input) × (l.index ≤ l.at) × IsPassed l.input l.place l.at l.index
 
 abbrev pub decreases-heads : goal.decreases-heads
 decreases-heads l = length l.input - l.at

@@ -1,14 +1,44 @@
-use Rattle.std.proofs.lemmas.Option.{IfSome_then}
+use Rattle.std.proofs.Common.{◌≡◌, ◌<◌, ◌^◌, ℕ, List, Some, length}
+use Rattle.std.specs.Prelude.{Option, slice_get}
+use Rattle.std.specs.List.{AllZip}
+use Rattle.cborn_model.specs.Placed.{PlacedAll}
+use Rattle.cborn_model.specs.Spelled.{Wellformed, spelled_all}
+use Rattle.cborn_model.specs.Tree.{Tree, Trees, trees, place as place_of}
+use Rattle.cborn_edn.specs.Grammar.{Notates}
+use Rattle.cborn_edn.specs.Starts.{starts_all}
+use Rattle.cborn_judge.specs.declared.faults.Invalid.TheVariants.{Refused}
+use Rattle.cborn_judge.specs.declared.faults.InvalidReason.{InvalidReason}
+use Rattle.cborn_judge.specs.Flaws.{IsRefusalOfAll}
 use Rattle.cborn_lex.proofs.WholeTexts.Weights.{utf8_bytes}
-use Rattle.cborn_places.proofs.Carrying.Carried.{flaw_told, place_told}
+use Rattle.cborn_places.proofs.Carrying.Carried.{some_ok, none_ok, flaw_told, place_told, start_told}
 use Rattle.cborn_places.proofs.places.place_in_text.Goals as goal
+
+pub returns-in_default-clause-none : goal.returns-in_default-clause-none
+returns-in_default-clause-none c e short limit nodes others notated spells whole placed = c.index_at.ensures.none c.in_default.is limit (trees others) whole placed
 
 pub returns-clause-flaw : goal.returns-clause-flaw
 returns-clause-flaw c =
-    IfSome_then c.start_at.result c.start_at.ensures
-    (λ there told short. flaw_told c.args.profile c.args.text.now c.args.bytes.now c.in_ok-index.index c.args.place there (utf8_bytes c.args.text.now c.utf8.text) short c.in_ok-index.ensures told)
+    let text = c.args.text.now in
+    let bytes = c.args.bytes.now in
+    some_ok (λ (o : Option ℕ). (limit : ℕ) (nodes : Trees) → Notates c.args.profile limit text nodes → slice_get (starts_all nodes) c.in-Some.index ≡ o)
+    (λ there. length text < 2 ^ 56 → (limit : ℕ) (nodes others : List Tree) (r : InvalidReason) → Notates c.args.profile limit text (trees nodes) → spelled_all (trees nodes) ≡ bytes → Wellformed limit (trees others) bytes → PlacedAll 0 (trees others) → IsRefusalOfAll others (Refused c.args.place r) → IsRefusalOfAll nodes (Refused there r))
+    c.start_at.result c.start_at.ensures
+    (λ there told short. flaw_told c.args.profile text bytes c.in-Some.index c.args.place there (utf8_bytes text c.utf8.text) short c.in-Some.ensures.some told)
 
 pub returns-clause-nodes : goal.returns-clause-nodes
 returns-clause-nodes c =
-    IfSome_then c.start_at.result c.start_at.ensures
-    (λ there told short. place_told c.args.profile c.args.text.now c.args.bytes.now c.in_ok-index.index c.args.place there (utf8_bytes c.args.text.now c.utf8.text) short c.in_ok-index.ensures told)
+    let text = c.args.text.now in
+    let bytes = c.args.bytes.now in
+    some_ok (λ (o : Option ℕ). (limit : ℕ) (nodes : Trees) → Notates c.args.profile limit text nodes → slice_get (starts_all nodes) c.in-Some.index ≡ o)
+    (λ there. length text < 2 ^ 56 → (limit : ℕ) (nodes others : List Tree) → Notates c.args.profile limit text (trees nodes) → spelled_all (trees nodes) ≡ bytes → Wellformed limit (trees others) bytes → PlacedAll 0 (trees others) → AllZip (λ t u. place_of u ≡ c.args.place → place_of t ≡ there) nodes others)
+    c.start_at.result c.start_at.ensures
+    (λ there told short. place_told c.args.profile text bytes c.in-Some.index c.args.place there (utf8_bytes text c.utf8.text) short c.in-Some.ensures.some told)
+
+pub returns-clause-none : goal.returns-clause-none
+returns-clause-none c =
+    let text = c.args.text.now in
+    let bytes = c.args.bytes.now in
+    none_ok (λ (o : Option ℕ). (limit : ℕ) (nodes : Trees) → Notates c.args.profile limit text nodes → slice_get (starts_all nodes) c.in-Some.index ≡ o)
+    (length text < 2 ^ 56 → (limit : ℕ) (nodes others : List Tree) → Notates c.args.profile limit text (trees nodes) → spelled_all (trees nodes) ≡ bytes → Wellformed limit (trees others) bytes → PlacedAll 0 (trees others) → (i : ℕ) → slice_get (starts_all (trees others)) i ≡ Some c.args.place → ⊥)
+    c.start_at.result c.start_at.ensures
+    (λ none short limit nodes others notated spells whole placed i e. start_told c.args.profile text bytes c.in-Some.index c.args.place (utf8_bytes text c.utf8.text) short c.in-Some.ensures.some none limit nodes others notated spells whole placed)

@@ -1,4 +1,4 @@
-use Rattle.std.proofs.Common.{rules, ◌≡◌, ◌==◌, ◌+◌, ℕ, length, true, false, sym, refl, ◌∙◌, arith, subst, None}
+use Rattle.std.proofs.Common.{rules, ◌≡◌, ◌==◌, ◌+◌, ℕ, length, true, false, sym, ◌∙◌, arith, subst}
 use Rattle.cborn_wire.specs.Faults.{IsWellformed}
 use Rattle.cborn_wire.proofs.Parts.Nodes.{node_last}
 use Rattle.cborn_search.specs.Searching.{HaveFirstBadText}

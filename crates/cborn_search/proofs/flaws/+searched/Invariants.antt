@@ -3,9 +3,6 @@ use Rattle.cborn_search.specs.Flawed.{SearchedAll, SeenKey, PairsSeen}
 use Rattle.cborn_search.specs.devices.Marks.{AreMarked}
 use Rattle.cborn_search.proofs.flaws.+searched.Given as goal
 
-abbrev pub decreases-search_item : goal.decreases-search_item
-decreases-search_item l = 8 * l.room + 2
-
 abbrev pub decreases-search_node : goal.decreases-search_node
 decreases-search_node l = 8 * l.room + 1
 
@@ -23,6 +20,9 @@ decreases-search_tagged l = 8 * l.room + 0
 
 abbrev pub decreases-search_bignum : goal.decreases-search_bignum
 decreases-search_bignum l = 8 * l.room + 0
+
+abbrev pub decreases-search_items-items : goal.decreases-search_items-items
+decreases-search_items-items l = length l.rest
 
 -- the items so far
 abbrev pub invariant-search_items-items : goal.invariant-search_items-items

@@ -3,7 +3,7 @@ use Rattle.std.proofs.lemmas.List.{take_all, get_or_default}
 use Rattle.cborn_search.specs.Flawed.{FindsTold}
 use Rattle.cborn_search.specs.devices.Marks.{InPlace, TieFlaw}
 use Rattle.cborn_search.specs.declared.keys.Mark.{Mark}
-use Rattle.cborn_search.proofs.Marking.{no_tie, tie-take_more}
+use Rattle.cborn_search.proofs.Marking.{no_tie, tie-take_more, not_in_place}
 use Rattle.cborn_search.proofs.keys.first_tie.Goals as goal
 
 abbrev none : Mark
@@ -16,7 +16,13 @@ pub loop-mark-preserved : goal.loop-mark-preserved
 loop-mark-preserved c =
     let i = c.loop-mark.mark-index in
     let m : Mark = get_or c.args.marks.now i none in
-    tie-take_more c.args.total c.args.pairs.now c.args.written.now c.args.marks.now i m c.loop-mark.before c.loop-mark.first c.in_ok-next.next c.earliest-first.result c.loop-mark-test.true (get_or_default c.args.marks.now i none m c.loop-mark-test.true) c.loop-mark.invariant c.in_ok-next.ensures.0 c.in_ok-next.ensures.1 c.earliest-first.ensures
+    tie-take_more c.args.total c.args.pairs.now c.args.written.now c.args.marks.now i m c.loop-mark.last c.loop-mark.first c.in-Some.next c.earliest-first.result c.loop-mark-test.true (get_or_default c.args.marks.now i none m c.loop-mark-test.true) c.loop-mark.invariant c.in-Some.ensures.0 c.in-Some.ensures.1 c.earliest-first.ensures
+
+pub returns-in_default : goal.returns-in_default
+returns-in_default c =
+    let i = c.loop-mark.mark-index in
+    let m : Mark = get_or c.args.marks.now i none in
+    not_in_place c.args.total c.args.pairs.now c.args.written.now c.args.marks.now i m c.loop-mark.last c.loop-mark.first c.loop-mark-test.true (get_or_default c.args.marks.now i none m c.loop-mark-test.true) c.loop-mark.invariant c.in_default.ensures
 
 pub returns : goal.returns
 returns c =

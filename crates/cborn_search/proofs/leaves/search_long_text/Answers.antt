@@ -1,7 +1,12 @@
-use Rattle.std.proofs.Common.{rules}
+use Rattle.std.proofs.Common.{refl, true}
+use Rattle.cborn_search.proofs.Ending.{no_chunks}
 use Rattle.cborn_search.proofs.Searching.{text_chunks_seen}
 use Rattle.cborn_search.proofs.leaves.search_long_text.Goals as goal
 
+pub returns-in_default : goal.returns-in_default
+returns-in_default c room l = no_chunks room true c.args.bytes.now c.in_default.ensures
+
 pub returns : goal.returns
 returns c room l =
-    (c.in_ok-end.end.now, search rules, text_chunks_seen room c.args.total c.args.bytes.now c.in_ok-after.after.now c.in_ok-end.end.now _ l c.in_ok-end.ensures c.in_ok-after.ensures)
+    let s = c.in-Some.ensures in
+    (c.in-Some.end.now, refl, text_chunks_seen room c.args.total c.args.bytes.now s.0 c.in-Some.end.now _ l s.1 s.2)

@@ -3,6 +3,9 @@ use Rattle.cborn_search.specs.Flawed.{NodesAt}
 use Rattle.cborn_search.proofs.Sequencing.{HaveVerdict}
 use Rattle.cborn_search.proofs.sequences.first_flaw.Given as goal
 
+abbrev pub decreases-items : goal.decreases-items
+decreases-items l = length l.rest
+
 -- the items so far
 abbrev pub invariant-items : goal.invariant-items
 invariant-items l = (n : ℕ) × NodesAt (HaveVerdict l.first) l.room l.total n l.bytes l.rest × (length l.rest ≤ l.total)

@@ -1,17 +1,41 @@
-use Rattle.std.proofs.Common.{false, true, subst}
-use Rattle.std.specs.Prelude.{IfSome, ⊤}
+use Rattle.std.proofs.Common.{◌≡◌, false, true, sym, subst}
 use Rattle.cborn_model.specs.declared.heads.Major.TheVariants.{Tag}
-use Rattle.cborn_transcode.specs.devices.Departing.{Stops, StopsBehind, TellsLoose}
+use Rattle.cborn_transcode.specs.devices.Departing.{any_item, HasNoLeastHead, HasNoString, LacksBehind, NoneStands, Stops, StopsBehind, TellsLoose, WalksBehind}
+use Rattle.cborn_transcode.specs.shared.Walking.{WalkedBehind}
+use Rattle.cborn_wire.specs.Parts.{Leaves}
+use Rattle.cborn_transcode.proofs.Outcomes.{of_some, of_none}
+use Rattle.cborn_transcode.proofs.Straying.{string_lacks, tight_lacks}
 use Rattle.cborn_transcode.proofs.Tagging.{tight_stops, loose_stops}
-use Rattle.cborn_transcode.proofs.Telling.{tell}
+use Rattle.cborn_transcode.proofs.Telling.{tell, halts_known, halts_kept}
 use Rattle.cborn_transcode.proofs.departures.bignum_departure.Goals as goal
 
-pub returns-in-Some-true : goal.returns-in-Some-true
-returns-in-Some-true g c =
-    let loose : TellsLoose c.args.bytes.now true = subst (TellsLoose c.args.bytes.now) c.in-Some-true.field-0-test (subst (λ r. IfSome r (TellsLoose c.args.bytes.now)) c.in-Some-true.is c.is_loose.ensures) in
-    loose_stops g.O.KeyOrder.order c.args.n c.args.bytes.now c.requires loose
+pub returns-in-Ok-Some-true-clause-walks : goal.returns-in-Ok-Some-true-clause-walks
+returns-in-Ok-Some-true-clause-walks g c room =
+    let w = c.in-Ok-Some-true in
+    let loose : TellsLoose c.args.bytes.now true = subst (TellsLoose c.args.bytes.now) w.field-0-0-test (of_some (HasNoString c.args.bytes.now) (TellsLoose c.args.bytes.now) w.field-0 w.field-0-0 w.field-0-is w.ensures) in
+    loose_stops g.O.KeyOrder.order c.args.n c.args.bytes.now c.requires.tag loose
 
-pub returns-in-Some-false : goal.returns-in-Some-false
-returns-in-Some-false g c =
-    let tight : TellsLoose c.args.bytes.now false = subst (TellsLoose c.args.bytes.now) c.in-Some-false.field-0-test (subst (λ r. IfSome r (TellsLoose c.args.bytes.now)) c.in-Some-false.is c.is_loose.ensures) in
-    tell (λ left. ⊥) (λ left. ⊥) (Stops g.O.KeyOrder.order c.args.bytes.now) (StopsBehind g.O.KeyOrder.order Tag c.args.n c.args.bytes.now) ⊤ ⊤ c.head_departure.result (λ left none. none) (λ r left h. tight_stops g.O.KeyOrder.order c.args.n c.args.bytes.now r left c.requires tight h) (λ u. u) (c.head_departure.ensures g.O.KeyOrder.order)
+pub returns-in-Ok-Some-false-clause-walks : goal.returns-in-Ok-Some-false-clause-walks
+returns-in-Ok-Some-false-clause-walks g c room =
+    let order = g.O.KeyOrder.order in
+    let x = c.args.bytes.now in
+    let w = c.in-Ok-Some-false in
+    let tight : TellsLoose x false = subst (TellsLoose x) w.field-0-0-test (of_some (HasNoString x) (TellsLoose x) w.field-0 w.field-0-0 w.field-0-is w.ensures) in
+    tell (λ left. ⊥) (Leaves (WalkedBehind order room Tag c.args.n x)) (Stops order x) (StopsBehind order Tag c.args.n x) (λ k. (k ≡ any_item) × (HasNoLeastHead x → NoneStands x)) (λ k. LacksBehind order k room Tag c.args.n x) c.head_departure.result
+    (λ left none. absurd none) (λ r left h. tight_stops order c.args.n x r left c.requires.tag tight h) (λ k u. tight_lacks order k room c.args.n x c.requires.tag tight c.requires.tight u.1) (c.head_departure.ensures order)
+
+pub returns-in-Ok-Some-false-clause-known : goal.returns-in-Ok-Some-false-clause-known
+returns-in-Ok-Some-false-clause-known g c = halts_known g.O.KeyOrder.order c.args.bytes.now c.args.asked.now.ask c.head_departure.result (c.head_departure.ensures g.O.KeyOrder.order)
+
+pub returns-in-Ok-Some-false-clause-kept : goal.returns-in-Ok-Some-false-clause-kept
+returns-in-Ok-Some-false-clause-kept g c = halts_kept g.O.KeyOrder.order c.args.bytes.now _ c.head_departure.result (c.head_departure.ensures g.O.KeyOrder.order)
+
+pub returns-in-Ok-None-clause-walks : goal.returns-in-Ok-None-clause-walks
+returns-in-Ok-None-clause-walks g c room =
+    let x = c.args.bytes.now in
+    let w = c.in-Ok-None in
+    string_lacks g.O.KeyOrder.order any_item room c.args.n x c.requires.tag (of_none (HasNoString x) (TellsLoose x) w.field-0 w.field-0-is w.ensures)
+
+pub returns-in-Err-clause-walks : goal.returns-in-Err-clause-walks
+returns-in-Err-clause-walks g c room =
+    subst (WalksBehind g.O.KeyOrder.order room Tag c.args.n c.args.bytes.now) (sym c.refuse.ensures.refused) (c.requires.strays room)

@@ -1,18 +1,27 @@
-use Rattle.std.proofs.Common.{◌≡◌, ◌≢◌, ◌⊎◌, inl, inr, length, true, false, refl, sym, subst, ◌∙◌}
-use Rattle.cborn_transcode.specs.devices.Departing.{KeyIs, IsAbove, IsNotAbove}
-use Rattle.cborn_transcode.proofs.Telling.{departs_on}
+use Rattle.std.proofs.Common.{inl, inr, length, true, false, refl, sym, subst}
+use Rattle.cborn_transcode.specs.Transcoding.{HoldsNoItem}
+use Rattle.cborn_transcode.specs.devices.Departing.{KeyIs, IsAbove, IsNotAbove, IsSettled}
+use Rattle.cborn_transcode.proofs.Outcomes.{of_some}
+use Rattle.cborn_transcode.proofs.Telling.{anywhere, later}
 use Rattle.cborn_transcode.proofs.departures.key_departure.Goals as goal
 
-pub returns-in-Some-true : goal.returns-in-Some-true
-returns-in-Some-true g c =
+pub returns-in-Ok-Some-true-clause-stops : goal.returns-in-Ok-Some-true-clause-stops
+returns-in-Ok-Some-true-clause-stops g c =
     let order = g.O.KeyOrder.order in
-    let key : KeyIs order c.in-Some-before.before.now c.args.bytes.now true = subst (KeyIs order c.in-Some-before.before.now c.args.bytes.now) c.in-Some-true.field-0-test c.in-Some-true.ensures in
-    let above : IsAbove order c.args.before c.args.bytes.now = subst (λ b. IsAbove order b c.args.bytes.now) (sym c.in-Some-before.is) key in
-    inr (inl (refl, departs_on (λ r n. n ≡ c.in-Some.left) (λ r n. (n ≡ length c.args.bytes.now) ⊎ IsAbove order c.args.before c.args.bytes.now) c.args.found (λ r n e. inr above) c.in-Some.ensures))
+    let x = c.args.bytes.now in
+    let w = c.in-Ok-Some-true in
+    let is : KeyIs order c.in-Some.before.now x w.field-0-0 = of_some (HoldsNoItem 1024 x) (KeyIs order c.in-Some.before.now x) w.field-0 w.field-0-0 w.field-0-is w.ensures.above in
+    let key : KeyIs order c.in-Some.before.now x true = subst (KeyIs order c.in-Some.before.now x) w.field-0-0-test is in
+    let above : IsAbove order c.args.before x = subst (λ b. IsAbove order b x) (sym c.in-Some.is) key in
+    inr (inl (refl, anywhere (length x) (IsAbove order c.args.before x) c.args.found c.requires.stop above))
 
-pub returns-in-Some-false : goal.returns-in-Some-false
-returns-in-Some-false g c =
+pub returns-in-Ok-Some-false-clause-stops : goal.returns-in-Ok-Some-false-clause-stops
+returns-in-Ok-Some-false-clause-stops g c =
     let order = g.O.KeyOrder.order in
-    let key : KeyIs order c.in-Some-before.before.now c.args.bytes.now false = subst (KeyIs order c.in-Some-before.before.now c.args.bytes.now) c.in-Some-false.field-0-test c.in-Some-false.ensures in
-    let not_above : IsNotAbove order c.args.before c.args.bytes.now = subst (λ b. IsNotAbove order b c.args.bytes.now) (sym c.in-Some-before.is) key in
-    inr (inr (refl, departs_on (λ r n. n ≡ c.in-Some.left) (λ r n. n ≢ length c.args.bytes.now) c.args.found (λ r n e same. c.if-left-bytes.false (sym e ∙ same)) c.in-Some.ensures, not_above))
+    let x = c.args.bytes.now in
+    let w = c.in-Ok-Some-false in
+    let is : KeyIs order c.in-Some.before.now x w.field-0-0 = of_some (HoldsNoItem 1024 x) (KeyIs order c.in-Some.before.now x) w.field-0 w.field-0-0 w.field-0-is w.ensures.above in
+    let key : KeyIs order c.in-Some.before.now x false = subst (KeyIs order c.in-Some.before.now x) w.field-0-0-test is in
+    let not_above : IsNotAbove order c.args.before x = subst (λ b. IsNotAbove order b x) (sym c.in-Some.is) key in
+    let settled : IsSettled c.args.asked.now.ask = subst IsSettled (sym c.in-Settled.is) tt in
+    inr (inr (inl (refl, later (length x) c.args.asked.now.ask c.args.found c.requires.stop settled c.requires.known (c.is_at.ensures.later c.if-is_at.false), not_above)))

@@ -1,4 +1,4 @@
-use Rattle.std.proofs.Common.{◌+◌, ◌*◌, ◌-◌, ◌≤◌}
+use Rattle.std.proofs.Common.{◌≡◌, ◌+◌, ◌*◌, ◌-◌, ◌≤◌}
 use Rattle.cborn_transcode.specs.devices.Departing.{Leads, LeadsPairs}
 use Rattle.cborn_transcode.specs.shared.Walking.{ItemsWalked, PairsWalked}
 use Rattle.cborn_transcode.proofs.walks.+walked.Given as goal
@@ -29,6 +29,7 @@ abbrev pub invariant-walk_array-items : goal.invariant-walk_array-items
 invariant-walk_array-items g l = record {
   most : l.left ≤ l.n;
   items : ItemsWalked g.O.KeyOrder.order (l.room - 1) (l.n - l.left) l.bytes l.rest;
+  ask : l.asked.ask ≡ l.initial.asked.ask;
   leads : Leads g.O.KeyOrder.order l.n l.left l.bytes l.rest;
 }
 
@@ -37,5 +38,6 @@ abbrev pub invariant-walk_map-pairs : goal.invariant-walk_map-pairs
 invariant-walk_map-pairs g l = record {
   most : l.left ≤ l.n;
   pairs : PairsWalked g.O.KeyOrder.order (l.room - 1) (l.n - l.left) l.before l.bytes l.rest;
+  ask : l.asked.ask ≡ l.initial.asked.ask;
   leads : LeadsPairs g.O.KeyOrder.order l.n l.left l.before l.bytes l.rest;
 }

@@ -4,7 +4,7 @@ use Rattle.cborn_transcode.proofs.Walking.{item_before}
 use Rattle.cborn_transcode.proofs.walks.split_item.Goals as goal
 
 pub returns-clause-item : goal.returns-clause-item
-returns-clause-item g c = item_before g.O.KeyOrder.order c.in-Behind.ensures c.split_before.ensures.parts c.split_before.ensures.last
+returns-clause-item g c = item_before g.O.KeyOrder.order c.in-Behind.ensures.walks c.split_before.ensures.parts c.split_before.ensures.last
 
 pub returns-in_default : goal.returns-in_default
 returns-in_default g c = record {
@@ -13,5 +13,5 @@ returns-in_default g c = record {
   none = λ n front rest e i.
       let order = g.O.KeyOrder.order in
       let short : length c.args.bytes.now < 2 ^ 64 = omega arith in
-      strays_none order g.met.O.KeyOrder.laws c.args.room c.args.bytes.now front rest short (walked_strays order c.args.room c.args.bytes.now c.walk_item.result c.in_default.not-Behind c.walk_item.ensures) e i;
+      strays_none order g.met.O.KeyOrder.laws c.args.room c.args.bytes.now front rest short (walked_strays order c.args.room c.args.bytes.now c.walk_item.result c.in_default.not-Behind c.walk_item.ensures.walks) e i;
 }

@@ -6,29 +6,29 @@ use Rattle.cborn_search.proofs.Keying.{key_taken, some_key}
 use Rattle.cborn_search.proofs.Marking.{own_marked, written_marked}
 use Rattle.cborn_search.proofs.keys.Keys.take.Goals as goal
 
-pub returns-in-Some-push : goal.returns-in-Some-push
-returns-in-Some-push c =
+pub returns-in-Ok : goal.returns-in-Ok
+returns-in-Ok c =
     let x : List ℕ = c.args.bytes.now in
     let pairs : List ℕ = c.args.pairs.now in
     let front : List ℕ = c.requires.behind.0 in
     let short : length x < 2 ^ 64 = omega (arith, c.requires.within, c.ranges.total.fits, ap length c.requires.behind.1 ∙ length-append front x) in
-    let some = some_key c.args.room x c.in-Some.rest.now c.in-Some.key.now c.in-Some.ensures.item in (
+    let some = some_key c.args.room x c.in-Some.rest.now c.in-Some.key.now c.in-Some.key.now c.in-Some.ensures.parts c.in-Some.ensures.item in (
       c.in-Some.rest.now,
       refl,
       key_taken c.args.room c.args.total pairs x c.in-Some.rest.now c.in-Some.key.now c.args.self.now c.push.new.self short c.in-Some.ensures.item
-          (own_marked c.args.total pairs front x c.in-Some.key.now c.in-Some.rest.now c.args.self.now c.push.new.self c.requires.within c.requires.behind.1 c.in-Some.ensures.parts some c.in-Some-push.ensures),
+          (own_marked c.args.total pairs front x c.in-Some.key.now c.in-Some.rest.now c.args.self.now c.push.new.self c.requires.within c.requires.behind.1 c.in-Some.ensures.parts some c.in-Ok.ensures),
     )
 
-pub returns-in-Some-write : goal.returns-in-Some-write
-returns-in-Some-write c =
+pub returns-in-Ok-write : goal.returns-in-Ok-write
+returns-in-Ok-write c =
     let x : List ℕ = c.args.bytes.now in
     let pairs : List ℕ = c.args.pairs.now in
     let front : List ℕ = c.requires.behind.0 in
     let short : length x < 2 ^ 64 = omega (arith, c.requires.within, c.ranges.total.fits, ap length c.requires.behind.1 ∙ length-append front x) in
     let rest : List ℕ = c.in-Ok-Some.rest.now in
-    let coded : ItemTranscoded bytewise c.args.room x rest [] c.transcode_item.new.out.items = subst (λ (l : List ℕ). ItemTranscoded bytewise c.args.room x rest l c.transcode_item.new.out.items) c.in-Some-make_room.ensures (of_some _ _ c.in-Ok-Some.field-0 c.in-Ok-Some.rest c.in-Ok-Some.field-0-is c.in-Ok-Some.ensures) in (
+    let coded : ItemTranscoded bytewise c.args.room x rest [] c.transcode_item.new.out.items = subst (λ (l : List ℕ). ItemTranscoded bytewise c.args.room x rest l c.transcode_item.new.out.items) c.in_default-make_room.ensures (of_some _ _ c.in-Ok-Some.field-0 c.in-Ok-Some.rest c.in-Ok-Some.field-0-is c.in-Ok-Some.ensures) in (
       rest,
       refl,
       key_taken c.args.room c.args.total pairs x rest c.transcode_item.new.out.items c.args.self.now c.write.new.self short coded
-          (written_marked c.args.total pairs (c.args.total - length x) c.transcode_item.new.out.items c.args.self.now c.write.new.self c.in-Some-write.ensures),
+          (written_marked c.args.total pairs (c.args.total - length x) c.transcode_item.new.out.items c.args.self.now c.write.new.self (omega (arith, c.requires.within, c.ranges.total.fits)) c.in-Ok-write.ensures),
     )

@@ -1,0 +1,13 @@
+use Rattle.std.proofs.Common.{refl, arith, ◌+◌, subst, length, ◌^◌, ◌<◌}
+use Rattle.cborn_lex.proofs.WholeTexts.Weights.{utf8_bytes}
+use Rattle.cborn_lex.specs.declared.classes.Class.TheVariants.{ParenClose}
+use Rattle.cborn_lex.specs.Good as good
+use Rattle.cborn_edn.specs.shared.Syntax.{Span}
+use Rattle.cborn_edn.proofs.Reader.CommonTokens.{single_here}
+use Rattle.cborn_edn.proofs.Reader.Taking.{after_taken}
+use Rattle.cborn_edn.proofs.quick_ends.take_tag_end.Goals as goal
+
+pub returns-then-taken-clause-read : goal.returns-then-taken-clause-read
+returns-then-taken-clause-read c =
+    let a : Span = record { start = c.args.here.now.at; stop = c.args.here.now.at + 1 } in
+    after_taken c.args.profile c.args.limit c.args.text.now c.args.here.now c.args.writer.now c.requires.reading (utf8_bytes c.args.text.now c.utf8.text) ParenClose (c.args.here.now.at + 1) (single_here c.args.profile c.args.text.now c.args.here.now.at 41 ParenClose c.requires.inside c.requires.paren (λ z. good.paren_close z)) c.end_tag-taken.new.here c.end_tag-taken.new.writer c.requires.has c.end_tag-taken.result c.if-taken.true (λ st i e. c.end_tag-taken.ensures.taken st i a e) (λ l. omega arith)

@@ -1,0 +1,301 @@
+//! What follows an item or the pieces of a string, taken in place.
+
+ghost use Rattle.std.specs.Prelude.{◌≡◌, ◌≤◌, ◌<◌, ◌⊎◌, true, length, slice_index, IfOk, OnOk};
+ghost use Rattle.cborn_edn.specs.declared.states.Stand.TheVariants as stands;
+ghost use Rattle.cborn_edn.specs.devices.Reading.{IsReading};
+ghost use Rattle.cborn_edn.specs.devices.Steps as pure;
+
+use crate::endings::{end_array, end_embedded, end_entry, end_key, end_map, end_tag, has_chunks};
+use crate::marks::embed_end_at;
+use crate::passes::bounded_len;
+use crate::quick::take_gap;
+use crate::states::{Here, Writer};
+use crate::strings::{end_chunk, end_chunks, end_item};
+use crate::texts::ends_string;
+use cborn_lex::Profile;
+use cborn_model::Limit;
+use std::alloc::AllocError;
+
+/// What follows an item: what separates it from the next, a bracket that ends, or white space and
+/// comments.
+#[inline(always)]
+pub(crate) fn take_after(
+    limit: Limit,
+    profile: Profile,
+    text: &str,
+    here: &mut Here,
+    writer: &mut Writer,
+) -> Result<bool, AllocError>
+    requires reading { IsReading profile limit text.now here.old writer.old }
+    requires inside { here.old.at < length text.now }
+    requires has { here.old.stand ≡ stands.Has }
+    ensures read { OnOk result (IsReading profile limit text.now here.new writer.new) }
+    ensures on { OnOk result (here.old.at ≤ here.new.at) }
+    ensures further { IfOk result (λ ok. ok ≡ true → here.old.at < here.new.at) }
+{
+    match text.as_bytes()[here.at] {
+        b',' => take_comma(limit, profile, text, here, writer),
+        b':' => take_colon(limit, profile, text, here, writer),
+        b']' => take_array_end(limit, profile, text, here, writer),
+        b'}' => take_map_end(limit, profile, text, here, writer),
+        b')' => take_tag_end(limit, profile, text, here, writer),
+        b'>' => take_embed_end(limit, profile, text, here, writer),
+        _ => take_gap(limit, profile, text, here, writer),
+    }
+}
+
+/// A comma after an item.
+#[inline(always)]
+fn take_comma(
+    limit: Limit,
+    profile: Profile,
+    text: &str,
+    here: &mut Here,
+    writer: &mut Writer,
+) -> Result<bool, AllocError>
+    requires reading { IsReading profile limit text.now here.old writer.old }
+    requires inside { here.old.at < length text.now }
+    requires has { here.old.stand ≡ stands.Has }
+    requires comma { slice_index text.now here.old.at ≡ 44 }
+    ensures read { OnOk result (IsReading profile limit text.now here.new writer.new) }
+    ensures on { OnOk result (here.old.at ≤ here.new.at) }
+    ensures further { IfOk result (λ ok. ok ≡ true → here.old.at < here.new.at) }
+{
+    let _written = bounded_len(&writer.out);
+    let at = here.at;
+    let taken = end_entry(here, writer);
+    if taken {
+        here.at = at + 1;
+    }
+    Ok(taken)
+}
+
+/// A colon after an item.
+#[inline(always)]
+fn take_colon(
+    limit: Limit,
+    profile: Profile,
+    text: &str,
+    here: &mut Here,
+    writer: &mut Writer,
+) -> Result<bool, AllocError>
+    requires reading { IsReading profile limit text.now here.old writer.old }
+    requires inside { here.old.at < length text.now }
+    requires has { here.old.stand ≡ stands.Has }
+    requires colon { slice_index text.now here.old.at ≡ 58 }
+    ensures read { OnOk result (IsReading profile limit text.now here.new writer.new) }
+    ensures on { OnOk result (here.old.at ≤ here.new.at) }
+    ensures further { IfOk result (λ ok. ok ≡ true → here.old.at < here.new.at) }
+{
+    let at = here.at;
+    let taken = end_key(here, writer);
+    if taken {
+        here.at = at + 1;
+    }
+    Ok(taken)
+}
+
+/// The end of an array.
+#[inline(always)]
+pub(crate) fn take_array_end(
+    limit: Limit,
+    profile: Profile,
+    text: &str,
+    here: &mut Here,
+    writer: &mut Writer,
+) -> Result<bool, AllocError>
+    requires reading { IsReading profile limit text.now here.old writer.old }
+    requires inside { here.old.at < length text.now }
+    requires ends { (here.old.stand ≡ stands.Has) ⊎ (here.old.stand ≡ stands.Wants) }
+    requires bracket { slice_index text.now here.old.at ≡ 93 }
+    ensures read { OnOk result (IsReading profile limit text.now here.new writer.new) }
+    ensures on { OnOk result (here.old.at ≤ here.new.at) }
+    ensures further { IfOk result (λ ok. ok ≡ true → here.old.at < here.new.at) }
+{
+    let _written = bounded_len(&writer.out);
+    let at = here.at;
+    let taken = end_array(here, writer)?;
+    if taken {
+        here.at = at + 1;
+    }
+    Ok(taken)
+}
+
+/// The end of a map.
+#[inline(always)]
+pub(crate) fn take_map_end(
+    limit: Limit,
+    profile: Profile,
+    text: &str,
+    here: &mut Here,
+    writer: &mut Writer,
+) -> Result<bool, AllocError>
+    requires reading { IsReading profile limit text.now here.old writer.old }
+    requires inside { here.old.at < length text.now }
+    requires ends { (here.old.stand ≡ stands.Has) ⊎ (here.old.stand ≡ stands.Wants) }
+    requires bracket { slice_index text.now here.old.at ≡ 125 }
+    ensures read { OnOk result (IsReading profile limit text.now here.new writer.new) }
+    ensures on { OnOk result (here.old.at ≤ here.new.at) }
+    ensures further { IfOk result (λ ok. ok ≡ true → here.old.at < here.new.at) }
+{
+    let _written = bounded_len(&writer.out);
+    let at = here.at;
+    let taken = end_map(here, writer)?;
+    if taken {
+        here.at = at + 1;
+    }
+    Ok(taken)
+}
+
+/// The end of a tag.
+#[inline(always)]
+fn take_tag_end(
+    limit: Limit,
+    profile: Profile,
+    text: &str,
+    here: &mut Here,
+    writer: &mut Writer,
+) -> Result<bool, AllocError>
+    requires reading { IsReading profile limit text.now here.old writer.old }
+    requires inside { here.old.at < length text.now }
+    requires has { here.old.stand ≡ stands.Has }
+    requires paren { slice_index text.now here.old.at ≡ 41 }
+    ensures read { OnOk result (IsReading profile limit text.now here.new writer.new) }
+    ensures on { OnOk result (here.old.at ≤ here.new.at) }
+    ensures further { IfOk result (λ ok. ok ≡ true → here.old.at < here.new.at) }
+{
+    let at = here.at;
+    let taken = end_tag(here, writer);
+    if taken {
+        here.at = at + 1;
+    }
+    Ok(taken)
+}
+
+/// A `>>` after an item.
+#[inline(always)]
+fn take_embed_end(
+    limit: Limit,
+    profile: Profile,
+    text: &str,
+    here: &mut Here,
+    writer: &mut Writer,
+) -> Result<bool, AllocError>
+    requires reading { IsReading profile limit text.now here.old writer.old }
+    requires inside { here.old.at < length text.now }
+    requires has { here.old.stand ≡ stands.Has }
+    requires greater { slice_index text.now here.old.at ≡ 62 }
+    ensures read { OnOk result (IsReading profile limit text.now here.new writer.new) }
+    ensures on { OnOk result (here.old.at ≤ here.new.at) }
+    ensures further { IfOk result (λ ok. ok ≡ true → here.old.at < here.new.at) }
+{
+    let Some((mark, stop)) = embed_end_at(text.as_bytes(), here.at) else {
+        return Ok(false);
+    };
+    let taken = end_embedded(mark, here.at, here, writer);
+    if taken {
+        here.at = stop;
+    }
+    Ok(taken)
+}
+
+/// The end of pieces of a string, where what follows begins no other, and what follows.
+#[inline(always)]
+pub(crate) fn take_after_pieces(
+    limit: Limit,
+    profile: Profile,
+    text: &str,
+    here: &mut Here,
+    writer: &mut Writer,
+) -> Result<bool, AllocError>
+    requires reading { IsReading profile limit text.now here.old writer.old }
+    requires inside { here.old.at < length text.now }
+    requires builds { here.old.stand ≡ stands.Builds }
+    ensures read { OnOk result (IsReading profile limit text.now here.new writer.new) }
+    ensures on { OnOk result (here.old.at ≤ here.new.at) }
+    ensures further { IfOk result (λ ok. ok ≡ true → here.old.at < here.new.at) }
+{
+    if !ends_string(text.as_bytes()[here.at]) {
+        return Ok(false);
+    }
+    if has_chunks(writer.chunks) {
+        return take_after_chunk(limit, profile, text, here, writer);
+    }
+    let at = here.at;
+    end_item(here, writer)?;
+    here.at = at;
+    take_after(limit, profile, text, here, writer)
+}
+
+/// What follows a chunk.
+#[inline(always)]
+fn take_after_chunk(
+    limit: Limit,
+    profile: Profile,
+    text: &str,
+    here: &mut Here,
+    writer: &mut Writer,
+) -> Result<bool, AllocError>
+    requires reading { IsReading profile limit text.now here.old writer.old }
+    requires inside { here.old.at < length text.now }
+    requires builds { here.old.stand ≡ stands.Builds }
+    requires chunk { pure.has_chunks writer.old.chunks ≡ true }
+    ensures read { OnOk result (IsReading profile limit text.now here.new writer.new) }
+    ensures on { OnOk result (here.old.at ≤ here.new.at) }
+    ensures further { IfOk result (λ ok. ok ≡ true → here.old.at < here.new.at) }
+{
+    match text.as_bytes()[here.at] {
+        b',' => take_chunk_comma(limit, profile, text, here, writer),
+        b')' => take_chunks_end(limit, profile, text, here, writer),
+        _ => Ok(false),
+    }
+}
+
+/// A comma after a chunk.
+#[inline(always)]
+fn take_chunk_comma(
+    limit: Limit,
+    profile: Profile,
+    text: &str,
+    here: &mut Here,
+    writer: &mut Writer,
+) -> Result<bool, AllocError>
+    requires reading { IsReading profile limit text.now here.old writer.old }
+    requires inside { here.old.at < length text.now }
+    requires builds { here.old.stand ≡ stands.Builds }
+    requires chunk { pure.has_chunks writer.old.chunks ≡ true }
+    requires comma { slice_index text.now here.old.at ≡ 44 }
+    ensures read { OnOk result (IsReading profile limit text.now here.new writer.new) }
+    ensures on { OnOk result (here.old.at ≤ here.new.at) }
+    ensures further { IfOk result (λ ok. ok ≡ true → here.old.at < here.new.at) }
+{
+    let at = here.at;
+    end_chunk(here, writer)?;
+    here.at = at + 1;
+    Ok(true)
+}
+
+/// The end of a string in chunks after a chunk.
+#[inline(always)]
+fn take_chunks_end(
+    limit: Limit,
+    profile: Profile,
+    text: &str,
+    here: &mut Here,
+    writer: &mut Writer,
+) -> Result<bool, AllocError>
+    requires reading { IsReading profile limit text.now here.old writer.old }
+    requires inside { here.old.at < length text.now }
+    requires builds { here.old.stand ≡ stands.Builds }
+    requires chunk { pure.has_chunks writer.old.chunks ≡ true }
+    requires paren { slice_index text.now here.old.at ≡ 41 }
+    ensures read { OnOk result (IsReading profile limit text.now here.new writer.new) }
+    ensures on { OnOk result (here.old.at ≤ here.new.at) }
+    ensures further { IfOk result (λ ok. ok ≡ true → here.old.at < here.new.at) }
+{
+    let at = here.at;
+    end_chunk(here, writer)?;
+    end_chunks(here, writer)?;
+    here.at = at + 1;
+    Ok(true)
+}

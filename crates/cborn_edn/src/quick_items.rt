@@ -1,0 +1,263 @@
+//! Items, and brackets that open, taken in place.
+
+ghost use Rattle.std.specs.Prelude.{◌≡◌, ◌≤◌, ◌<◌, ◌⊎◌, true, length, slice_index, IfOk, OnOk};
+ghost use Rattle.cborn_lex.specs.declared.classes.Class.TheVariants as classes;
+ghost use Rattle.cborn_edn.specs.devices.Ahead.{IsTokenAt};
+ghost use Rattle.cborn_edn.specs.declared.states.Stand.TheVariants as stands;
+ghost use Rattle.cborn_edn.specs.devices.Reading.{IsReading};
+
+use crate::integers::{Integer, integer_at, negative_at};
+use crate::marks::{embeds_at, opening_at, opens_chunks_at};
+use crate::numbers::{put_number, put_word};
+use crate::openings::{open_array, open_chunks, open_embedded, open_map, open_tag};
+use crate::states::{Here, Stand, Writer};
+use crate::texts::push_text;
+use crate::words::word_at;
+use cborn_lex::{Mark, Profile};
+use cborn_model::Limit;
+use std::alloc::AllocError;
+
+/// An integer that isn't below zero, or what opens a tag.
+#[inline(always)]
+pub(crate) fn take_integer(
+    limit: Limit,
+    profile: Profile,
+    text: &str,
+    here: &mut Here,
+    writer: &mut Writer,
+) -> Result<bool, AllocError>
+    requires reading { IsReading profile limit text.now here.old writer.old }
+    requires inside { here.old.at < length text.now }
+    requires wanted { (here.old.stand ≡ stands.Wants) ⊎ (here.old.stand ≡ stands.WantsMore) }
+    ensures read { OnOk result (IsReading profile limit text.now here.new writer.new) }
+    ensures on { OnOk result (here.old.at ≤ here.new.at) }
+    ensures further { IfOk result (λ ok. ok ≡ true → here.old.at < here.new.at) }
+{
+    let Some(found) = integer_at(text.as_bytes(), here.at) else {
+        return Ok(false);
+    };
+    if found.is_tag {
+        return take_tag(found, limit, profile, text, here, writer);
+    }
+    if writer.frames.count() > limit.get() {
+        return Ok(false);
+    }
+    let n = found.number as u128;
+    put_number(false, n, found.mark, here.at, here, writer)?;
+    here.at = found.stop;
+    Ok(true)
+}
+
+/// What opens a tag, which was found.
+#[inline(always)]
+fn take_tag(
+    found: Integer,
+    limit: Limit,
+    profile: Profile,
+    text: &str,
+    here: &mut Here,
+    writer: &mut Writer,
+) -> Result<bool, AllocError>
+    requires reading { IsReading profile limit text.now here.old writer.old }
+    requires inside { here.old.at < length text.now }
+    requires wanted { (here.old.stand ≡ stands.Wants) ⊎ (here.old.stand ≡ stands.WantsMore) }
+    requires token { IsTokenAt profile text.now here.old.at found.stop (classes.TagOpen found.number found.mark) }
+    ensures read { OnOk result (IsReading profile limit text.now here.new writer.new) }
+    ensures on { OnOk result (here.old.at ≤ here.new.at) }
+    ensures further { IfOk result (λ ok. ok ≡ true → here.old.at < here.new.at) }
+{
+    if writer.frames.count() >= limit.get() {
+        return Ok(false);
+    }
+    let n = found.number as u128;
+    open_tag(n, found.mark, here.at, here, writer)?;
+    here.at = found.stop;
+    Ok(true)
+}
+
+/// An integer below zero.
+#[inline(always)]
+pub(crate) fn take_negative(
+    limit: Limit,
+    profile: Profile,
+    text: &str,
+    here: &mut Here,
+    writer: &mut Writer,
+) -> Result<bool, AllocError>
+    requires reading { IsReading profile limit text.now here.old writer.old }
+    requires inside { here.old.at < length text.now }
+    requires wanted { (here.old.stand ≡ stands.Wants) ⊎ (here.old.stand ≡ stands.WantsMore) }
+    requires minus { slice_index text.now here.old.at ≡ 45 }
+    ensures read { OnOk result (IsReading profile limit text.now here.new writer.new) }
+    ensures on { OnOk result (here.old.at ≤ here.new.at) }
+    ensures further { IfOk result (λ ok. ok ≡ true → here.old.at < here.new.at) }
+{
+    let Some((n, stop)) = negative_at(text.as_bytes(), here.at) else {
+        return Ok(false);
+    };
+    if writer.frames.count() > limit.get() {
+        return Ok(false);
+    }
+    put_number(true, n as u128, Mark::Absent, here.at, here, writer)?;
+    here.at = stop;
+    Ok(true)
+}
+
+/// A simple value by its word.
+#[inline(always)]
+pub(crate) fn take_word(
+    limit: Limit,
+    profile: Profile,
+    text: &str,
+    here: &mut Here,
+    writer: &mut Writer,
+) -> Result<bool, AllocError>
+    requires reading { IsReading profile limit text.now here.old writer.old }
+    requires inside { here.old.at < length text.now }
+    requires wanted { (here.old.stand ≡ stands.Wants) ⊎ (here.old.stand ≡ stands.WantsMore) }
+    ensures read { OnOk result (IsReading profile limit text.now here.new writer.new) }
+    ensures on { OnOk result (here.old.at ≤ here.new.at) }
+    ensures further { IfOk result (λ ok. ok ≡ true → here.old.at < here.new.at) }
+{
+    let Some((n, stop)) = word_at(text.as_bytes(), here.at) else {
+        return Ok(false);
+    };
+    put_word(n, here, writer)?;
+    here.at = stop;
+    Ok(true)
+}
+
+/// A text string of one piece without an indicator, up to the token that ends it.
+#[inline(always)]
+pub(crate) fn take_text(
+    limit: Limit,
+    profile: Profile,
+    text: &str,
+    here: &mut Here,
+    writer: &mut Writer,
+) -> Result<bool, AllocError>
+    requires reading { IsReading profile limit text.now here.old writer.old }
+    requires inside { here.old.at < length text.now }
+    requires wanted { (here.old.stand ≡ stands.Wants) ⊎ (here.old.stand ≡ stands.WantsMore) }
+    requires quote { slice_index text.now here.old.at ≡ 34 }
+    ensures read { OnOk result (IsReading profile limit text.now here.new writer.new) }
+    ensures on { OnOk result (here.old.at ≤ here.new.at) }
+    ensures further { IfOk result (λ ok. ok ≡ true → here.old.at < here.new.at) }
+{
+    let Some(stop) = push_text(profile, text.as_bytes(), here.at, &mut writer.out) else {
+        return Ok(false);
+    };
+    here.at = stop;
+    here.stand = Stand::Has;
+    Ok(true)
+}
+
+/// The bracket of an array that opens.
+#[inline(always)]
+pub(crate) fn take_array(
+    limit: Limit,
+    profile: Profile,
+    text: &str,
+    here: &mut Here,
+    writer: &mut Writer,
+) -> Result<bool, AllocError>
+    requires reading { IsReading profile limit text.now here.old writer.old }
+    requires inside { here.old.at < length text.now }
+    requires wanted { (here.old.stand ≡ stands.Wants) ⊎ (here.old.stand ≡ stands.WantsMore) }
+    requires bracket { slice_index text.now here.old.at ≡ 91 }
+    ensures read { OnOk result (IsReading profile limit text.now here.new writer.new) }
+    ensures on { OnOk result (here.old.at ≤ here.new.at) }
+    ensures further { IfOk result (λ ok. ok ≡ true → here.old.at < here.new.at) }
+{
+    let Some((mark, stop)) = opening_at(text.as_bytes(), here.at) else {
+        return Ok(false);
+    };
+    if writer.frames.count() >= limit.get() {
+        return Ok(false);
+    }
+    open_array(mark, here.at, here, writer)?;
+    here.at = stop;
+    Ok(true)
+}
+
+/// The bracket of a map that opens.
+#[inline(always)]
+pub(crate) fn take_map(
+    limit: Limit,
+    profile: Profile,
+    text: &str,
+    here: &mut Here,
+    writer: &mut Writer,
+) -> Result<bool, AllocError>
+    requires reading { IsReading profile limit text.now here.old writer.old }
+    requires inside { here.old.at < length text.now }
+    requires wanted { (here.old.stand ≡ stands.Wants) ⊎ (here.old.stand ≡ stands.WantsMore) }
+    requires bracket { slice_index text.now here.old.at ≡ 123 }
+    ensures read { OnOk result (IsReading profile limit text.now here.new writer.new) }
+    ensures on { OnOk result (here.old.at ≤ here.new.at) }
+    ensures further { IfOk result (λ ok. ok ≡ true → here.old.at < here.new.at) }
+{
+    let Some((mark, stop)) = opening_at(text.as_bytes(), here.at) else {
+        return Ok(false);
+    };
+    if writer.frames.count() >= limit.get() {
+        return Ok(false);
+    }
+    open_map(mark, here.at, here, writer)?;
+    here.at = stop;
+    Ok(true)
+}
+
+/// A `<<`, as the first piece of a string.
+#[inline(always)]
+pub(crate) fn take_embedded(
+    limit: Limit,
+    profile: Profile,
+    text: &str,
+    here: &mut Here,
+    writer: &mut Writer,
+) -> Result<bool, AllocError>
+    requires reading { IsReading profile limit text.now here.old writer.old }
+    requires inside { here.old.at < length text.now }
+    requires wanted { (here.old.stand ≡ stands.Wants) ⊎ (here.old.stand ≡ stands.WantsMore) }
+    requires less { slice_index text.now here.old.at ≡ 60 }
+    ensures read { OnOk result (IsReading profile limit text.now here.new writer.new) }
+    ensures on { OnOk result (here.old.at ≤ here.new.at) }
+    ensures further { IfOk result (λ ok. ok ≡ true → here.old.at < here.new.at) }
+{
+    if !embeds_at(text.as_bytes(), here.at) || writer.frames.count() >= limit.get() {
+        return Ok(false);
+    }
+    let at = here.at;
+    let start = writer.out.len();
+    writer.out.push(0)?;
+    open_embedded(start, at, here, writer)?;
+    here.at = at + 2;
+    Ok(true)
+}
+
+/// A `(_`.
+#[inline(always)]
+pub(crate) fn take_chunked(
+    limit: Limit,
+    profile: Profile,
+    text: &str,
+    here: &mut Here,
+    writer: &mut Writer,
+) -> Result<bool, AllocError>
+    requires reading { IsReading profile limit text.now here.old writer.old }
+    requires inside { here.old.at < length text.now }
+    requires wanted { (here.old.stand ≡ stands.Wants) ⊎ (here.old.stand ≡ stands.WantsMore) }
+    requires paren { slice_index text.now here.old.at ≡ 40 }
+    ensures read { OnOk result (IsReading profile limit text.now here.new writer.new) }
+    ensures on { OnOk result (here.old.at ≤ here.new.at) }
+    ensures further { IfOk result (λ ok. ok ≡ true → here.old.at < here.new.at) }
+{
+    if !opens_chunks_at(text.as_bytes(), here.at) {
+        return Ok(false);
+    }
+    let at = here.at;
+    open_chunks(here, writer)?;
+    here.at = at + 2;
+    Ok(true)
+}

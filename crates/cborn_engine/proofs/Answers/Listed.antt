@@ -1,0 +1,17 @@
+-- The nodes that a text notates whose bytes were read, as a list.
+use Rattle.std.proofs.Common.{◌≡◌, ◌∙◌, ℕ, List, sym, ap, subst}
+use Rattle.cborn_model.specs.Tree.{Tree, trees}
+use Rattle.cborn_model.specs.Spelled.{spelled_all}
+use Rattle.cborn_lex.specs.declared.classes.Profile.{Profile}
+use Rattle.cborn_edn.specs.Grammar.{Notates}
+use Rattle.cborn_wire.proofs.Spelled.TreeLists.{tree_list, trees-tree_list}
+use Rattle.cborn_edn.specs.Spelling.{IsSpelling}
+
+abbrev pub nodes_of : {p : Profile} {limit : ℕ} {text bytes : List ℕ} → IsSpelling p limit text bytes → List Tree
+nodes_of s = tree_list s.nodes
+
+pub notated_of : {p : Profile} {limit : ℕ} {text bytes : List ℕ} (s : IsSpelling p limit text bytes) → Notates p limit text (trees (nodes_of s))
+notated_of {p} {limit} {text} s = subst (Notates p limit text) (sym (trees-tree_list s.nodes)) s.notated
+
+pub spells_of : {p : Profile} {limit : ℕ} {text bytes : List ℕ} (s : IsSpelling p limit text bytes) → spelled_all (trees (nodes_of s)) ≡ bytes
+spells_of s = ap spelled_all (trees-tree_list s.nodes) ∙ s.spells
