@@ -40,7 +40,7 @@ def said(program, *words):
 
 
 def rows(text, heading):
-    """The rows of a chapter of a short help: the name in front, and the text behind it, of all its lines."""
+    """The rows of a chapter of a short help: the name at the start, and the text after it, of all its lines."""
     chapter = text.partition(f"\n{heading}:\n")[2].partition("\n\n")[0]
     for row in re.split(r"\n(?= {2,6}\S)", chapter.rstrip()):
         name, _, told = row.strip().partition("  ")

@@ -1,17 +1,16 @@
 /* cborn: CBOR (RFC 8949) in its one deterministic encoding, checked, compared
  * and shown in diagnostic notation.
  *
- * Every call is a function of its arguments. Nothing is kept between calls, no
- * file, environment or clock is read, and no number of calls at once, in any
- * threads, disturbs another. Memory comes from malloc, and all of it is freed
- * before a call returns.
+ * Every call is a function of its arguments. Nothing is kept between calls, and
+ * no file, environment or clock is read. Any number of threads may call at once.
+ * Memory comes from malloc, and all of it is freed before a call returns.
  *
  * For every input it is proved that a call ends, reads and writes nothing but its
  * arguments and its own memory, and answers what the comment at its declaration
  * says. That holds of the functions in the library, on the terms of cborn's
  * README. This header, the linking and the bindings are tested, not proved.
  *
- * What the caller has to make sure of, since nothing checks it:
+ * What the caller has to ensure, since nothing checks it:
  *  - input points to input_len readable bytes, out to out_len writable bytes, told
  *    and place to one aligned value each. If a length is 0, its pointer may be
  *    NULL.
@@ -35,15 +34,15 @@
 extern "C" {
 #endif
 
-/* The version of this header: 65536 for each major one, 256 for each minor one, and the patch.
- * What follows a release has the number of the next one; this is 0.5.0-dev. */
+/* The version of this header as one number: the major version times 65536, the minor one times 256,
+ * and the patch. What follows a release has the number of the next one; this is 0.5.0-dev. */
 #define CBORN_VERSION 0x000500
 
 /* The format of an input or an output. As output both notations are the same. */
 enum {
     CBORN_WIRE = 0,      /* CBOR bytes: data items one after another (RFC 8742) */
     CBORN_NOTATION = 1,  /* diagnostic notation (RFC 8949 section 8, RFC 8610 Appendix G) */
-    CBORN_NOTATION_2 = 2 /* the same, with comments from # to the end of a line, and trailing commas */
+    CBORN_NOTATION_2 = 2 /* diagnostic notation with comments from # to the end of a line, and trailing commas */
 };
 
 /* The sort order of map keys: by encoded bytes (RFC 8949 section 4.2.1), or
@@ -64,7 +63,7 @@ enum {
 };
 
 /* The faults of an input: the class in the high byte, the reason in the low one.
- * A number never changes what it stands for; docs/FORMATS.md says when each applies. */
+ * No number ever changes its meaning; docs/FORMATS.md says when each applies. */
 enum {
     /* malformed bytes */
     CBORN_RESERVED_ADDITIONAL_INFORMATION = 0x101, /* reserved additional information */
@@ -87,7 +86,7 @@ enum {
     CBORN_TEXT_NUMBER_TOO_LARGE = 0x209,           /* number too large */
     CBORN_TEXT_BAD_INDICATOR = 0x20a,              /* bad indicator */
     CBORN_TEXT_FLOAT_LEFT_OUT = 0x20b,             /* float left out */
-    /* notation with invalid grammar, or faults of what it means */
+    /* notation with a syntax error between tokens, or that notates no item */
     CBORN_TEXT_UNEXPECTED_TOKEN = 0x301,           /* unexpected token */
     CBORN_TEXT_UNEXPECTED_END = 0x302,             /* unexpected end */
     CBORN_TEXT_TOO_DEEP = 0x303,                   /* too deep */
@@ -117,13 +116,13 @@ enum {
     CBORN_OF_SECOND = 0x10000
 };
 
-/* The bytes that are enough for the words of any fault or defect, with the zero at their end. */
+/* How many bytes are enough for the words of any fault or defect, with the zero at their end. */
 enum { CBORN_MOST_WORDS = 64 };
 
 /* The most bytes of stack that a call takes, as measured. */
 #define CBORN_STACK(depth) (20480 + 480 * (depth))
 
-/* What a call tells in addition to its answer. */
+/* What a call reports in addition to its answer. */
 typedef struct {
     uint64_t place;  /* the offset of a fault, in bytes from the start of the input, else 0 */
     uint64_t length; /* the length of the output in bytes, even if it didn't fit; 0 at a fault */
@@ -135,16 +134,17 @@ uint32_t cborn_version(void);
 /* Writes the canonical form of the items in the input to the start of out: their
  * deterministic encodings, or these in notation. Returns CBORN_OK if it did; the
  * bytes of out after told->length are then unchanged. Any other answer leaves out
- * unchanged, and says what the input's fault is, that out is too small, that an
- * argument is invalid, or that memory ran out.
+ * unchanged: it is the input's fault, CBORN_TOO_SMALL, CBORN_BAD_ARGUMENT or
+ * CBORN_OUT_OF_MEMORY.
  * From bytes to bytes, input_len + input_len / 3 bytes of room are always enough. */
 uint32_t cborn_normalise(uint32_t from, uint32_t to, uint32_t order, uint64_t depth,
                          const uint8_t *input, size_t input_len,
                          uint8_t *out, size_t out_len, cborn_told *told);
 
-/* Likewise, but writes the items as they are encoded, each head in its own width,
- * as bytes or in notation. Validity errors are no faults here, with one exception: a
- * text string that isn't UTF-8 can't be written in notation. */
+/* Writes the items as they are encoded, each head in its own width, as bytes or in
+ * notation, and returns what cborn_normalise returns. Validity errors are no faults
+ * here, with one exception: a text string that isn't UTF-8 can't be written in
+ * notation. */
 uint32_t cborn_show(uint32_t from, uint32_t to, uint64_t depth,
                     const uint8_t *input, size_t input_len,
                     uint8_t *out, size_t out_len, cborn_told *told);
@@ -190,28 +190,28 @@ uint32_t cborn_check_one(uint32_t order, uint64_t depth,
                          const uint8_t *input, size_t input_len, uint64_t *place);
 
 /* Returns CBORN_OK if both inputs hold the same item, and CBORN_DIFFERENT if they
- * don't, with *place 0. Faults are those of cborn_normalise_one, told as
- * cborn_compare tells them: those of the first input before those of the second. */
+ * don't, with *place 0. Faults are those of cborn_normalise_one, returned as
+ * cborn_compare returns them: those of the first input before those of the second. */
 uint32_t cborn_compare_one(uint32_t from_a, uint32_t from_b, uint64_t depth,
                            const uint8_t *first, size_t first_len,
                            const uint8_t *second, size_t second_len, uint64_t *place);
 
-/* Writes the words of a fault or a defect, which are those that the program prints,
- * to the start of out, with a zero at their end: "duplicate key". number is what
- * another call returned; a fault of the second input has the same words, and
- * CBORN_OUT_OF_MEMORY and CBORN_TOO_LONG have words too. They are ASCII. out_len
- * counts the zero; CBORN_MOST_WORDS bytes are always enough.
+/* Writes the words of a fault or a defect to the start of out, as the program prints
+ * them and with a zero at their end: "duplicate key". number is what another call
+ * returned. A fault of the second input has the same words, and CBORN_OUT_OF_MEMORY
+ * and CBORN_TOO_LONG have words too. They are ASCII. out_len counts the zero;
+ * CBORN_MOST_WORDS bytes are always enough.
  * Returns CBORN_OK; CBORN_TOO_SMALL; or CBORN_BAD_ARGUMENT if no fault and no defect
  * has this number. At the latter two, out is unchanged. */
 uint32_t cborn_words(uint32_t number, char *out, size_t out_len);
 
 /* Writes an explanation of a fault or a defect to the start of out: lines of UTF-8
- * that say where in the input it is, what stands there, and why. They are the lines
- * that the program writes with --explain after its first line, and docs/FORMATS.md
- * says what is in them; there is no zero at their end. from and depth are those of
- * the call that refused the input, number is what it returned, and place is the
- * offset that it told. Of a fault of a second input, hand in that input: the number
- * may have CBORN_OF_SECOND in it or not. A place beyond the end counts as the end.
+ * that say where in the input it is, what is there, and why. They are the lines that
+ * the program adds with --explain, and docs/FORMATS.md says what is in them. There is
+ * no zero at their end. from and depth are those of the call that refused the input,
+ * number is what it returned, and place is the offset that it reported. For a fault of
+ * a second input, pass that input; the number may have CBORN_OF_SECOND added or not.
+ * A place beyond the end counts as the end.
  * Returns CBORN_OK; CBORN_TOO_SMALL, with told->length the length that is needed;
  * CBORN_OUT_OF_MEMORY; or CBORN_BAD_ARGUMENT if no input of that format has a fault
  * or a defect of this number (CBORN_TOO_LONG has no place, and no explanation), or

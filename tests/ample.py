@@ -1,17 +1,16 @@
 #!/usr/bin/env python3
-"""Give the built program inputs for which there is memory enough, and fail where it says 'out of memory'.
+"""Give the built program inputs for which there is enough memory, and fail where it says 'out of memory'.
 
     ample.py PROGRAM [--inputs N] [--texts N] [--seed N]
 
-The program has no second way, for bytes or for texts: where a pass answers nothing, and nothing is found wrong with the input, it
-says that memory was refused. A form that a pass forgets would be told so too, and the proof allows that. So here are
-all inputs of the tables and of the vectors, the shapes of bench/cost.py, and N (12,000) inputs that are made from a
-seed: valid ones in each form that bytes have (long heads, chunks, bignums in chunks, indefinite lengths, keys that
-fall), others that are changed in places or cut, nests about the limit, and bytes at random. What is made valid has to
+Contracts let some calls answer out of memory at any time, so a form that a call doesn't read could be answered so. The
+inputs are those of the tables and of the vectors, the shapes of bench/cost.py, and N (12,000) that are made from a
+seed: valid ones in each form that bytes have (long heads, chunks, bignums in chunks, indefinite lengths, keys in
+falling order), others that are changed or cut, nests up to the limit and beyond, and random bytes. A valid input has to
 be read, too, and normalised to what reading.py computes.
 
-And here are N (4,000) texts of the notation: ones that notating.py writes of valid bytes, which have to be read as
-exactly these; ones with one flaw, which has to be told at its place; and others that are changed in places or cut.
+N (4,000) inputs are texts of the notation: some that notating.py writes of valid bytes, which have to be read as
+exactly these; some with one flaw, which has to be reported at its place; and others that are changed or cut.
 """
 import argparse
 import collections
@@ -47,7 +46,7 @@ KINDS = ("notation", "notation-2")
 Text = collections.namedtuple("Text", "kind content spelled refusal", defaults=(None, b""))
 NUMBERS = (0, 1, 23, 24, 255, 256, 65535, 65536, 2**32 - 1, 2**32, 2**64 - 1)
 LETTERS = 'az"\\é中😀\n'
-# behind a part of an input these are most often what it doesn't await
+# after a part of an input these are most often what may not follow it
 INTERESTING = bytes([0x00, 0x5F, 0x61, 0x7F, 0x9F, 0xBF, 0xC2, 0xC3, 0xFF])
 NESTS = ((b"\x81", b""), (b"\x9f", b"\xff"), (b"\xc1", b""), (b"\xa1\x00", b""), (b"\xbf\x00", b"\xff"))
 

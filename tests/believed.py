@@ -228,7 +228,7 @@ def declaration(file, name):
 
 
 def clauses(file, heads):
-    """What the clauses of some functions name (behind a colon: the one of that name), and all that a trait says; or the definitions of these names."""
+    """What the clauses of some functions name (after a colon: the clause of that name), and all that a trait says; or the definitions of these names."""
     if file.suffix == ".antt":
         yield from (module(file).lookup(head) for head in heads)
         return

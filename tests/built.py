@@ -1,10 +1,10 @@
 #!/usr/bin/env python3
-"""Let what stands behind `rt ci` run what it has just proved and built, in the place of proving all of it once more.
+"""Let what follows `rt ci` run what it has just proved and built, without proving all of it again.
 
 `rt ci` leaves each library and the program in out/ without the mark by which `rt run` and `rt lib` know that nothing has
-changed since. This writes those marks: the very sums that these commands compare, so that an edit in between still has
-everything above it proved again. It writes none where any library has a mark already: then an earlier build was put
-back, and libraries of two builds don't go together.
+changed since. This script writes those marks. They are the checksums that these commands compare, so an edit in between
+still has everything above it proved again. It writes none if a library has a mark already: an earlier build was put back
+then, and libraries of two builds don't fit together.
 """
 import os
 import shutil
@@ -18,7 +18,7 @@ def mark(folder):
     try:
         import rtlib
     except ImportError:
-        return "the kit's parts aren't beside its command rt: what rt ci built is proved again"
+        return "the kit's parts aren't next to its command rt: what rt ci built is proved again"
     crates = rtlib.crates_below(folder)
     if any(os.path.exists(f"{crate.folder}/out/rlib/stamp") for crate in crates):
         return "an earlier build stands in out/: it is brought up to date"

@@ -58,7 +58,7 @@ def in_fish(file, words):
 
 
 def in_zsh(file, words):
-    """What stands behind an option's name, or in its brackets, is what zsh itself would read there."""
+    """What zsh itself offers for these words: options, or the values of one."""
     place = ("own" if words[-1] == "-" else "command") if len(words) == 2 else "rest"
     told = said("zsh", "-f", "-c", IN_ZSH, "zsh", str(file), place, words[1]).splitlines()
     if words[-2] in VALUES:

@@ -55,7 +55,7 @@ REQUESTS = {
     "last number of embedded items is too wide for its head": 300_000,
 }
 
-# what a text is refused for only at its end, behind an array of integers
+# ends of texts that are refused only there, after an array of integers
 REFUSED_ENDS = {
     "last token is a float": b"2.5]",
     "last bracket is missing": b"1",

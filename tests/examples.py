@@ -4,9 +4,9 @@ behaviour, and run it.
 
     examples.py FOLDER
 
-FOLDER has libcborn.a. Each prints what the page says below it, and what RFC 8949 makes of the input. With another input
-in the place of its own, a map with a duplicate key, each says the fault or shows the map. A way that leaves
-memory behind, or reads past an end, ends with another status. $CC or cc is gcc or clang.
+FOLDER has libcborn.a. Each example prints what the page says below it, and what RFC 8949 makes of the input. Given another
+input, a map with a duplicate key, each prints the fault or shows the map. An example that leaks memory, or reads past an
+end, ends with another status. $CC or cc is gcc or clang.
 """
 import itertools
 import os

@@ -227,7 +227,7 @@ def differences(served, words, content):
     else:
         wanted = path_in_bytes(content, place)
     path = told_path(labels["path"])
-    # where a text isn't UTF-8, a token before that may be bad: no path goes on behind it
+    # where a text isn't UTF-8, a token before that may be wrong, and the path ends there
     before = PLACE.search(served.run(words, content[:place]).stderr.decode()) if is_text and told[2] == "not UTF-8" else None
     if path != wanted and not (before and int(before[1]) < place):
         yield f"the path is {path}, not {wanted}"

@@ -24,7 +24,7 @@ KINDS = {
 }
 MANY, EACH_END = 64, 2
 STANDARD_OUTPUT, STANDARD_ERROR = 1, 2
-# which call had trouble, at which descriptor, behind how many opened files and bytes written there
+# which call had trouble, at which descriptor, and how many files were opened and bytes written there before
 Trouble = collections.namedtuple("Trouble", "call descriptor opened written")
 
 

@@ -4,18 +4,18 @@
     growths.py PROGRAM [TABLE..]    each command line of the tables of this folder, and not those of forms/
     growths.py --tests TESTS [WORD..]
                                     each test of a crate's built tests, crates/NAME/out/NAME_tests, or each
-                                    whose name has one of the words; those of fronts aside, which run one call on
-                                    thousands of inputs that other tests have whole
+                                    whose name has one of the words; but for those of fronts, which make one call for
+                                    thousands of inputs that other tests have as a whole
     growths.py --passes TESTS [WORD..]
-                                    the same of a crate of passes
+                                    the tests of a crate of passes
 
-A command line has to answer as it does with ample memory, or to answer want of memory: status 4, nothing on
-standard output, and one line on standard error. An explanation may end with a line that tells want of memory, behind
-the first line as ever. Where the growth was the path of a file that was to be opened, the line
-is that this file can't be read. A test has to pass with ample memory; with a growth refused it
-has to pass too, or to fail by want of memory: by the error that a call answered, and not by an answer that differs.
-A pass over bytes or a text answers nothing in place of that error, so a test of passes may also stop where an answer
-is missing. refuse.c, which is compiled by $CC or cc, refuses, and serve.c begins the runs.
+A command line has to answer as it does with enough memory, or with out of memory: status 4, nothing on standard output,
+and one line on standard error. An explanation may end with a line that says out of memory, after an unchanged first
+line. If the growth was for the path of a file that was to be opened, the line is that this file can't be read. A test has
+to pass with enough memory. With a growth refused it has to pass too, or to fail by out of memory: by the error that a
+call answered, and not by an answer that differs. A quick pass over a text answers nothing in place of that error, so a
+test of passes may also stop where an answer is missing. refuse.c, which is compiled by $CC or cc, refuses, and serve.c
+begins the runs.
 """
 import collections
 import itertools
@@ -30,7 +30,7 @@ from failures import files_of, which_input
 from run import Outcome, cases, listed
 
 WANT = re.compile(rb"AllocError|AllocFailed|OutOfMemory|[Oo]ut of memory")
-# a test that stops: by an error that it hands on, or by a failed assertion, which names the answer
+# a test that stops: by an error that it returns, or by a failed assertion, which names the answer
 FAILED, ABORTED = 101, -6
 STOPPED_AT = re.compile(rb"^test stopped at src/", re.MULTILINE)
 
@@ -49,7 +49,7 @@ def refused_in_turn(run, *given):
 
 
 def wants_of_memory(words, refused):
-    """What may answer want of memory: the run's, and no input's. Where the path of a file was refused, it can't be read."""
+    """The outcomes of a run with out of memory. Where memory for the path of a file was refused, the file can't be read."""
     yield Outcome(b"", b"cborn: out of memory\n", 4)
     files = files_of(words)
     if refused.opened < len(files) and refused.size == len(os.fsencode(files[refused.opened])) + 1:

@@ -1,4 +1,4 @@
-/* Answers calls of the library, one a line of standard input, and tests beside each answer what no proof reaches:
+/* Answers calls of the library, one for each line of standard input, and tests with each what no proof reaches:
 
        normalise FROM TO ORDER DEPTH FILE
        show FROM TO DEPTH FILE
@@ -11,11 +11,12 @@
    and normalise-one, show-one, check-one and compare-one as the call without -one.
 
    Each gets a line 'CODE PLACE LENGTH', and then LENGTH bytes. What is tested: inputs and buffers end where memory
-   ends, so that one byte too far ends the program; a buffer one byte too small, and NULL with length 0, are told the
-   length and written nothing; a longer buffer is as it was behind the answer; memory that was taken is given back;
-   each growth refused in turn (of a long input's some) gives the same answer or want of memory; the stack is no more than CBORN_STACK(depth);
-   and at the end all short calls once more, from eight threads at once, answer the same. Linked with --wrap for malloc,
-   realloc and free. The first wrong thing ends the program with a line on standard error and status 1. */
+   ends, so that an access one byte too far ends the program. For a buffer one byte too small, and for NULL with length 0,
+   the length is reported and nothing is written. A longer buffer is unchanged after the answer. All memory is freed. With
+   each growth refused in turn (with some, for a long input) the answer is the same, or out of memory. The stack is no more
+   than CBORN_STACK(depth). At the end all short calls are made once more, from eight threads at once, and answer the same.
+   Linked with --wrap for malloc, realloc and free. The first wrong thing ends the program with a line on standard error
+   and status 1. */
 #define _GNU_SOURCE
 #include "cborn.h"
 #include <fcntl.h>

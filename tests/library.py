@@ -3,12 +3,13 @@
 
     library.py PROGRAM FOLDER
 
-FOLDER has libcborn.a and python/cborn, the package. What the library answers is written as the program would print it, and compared
-with what the table says and with what the program prints. Which number a fault has is held against the program's
-words, through those of include/cborn.h, docs/FORMATS.md and the bindings; each number has to occur. Nests of arrays,
-maps and tags under the least, the usual and the largest limit are put through besides. `python -m cborn` does the
-command lines of the tables as the program does, but says nothing of where two inputs differ. Of each input that is refused or isn't
-deterministic the explanation is what the program writes with --explain behind its first line. library.c, which is compiled by $CC or cc, says what else is tested. Command lines that are no call (of files that fail, or of help) are counted.
+FOLDER has libcborn.a and python/cborn, the package. An answer of the library is written as the program would print it, and
+compared with the table and with what the program prints. The number of a fault is compared with the program's words, by
+way of include/cborn.h, docs/FORMATS.md and the bindings. Each number has to occur. Nests of arrays, maps and tags under
+the least, the usual and the largest limit are tried, too. `python -m cborn` has to do the command lines of the tables as
+the program does, but doesn't say where two inputs differ. The explanation of each input that is refused or isn't
+deterministic is what the program writes with --explain after its first line. library.c, which is compiled by $CC or cc,
+says what else is tested. Command lines that are no call (with files that fail, or for help) are counted.
 """
 import argparse
 import collections
@@ -36,7 +37,7 @@ WRAPPED = "-Wl,--wrap=malloc,--wrap=realloc,--wrap=free"
 
 
 def words_of_header():
-    """The words of each number of a fault in the header: the comment behind it."""
+    """The words of each number of a fault in the header: the comment after it."""
     text = (TOP / "include/cborn.h").read_text()
     return {int(n, 16): words for n, words in re.findall(r"= (0x[0-9a-f]{3}),\s*/\* (.*?) \*/", text)}
 
@@ -154,7 +155,7 @@ class InC:
         return self.answer(second)
 
     def explained(self, asked, answer):
-        """What cborn_explain writes of the fault or the defect that was told."""
+        """What cborn_explain writes on the fault or the defect that was reported."""
         code, place, _ = answer
         which = code // OF_SECOND
         kind = KINDS[(asked.from_a, asked.from_b)[which] if asked.command == "compare" else asked.source]

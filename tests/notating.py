@@ -91,7 +91,7 @@ class Notator(Heads):
             self.parts.append(part)
 
     def put(self, token):
-        """Puts a token behind a gap, which may not lack between two words."""
+        """Appends a gap and then a token. Between two words the gap isn't empty."""
         self.add(self.gap(comments=(*COMMENTS, *LONG_COMMENTS) if self.is_second else COMMENTS))
         if self.parts and is_word(self.parts[-1][-1]) and is_word(token[0]):
             self.add(self.random.choice(("/0/", " ", "\n")))

@@ -1,7 +1,7 @@
 #!/usr/bin/env python3
-"""Makes the lists of docs/PROMISES.md from the sources: each public function of each library, and its clauses by name. Of a function that a user calls it has the first sentence of the docstring; of a law that sentence is the theorem.
+"""Makes the lists of docs/PROMISES.md from the sources: each public function of each library, and its clauses by name. Of a function that a user calls, the list has the first sentence of the docstring. Of a law, that sentence is the theorem.
 
-A function is public if its module is, or if the crate's root file names it, or the type or trait that it belongs to, in a `pub use`. A single clause has no name, and nothing is told of it; where there is none, that is told.
+A function is public if its module is, or if the crate's root file names it, or the type or trait that it belongs to, in a `pub use`. A single clause has no name, and the list doesn't mention it. Where a function has no clause, the list says so.
 
     python3 tests/promises.py           writes the lists after the page's introduction
     python3 tests/promises.py --check   fails if the page isn't what the sources say
@@ -15,7 +15,7 @@ ROOT = Path(__file__).resolve().parent.parent
 PAGE = ROOT / "docs/PROMISES.md"
 # the order of the chapters: from the calls that a user makes down to what they stand on
 CRATES = "engine c commands options streams model wire det judge lex edn transcode search show descent places paths causes explain".split()
-# those of which it is said what each function does; what stands below them is told by module
+# those whose list says what each function does; the lists of the crates below them go by module
 CALLED = {"engine", "c", "commands", "options"}
 MADE = "<!-- from here on made by tests/promises.py -->\n"
 PUBLIC = re.compile(r"pub use (?!cborn_)\w+::(?:\{([^}]*)\}|(\w+));")
@@ -25,7 +25,7 @@ CLAUSE = re.compile(r"^ +ensures(?: (\w+))? \{")
 
 
 def exported(root_file):
-    """The modules that a crate makes public whole, and the names that it hands on."""
+    """The modules that a crate makes public as a whole, and the names that it makes public."""
     text = root_file.read_text()
     modules = set(re.findall(r"^pub mod (\w+);", text, re.M))
     names = set(re.findall(r'^pub (?:extern "C" )?fn (\w+)', text, re.M))

@@ -8,7 +8,7 @@ import json
 import re
 
 DIRECT, INDEFINITE = 24, 31
-# bytes behind the initial one, by additional information
+# how many bytes follow the initial byte, by additional information
 WIDTHS = {24: 1, 25: 2, 26: 4, 27: 8}
 BREAK = 0xFF
 BYTES, TEXT, ARRAY, MAP, TAG, SIMPLE = 2, 3, 4, 5, 6, 7
@@ -156,7 +156,7 @@ class Notation:
         self.taken(self.SPACE)
 
     def is_next(self, token):
-        """Whether this token is next, which is then behind."""
+        """Whether this token is next. If so, goes on after it."""
         self.space()
         is_there = self.text.startswith(token, self.place)
         self.place += len(token) if is_there else 0

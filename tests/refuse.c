@@ -2,7 +2,7 @@
    malloc or realloc, from 1, gets a null pointer, and then a line goes to the file descriptor TELL: how many bytes it
    asked for, and how many files the program had opened. When the program ends, a line goes to the file descriptor
    COUNTS: how many requests there were, for how many bytes in all, how many were held at most at one time, and how
-   many the greatest of them asked for. A request whose memory has to move counts as held beside the old one. */
+   many the greatest of them asked for. A request whose memory has to move is held at the same time as the old one. */
 #include <fcntl.h>
 #include <malloc.h>
 #include <stdarg.h>
@@ -51,7 +51,7 @@ static int is_refused(size_t size)
     return say(tell, line, snprintf(line, sizeof line, "%zu %ld\n", size, opened));
 }
 
-/* A request that came back with memory, or with none, beside so much that it gives back afterwards. */
+/* Counts a request that returned memory, or none, and then freed this much. */
 static void *counted(void *made, size_t size, size_t given_back)
 {
     requests++;

@@ -9,11 +9,11 @@ A table is a list of cases, each a paragraph of lines 'WORD REST':
     file NAME hex BYTES  a file in the folder that the program runs in; 'text' in place of 'hex' takes
                          a text with the escapes \\n and \\xNN (none, if it isn't ASCII), and 'folder'
                          makes a folder
-    length NAME N        zeros behind what that file holds, so that it has N bytes
+    length NAME N        zeros after what that file holds, so that it has N bytes
     stdin hex BYTES      standard input, which is else empty
-    input failing        standard input fails behind these bytes, in place of ending
+    input failing        standard input fails after these bytes, in place of ending
     output WHERE         standard output goes to 'closed', a pipe whose reader has gone, to 'first N', a file
-                         that fails behind N bytes, or to a file that is named, as /dev/full
+                         that fails after N bytes, or to a file that is named, as /dev/full
     run ARGUMENTS        the program's arguments, quoted as in a shell
     argument hex BYTES   one more of them, of any bytes
     stdout hex BYTES     what it must write to standard output, which is else nothing;
@@ -23,9 +23,9 @@ A table is a list of cases, each a paragraph of lines 'WORD REST':
     status N             the exit status, which is else 0
 
 In BYTES 'X * N' repeats X, 'X * A..B' puts each number from A to B (up or down) in place of its {..}, formatted
-as Python does, 'X * A..B by S' each S-th of them, and '+' stands between parts. 'texts PARTS' is the same of texts,
-each in double quotes, with their escapes. The last five words tell of a run: several runs may stand in one case, on
-the same files and input, and where one stands right behind another they must do the same.
+as Python does, 'X * A..B by S' each S-th of them, and '+' stands between parts. 'texts PARTS' has texts in place of
+bytes, each in double quotes, with their escapes. The last five words are those of a run. One case may have several runs,
+on the same files and input. Runs in a row without lines between them must do the same.
 'stdout holds' and 'stderr holds' may stand more than once. A line that begins with '#' is a comment.
 """
 import collections
@@ -44,7 +44,7 @@ import tempfile
 
 Outcome = collections.namedtuple("Outcome", "stdout stderr status")
 HERE = pathlib.Path(__file__).resolve().parent
-# forms of items and texts, one behind another: what they ask for, and when they read and write, the other tables have too
+# forms of items and texts; the growths and the failures of their runs are those of the other tables
 FORMS = HERE / "forms"
 LONG = 4096
 OF_A_RUN = ("run", "argument", "stdout", "stderr", "status")
@@ -112,12 +112,12 @@ class Case:
         return Outcome(written or b"", done.stderr, done.returncode)
 
     def standard_input(self, opened):
-        """How subprocess.run is told the standard input."""
+        """The arguments of subprocess.run for standard input."""
         if not self.is_failing:
             return {"input": self.stdin}
         ours, theirs = map(opened.enter_context, socket.socketpair())
         ours.send(self.stdin)
-        # the other side is closed with a byte that it didn't read, which fails the reads behind its own bytes
+        # the other side is closed with a byte that it didn't read, so a read after its own bytes fails
         theirs.send(b"?")
         ours.close()
         return {"stdin": theirs}
@@ -136,7 +136,7 @@ class Case:
         return writer
 
     def limit_files(self):
-        """In the process to come, fail each write to a file behind its first bytes."""
+        """In the process to come, make each write to a file fail after its first bytes."""
         signal.signal(signal.SIGXFSZ, signal.SIG_IGN)
         resource.setrlimit(resource.RLIMIT_FSIZE, (self.room, self.room))
 
@@ -224,7 +224,7 @@ def single_runs(lines):
 
 
 def listed(names):
-    """Each case of the tables of these names, or of all tables beside this script: the table's name, and its lines."""
+    """Each case of the tables of these names, or of all tables in this script's folder: the table's name, and its lines."""
     tables = [pathlib.Path(name) for name in names] or tables_in(HERE)
     return ((table.name, lines) for table in tables for lines in paragraphs(table))
 

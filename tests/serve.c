@@ -1,11 +1,11 @@
 /* Lets a program stand ready, so that a run of it costs no loading: the tests load this before the C library (glibc).
 
    Before it begins, the program takes requests from the socket SERVE. Each is a run: a child that goes on as the program
-   would, with the words of the request behind its own. Standard input, output and error are files, and whoever asks
-   fills, empties and reads them. What refuse.c or trouble.c tells of the run goes to the same socket, and when the child
-   has ended, a line '= STATUS' does, which is negative where a signal ended it.
+   would, with the words of the request after its own. Standard input, output and error are files, and the client fills,
+   empties and reads them. The lines of refuse.c or trouble.c on the run go to the same socket. When the child has ended, a
+   line '= STATUS' does. It is negative if a signal ended the child.
 
-   A request is one packet of texts, each with a zero byte behind it: the folder to run in, the settings 'NAME=VALUE'
+   A request is one packet of texts, each followed by a zero byte: the folder to run in, the settings 'NAME=VALUE'
    that the run has in its environment, an empty text, and the words. */
 #define _GNU_SOURCE
 #include <dlfcn.h>

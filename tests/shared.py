@@ -107,7 +107,7 @@ def over_processors(tried, runs, *given, at_once=1):
 
 
 def status(count, wrong, summary):
-    """Prints each line of what is wrong, and the summary behind them. The status: 0 where something was tried, and nothing is wrong."""
+    """Prints each line of what is wrong, and then the summary. The status: 0 where something was tried, and nothing is wrong."""
     for line in wrong:
         print(line)
     print(f"{summary}, {len(wrong)} failed")

@@ -1,11 +1,11 @@
 #!/usr/bin/env python3
-"""Run the built program with standard error on a terminal, and compare what a person is told there.
+"""Run the built program with standard error on a terminal, and compare what a person gets there.
 
     terminals.py PROGRAM
 
-Where bytes were read that are all printable ASCII and white space, and are refused or have a line end last, the terminal gets a
-hint. Each run is made a second time with a pipe in the place of the terminal, which must get none of it, and all else
-must be the same. So this would see a hint that a script gets, or that a person doesn't.
+If the bytes of an input are all printable ASCII or white space, and are refused or end a line, the terminal gets a hint.
+Each run is made a second time with a pipe in place of the terminal. The pipe must get no hint, and all else must be the
+same. So this catches a hint that a script gets, or that a person doesn't.
 """
 import os
 import pathlib
@@ -22,7 +22,7 @@ FILES = {
     "item": bytes.fromhex("8201"),
     "cut": b'{"a": 1}',
     "items": bytes.fromhex("820102"),
-    # 'a' times 38 behind the head 78 26, which is 'x&': a text string, and all of it printable
+    # 'a' times 38 after the head 78 26, which is 'x&': a text string, and all of it printable
     "string": b"x&" + b"a" * 38 + b"\n",
 }
 # more than the program reads at once

@@ -1,8 +1,8 @@
 #!/usr/bin/env python3
 """Run `make try` as a user would: the first run builds the program from its source, in a minute or so, and the others don't.
 
-It would see a run that hands on the wrong file, loses standard input or the program's status, or doesn't say that what ran
-isn't proved; and a program that is built anew where nothing changed, or isn't where a source did.
+It catches a run that passes the wrong file, loses standard input or the program's status, or doesn't say that the program
+isn't proved. It catches a program that is built anew where nothing changed, or isn't where a source did.
 """
 import importlib.util
 import pathlib

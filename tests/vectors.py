@@ -49,7 +49,7 @@ def of_side(which, refusal):
 
 
 def wanted(kind, front, answer, other):
-    """Each command line on a front, and its outcome. Of the file `other` the content is told beside each of them."""
+    """Each command line on a front, the content of the file `other` for it, and its outcome."""
     shown, normalised = refusals(answer, len(front))
     if shown is None:
         spelled = reading.spelled(kind, front)

@@ -308,7 +308,7 @@ class Errors(unittest.TestCase):
         self.assertRaisesRegex(ValueError, "no input of this format", of_text.explain, b"h'0'")
         of_float = cborn.CbornError(cborn.Reason.FLOAT_LEFT_OUT.number, 2)
         self.assertRaises(TypeError, of_float.explain, "8201f93c00")
-        # a place behind the end is the end
+        # a place beyond the end counts as the end
         truncated = cborn.CbornError(cborn.Reason.TRUNCATED.number, 2**64 - 1)
         self.assertEqual(truncated.explain(b"\x81").splitlines()[:2], ["  path  item 0 [0]", "  bytes 81 ><"])
 

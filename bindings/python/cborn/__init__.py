@@ -13,19 +13,19 @@
     Traceback (most recent call last):
     cborn.CbornError: offset 3: duplicate key
 
-An input is any number of data items, one after another; with `one=True` it has to be exactly one. It is any object with the
-buffer protocol (bytes, bytearray, memoryview, mmap, array, NumPy arrays). It is read without a copy. A str isn't taken: encode notation first. Floats are
-left out: an input with one is refused. Calls may run in several threads at once, and release the interpreter's lock
-while they work on 4,096 bytes or more. Nothing may write to an input meanwhile.
+An input is any number of data items, one after another. With `one=True` it has to be exactly one. It is any object with
+the buffer protocol (bytes, bytearray, memoryview, mmap, array, NumPy arrays), and is read without a copy. A str is not
+accepted: encode notation first. Floats are left out: an input with one is refused. Calls may run in several threads at
+once. They release the interpreter's lock while they work on 4,096 bytes or more. Nothing may write to an input meanwhile.
 
-`depth` is the maximum nesting depth of arrays, maps and tags, from 1 to 1024. `stack` tells how many bytes of stack
+`depth` is the maximum nesting depth of arrays, maps and tags, from 1 to 1024. `stack` returns how many bytes of stack
 a thread needs for it. With less, deeply nested input can overflow the stack and crash the process.
 
 A fault is why an input is refused: it is malformed, or has a validity error. A defect is why a valid input isn't in the
 deterministic encoding. `Reason` names both, and the method `explain` of an error and of a defect says where and why.
 
-Each call raises TypeError for an input that is no buffer, and for a value that is no member of `Kind` or `Order`, and
-ValueError for a number that none of them has, and for a depth that is too small or too large.
+Each call raises TypeError for an input that is no buffer, or a value that is no member of `Kind` or `Order`. It raises
+ValueError for a number that no member has, or a depth that is too small or too large.
 
 `python -m cborn` is the program, with its commands `normalise`, `show`, `check` and `compare`. With --explain it says where
 and why an input is refused or isn't deterministic, but not where two inputs of `compare` differ.
@@ -69,7 +69,7 @@ class Kind(enum.IntEnum):
     NOTATION = 1
     """Diagnostic notation (RFC 8949 section 8, RFC 8610 Appendix G), in UTF-8."""
     NOTATION_2 = 2
-    """The same, with comments from # to the end of a line, and trailing commas."""
+    """Diagnostic notation with comments from # to the end of a line, and trailing commas."""
 
 
 class Order(enum.IntEnum):
@@ -82,10 +82,10 @@ class Order(enum.IntEnum):
 
 
 class Reason(str, enum.Enum):
-    """Why an input is refused, or isn't deterministic. As a str it is the words that the program prints.
+    """Why an input is refused or isn't deterministic. As a str it is the words that the program prints.
 
-    `number` is that of cborn.h. No number ever changes its meaning; docs/FORMATS.md says when each applies. A reason
-    equals its words, but no other reason, even one with the same words.
+    `number` is that of cborn.h. No number ever changes its meaning. docs/FORMATS.md says when each applies. A reason
+    equals its words. It equals no other reason, not even one with the same words.
 
         >>> import cborn
         >>> cborn.Reason.INVALID_DUPLICATE_KEY == "duplicate key"
@@ -119,7 +119,7 @@ class Reason(str, enum.Enum):
     TEXT_NUMBER_TOO_LARGE = 0x209
     TEXT_BAD_INDICATOR = 0x20A
     TEXT_FLOAT_LEFT_OUT = 0x20B
-    # notation with invalid grammar, or faults of what it means
+    # notation with a syntax error between tokens, or that notates no item
     TEXT_UNEXPECTED_TOKEN = 0x301
     TEXT_UNEXPECTED_END = 0x302
     TEXT_TOO_DEEP = 0x303
@@ -158,7 +158,7 @@ class Reason(str, enum.Enum):
     def __ne__(self, other: object) -> bool:
         return not self == other
 
-    # equal to its words, so it hashes as they do
+    # it equals its words, so it has their hash
     __hash__ = str.__hash__
 
     def __repr__(self) -> str:
@@ -174,10 +174,10 @@ class Reason(str, enum.Enum):
 class CbornError(ValueError):
     """An input is refused: it is malformed, has a validity error, or is too long (more than 2**30 bytes).
 
-    `reason` says why. `place` is the offset of the fault, in bytes from the start of the input, and None if the input
-    is too long. `number` is the number of the reason. `input` is 1 if `compare` or `same` means its second input,
-    else 0. `source` and `depth` are the format of that input and the maximum nesting depth that it was read with.
-    `explain` says where and why in lines for people.
+    `reason` says why, and `number` is its number. `place` is the offset of the fault, in bytes from the start of the
+    input, or None if the input is too long. `input` is 1 if it is the second input of `compare` or `same`, else 0.
+    `source` and `depth` are the format of that input and the maximum nesting depth that it was read with. `explain`
+    says where and why in lines for people.
     """
 
     number: int
@@ -210,9 +210,9 @@ class CbornError(ValueError):
     def explain(self, data: ReadableBuffer) -> str:
         """Return lines that say where in `data` the fault is, what stands there, and why.
 
-        `data` is the input that was refused: of `compare` and `same` the one that `input` means. The lines are those
-        that the program writes with --explain after its first line, with arguments named for options; docs/FORMATS.md
-        says what is in them. There are none where the input is too long.
+        `data` is the input that was refused. The lines are those that the program adds with --explain, but they name
+        arguments in place of options. docs/FORMATS.md says what is in them. The result is empty if the input is too
+        long.
 
             >>> import cborn
             >>> data = bytes.fromhex("8201f93c00")
@@ -226,13 +226,13 @@ class CbornError(ValueError):
               bytes 82 01 >f9< 3c 00
               why   a float of 16 bits begins here, and floats are left out
 
-        Raises TypeError where `data` is no buffer, ValueError where no input of the format `source` is refused for this
+        Raises TypeError if `data` is no buffer, ValueError if no input of the format `source` is refused for this
         reason, and MemoryError.
         """
         return _with_arguments(self._lines(data))
 
     def _lines(self, data: ReadableBuffer) -> str:
-        """The program's lines."""
+        """The lines as the program writes them."""
         return "" if self.place is None else _cborn.explain(data, self.number, self.place, self.source, self.depth)
 
 
@@ -245,9 +245,10 @@ class Defect(typing.NamedTuple):
     """What it is."""
 
     def explain(self, data: ReadableBuffer, depth: int = 128) -> str:
-        """Return lines that say where in `data`, the input that was checked, the defect is, and why it is one.
+        """Return lines that say where in `data` the defect is, and why it is one.
 
-        `depth` is that of the check. The rest is as for `CbornError.explain`.
+        `data` is the input that was checked, and `depth` the depth of that check. docs/FORMATS.md says what is in the
+        lines. Raises TypeError if `data` is no buffer, and MemoryError.
 
             >>> import cborn
             >>> print(cborn.check(b"\\x18\\x01").explain(b"\\x18\\x01").splitlines()[1])
@@ -256,11 +257,11 @@ class Defect(typing.NamedTuple):
         return _with_arguments(self._lines(data, depth))
 
     def _lines(self, data: ReadableBuffer, depth: int) -> str:
-        """The program's lines."""
+        """The lines as the program writes them."""
         return _cborn.explain(data, self.reason.number, self.place, Kind.WIRE, depth)
 
 
-# what the program says of its options, and what is said of the arguments here
+# what the lines of the program say of its options, and what is said of the arguments in its place
 _ARGUMENTS = {
     ": --depth N raises the limit, up to 1024": ": depth=N raises the limit, up to 1024",
     "normalise and show read diagnostic notation by --from notation, compare by --from-a and --from-b":
@@ -270,7 +271,7 @@ _ARGUMENTS = {
 
 
 def _with_arguments(lines: str) -> str:
-    """The lines of an explanation, which speak of arguments in place of options. What is quoted of an input stays."""
+    """The lines of an explanation with arguments in place of options. Quotes of the input are left as they are."""
     told = lines.splitlines(keepends=True)
     for i, line in enumerate(told):
         if line.startswith(("  why   the nesting limit is ", "  hint  ")):
@@ -283,13 +284,13 @@ _OF_SECOND = 0x10000
 
 
 def _fault(code: int, place: int, source: int, depth: int) -> CbornError:
-    """What is raised for a number that a call answered, of an input of this format, read with this maximum depth."""
+    """The exception for the number that a call answered, for an input of this format and with this depth."""
     which, number = divmod(code, _OF_SECOND)
     where = None if number == Reason.INPUT_TOO_LONG.number else place
     return CbornError(number, where, which, Kind(source), depth)
 
 
-# by the number, which is quicker than Reason(number)
+# quicker than Reason(number)
 _REASONS = {reason.number: reason for reason in Reason}
 
 
@@ -301,12 +302,12 @@ _cborn.begin(Kind, Order, _fault, _defect)
 
 
 def stack(depth: int = 128) -> int:
-    """Return the most bytes of stack that a call takes, as measured: CBORN_STACK of cborn.h."""
+    """Return the most bytes of stack that a call with this depth takes, as measured: CBORN_STACK of cborn.h."""
     return 20480 + 480 * depth
 
 
 def version() -> str:
-    """Return the version of the library: of one that follows a release, that of the next."""
+    """Return the version of the library. What follows a release has that of the next release."""
     number = _cborn.version()
     return f"{number >> 16}.{number >> 8 & 255}.{number & 255}"
 

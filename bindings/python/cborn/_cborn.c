@@ -37,26 +37,26 @@ enum {
     MOST_ARGUMENTS = 6
 };
 
-/* What __init__.py handed in: two classes, and what makes an exception and a Defect of a number and a place. */
+/* What __init__.py passes to begin: two classes, and two functions that make an exception and a Defect of a number and a place. */
 typedef struct {
     PyObject *kind, *order, *fault, *defect;
 } classes;
 
-/* The arguments of a function, of which the first ones have no default. */
+/* The arguments of a function. The first ones have no default. */
 typedef struct {
     const char *name;
     int required, most;
     const char *arguments[MOST_ARGUMENTS];
 } signature;
 
-/* An input, as it is lent. */
+/* An input, which is borrowed from its object. */
 typedef struct {
     const uint8_t *bytes;
     size_t length;
-    lent_buffer lent; /* obj is NULL where nothing has to be given back */
+    lent_buffer lent; /* obj is NULL where nothing has to be released */
 } input;
 
-/* The numbers of a call, which begin as the defaults; number and place are those of what is to be explained. */
+/* The numbers of a call, at first the defaults. number and place are those of a fault or defect that is to be explained. */
 typedef struct {
     uint32_t from, to, order;
     uint64_t depth;
@@ -76,7 +76,7 @@ static int place_of_argument(const signature *of, PyObject *name)
     return -1;
 }
 
-/* Puts each argument to its place; NULL stands for one that isn't given. */
+/* Puts each argument at the index of its name. NULL: it isn't given. */
 static int are_bound(const signature *of, PyObject *const *given, Py_ssize_t count, PyObject *keywords, PyObject **bound)
 {
     Py_ssize_t named = keywords == NULL ? 0 : PyTuple_Size(keywords);
@@ -136,7 +136,7 @@ static void give_back(input *it)
         PyBuffer_Release(&it->lent);
 }
 
-/* The number of a member of an enum; a plain int serves too, and nothing else. An argument that isn't given is well. */
+/* Whether an argument is a member of an enum, or its number, or isn't given. Sets *number, if it is given. */
 static int is_member(PyObject *value, PyObject *of, const char *name, const char *members, long end, uint32_t *number)
 {
     if (value == NULL)
@@ -203,7 +203,7 @@ static PyObject *not_begun(void)
     return NULL;
 }
 
-/* Raises what a number stands for that is no answer. The exception keeps the input's format and the depth. */
+/* Raises the exception for the number of a fault. It keeps the input's format and the depth. */
 static PyObject *raised(PyObject *module, uint32_t code, uint64_t place, uint32_t from, uint64_t depth)
 {
     classes *known = PyModule_GetState(module);
@@ -212,7 +212,7 @@ static PyObject *raised(PyObject *module, uint32_t code, uint64_t place, uint32_
         return NULL;
     }
     if (code == CBORN_BAD_ARGUMENT) {
-        /* of explain alone: the other calls are handed nothing that is invalid */
+        /* only explain gets here: the other calls pass valid arguments alone */
         PyErr_SetString(PyExc_ValueError, "no input of this format is refused for this reason");
         return NULL;
     }
@@ -265,7 +265,7 @@ static PyObject *made(int is_text, const char *bytes, uint64_t length)
     return PyBytes_FromStringAndSize(bytes, (Py_ssize_t)length);
 }
 
-/* The answer by way of a bytes object that the library writes to, and which is the answer where that fills it. */
+/* The answer, written into a bytes object. Where the answer fills it, the object itself is returned. */
 static PyObject *long_answer(PyObject *module, writer *call, const options *how, const input *from, int is_text, size_t room)
 {
     cborn_told told = {0, 0};
@@ -359,7 +359,7 @@ static PyObject *spell(PyObject *module, PyObject *const *given, Py_ssize_t coun
     return shown(module, &of_spell, how, given, count, keywords);
 }
 
-/* Whether a check was made: its number is CBORN_OK or that of a defect. */
+/* Whether the input is valid: the number is CBORN_OK or that of a defect. */
 static int is_checked(PyObject *module, const signature *called, PyObject *const *given, Py_ssize_t count,
                       PyObject *keywords, uint32_t *code, uint64_t *place)
 {
@@ -433,7 +433,7 @@ static uint32_t compared(comparer *call, const options *how, const input *a, con
     return code;
 }
 
-/* Whether two inputs were compared: the number is CBORN_OK or CBORN_DIFFERENT. */
+/* Whether both inputs are valid: the number is CBORN_OK or CBORN_DIFFERENT. */
 static int are_compared(PyObject *module, const signature *called, comparer *call, PyObject *const *given, Py_ssize_t count,
                         PyObject *keywords, uint32_t *code, uint64_t *place)
 {
@@ -538,7 +538,7 @@ static PyObject *version(PyObject *module, PyObject *nothing)
     return PyLong_FromUnsignedLong(cborn_version());
 }
 
-/* begin(Kind, Order, fault, defect): the classes, whose names the signatures cite, and what makes an exception and a Defect */
+/* begin(Kind, Order, fault, defect): two classes, which the signatures name, and two functions that make an exception and a Defect */
 static PyObject *begin(PyObject *module, PyObject *given)
 {
     classes *known = PyModule_GetState(module);

@@ -1,18 +1,18 @@
 //! The calls of `cborn.h`.
 //!
-//! What they ask for, a safe caller has: the pointer of a slice is never null, and its length is at most `isize::MAX`;
-//! `&` and `&mut` don't overlap, and nobody writes to what they lend; stack is what `Depth::stack` tells.
+//! A safe caller keeps to their terms. The pointer of a slice is never null, and its length is at most `isize::MAX`. `&`
+//! and `&mut` don't overlap, and nothing writes to what they borrow. How much stack is needed, `Depth::stack` gives.
 
 use crate::faults::Fault;
 use crate::reasons::Reason;
 use crate::{Depth, Kind};
 
-/// What a call tells beside the number that it answers.
+/// What a call reports besides its number.
 #[repr(C)]
 pub struct Told {
-    /// The offset of a fault.
+    /// The offset of a fault in bytes, else 0.
     pub place: u64,
-    /// How many bytes the answer takes.
+    /// The length of the answer in bytes, even where it didn't fit.
     pub length: u64,
 }
 
@@ -54,12 +54,13 @@ extern "C" {
     ) -> u32;
 }
 
-/// `CBORN_STACK`.
+/// `CBORN_STACK` of `cborn.h`.
 pub fn stack(depth: usize) -> usize {
     20480 + 480 * depth
 }
 
-/// The answer of a call that writes one, into so much room or, if that is too little, into what the call then asks for.
+/// The answer of a call that writes one. The first buffer has `room` bytes. Where that is too little, the call is made
+/// again with the room that it reported.
 pub fn filled(room: usize, call: impl Fn(*mut u8, usize, &mut Told) -> u32) -> Result<Vec<u8>, Fault> {
     let mut out = Vec::new();
     let mut room = room;
@@ -70,7 +71,7 @@ pub fn filled(room: usize, call: impl Fn(*mut u8, usize, &mut Told) -> u32) -> R
         let mut told = Told { place: 0, length: 0 };
         match call(out.as_mut_ptr(), out.capacity(), &mut told) {
             0 => {
-                // SAFETY: the call wrote so many bytes to the front of `out`, whose capacity it was handed
+                // SAFETY: the call wrote this many bytes to the start of `out`, and no more than the capacity it was given
                 unsafe { out.set_len(told.length as usize) };
                 return Ok(out);
             }
@@ -80,7 +81,7 @@ pub fn filled(room: usize, call: impl Fn(*mut u8, usize, &mut Told) -> u32) -> R
     }
 }
 
-/// The explanation of a fault or a defect, if an input of this format has such a one, and memory for it is there.
+/// The explanation of a fault or a defect. `None`: no input of this format has it, or memory is refused.
 pub fn explained(input: &[u8], from: Kind, depth: Depth, reason: Reason, place: u64) -> Option<String> {
     let lines = filled(512, |out, room, told| unsafe {
         // SAFETY: as above

@@ -1,19 +1,19 @@
-//! Why a call gives no answer.
+//! The errors of the calls.
 
 use crate::calls::explained;
 use crate::reasons::Reason;
 use crate::{Depth, Kind};
 use std::fmt;
 
-/// Why a call gives no answer.
+/// Why a call has no result.
 #[derive(Clone, Copy, Debug, PartialEq, Eq, Hash)]
 #[non_exhaustive]
 pub enum Fault {
     /// The input is malformed or has a validity error.
     Refused {
-        /// Why.
+        /// Why it is refused.
         reason: Reason,
-        /// The offset in bytes.
+        /// The offset of the fault, in bytes from the start of the input.
         place: u64,
     },
     /// The input has more than 2^30 bytes.
@@ -31,11 +31,10 @@ impl Fault {
         }
     }
 
-    /// Lines that say where in the input the fault is, what stands there, and why, as the program writes them with
+    /// Lines that say where in the input the fault is, what is there, and why, as the program writes them with
     /// `--explain`. `input` is the input that was refused, `from` its format and `depth` the limit that it was read with.
     ///
-    /// None where the fault is none of the input's content, where no input of that format is refused so, and where memory
-    /// is refused.
+    /// `None`: the fault isn't in the content of the input, no input of that format has such a fault, or memory is refused.
     ///
     /// ```
     /// use cborn::{normalise, Options};
@@ -71,7 +70,7 @@ impl std::error::Error for Fault {}
 pub enum CompareFault {
     /// The first input is refused.
     First(Fault),
-    /// The second input is refused, and the first is not.
+    /// The second input is refused, and the first isn't.
     Second(Fault),
     /// Out of memory.
     OutOfMemory,
@@ -104,13 +103,13 @@ impl std::error::Error for CompareFault {}
 pub struct Defect {
     /// Its offset in bytes from the start of the input.
     pub place: u64,
-    /// What it is.
+    /// What kind of defect it is.
     pub reason: Reason,
 }
 
 impl Defect {
-    /// Lines that say where in the input the defect is, what stands there, and why it is one. `input` is the input that was
-    /// checked, and `depth` the limit that it was read with. None where memory is refused.
+    /// Lines that say where in the input the defect is, what is there, and why it is one. `input` is the input that was
+    /// checked, and `depth` the limit that it was read with. `None`: memory is refused.
     pub fn explain(self, input: &[u8], depth: Depth) -> Option<String> {
         explained(input, Kind::Wire, depth, self.reason, self.place)
     }

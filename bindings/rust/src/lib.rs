@@ -11,7 +11,7 @@
 //!
 //! An input is any number of data items, one after another, as bytes or in diagnostic notation. Floats are left out: an
 //! input with a float is refused. Nothing is kept between calls, and any threads may call at once. [`Depth::stack`]
-//! tells how much stack a call takes: with less, deeply nested input can overflow the stack and crash the process.
+//! gives how much stack a call takes. With less, deeply nested input can overflow the stack and crash the process.
 //!
 //! A [`Fault`] is why an input is refused: it is malformed, has a validity error, or is too long. A [`Defect`] is why a
 //! valid input isn't in the deterministic encoding.
@@ -35,7 +35,7 @@ pub enum Kind {
     Wire = 0,
     /// Diagnostic notation (RFC 8949 section 8, RFC 8610 Appendix G), in UTF-8.
     Notation = 1,
-    /// The same, with comments from `#` to the end of a line, and trailing commas.
+    /// Diagnostic notation with comments from `#` to the end of a line, and trailing commas.
     Notation2 = 2,
 }
 
@@ -56,7 +56,7 @@ pub enum Order {
 pub struct Depth(u64);
 
 impl Depth {
-    /// This depth, if it is from 1 to 1,024.
+    /// This depth, or `None` if it isn't from 1 to 1,024.
     pub fn new(most: u64) -> Option<Depth> {
         (1..=1024).contains(&most).then_some(Depth(most))
     }
@@ -73,7 +73,7 @@ impl Default for Depth {
     }
 }
 
-/// What [`normalise`] reads and writes; by default bytes, bytewise, at most 128 deep.
+/// What [`normalise`] reads and writes: by default bytes, with keys in bytewise order, at most 128 deep.
 ///
 /// ```
 /// use cborn::{normalise, Kind, Options};
@@ -94,25 +94,25 @@ pub struct Options {
 }
 
 impl Options {
-    /// The same with this format of the input.
+    /// These options with another format of the input.
     #[must_use]
     pub fn with_from(self, from: Kind) -> Options {
         Options { from, ..self }
     }
 
-    /// The same with this format of the output.
+    /// These options with another format of the output.
     #[must_use]
     pub fn with_to(self, to: Kind) -> Options {
         Options { to, ..self }
     }
 
-    /// The same with this sort order of map keys.
+    /// These options with another sort order of map keys.
     #[must_use]
     pub fn with_order(self, order: Order) -> Options {
         Options { order, ..self }
     }
 
-    /// The same with this maximum nesting depth.
+    /// These options with another maximum nesting depth.
     #[must_use]
     pub fn with_depth(self, depth: Depth) -> Options {
         Options { depth, ..self }
@@ -134,7 +134,7 @@ pub fn normalise(input: &[u8], options: Options) -> Result<Vec<u8>, Fault> {
     })
 }
 
-/// A guess at the length of a canonical form, which for bytes is never too small.
+/// A first guess at the length of a canonical form. From bytes to bytes it is never too small.
 fn room_for(input: &[u8], to: Kind) -> usize {
     if to == Kind::Wire { input.len() + input.len() / 3 } else { 3 * input.len() + 64 }
 }
@@ -142,8 +142,8 @@ fn room_for(input: &[u8], to: Kind) -> usize {
 /// The items in the input as they are encoded, each head in its own width: as bytes or in notation.
 ///
 /// # Errors
-/// Those of [`normalise`], but validity errors are accepted, other than a text string that isn't UTF-8 where the output
-/// is notation.
+/// [`Fault::Refused`] if the input is malformed, [`Fault::TooLong`] if it has more than 2^30 bytes. Validity errors are
+/// accepted, with one exception: a text string that isn't UTF-8 can't be written in notation.
 pub fn show(input: &[u8], from: Kind, to: Kind, depth: Depth) -> Result<Vec<u8>, Fault> {
     let room = if to == Kind::Wire { input.len() + 8 } else { 3 * input.len() + 64 };
     filled(room, |out, room, told| unsafe {
@@ -152,11 +152,12 @@ pub fn show(input: &[u8], from: Kind, to: Kind, depth: Depth) -> Result<Vec<u8>,
     })
 }
 
-/// None if the input is deterministic, so that [`normalise`] would give the same bytes, else its first defect. The
-/// contents of byte strings aren't checked, even if they are CBOR.
+/// The first defect of the input. `None`: it is deterministic, so [`normalise`] would give the same bytes. The contents of
+/// byte strings aren't checked, even if they are CBOR.
 ///
 /// # Errors
-/// Those of [`normalise`].
+/// [`Fault::Refused`] if the input is malformed or has a validity error, [`Fault::TooLong`] if it has more than 2^30
+/// bytes.
 pub fn check(input: &[u8], order: Order, depth: Depth) -> Result<Option<Defect>, Fault> {
     let mut place = 0;
     // SAFETY: as in `calls`
@@ -164,7 +165,7 @@ pub fn check(input: &[u8], order: Order, depth: Depth) -> Result<Option<Defect>,
     checked(code, place)
 }
 
-/// What a check answered.
+/// The result of a check, by the number that a call answered.
 fn checked(code: u32, place: u64) -> Result<Option<Defect>, Fault> {
     match code {
         0 => Ok(None),
@@ -173,10 +174,10 @@ fn checked(code: u32, place: u64) -> Result<Option<Defect>, Fault> {
     }
 }
 
-/// None if both inputs hold the same items, else the index, from 0, of the first item that differs.
+/// The index, from 0, of the first item that differs. `None`: both inputs hold the same items.
 ///
 /// # Errors
-/// The fault of an input, as [`normalise`] tells it, and which input has it. If both have one, that of the first.
+/// The fault of an input, as [`normalise`] gives it, and which input has it. If both have one, that of the first.
 pub fn compare(
     first: &[u8],
     from_first: Kind,
@@ -199,11 +200,11 @@ pub fn compare(
     }
 }
 
-/// Whether both inputs hold the same items, so that their canonical forms are equal. [`compare`] says besides where they
-/// differ.
+/// Whether both inputs hold the same items, so that their canonical forms are equal. [`compare`] says where they differ,
+/// too.
 ///
 /// # Errors
-/// Those of [`compare`].
+/// The fault of an input, as [`normalise`] gives it, and which input has it. If both have one, that of the first.
 pub fn same(
     first: &[u8],
     from_first: Kind,
@@ -222,7 +223,7 @@ pub fn same(
     matched(code, place)
 }
 
-/// What a comparison answered that tells no place.
+/// The result of a comparison that doesn't say where, by the number that a call answered.
 fn matched(code: u32, place: u64) -> Result<bool, CompareFault> {
     match code {
         0 => Ok(true),
@@ -241,8 +242,8 @@ fn matched(code: u32, place: u64) -> Result<bool, CompareFault> {
 /// ```
 ///
 /// # Errors
-/// Those of [`normalise`]. If there is none of these, [`Reason::NoItem`] at the input's length where the input holds no
-/// item, and [`Reason::MoreItems`] where the second item starts if it holds more than one.
+/// Each error of [`normalise`]. If there is none: [`Reason::NoItem`] at the length of an input that holds no item, and
+/// [`Reason::MoreItems`] at the start of the second item of one that holds more.
 pub fn normalise_one(input: &[u8], options: Options) -> Result<Vec<u8>, Fault> {
     let Options { from, to, order, depth } = options;
     filled(room_for(input, to), |out, room, told| unsafe {
@@ -253,10 +254,11 @@ pub fn normalise_one(input: &[u8], options: Options) -> Result<Vec<u8>, Fault> {
     })
 }
 
-/// The one item that the input has to hold, as it is encoded.
+/// The one item that the input has to hold, as it is encoded, each head in its own width: as bytes or in notation.
 ///
 /// # Errors
-/// Those of [`show`], and those that [`normalise_one`] adds to [`normalise`].
+/// Each error of [`show`]. If there is none: [`Reason::NoItem`] at the length of an input that holds no item, and
+/// [`Reason::MoreItems`] at the start of the second item of one that holds more.
 pub fn show_one(input: &[u8], from: Kind, to: Kind, depth: Depth) -> Result<Vec<u8>, Fault> {
     let room = if to == Kind::Wire { input.len() + 8 } else { 3 * input.len() + 64 };
     filled(room, |out, room, told| unsafe {
@@ -265,11 +267,12 @@ pub fn show_one(input: &[u8], from: Kind, to: Kind, depth: Depth) -> Result<Vec<
     })
 }
 
-/// None if the input is one item and deterministic, else its first defect. An input that isn't one item is refused, also
-/// if it has a defect.
+/// The first defect of the one item that the input has to hold. `None`: it is deterministic. An input that isn't one item
+/// is refused, even if it has a defect.
 ///
 /// # Errors
-/// Those of [`normalise_one`].
+/// Each error of [`check`]. If there is none: [`Reason::NoItem`] at the length of an input that holds no item, and
+/// [`Reason::MoreItems`] at the start of the second item of one that holds more.
 pub fn check_one(input: &[u8], order: Order, depth: Depth) -> Result<Option<Defect>, Fault> {
     let mut place = 0;
     // SAFETY: as in `calls`
@@ -277,10 +280,10 @@ pub fn check_one(input: &[u8], order: Order, depth: Depth) -> Result<Option<Defe
     checked(code, place)
 }
 
-/// Whether both inputs hold the same item, each of which has to hold exactly one.
+/// Whether both inputs, each of which has to hold exactly one item, hold the same item.
 ///
 /// # Errors
-/// The fault of an input, as [`normalise_one`] tells it, and which input has it. If both have one, that of the first.
+/// The fault of an input, as [`normalise_one`] gives it, and which input has it. If both have one, that of the first.
 pub fn compare_one(
     first: &[u8],
     from_first: Kind,
@@ -299,7 +302,7 @@ pub fn compare_one(
     matched(code, place)
 }
 
-/// The version of the library: major, minor, patch; of one that follows a release, those of the next.
+/// The version of the library: major, minor, patch. What follows a release has the numbers of the next release.
 pub fn version() -> (u32, u32, u32) {
     // SAFETY: it takes nothing
     let number = unsafe { calls::cborn_version() };

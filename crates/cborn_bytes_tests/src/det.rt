@@ -1,5 +1,5 @@
-//! That the calls of the encoder answer, which could answer want of memory by their contracts. That
-//! the answer is right is a clause; `judge` encodes one item of each form.
+//! The calls of the encoder have an answer: by their contracts each could always answer out of memory.
+//! That the answer is right is a clause. `judge` encodes one item of each form.
 
 use cborn_det::{encode, equal_bytes, push_encoding};
 use cborn_judge::judge;
@@ -33,7 +33,8 @@ fn encodes(rt: HostRuntime) -> Result<(), Fail> {
     Ok(())
 }
 
-/// Two items, and whether they are the same: a map and its turn, and kinds with the same contents.
+/// Two items, and whether they are the same: maps with their pairs in another order, and strings of
+/// both kinds with the same content.
 const PAIRS: [(&[u8], &[u8], bool); 4] = [
     (b"\xa2\x01\x02\x03\x04", b"\xa2\x03\x04\x01\x02", true),
     (b"\x00", b"\xf4", false),

@@ -1,15 +1,15 @@
-//! That the path to a place, and to a difference, is told: by their contracts these calls could answer
-//! want of memory each time, and no run of the program makes them. Where the path leads is a clause.
-//! And that a look at pieces tells what the whole is.
+//! The path to an offset and to a difference is given: by their contracts these calls could always
+//! answer out of memory, and the program doesn't make them. Where the path leads is a clause. A look at
+//! pieces says what a look at the whole says.
 
 use cborn_explain::{Hint, Look, Step, find_difference, hint_of, path_to};
 use std::test::Fail;
 
-/// Behind an item a map of one pair, whose value is an array; its second element is an integer in a
-/// tag, at offset 7.
+/// An item, and then a map of one pair. The value is an array, and its second element a tag of an
+/// integer at offset 7.
 const FIRST: &[u8] = b"\x00\xa1\x61a\x82\x01\xc1\x02";
 
-/// The same with another integer.
+/// These bytes with another integer.
 const SECOND: &[u8] = b"\x00\xa1\x61a\x82\x01\xc1\x03";
 
 /// The path to the integer.
@@ -20,7 +20,7 @@ const PATH: [Step; 4] = [
     Step::Content(1),
 ];
 
-/// Catches a path that is never told.
+/// Catches a path that is never given.
 #[test]
 fn leads_to_a_place(rt: HostRuntime) -> Result<(), Fail> {
     let path = path_to(rt.alloc(), FIRST, 7)?;
@@ -28,7 +28,7 @@ fn leads_to_a_place(rt: HostRuntime) -> Result<(), Fail> {
     Ok(())
 }
 
-/// Catches a difference that is never told.
+/// Catches a difference that is never given.
 #[test]
 fn leads_to_a_difference(rt: HostRuntime) -> Result<(), Fail> {
     let Some(found) = find_difference(rt.alloc(), FIRST, SECOND)? else {
@@ -41,8 +41,7 @@ fn leads_to_a_difference(rt: HostRuntime) -> Result<(), Fail> {
     Ok(())
 }
 
-/// Catches a look that hangs on where the input is cut: of both parts it says what is said of the
-/// whole.
+/// Catches a look that depends on where the input is cut.
 #[test]
 fn looks_at_pieces(rt: HostRuntime) -> Result<(), Fail> {
     let inputs = [

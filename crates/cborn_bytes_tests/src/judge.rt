@@ -1,5 +1,5 @@
-//! That bytes are read, judged and encoded through trees, which could answer want of memory by their
-//! contracts: one input has each form of a node. Which answer is right is a clause.
+//! Bytes are read, judged and encoded by way of nodes: by their contracts these calls could always
+//! answer out of memory. One input has each form of a node. Which answer is right is a clause.
 
 use cborn_det::{encode, encode_all};
 use cborn_judge::{Defect, DefectReason, Invalid, InvalidReason, first_defect, judge, judge_all};
@@ -7,15 +7,15 @@ use cborn_model::{Bytewise, Limit};
 use cborn_wire::read_all;
 use std::test::Fail;
 
-/// Each form of a node: heads that are too wide, chunks, indefinite lengths, keys that fall, a tag,
-/// bignums and a simple value.
+/// Each form of a node: heads that are too wide, chunks, indefinite lengths, keys in falling order, a
+/// tag, bignums and a simple value.
 const EACH_FORM: &[u8] =
     b"\x18\x01\x38\x05\x58\x01a\x78\x01b\x5f\x41\x01\x41\x02\xff\x7f\x61c\x61d\xff\x9f\x01\x61e\xff\xbf\x02\xa0\x01\x80\xff\xd8\x01\x60\xc2\x42\x00\x05\xc3\x40\xf5";
 
 const ENCODED: &[u8] =
     b"\x01\x25\x41a\x61b\x42\x01\x02\x62cd\x82\x01\x61e\xa2\x01\x80\x02\xa0\xc1\x60\x05\x20\xf5";
 
-/// Catches a form that never means anything.
+/// Catches a form of a node that has no meaning.
 #[test]
 fn means(rt: HostRuntime) -> Result<(), Fail> {
     let nodes = read_all(rt.alloc(), Limit::USUAL, EACH_FORM)?;
@@ -25,8 +25,8 @@ fn means(rt: HostRuntime) -> Result<(), Fail> {
     Ok(())
 }
 
-/// What is valid, of the kinds that are easily refused, and its encoding: keys of two kinds with the
-/// same bytes, and bignums without bytes.
+/// Valid items that are easily refused, and their encodings: keys of two kinds with the same bytes,
+/// and bignums without bytes.
 const VALID: [(&[u8], &[u8]); 3] = [
     (
         b"\xa2\x41\x61\x00\x61\x61\x00",
@@ -50,8 +50,8 @@ fn judges(rt: HostRuntime) -> Result<(), Fail> {
     Ok(())
 }
 
-/// What is not valid in the last item, where, and why: keys that are turned round, in chunks or a
-/// bignum, and the flaws before that of a repeated key.
+/// Why the last item is invalid, and where: repeated keys in another order, in chunks or as a bignum,
+/// and flaws that come before that of a repeated key.
 const REFUSED: [(&[u8], u64, InvalidReason); 9] = [
     (b"\x7f\x61\xc3\x61\xbc\xff", 1, InvalidReason::NotUtf8),
     (b"\xc2\x01", 0, InvalidReason::BadBignum),
@@ -80,7 +80,7 @@ const REFUSED: [(&[u8], u64, InvalidReason); 9] = [
     (b"\xa2\x01\x61\xff\x01\x00", 2, InvalidReason::NotUtf8),
 ];
 
-/// Catches a flaw that is never told, but want of memory.
+/// Catches a flaw in whose place out of memory is answered.
 #[test]
 fn refuses(rt: HostRuntime) -> Result<(), Fail> {
     for (bytes, place, reason) in REFUSED {
@@ -101,7 +101,7 @@ const DEFECTS: [(&[u8], u64, DefectReason); 4] = [
     (b"\xa1\x01\xa2\x02\x00\x01\x00", 5, DefectReason::KeyOrder),
 ];
 
-/// Catches a defect that is never told, but want of memory.
+/// Catches a defect in whose place out of memory is answered.
 #[test]
 fn checks(rt: HostRuntime) -> Result<(), Fail> {
     for (bytes, place, reason) in DEFECTS {

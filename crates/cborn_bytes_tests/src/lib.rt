@@ -1,6 +1,5 @@
-//! Tests of the libraries that read, judge, write and explain bytes, in a module for each: what no
-//! clause says. They stand in a crate of their own, since a crate with tests is proved twice, with
-//! them and without.
+//! Tests of the libraries that read, judge, write and explain bytes: one module for each. They test
+//! what no clause says. They are a crate of their own, since a crate with tests is proved twice.
 #![tactic(auto)]
 
 #[cfg(test)]

@@ -1,19 +1,19 @@
-//! What no clause of the model says: what its trees take of memory, and that a number's bytes are
-//! given, which could be want of memory by the contract. Its other functions answer by clauses that
-//! name the answer for each argument.
+//! What no clause of the model says: how much memory its trees take, and that the bytes of a number are
+//! given, where the contract allows out of memory. The other functions have clauses that name the
+//! answer for each argument.
 
 use cborn_model::{Item, Magnitude, Node, push_doubling};
 use std::mem::size_of;
 use std::test::Fail;
 
-/// Catches a tree that takes more memory, since a form got another part.
+/// Catches a tree that takes more memory because a form has a new part.
 #[test]
 fn keeps_sizes(rt: HostRuntime) {
     assert!(rt; size_of::<Node>() <= 40, "a node");
     assert!(rt; size_of::<Item>() <= 40, "an item");
 }
 
-/// Catches a list that grows by one, and so takes time with the square of its length.
+/// Catches a list that grows by one element, and so takes time by the square of its length.
 #[test]
 fn grows_by_doubling(rt: HostRuntime) -> Result<(), Fail> {
     let mut list = Vec::new(rt.alloc());

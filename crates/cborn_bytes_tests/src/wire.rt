@@ -1,4 +1,4 @@
-//! That bytes are read, whole and in pieces: each call could answer want of memory by its contract.
+//! Bytes are read, whole and in pieces: by its contract each call could always answer out of memory.
 
 mod checks;
 mod cuts;

@@ -1,5 +1,5 @@
-//! Readers and writers of std under a count: what fails is a failure at once, and a flush is handed
-//! on.
+//! Readers and writers of std that are counted: a failure is reported at once, and a flush reaches the
+//! writer.
 use super::memory::Bytes;
 use cborn_engine::{Counted, EngineFault, Kind, Sink, Source, load, normalise};
 use cborn_model::{Bytewise, Limit};
@@ -8,7 +8,7 @@ use std::io;
 use std::io::{ErrorKind, Read, Write};
 use std::test::Fail;
 
-/// Is interrupted at its first call, and works from then on.
+/// A reader and writer that is interrupted at its first call, and works from then on.
 #[derive(Drop)]
 struct Interrupted<'a> {
     calls: &'a mut u64,
@@ -42,7 +42,7 @@ impl<'a> Write for Interrupted<'a> {
     }
 }
 
-/// Takes all bytes, and fails to flush them.
+/// A writer that accepts all bytes, and fails to flush them.
 #[derive(Drop)]
 struct Unflushed<'a> {
     taken: &'a mut usize,
@@ -87,7 +87,7 @@ fn interrupted_calls(rt: HostRuntime) -> Result<(), Fail> {
     Ok(())
 }
 
-/// Catches a flush that is left out, or whose failure is swallowed.
+/// Catches a flush that is left out, or whose failure is ignored.
 #[test]
 fn failed_flushes(rt: HostRuntime) -> Result<(), Fail> {
     for input in [b"".as_slice(), b"\x18\x01".as_slice()] {
@@ -103,7 +103,8 @@ fn failed_flushes(rt: HostRuntime) -> Result<(), Fail> {
     Ok(())
 }
 
-/// Catches a flush by std's name that is counted, but not handed on: that keeps every clause.
+/// Catches a flush by std's method that is counted and doesn't reach the writer. Every clause would
+/// hold.
 #[test]
 fn hands_on_what_is_printed(rt: HostRuntime) {
     let mut taken = 0;

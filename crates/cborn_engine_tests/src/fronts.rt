@@ -1,5 +1,5 @@
-//! Each front of each worked input is loaded. What is read and what is refused is a clause; that a
-//! front isn't given up on, which would be want of memory, is none.
+//! Each front of each worked input is loaded. What is read and what is refused is a clause. That no front
+//! is answered with out of memory is none.
 mod inputs;
 
 use self::inputs::{BYTES, TEXTS};
@@ -11,13 +11,13 @@ use std::alloc::{AllocError, Global};
 use std::process::Abort;
 use std::test::Fail;
 
-/// What an input spells.
+/// The bytes that an input spells.
 fn spelled(alloc: Global, kind: Kind, input: &[u8]) -> Result<Vec<u8>, EngineFault> {
     let nodes = load(alloc, Limit::USUAL, kind, &mut Bytes::new(input, 4096))?;
     Ok(spell_all(alloc, &nodes)?)
 }
 
-/// Each front of the bytes is read as itself, or is cut off, or is refused as all of them are.
+/// Asserts that each front of the bytes spells itself, is truncated, or has the fault of the whole.
 fn are_loaded(rt: &impl Abort, alloc: Global, input: &[u8]) {
     let whole = spelled(alloc, Kind::Wire, input).err();
     assert!(rt; whole != Some(EngineFault::OutOfMemory), "{input:?}");
@@ -50,7 +50,7 @@ fn great_map(alloc: Global) -> Result<Vec<u8>, AllocError> {
     Ok(bytes)
 }
 
-/// Catches a front of bytes that is given up on, or read as others.
+/// Catches a front of bytes that is answered with out of memory, or read as other bytes.
 #[test]
 fn bytes_are_loaded(rt: HostRuntime) -> Result<(), Fail> {
     for input in BYTES {
@@ -60,7 +60,7 @@ fn bytes_are_loaded(rt: HostRuntime) -> Result<(), Fail> {
     Ok(())
 }
 
-/// No front of the text is given up on.
+/// Asserts that no front of the text is answered with out of memory.
 fn text_is_loaded(rt: &impl Abort, alloc: Global, kind: Kind, input: &[u8]) {
     for length in 0..=input.len() {
         let fault = spelled(alloc, kind, &input[..length]).err();
@@ -69,7 +69,7 @@ fn text_is_loaded(rt: &impl Abort, alloc: Global, kind: Kind, input: &[u8]) {
     }
 }
 
-/// Catches a front of a text that is given up on.
+/// Catches a front of a text that is answered with out of memory.
 #[test]
 fn texts_are_loaded(rt: HostRuntime) {
     for input in TEXTS {

@@ -1,9 +1,8 @@
-//! What the calls answer that give or take nodes, where each answer is compared and each fault handed
-//! on. What the program calls, its tables call.
+//! The answers of the calls that give or accept nodes. The program's tables test what the program calls.
 //!
-//! With ample memory these tests tell the one right answer, so a call that always answers want of
-//! memory fails. `make library-growths` refuses each growth in turn; there a test may stop by want
-//! of memory, and by nothing else.
+//! With enough memory each test has one right answer, so a call that always answers out of memory
+//! fails. `make library-growths` refuses each growth in turn. A test may then end with out of memory,
+//! and with nothing else.
 
 mod large;
 mod nodes;

@@ -1,5 +1,5 @@
-//! Tests of the engine: what no clause and no run of the program says. Readers and writers that give
-//! or take little, or fail; answers that are lent; and that each call can succeed.
+//! Tests of the engine: what no clause says and no run of the program shows. Readers and writers that
+//! give or accept little, or fail; answers that borrow from the input; and that each call can succeed.
 #![tactic(auto)]
 
 #[cfg(test)]

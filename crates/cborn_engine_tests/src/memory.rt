@@ -1,4 +1,4 @@
-//! Readers and writers over memory that fail when they are told to.
+//! Readers and writers over memory that fail at a chosen call.
 ghost use Rattle.std.specs.Prelude.{Some};
 
 use cborn_engine::{Sink, Source};
@@ -6,7 +6,7 @@ use std::alloc::{AllocError, Global};
 use std::io;
 use std::io::ErrorKind;
 
-/// Gives bytes, at most `step` a call, fails at one call, and counts its calls.
+/// A reader that gives at most `step` bytes a call, fails at one call, and counts its calls.
 #[derive(Drop)]
 pub struct Bytes<'a> {
     pub rest: &'a [u8],
@@ -17,12 +17,12 @@ pub struct Bytes<'a> {
 }
 
 impl<'a> Bytes<'a> {
-    /// Bytes, `step` a call, without a failure.
+    /// A reader of these bytes that never fails.
     pub fn new(rest: &'a [u8], step: usize) -> Self {
         Bytes::failing(rest, step, u64::MAX)
     }
 
-    /// Bytes, `step` a call, with a failure after so many calls.
+    /// A reader of these bytes that fails after this many calls.
     pub fn failing(rest: &'a [u8], step: usize, calls_to_failure: u64) -> Self {
         Bytes {
             rest,
@@ -69,10 +69,10 @@ pub enum Trouble {
     FailsToFlush,
 }
 
-/// The room of a writer, in bytes. It is taken at first, so that no write wants memory.
+/// The room of a writer in bytes. It is allocated at the start, so that no write needs memory.
 const ROOM: usize = 1 << 14;
 
-/// Takes bytes into a vector, at most `step` a call, until its trouble.
+/// A writer into a vector that accepts at most `step` bytes a call, up to its trouble.
 #[derive(Drop)]
 pub struct Taken {
     pub bytes: Vec<u8>,
@@ -85,12 +85,12 @@ pub struct Taken {
 }
 
 impl Taken {
-    /// Takes all bytes.
+    /// A writer that accepts all bytes.
     pub fn new(alloc: Global) -> Result<Self, AllocError> {
         Taken::troubled(alloc, 4096, 0, Trouble::Nothing)
     }
 
-    /// Takes `step` bytes a call, and has its trouble after so many calls.
+    /// A writer that accepts `step` bytes a call, and has its trouble after this many calls.
     pub fn troubled(
         alloc: Global,
         step: usize,

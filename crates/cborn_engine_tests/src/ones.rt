@@ -1,5 +1,5 @@
-//! The calls for exactly one item: that each answers, and that each tells of none and of a second.
-//! By their contracts they could answer want of memory each time.
+//! The calls for exactly one item: each has an answer, and reports no item and a second item. By their
+//! contracts they could always answer out of memory.
 use super::memory::{Bytes, Taken};
 use cborn_engine::{
     CompareOneFault, Kind, OneFault, check_one, check_one_slice, compare_one, normalise_one,
@@ -27,7 +27,7 @@ const ONES: [(Kind, &[u8], Result<&[u8], OneFault>); 8] = [
     (Kind::Notation2, b"1, #\n2", Err(OneFault::MoreItems(5))),
 ];
 
-/// What both calls that encode the one item answer.
+/// The answer of both calls that encode the one item.
 fn encoded(
     rt: &impl Abort,
     alloc: Global,
@@ -55,7 +55,7 @@ fn encoded(
     Ok(())
 }
 
-/// What both calls that show the one item as bytes answer, of which each spells itself.
+/// The answer of both calls that show the one item as bytes: the item as it was.
 fn shown(
     rt: &impl Abort,
     alloc: Global,
@@ -75,7 +75,7 @@ fn shown(
     Ok(())
 }
 
-/// What both calls that compare two items answer, of one with itself.
+/// The answer of both calls that compare two items, for an item and itself.
 fn compared(rt: &impl Abort, alloc: Global, kind: Kind, input: &[u8], fault: Option<OneFault>) {
     let wanted = fault.map(CompareOneFault::First);
     let same = same_item::<Bytewise>(alloc, Limit::USUAL, kind, input, kind, input);
@@ -118,7 +118,7 @@ const CHECKED: [(&[u8], Result<Option<Defect>, OneFault>); 4] = [
     (b"\x01\x18\x01", Err(OneFault::MoreItems(1))),
 ];
 
-/// Catches a check that looks at the first item alone.
+/// Catches a check that looks at the first item only.
 #[test]
 fn one_item_checked(rt: HostRuntime) {
     for (input, wanted) in CHECKED {

@@ -1,4 +1,4 @@
-//! Readers and writers that give or take little, or fail.
+//! Readers and writers that give or accept little, or fail.
 use super::memory::{Bytes, Taken, Trouble};
 use cborn_engine::{Counted, EngineFault, Kind, Sink, load, load_within, normalise};
 use cborn_model::{Bytewise, Limit};
@@ -15,8 +15,8 @@ fn normalised(alloc: Global, bytes: &mut Bytes<'_>, out: &mut Taken) -> Result<(
     normalise::<Bytewise, Bytes<'_>, Taken>(alloc, Limit::USUAL, kind, kind, bytes, out)
 }
 
-/// What a writer of one byte a call is asked, behind so many calls of which it has its trouble: what
-/// `normalise` answers, what was taken, and how many writes, flushes and failures there were.
+/// The trouble of a writer of one byte a call and the number of calls before it, what `normalise`
+/// answers, what was written, and how many writes, flushes and failures there were.
 const TROUBLES: [(u64, Trouble, bool, &[u8], [u64; 3]); 4] = [
     (9, Trouble::Nothing, true, b"\x82\x01\x41\x61", [4, 1, 0]),
     (1, Trouble::Fails, false, b"\x82", [2, 0, 1]),
@@ -63,8 +63,8 @@ fn inputs_within_a_bound(rt: HostRuntime) -> Result<(), Fail> {
     Ok(())
 }
 
-/// What is left of the input of `input_of_pieces` behind its 9,096 integers in 9,098 bytes, and the
-/// fault of it.
+/// What the input of `input_of_pieces` has after its 9,096 integers in 9,098 bytes, and the fault of
+/// the input.
 const LAST: [(&[u8], Option<(u64, WireReason)>); 4] = [
     (b"", None),
     (b"\x1c", Some((9098, WireReason::ReservedInfo))),
@@ -72,7 +72,7 @@ const LAST: [(&[u8], Option<(u64, WireReason)>); 4] = [
     (b"\x42\x00", Some((9100, WireReason::Truncated))),
 ];
 
-/// Integers, of which one lies across the end of the first 4,096 bytes, and then `last`.
+/// Integers, one of which crosses the end of the first 4,096 bytes, and then `last`.
 fn input_of_pieces(alloc: Global, last: &[u8]) -> Result<Vec<u8>, AllocError> {
     let mut bytes = Vec::new(alloc);
     bytes.extend_from_slice(&[0; 4095])?;
@@ -82,8 +82,8 @@ fn input_of_pieces(alloc: Global, last: &[u8]) -> Result<Vec<u8>, AllocError> {
     Ok(bytes)
 }
 
-/// Catches a piece that is taken twice or not at all, and a place that is counted from the start of
-/// a piece.
+/// Catches a piece that is used twice or not at all, and an offset that counts from the start of a
+/// piece.
 #[test]
 fn inputs_by_pieces(rt: HostRuntime) -> Result<(), Fail> {
     for (last, fault) in LAST {
@@ -109,7 +109,7 @@ fn inputs_by_pieces(rt: HostRuntime) -> Result<(), Fail> {
     Ok(())
 }
 
-/// Loading what the reader gives, of at most `most` bytes, is refused for this.
+/// Asserts that an input of at most `most` bytes from the reader isn't loaded, for this fault.
 fn is_refused(rt: &impl Abort, alloc: Global, most: u64, bytes: Bytes<'_>, want: EngineFault) {
     assert!(rt; most < 10000);
     let mut bytes = bytes;
@@ -117,10 +117,10 @@ fn is_refused(rt: &impl Abort, alloc: Global, most: u64, bytes: Bytes<'_>, want:
     assert_eq!(rt; result.err(), Some(want));
 }
 
-/// Catches a fault that is told before a failed read or a byte too many that come behind it, and
-/// one that is told in their place.
+/// Catches a fault that is reported before a failed read or a byte too many that follow it, and one
+/// that is reported in place of them.
 #[test]
-fn troubles_behind_faults(rt: HostRuntime) -> Result<(), Fail> {
+fn troubles_after_faults(rt: HostRuntime) -> Result<(), Fail> {
     let reason = WireReason::ReservedInfo;
     let fault = EngineFault::Wire(WireFault::Refused { place: 1, reason });
     for (length, step, calls) in [
@@ -152,7 +152,7 @@ fn calls_of_load(alloc: Global, kind: Kind, input: &[u8], step: usize) -> Result
     }
 }
 
-/// Catches a reader that is asked again behind its end or a byte too many.
+/// Catches a reader that is asked again after its end or a byte too many.
 #[test]
 fn calls_of_readers(rt: HostRuntime) -> Result<(), Fail> {
     let zeros = b"\x00\x00\x00\x00\x00\x00\x00";
@@ -174,7 +174,7 @@ fn calls_of_readers(rt: HostRuntime) -> Result<(), Fail> {
     Ok(())
 }
 
-/// Catches a reader that is asked again behind its failure.
+/// Catches a reader that is asked again after its failure.
 #[test]
 fn calls_of_failing_readers(rt: HostRuntime) -> Result<(), Fail> {
     for (calls_to_failure, calls) in [(0, 1), (2, 3), (7, 8), (8, 8)] {

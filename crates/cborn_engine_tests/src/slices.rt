@@ -1,11 +1,11 @@
-//! Answers over inputs that are held whole, some of which are lent. What the calls for C answer of
-//! all inputs of the tables, `make library-tests` holds against the program.
+//! Answers over inputs that are in memory as a whole. Some answers borrow from the input.
+//! `make library-tests` compares the calls for C with the program, on all inputs of the tables.
 use cborn_engine::{Kind, normalise_slice, show_slice};
 use cborn_model::{Bytewise, Limit};
 use std::borrow::CowSlice;
 use std::test::Fail;
 
-/// A copy would be as right, and takes memory.
+/// Catches an answer that is copied though it could be borrowed. A copy would be right, but takes memory.
 #[test]
 fn lent(rt: HostRuntime) -> Result<(), Fail> {
     let kind = Kind::Wire;

@@ -1,4 +1,4 @@
-//! The commands and their arguments, as help shows them.
+//! The commands and their arguments, in the order in which help shows them.
 
 use crate::help;
 use clap::builder::ValueParser;
@@ -7,32 +7,31 @@ use clap::builder::ValueParser;
 #[derive(Clone, Copy)]
 pub struct Form {
     pub name: &'static str,
-    /// The program's name and its own.
+    /// The name of the program and the command.
     pub whole_name: &'static str,
     pub about: &'static str,
-    /// What `--help` says at the end.
+    /// The last part of what `--help` prints.
     pub notes: &'static str,
-    /// In the order of help.
     pub arguments: &'static [Argument],
 }
 
 /// An argument of a command.
 #[derive(Clone, Copy)]
 pub struct Argument {
-    /// Of an option, what stands behind `--`.
+    /// An option's name is without its `--`.
     pub name: &'static str,
     pub help: &'static str,
     pub takes: Takes,
 }
 
-/// What an argument is.
+/// What kind of argument it is.
 #[derive(Clone, Copy)]
 pub enum Takes {
-    /// A file, which has no `--`.
+    /// The name of a file.
     File { is_required: bool },
     /// An option with a value.
     Value(Value),
-    /// An option alone.
+    /// An option without a value.
     Nothing,
 }
 
@@ -44,7 +43,7 @@ pub struct Value {
     pub default: &'static str,
 }
 
-/// In the order of help.
+/// All commands.
 pub const COMMANDS: &[Form] = &[SHOW, NORMALISE, COMPARE, CHECK];
 
 pub const SHOW: Form = Form {

@@ -1,6 +1,6 @@
-//! What the program says of itself when it is asked for help: in short at `-h`, and with the `NOTES` at `--help`.
+//! The texts of help. `-h` prints the short ones, `--help` the `NOTES` too.
 //!
-//! No line is longer than 80 characters, those that `clap` makes of these texts included.
+//! No line has more than 80 characters, also as `clap` prints it.
 
 pub const PROGRAM: &str = "Reads CBOR data items and writes their deterministic encoding";
 

@@ -1,11 +1,13 @@
-//! The command line: what its words ask for, what help says, and what is told where they are wrong.
+//! The command line: what its words ask for, what help says, and what is said of wrong words.
 //!
 //! [`read_task`] makes a [`Task`] of the words, by the argument parser `clap`. Nothing is read, done or
-//! printed here: `cborn_commands` does what a task asks.
+//! printed here. `cborn_commands` does what a task asks for.
 //!
-//! `forms` lists the commands and their arguments, and `options` hands them to `clap` and reads what
-//! it found. `help` has what help says, `misplaced` what is told of an option that only another command
-//! has.
+//! - `forms`: the commands and their arguments.
+//! - `options`: passes these to `clap`, and reads what it found.
+//! - `help`: the texts of help.
+//! - `misplaced`: what is said of an option that only another command has.
+//! - `tasks`: the task.
 #![tactic(auto)]
 
 mod forms;

@@ -1,4 +1,4 @@
-//! Options that are given to a command which hasn't got them, while another command has.
+//! Options that a command doesn't have, while another command does.
 
 use crate::forms::{CHECK, COMPARE, Form, SHOW};
 
@@ -17,7 +17,7 @@ const CHECK_TO: &str =
 const SHOW_ORDER: &str =
     "show sorts nothing, and has no '--order': 'cborn normalise --to notation' sorts the keys of maps";
 
-/// What to say of an option that a command hasn't got.
+/// What to say of an option that a command doesn't have.
 #[derive(Clone, Copy)]
 pub struct Advice {
     pub command: Form,
@@ -53,8 +53,8 @@ const ADVICE: &[Advice] = &[
     },
 ];
 
-/// What is meant by an option of another command, if one is given. The first of `words` is the
-/// program's name, the second the command's.
+/// The advice on the first option in the list that the words give to a command without it. The first of
+/// `words` is the program's name, the second the command's. `None`: there is no such option.
 pub fn advice_on(words: &[&str]) -> Option<&'static Advice> {
     let name = *words.get(1)?;
     for advice in ADVICE {
@@ -65,7 +65,7 @@ pub fn advice_on(words: &[&str]) -> Option<&'static Advice> {
     None
 }
 
-/// Whether an option is among some words, alone or with `=` and its value. Behind `--` there are no options.
+/// Whether an option is among the words, alone or with `=` and a value. After `--` there are no options.
 fn has_option(words: &[&str], option: &str) -> bool {
     for word in words {
         if *word == "--" {

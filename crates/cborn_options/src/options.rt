@@ -9,10 +9,10 @@ use clap::error::ErrorKind;
 use clap::{Arg, ArgAction, ArgMatches, Command, Error};
 use std::alloc::{AllocError, Global};
 
-/// Reads the command line, of which the first word is the program's name.
+/// The task that the words of a command line ask for. The first word is the program's name.
 ///
 /// # Errors
-/// What is wrong with the words, or a request for help or the version.
+/// What is wrong with the words, a request for help or the version, or `ErrorKind::OutOfMemory`.
 pub fn read_task<'a>(alloc: Global, words: &'a [&'a str]) -> Result<Task<'a>, Error> {
     let mut program = program(alloc)?;
     task_for(alloc, &mut program, words)
@@ -39,7 +39,7 @@ fn no_command(program: &mut Command<'_>) -> Error {
     }
 }
 
-/// What is told of a mistake, where an option is given to a command that hasn't got it.
+/// The mistake, with advice in place of it where another command has the option.
 fn explained(alloc: Global, words: &[&str], why: Error) -> Error {
     if why.kind() != ErrorKind::UnknownArgument {
         return why;
@@ -57,7 +57,7 @@ fn told_of(alloc: Global, advice: &Advice) -> Error {
     }
 }
 
-/// A line with the usage of a command, whose name is given with the program's.
+/// The line of an advice, with the usage of its command.
 fn advised(alloc: Global, advice: &Advice) -> Result<Error, AllocError> {
     let command = command(alloc, &advice.command)?;
     let mut command = command.bin_name(advice.command.whole_name)?;
@@ -124,7 +124,7 @@ fn order_of(found: &ArgMatches<'_>) -> Order {
     }
 }
 
-/// The format that an option names. A command that hasn't got the option has bytes.
+/// The format that an option names. A command without that option reads or writes bytes.
 fn format_of(found: &ArgMatches<'_>, name: &str) -> Format {
     match found.get_str(name) {
         Some("notation") => Format::Notation,

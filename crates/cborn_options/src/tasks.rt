@@ -2,24 +2,26 @@
 
 use cborn_model::Limit;
 
-/// What the program is asked to do. A `file` that isn't named is standard input.
+/// What the program is asked to do.
 #[derive(Clone, Copy)]
 pub struct Task<'a> {
     pub action: Action<'a>,
     pub order: Order,
     pub limit: Limit,
     pub items: Items,
-    /// Lines that say where and why are wanted behind a refusal or a difference.
+    /// Whether a refusal, a defect or a difference is followed by lines that say where and why.
     pub explain: bool,
 }
 
-/// The command of a task, with what it alone has.
+/// What a task does.
 #[derive(Clone, Copy)]
 pub enum Action<'a> {
+    /// Reads one input. Without a file it is standard input.
     Read {
         file: Option<&'a str>,
         purpose: Purpose,
     },
+    /// Compares two files.
     Compare {
         first: &'a str,
         second: &'a str,
@@ -46,10 +48,12 @@ impl Purpose {
     }
 }
 
-/// The order of a map's keys.
+/// The sort order of map keys.
 #[derive(Clone, Copy)]
 pub enum Order {
+    /// By encoded bytes (RFC 8949 section 4.2.1).
     Bytewise,
+    /// Shortest first (RFC 8949 section 4.2.3).
     LengthFirst,
 }
 
@@ -58,18 +62,17 @@ pub enum Order {
 pub enum Items {
     /// Any number, none included.
     Any,
-    /// Exactly one, and each of two inputs.
+    /// Exactly one. Each of two inputs holds one.
     One,
 }
 
-/// What an input is read as, or an output written as.
+/// The format of an input or an output.
 #[derive(Clone, Copy)]
 pub enum Format {
     /// CBOR bytes.
     Wire,
     /// Diagnostic notation.
     Notation,
-    /// Diagnostic notation in which a comment may also begin with `#`, and a comma may follow the last
-    /// item of an array, a map or an embedded sequence.
+    /// Diagnostic notation with comments from `#` to the end of a line, and with trailing commas.
     Notation2,
 }

@@ -1,6 +1,6 @@
-//! A sink of a caller's own, which keeps nothing of what it takes: with it a descent tells exactly
-//! whether an item stands at the front of some bytes, and how many follow it. What is proved of a
-//! descent speaks of any sink; here one meets the trait, and the clause says what is left of it.
+//! A sink of a caller's own, which keeps nothing. With it a descent answers whether some bytes begin
+//! with an item, and how many bytes follow it. What is proved of a descent holds for any sink. Here one
+//! implements the trait, and the clause says what that proof says then.
 
 ghost use Rattle.std.specs.Prelude.{◌≤◌, MatchOption};
 ghost use Rattle.cborn_wire.specs.Parts.{NodeRead, Leaves};
@@ -10,7 +10,7 @@ use cborn_descent::{Descent, Opening, Sink, descend};
 use cborn_model::Width;
 use std::test::Fail;
 
-/// Takes each item, and keeps nothing of it.
+/// A sink that accepts each item, and keeps nothing of it.
 #[derive(Drop)]
 struct Skipping {
     count: u64,
@@ -150,8 +150,8 @@ impl Sink for Skipping {
     ghost rises = { λ s. record { items = λ p z f b t h. h; keys = λ p z f b e h. h; values = λ p z f b e h. h; tagged = λ p w n t h. h } };
 }
 
-/// How many bytes follow the item at the front, which is no deeper than `room`. None where none
-/// stands there.
+/// How many bytes follow the first item. `None`: the bytes don't begin with an item that is no deeper
+/// than `room`.
 fn left_after(room: u64, bytes: &[u8]) -> Option<usize>
     requires { room ≤ 1024 }
     ensures { MatchOption result (Only Never room bytes.now) (λ left. Leaves (NodeRead (λ t. Unit {0}) room bytes.now) left) }
@@ -179,7 +179,7 @@ const ITEMS: [&[u8]; 11] = [
     b"\xbf\x63Fun\xf5\x63Amt\x21\xff",
 ];
 
-/// Catches a form that the descent forgets.
+/// Catches a form that the descent doesn't read.
 #[test]
 fn reads_each_form(rt: HostRuntime) -> Result<(), Fail> {
     for item in ITEMS {
@@ -219,7 +219,7 @@ fn reads_no_malformed_item(rt: HostRuntime) {
     }
 }
 
-/// A nest within the limit, and one that is deeper by one.
+/// Catches a limit that is one too small or too great.
 #[test]
 fn reads_up_to_the_limit(rt: HostRuntime) {
     assert_eq!(rt; left_after(3, b"\x81\xa1\x00\xc1\x00"), Some(0));

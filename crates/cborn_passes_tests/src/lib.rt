@@ -1,7 +1,6 @@
-//! Tests of passes over bytes and texts that no run of the program shows: an order of keys and a
-//! sink of a caller's own, that a text is read by the pass, and that the place of its flaw is told. A
-//! pass over a text may answer nothing, and its contract is met: that it does answer is what the
-//! tests of texts hold.
+//! Tests of the passes over bytes and texts that no run of the program makes: an order of keys and a
+//! sink of a caller's own, each form of a text, and the place of a flaw in a text. By its contract a
+//! pass over a text could always answer that memory was refused, so the tests look that it answers.
 #![tactic(auto)]
 
 #[cfg(test)]

@@ -1,5 +1,5 @@
-//! An order of a caller's own: the keys that stand last bytewise come first. No hint suits it, and
-//! no command line of the program names it.
+//! An order of keys of a caller's own: the bytewise order reversed. The hints are made for the orders of
+//! the program, and don't fit it.
 ghost use Rattle.std.specs.Prelude.{◌≡◌};
 ghost use Rattle.cborn_passes_tests.specs.devices.Backwards.{backwards, backwards_order};
 
@@ -21,7 +21,7 @@ impl KeyOrder for Backwards {
     ghost laws = { backwards_order };
 }
 
-/// Maps, and what they are in this order: of indefinite length, in keys and values, of keys that
+/// Maps, and their encodings in this order: of indefinite length, in keys and values, with keys that
 /// begin alike, and with a key that stands twice.
 const MAPS: [(&[u8], Option<&[u8]>); 5] = [
     (b"\xa2\x03\x04\x01\x02", Some(b"\xa2\x03\x04\x01\x02")),
@@ -40,7 +40,7 @@ const MAPS: [(&[u8], Option<&[u8]>); 5] = [
     (b"\xa3\x01\x00\x02\x00\x01\x00", None),
 ];
 
-/// Catches pairs that are left as the hints put them.
+/// Catches pairs that are left in the order of the hints.
 #[test]
 fn arranges_small_maps(rt: HostRuntime) -> Result<(), Fail> {
     for (bytes, want) in MAPS {
@@ -63,8 +63,8 @@ fn thousands(alloc: Global, rising: bool, last: &[u8]) -> Result<Vec<u8>, AllocE
     Ok(out)
 }
 
-/// The same of many pairs: written from where they stand, where the last value is an integer, and
-/// not, where it is an array.
+/// Catches a wrong order of many pairs. Where the last value is an integer, the pairs are written from
+/// where they stand in the input; where it is an array, they aren't.
 #[test]
 fn arranges_great_maps(rt: HostRuntime) -> Result<(), Fail> {
     for last in [b"\x00".as_slice(), b"\x81\x00".as_slice()] {
@@ -92,8 +92,8 @@ fn long_pairs(alloc: Global, rising: bool, len: u16, middle: u16) -> Result<Vec<
     Ok(out)
 }
 
-/// The same of many bytes, which are arranged half by half: all pairs are as long, or one is longer
-/// than the others together.
+/// Catches a wrong order in maps of many bytes, which are arranged half by half. All pairs are equally
+/// long, or one is longer than the others together.
 #[test]
 fn arranges_long_maps(rt: HostRuntime) -> Result<(), Fail> {
     for (len, middle) in [(2000, 2000), (500, 50_000)] {

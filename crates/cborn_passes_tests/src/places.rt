@@ -1,12 +1,12 @@
-//! That a place in a text is told of the place of a flaw in its bytes, where by its contract the call
-//! could answer each time that memory was refused. Which place it is, a clause says of a flaw and of a
-//! node; here chunks are tried, and a place where nothing starts.
+//! The place in a text of a flaw in its bytes is found. By its contract the call could always answer
+//! that memory was refused. A clause says which place it is of a flaw and of a node; here chunks are
+//! tried, and a place where nothing begins.
 
 use cborn_lex::Profile;
 use cborn_places::place_in_text;
 use std::test::Fail;
 
-/// Texts with the bytes that they spell, and a place in these with the one in the text.
+/// Texts, the bytes that they spell, an offset in these bytes, and the offset in the text.
 const PLACES: [(&str, &[u8], u64, Option<u64>); 6] = [
     ("{1: 2, 1: 3}", b"\xa2\x01\x02\x01\x03", 3, Some(7)),
     (
@@ -31,7 +31,7 @@ const PLACES: [(&str, &[u8], u64, Option<u64>); 6] = [
     ("24, 2(0)", b"\x18\x18\xc2\x00", 1, None),
 ];
 
-/// Catches a walk that loses its count behind what is embedded, a bignum or chunks.
+/// Catches a walk that miscounts after an embedded item, a bignum or chunks.
 #[test]
 fn finds_places_in_texts(rt: HostRuntime) -> Result<(), Fail> {
     for (text, bytes, place, want) in PLACES {

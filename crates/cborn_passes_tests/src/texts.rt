@@ -1,5 +1,5 @@
-//! That the reader of texts answers, on each form of what notates items, where by its contract it could
-//! answer each time that memory was refused. What is answered is right by the contract.
+//! The reader of texts answers, for each form of the notation. By its contract it could always answer
+//! that memory was refused. That an answer is right is a clause.
 
 use cborn_edn::read_text;
 use cborn_lex::Profile;
@@ -42,7 +42,7 @@ const TEXTS: [&str; 26] = [
     " 1 , 2 /end/, [_0 1, 2], {_0 1: 2}, [_1 ], {_3 }",
 ];
 
-/// Catches a form that the reader forgets.
+/// Catches a form that the reader doesn't read.
 #[test]
 fn spells_each_form(rt: HostRuntime) {
     for text in TEXTS {
@@ -65,7 +65,7 @@ const IN_TWO: [&str; 4] = [
     "# a / b\n[1 # c\n, # d\n] #",
 ];
 
-/// Catches a comment or a comma of profile 2 that the reader forgets.
+/// Catches a comment or a comma of profile 2 that the reader doesn't read.
 #[test]
 fn spells_the_second_profile(rt: HostRuntime) {
     for text in IN_TWO {
@@ -76,8 +76,8 @@ fn spells_the_second_profile(rt: HostRuntime) {
     }
 }
 
-/// What stands so many times before the middle, and as often behind it: nests up to a limit of 128,
-/// and letters about an escape.
+/// What stands this many times before the middle, and what stands as often after it: nests up to a
+/// limit of 128, and letters around an escape.
 const NESTED: [(&str, usize, &str, &str); 14] = [
     ("[", 128, "", "]"),
     ("1(", 128, "0", ")"),
@@ -95,7 +95,7 @@ const NESTED: [(&str, usize, &str, &str); 14] = [
     ("\"aaaaaaaaaaaaaaaaaaaaaaaaaaaaaaaa", 1, "\\n", "\""),
 ];
 
-/// `front` so many times, `middle`, and `back` as often.
+/// `front` repeated, `middle`, and `back` repeated as often.
 fn nested(
     alloc: Global,
     front: &str,

@@ -1,6 +1,5 @@
-//! That a text is read through nodes, and bytes are shown through them, on each form. By their
-//! contracts these calls could answer want of memory each time; which answer is right is a clause,
-//! and the program reads a text so where it has a fault.
+//! A text is read by way of nodes, and nodes are shown, in each form. By their contracts these calls
+//! could always answer out of memory. Which answer is right is a clause.
 
 use cborn_edn::{EdnFault, EdnReason, read_notation, show};
 use cborn_lex::Profile;
@@ -51,7 +50,7 @@ fn reads_each_form(rt: HostRuntime) -> Result<(), Fail> {
     Ok(())
 }
 
-/// What notates nothing, where, and why.
+/// Texts that notate no item, where, and why.
 const REFUSED: [(&str, u64, EdnReason); 8] = [
     ("h'20' \"a\"", 6, EdnReason::MixedString),
     ("\"\" h'ff'", 0, EdnReason::TextNotUtf8),
@@ -63,7 +62,7 @@ const REFUSED: [(&str, u64, EdnReason); 8] = [
     ("[1, 2", 5, EdnReason::UnexpectedEnd),
 ];
 
-/// Catches a fault that is never told, but want of memory.
+/// Catches a fault in whose place out of memory is answered.
 #[test]
 fn refuses(rt: HostRuntime) {
     for (text, place, reason) in REFUSED {
@@ -92,7 +91,8 @@ fn reads_the_second_profile(rt: HostRuntime) -> Result<(), Fail> {
     Ok(())
 }
 
-/// What stands so many times before the middle, and as often behind it: as deep as the limit.
+/// What stands this many times before the middle, and what stands as often after it: as deep as the
+/// limit.
 const NESTED: [(&str, usize, &str, &str); 5] = [
     ("[", 128, "", "]"),
     ("1(", 128, "0", ")"),
@@ -101,7 +101,7 @@ const NESTED: [(&str, usize, &str, &str); 5] = [
     ("<<", 128, "", ">>"),
 ];
 
-/// `front` so many times, `middle`, and `back` as often.
+/// `front` repeated, `middle`, and `back` repeated as often.
 fn nested(
     alloc: Global,
     front: &str,

@@ -1,5 +1,5 @@
-//! That texts are read token by token: by their contracts these calls could answer want of memory
-//! each time. Which tokens they are is a clause.
+//! Texts are read token by token: by their contracts these calls could always answer out of memory.
+//! Which tokens they are is a clause.
 
 use cborn_lex::{
     BareToken, Class, Kind, LexFault, LexReason, Mark, Profile, Token, next_token, token_from,
@@ -10,7 +10,7 @@ use std::alloc::Global;
 use std::process::Abort;
 use std::test::Fail;
 
-/// Each kind of token, with indicators and without; and how many they are.
+/// Each kind of token, with an encoding indicator and without, and how many tokens these are.
 const TEXT: &str =
     "[_0 {_ ] } ) , : << >> >>_3 (_ 1 -1_1 0x1_2 2( 3_0( false simple( \"\\u00e9\"_0 'a' h'61'_1 b64'AQ' // \"\"_";
 
@@ -26,7 +26,7 @@ fn reads_each_token(rt: HostRuntime) -> Result<(), Fail> {
     Ok(())
 }
 
-/// Catches a token that is never read by itself, behind others.
+/// Catches a token that is never read alone after others.
 #[test]
 fn reads_token_by_token(rt: HostRuntime) -> Result<(), Fail> {
     let mut at = 0;
@@ -140,8 +140,8 @@ const EXAMPLES: [(&str, Kind, Option<u128>, &[u8]); 37] = [
     (":", Kind::Colon, None, b""),
 ];
 
-/// Catches a token of another kind, span or number, and a string that isn't appended, or that is
-/// appended as something else.
+/// Catches a token of another kind, place or number, and a string whose content isn't appended as it
+/// is.
 #[test]
 fn gives_tokens_in_two_parts(rt: HostRuntime) -> Result<(), Fail> {
     for (token, kind, number, content) in EXAMPLES {
@@ -150,7 +150,7 @@ fn gives_tokens_in_two_parts(rt: HostRuntime) -> Result<(), Fail> {
     Ok(())
 }
 
-/// The token stands in its text with this number and this content.
+/// Asserts that this token alone is read with this kind, this number and this content.
 fn gives(
     rt: &impl Abort,
     alloc: Global,
@@ -175,8 +175,8 @@ fn gives(
     Ok(())
 }
 
-/// What a token is: where it starts and stops, its integer or the number of its tag, if it has one,
-/// and the bytes of a string.
+/// What a token is: its start and its end, its integer or the number of its tag, if it has one, and the
+/// bytes of a string.
 type Told<'a> = (u64, u64, Option<(bool, u128, Mark)>, &'a [u8]);
 
 /// What the token is.
@@ -252,7 +252,7 @@ fn tells_tokens(rt: HostRuntime) -> Result<(), Fail> {
     Ok(())
 }
 
-/// Texts without tokens, and where and why they stop.
+/// Texts with a token that is wrong, its offset, and why it is wrong.
 const STOPS: [(&str, u64, LexReason); 27] = [
     ("0x1p3", 0, LexReason::FloatLeftOut),
     ("1e5", 0, LexReason::FloatLeftOut),
@@ -287,7 +287,7 @@ const STOPS: [(&str, u64, LexReason); 27] = [
     ("1 /x", 2, LexReason::UnclosedComment),
 ];
 
-/// Catches a stop that is never told, but want of memory.
+/// Catches a wrong token in whose place out of memory is answered.
 #[test]
 fn tells_stops(rt: HostRuntime) {
     for (text, place, reason) in STOPS {

@@ -1,4 +1,5 @@
-//! Tests of the libraries that read and write notation, in a module for each: what no clause says.
+//! Tests of the libraries that read and write notation: one module for each. They test what no clause
+//! says.
 #![tactic(auto)]
 
 #[cfg(test)]

@@ -1,5 +1,5 @@
-//! That the start of each node and chunk of a text is told, where by its contract the call could
-//! answer each time that memory was refused. Which place is told is a clause.
+//! The start of each node and chunk of a text is given: by its contract the call could always answer
+//! that memory was refused. Which offset it is, is a clause.
 
 use cborn_edn::start_at;
 use cborn_lex::Profile;
@@ -28,7 +28,7 @@ fn each_start_is_told(rt: HostRuntime) -> Result<(), Fail> {
 }
 
 #[test]
-fn no_start_is_told_behind_the_last(rt: HostRuntime) -> Result<(), Fail> {
+fn no_start_is_given_after_the_last(rt: HostRuntime) -> Result<(), Fail> {
     assert_eq!(rt; start_at(rt.alloc(), Profile::One, TEXT, 13)?, None);
     Ok(())
 }

@@ -1,10 +1,10 @@
-//! What more than one test compares.
+//! Comparisons that more than one test makes.
 use cborn_model::Spelled;
 use cborn_wire::{WireFault, spell, spell_all};
 use std::alloc::Global;
 use std::process::Abort;
 
-/// What was read spells these bytes.
+/// Asserts that what was read spells these bytes.
 pub fn spells(rt: &impl Abort, alloc: Global, read: Result<Vec<Spelled>, WireFault>, input: &[u8]) {
     let items = read.expect(rt, "well-formed");
     let bytes = spell_all(alloc, &items).expect(rt, "memory");
@@ -16,7 +16,7 @@ fn place_of(item: &Spelled) -> u64 {
     item.node().place
 }
 
-/// The item stands at this place and spells these bytes.
+/// Asserts that the item begins at this offset and spells these bytes.
 pub fn is_item(rt: &impl Abort, alloc: Global, item: &Spelled, place: u64, input: &[u8]) {
     assert_eq!(rt; place_of(item), place);
     let bytes = spell(alloc, item).expect(rt, "memory");

@@ -1,4 +1,4 @@
-//! Input in pieces: what is read doesn't depend on where it is cut.
+//! Input in pieces: the answer doesn't depend on where the input is cut.
 use super::checks::spells;
 use super::vectors::{REFUSED, wellformed};
 use cborn_model::{Limit, Spelled};
@@ -7,7 +7,7 @@ use std::alloc::Global;
 use std::process::Abort;
 use std::test::Fail;
 
-/// Feeds a piece, whatever it answers: `finish` answers a fault again.
+/// Feeds a piece, and ignores the answer: `finish` answers a fault again.
 fn feed(rt: &impl Abort, feeder: &mut Feeder, piece: &[u8]) {
     assert!(rt; feeder.fed() < 10000 && piece.len() < 10000);
     let _answer = feeder.feed(piece);
@@ -28,7 +28,7 @@ pub fn by_bytes(
     feeder.finish()
 }
 
-/// Catches what is kept of a head for one more piece alone.
+/// Catches a head that is kept for one more piece only.
 #[test]
 fn reads_by_bytes(rt: HostRuntime) -> Result<(), Fail> {
     for input in wellformed(rt.alloc())? {
@@ -38,7 +38,7 @@ fn reads_by_bytes(rt: HostRuntime) -> Result<(), Fail> {
     Ok(())
 }
 
-/// Catches a fault that is told later than at its head, or at another place.
+/// Catches a fault that is reported later than at its head, or with another offset.
 #[test]
 fn refuses_by_bytes(rt: HostRuntime) {
     for (input, place, reason) in REFUSED {

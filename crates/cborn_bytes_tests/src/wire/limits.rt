@@ -1,4 +1,4 @@
-//! Arrays and tags around one another, up to the limit.
+//! Nested arrays and tags, up to the limit.
 use super::checks::spells;
 use super::cuts::by_bytes;
 use cborn_model::Limit;
@@ -6,7 +6,7 @@ use cborn_wire::read_all;
 use std::alloc::{AllocError, Global};
 use std::test::Fail;
 
-/// A limit, a byte and how often it stands first, and what follows it.
+/// A limit, a byte, how often the input begins with it, and the bytes after that.
 const DEEP: [(u64, u8, usize, &[u8]); 9] = [
     (1, 0x80, 1, b""),
     (1, 0x81, 1, b"\x00"),
@@ -34,8 +34,7 @@ fn nested(alloc: Global, first: u8, count: usize, rest: &[u8]) -> Result<Vec<u8>
     Ok(bytes)
 }
 
-/// Catches a limit that is one too small, or that counts strings and chunks, or items beside one
-/// another.
+/// Catches a limit that is one too small, or that counts strings, chunks or items in a row.
 #[test]
 fn allows_as_many_as_the_limit(rt: HostRuntime) -> Result<(), Fail> {
     for (limit, first, count, rest) in DEEP {

@@ -1,10 +1,10 @@
-//! One item of bytes that go on.
+//! One item of bytes that go on after it.
 use super::checks::is_item;
 use cborn_model::Limit;
 use cborn_wire::WireReason::{BadChunk, ReservedInfo, Truncated};
 use cborn_wire::{WireFault, WireReason, read_one};
 
-/// Bytes, where to read from, and the bytes and the end of the item there.
+/// Bytes, the offset to read from, and the bytes and the end of the item there.
 const FIRST: [(&[u8], usize, &[u8], usize); 8] = [
     (b"\x00\xff", 0, b"\x00", 1),
     (b"\x00\x18\x64\x1c", 1, b"\x18\x64", 3),
@@ -16,7 +16,7 @@ const FIRST: [(&[u8], usize, &[u8], usize); 8] = [
     (b"\x41\x00\x41", 0, b"\x41\x00", 2),
 ];
 
-/// Bytes, where to read from, and the fault of the item there.
+/// Bytes, the offset to read from, and the fault of the item there.
 const FAULTS: [(&[u8], usize, u64, WireReason); 3] = [
     (b"\x00", 1, 1, Truncated),
     (b"\x00\x1c", 1, 1, ReservedInfo),
@@ -35,7 +35,7 @@ fn reads_one_item(rt: HostRuntime) {
     }
 }
 
-/// Catches places that count from where the reading starts.
+/// Catches offsets that count from where reading starts.
 #[test]
 fn refuses_one_item(rt: HostRuntime) {
     for (input, start, place, reason) in FAULTS {

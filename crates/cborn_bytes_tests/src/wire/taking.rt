@@ -6,7 +6,7 @@ use std::alloc::Global;
 use std::process::Abort;
 use std::test::Fail;
 
-/// Feeds a piece, and compares the answer and the count of bytes behind it.
+/// Feeds a piece, and compares the answer and the count of bytes after it.
 fn feeds(
     rt: &impl Abort,
     feeder: &mut Feeder,
@@ -19,19 +19,19 @@ fn feeds(
     assert_eq!(rt; feeder.fed(), fed);
 }
 
-/// Takes an item, which stands at this place and spells these bytes.
+/// Takes an item, which has to begin at this offset and spell these bytes.
 fn takes(rt: &impl Abort, alloc: Global, feeder: &mut Feeder, place: u64, input: &[u8]) {
     let item = feeder.take().expect(rt, "an item");
     is_item(rt, alloc, &item, place, input);
 }
 
-/// Nothing is left to take, and nothing is unfinished.
+/// Asserts that no item is left to take, and none is unfinished.
 fn ends(rt: &impl Abort, mut feeder: Feeder) {
     assert!(rt; feeder.take().is_none());
     assert_eq!(rt; feeder.finish().expect(rt, "no fault").len(), 0);
 }
 
-/// Catches places that count from the piece, or from the last item that was taken.
+/// Catches offsets that count from the piece, or from the last item that was taken.
 #[test]
 fn takes_one_by_one(rt: HostRuntime) {
     let mut feeder = Feeder::new(rt.alloc(), Limit::USUAL);
@@ -44,7 +44,7 @@ fn takes_one_by_one(rt: HostRuntime) {
     ends(&rt, feeder);
 }
 
-/// One that gives up where many items wait would be proved.
+/// Catches a feeder that gives up where many items wait. Its contract would be kept.
 #[test]
 fn keeps_many_items(rt: HostRuntime) -> Result<(), Fail> {
     let bytes = [7; 100_000];

@@ -80,8 +80,8 @@ const COLLECTIONS: [&[u8]; 18] = [
     b"\xbf\x63\x46\x75\x6e\xf5\x63\x41\x6d\x74\x21\xff",
 ];
 
-/// What no deterministic writer writes: long heads, loose bignums, indefinite lengths, keys in
-/// another order; sequences too.
+/// Bytes that aren't deterministic: long heads, loose bignums, indefinite lengths, keys in another
+/// order. Some are sequences.
 const LOOSE: [&[u8]; 29] = [
     b"\x18\x01",
     b"\x98\x02\x18\x01\x58\x01\x61",
@@ -144,7 +144,7 @@ pub fn wellformed(alloc: Global) -> Result<Vec<&'static [u8]>, AllocError> {
     Ok(inputs)
 }
 
-/// Catches a reader and a writer that agree with one another and not with the standard.
+/// Catches a reader and a writer that agree with each other and not with the standard.
 #[test]
 fn reads_and_spells(rt: HostRuntime) -> Result<(), Fail> {
     for input in wellformed(rt.alloc())? {
@@ -155,7 +155,8 @@ fn reads_and_spells(rt: HostRuntime) -> Result<(), Fail> {
     Ok(())
 }
 
-/// Catches a reader that wants memory for as much as a head declares, and a fault that is never told.
+/// Catches a reader that asks for as much memory as a head declares, and a fault that is never
+/// reported.
 #[test]
 fn refuses(rt: HostRuntime) {
     for (input, place, reason) in REFUSED {

@@ -21,7 +21,7 @@ fn long_piece_fed(rt: HostRuntime) -> Result<(), Fail> {
     Ok(())
 }
 
-/// One that gives up where a sequence has many items would be proved.
+/// Catches a call that gives up where a sequence has many items. Its contract would be kept.
 #[test]
 fn many_items_loaded(rt: HostRuntime) -> Result<(), Fail> {
     let input = [7; 100_000];
@@ -36,7 +36,7 @@ fn many_items_loaded(rt: HostRuntime) -> Result<(), Fail> {
     Ok(())
 }
 
-/// One that gives up where a text is long, or an item stands far behind its start.
+/// Catches a call that gives up where a text is long, or an item is far from its start.
 #[test]
 fn long_inputs_loaded(rt: HostRuntime) -> Result<(), Fail> {
     let mut text = [b' '; 150_000];

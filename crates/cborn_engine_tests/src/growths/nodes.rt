@@ -1,4 +1,4 @@
-//! The calls that give or take nodes.
+//! The calls that give or accept nodes.
 use super::super::memory::Bytes;
 use cborn_det::{encode, encode_all, equal_bytes};
 use cborn_engine::{EngineFault, Kind, load_within};
@@ -8,7 +8,7 @@ use cborn_wire::{Feeder, WireFault, read_all, read_one, spell_all};
 use std::alloc::Global;
 use std::test::Fail;
 
-/// What an input spells that is loaded two bytes a call.
+/// The bytes that an input spells. It is loaded with two bytes a call.
 fn loaded(alloc: Global, kind: Kind, input: &[u8]) -> Result<Vec<u8>, EngineFault> {
     let mut bytes = Bytes::new(input, 2);
     let nodes = load_within(alloc, Limit::USUAL, 31, kind, &mut bytes)?;
@@ -30,7 +30,7 @@ fn inputs_loaded(rt: HostRuntime) -> Result<(), Fail> {
     Ok(())
 }
 
-/// A feeder that was refused memory answers that again, and gives what it kept.
+/// Catches a feeder that forgets that memory was refused, or gives other items than it kept.
 #[test]
 fn pieces_fed(rt: HostRuntime) -> Result<(), Fail> {
     let mut feeder = Feeder::new(rt.alloc(), Limit::USUAL);

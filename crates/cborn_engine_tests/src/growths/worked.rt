@@ -1,5 +1,4 @@
-//! Worked inputs: an item of bytes through each call that gives or takes nodes, and a text through
-//! `load`.
+//! Worked inputs: an item of bytes for each call that gives or accepts nodes, and a text for `load`.
 use super::super::memory::Bytes;
 use cborn_det::encode;
 use cborn_edn::{EdnFault, EdnReason, show};
@@ -20,7 +19,7 @@ type Worked<'a> = (
     Option<(u64, DefectReason)>,
 );
 
-/// Maps that fall, a map in which a string stands in chunks, bignums that are loose, in chunks and
+/// Maps with keys in falling order, a map with a string in chunks, bignums that are loose, in chunks or
 /// with a long head, strings and tags.
 const WORKED: [Worked<'static>; 12] = [
     (
@@ -109,7 +108,7 @@ const WORKED: [Worked<'static>; 12] = [
     ),
 ];
 
-/// The nodes of bytes that come in two pieces.
+/// The nodes of bytes that are fed in two pieces.
 fn fed(rt: &impl Abort, alloc: Global, bytes: &[u8]) -> Result<Vec<Spelled>, WireFault> {
     assert!(rt; bytes.len() < 1000);
     let (first, second) = bytes.split_at(bytes.len() / 2);
@@ -119,7 +118,7 @@ fn fed(rt: &impl Abort, alloc: Global, bytes: &[u8]) -> Result<Vec<Spelled>, Wir
     feeder.finish()
 }
 
-/// The calls that give or take nodes answer as they have to.
+/// Asserts that the calls that give or accept nodes have the right answers.
 fn is_worked(rt: &impl Abort, alloc: Global, worked: Worked<'_>) -> Result<(), Fail> {
     let (bytes, text, bytewise, length_first, defect) = worked;
     let nodes = fed(rt, alloc, bytes)?;
@@ -149,7 +148,7 @@ fn items_worked(rt: HostRuntime) -> Result<(), Fail> {
     Ok(())
 }
 
-/// `first` so many times, `middle`, and `last` as often.
+/// `first` repeated, `middle`, and `last` repeated as often.
 fn nested(
     alloc: Global,
     first: u8,
@@ -177,8 +176,8 @@ fn nest_worked(rt: HostRuntime) -> Result<(), Fail> {
     is_worked(&rt, rt.alloc(), (&bytes, &line, &bytes, &bytes, None))
 }
 
-/// Texts, and what they spell: strings of pieces, what stands in a string, escapes, and an integer
-/// outside 64 bits.
+/// Texts, and the bytes that they spell: strings in pieces, embedded items, escapes, and an integer
+/// beyond 64 bits.
 const TEXTS: [(&str, &[u8]); 10] = [
     ("\"\" h'48656c6c6f20776f726c64' \"\"", b"\x6bHello world"),
     ("\"Hello\" h'20' \"world\"", b"\x6bHello world"),
@@ -195,7 +194,7 @@ const TEXTS: [(&str, &[u8]); 10] = [
     ("(_ 'a' 'b', h'63'_0)", b"\x5f\x42ab\x58\x01c\xff"),
 ];
 
-/// What an input spells.
+/// The bytes that an input spells.
 fn spelled(alloc: Global, kind: Kind, input: &[u8]) -> Result<Vec<u8>, EngineFault> {
     let nodes = load(alloc, Limit::USUAL, kind, &mut Bytes::new(input, 4096))?;
     Ok(spell_all(alloc, &nodes)?)
@@ -213,7 +212,7 @@ fn texts_worked(rt: HostRuntime) -> Result<(), Fail> {
     Ok(())
 }
 
-/// Texts that notate nothing, and why.
+/// Texts that notate no item, and why.
 const REFUSED: [(&[u8], EngineFault); 3] = [
     (
         b"h'20' \"a\"",
@@ -232,7 +231,7 @@ const REFUSED: [(&[u8], EngineFault); 3] = [
     (b"\"\xff\"", EngineFault::TextInput(1)),
 ];
 
-/// Catches a text whose fault is never told, but want of memory.
+/// Catches a fault of a text in whose place out of memory is answered.
 #[test]
 fn texts_refused(rt: HostRuntime) {
     for (text, fault) in REFUSED {
