@@ -24,7 +24,7 @@ help:
 	@echo '                links lead somewhere'
 	@echo 'make tables     the built program on the tables of tests/ and at a terminal, the examples of the documents, completion-tests and release-tests'
 	@echo 'make vectors    the built program on each front of each worked input'
-	@echo 'make ample      the built program on some 17,000 inputs, bytes and texts, made and given: it never says out of memory'
+	@echo 'make ample      the built program on some 4,000 inputs, bytes and texts, made and given: it never says out of memory'
 	@echo 'make explanations   the built program on random and mutated inputs with --explain: the paths that it tells are followed'
 	@echo 'make growths    the built program on those tables, each growth refused in turn'
 	@echo 'make failures   the built program on those tables, with trouble at each opening, read and write in turn'
