@@ -3,13 +3,13 @@
 
     ample.py PROGRAM [--inputs N] [--texts N] [--seed N]
 
-Contracts let some calls answer out of memory at any time, so a form that a call doesn't read could be answered so. The
-inputs are those of the tables and of the vectors, the shapes of bench/cost.py, and N (12,000) that are made from a
-seed: valid ones in each form that bytes have (long heads, chunks, bignums in chunks, indefinite lengths, keys in
+Contracts let a growth be refused at any time, and each pass is proved to answer otherwise; so this is a quick look that
+the program as it is built does. The inputs are those of the tables and of the vectors, the shapes of bench/cost.py, and
+N (2,000) that are made from a seed: valid ones in each form that bytes have (long heads, chunks, bignums in chunks, indefinite lengths, keys in
 falling order), others that are changed or cut, nests up to the limit and beyond, and random bytes. A valid input has to
 be read, too, and normalised to what reading.py computes.
 
-N (4,000) inputs are texts of the notation: some that notating.py writes of valid bytes, which have to be read as
+N (700) inputs are texts of the notation: some that notating.py writes of valid bytes, which have to be read as
 exactly these; some with one flaw, which has to be reported at its place; and others that are changed or cut.
 """
 import argparse
@@ -270,8 +270,8 @@ def tried(library, program, those):
 def main():
     words = argparse.ArgumentParser(description=__doc__.split("\n", maxsplit=1)[0])
     words.add_argument("program", type=lambda name: pathlib.Path(name).resolve())
-    words.add_argument("--inputs", type=int, default=12_000)
-    words.add_argument("--texts", type=int, default=4_000)
+    words.add_argument("--inputs", type=int, default=2_000)
+    words.add_argument("--texts", type=int, default=700)
     words.add_argument("--seed", type=int, default=29)
     given = words.parse_args()
     made = inputs(given.inputs, given.texts, given.seed)
