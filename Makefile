@@ -16,12 +16,12 @@ COST ?= 8
 help:
 	@echo 'make try        build the program from its source, before any proof and not optimised, and run it: ARGS="check FILE", or seven bytes'
 	@echo 'make build      prove every crate and build the program, $(PROGRAM)'
-	@echo 'make test       the merge gate from nothing, then side by side make $(BEHIND), and which of it was left out'
+	@echo 'make test       the merge gate from nothing, then side by side make $(AFTER), and which of it was left out'
 	@echo 'make check-quick   while you change something: proves what changed, then make layout, tables and believed'
 	@echo 'make try-tests  make try on its seven bytes, on files, on standard input and on a wrong option: one build, of a minute'
-	@echo 'make layout     whether each file of the crates is in the layout of rt fmt, cites what it may, makes up no out of memory,'
-	@echo '                docs/PROMISES.md and the table of worked inputs are what the sources say, and the documents are short and their'
-	@echo '                links lead somewhere'
+	@echo 'make layout     whether each file of the crates is in the layout of rt fmt, cites what it may, makes up no out of memory and has'
+	@echo '                no new function of many arguments, docs/PROMISES.md and the table of worked inputs are what the sources say, and'
+	@echo '                the documents are short and their links lead somewhere'
 	@echo 'make tables     the built program on the tables of tests/ and at a terminal, the examples of the documents, completion-tests and release-tests'
 	@echo 'make vectors    the built program on each front of each worked input'
 	@echo 'make ample      the built program on some 4,000 inputs, bytes and texts, made and given: it never says out of memory'
@@ -59,7 +59,7 @@ help:
 	@echo 'make completion-tests   whether each shell that is there offers what the help has'
 	@echo 'make clean      drop what was built'
 
-# ARGS are the words behind cborn: make try ARGS='check FILE'
+# ARGS are the words after cborn: make try ARGS='check FILE'
 try:
 	@python3 tests/try.py $(ARGS)
 
@@ -67,7 +67,7 @@ try:
 try-tests: kit
 	python3 tests/tried.py
 
-# what needs the kit says so where it lacks
+# what needs the kit says so if it is missing
 .PHONY: kit
 kit:
 	@command -v rt > /dev/null || { echo "The command rt of the Rattle kit isn't on the path, and nothing is proved or built without it. README.md, 'Get it', says how to get it, and how to do without." >&2; exit 1; }
@@ -76,15 +76,15 @@ build: kit
 	@test -e $(PROGRAM) || echo 'Each crate is proved, lowest first, and then $(PROGRAM) is built: a quarter of an hour on four idle processors, more than an hour where others use them too. A quiet minute is no hang.'
 	cd crates/cborn && rt run -- --version
 
-# What stands behind the gate runs side by side over the program and the tests that were built once before, while the library is
-# proved and built; the longest first.
-BEHIND := library-tests dist-tests vectors ample cost instructions counts explanations tables believed layout stack growths library-growths failures try-tests
+# What follows the gate: side by side, over the program and the tests that were built once before, while the library is proved
+# and built; the longest first.
+AFTER := library-tests dist-tests vectors ample cost instructions counts explanations tables believed layout stack growths library-growths failures try-tests
 
 test:
 	rt ci
 	python3 tests/built.py
 	$(MAKE) build completions
-	$(MAKE) --old-file=build --old-file=built-tests --jobs=$(shell nproc) --output-sync=target --keep-going $(BEHIND)
+	$(MAKE) --old-file=build --old-file=built-tests --jobs=$(shell nproc) --output-sync=target --keep-going $(AFTER)
 	$(MAKE) --no-print-directory left-out
 
 # over what out/ keeps; it tries no must-fail edit, and runs no tests
@@ -98,6 +98,7 @@ layout:
 	python3 tests/vectors.py --check
 	python3 tests/promises.py --check
 	python3 tests/made_up.py
+	python3 tests/arguments.py
 	python3 tests/words.py
 
 tables: build

@@ -1,15 +1,19 @@
-//! Reads CBOR data items and writes them in one deterministic form.
+//! Reads CBOR data items and writes their deterministic encoding.
 //!
-//! All that it does is `cborn_commands`, which gets here what the system gives.
+//! `cborn_commands` does the work. Here it is given what the system gives: words, files and memory.
 #![tactic(auto)]
 
-use cborn_commands::{Audience, run, tell_words};
+use cborn_commands::{Audience, Standard, System, run, tell_words};
 use cborn_streams::Counted;
 use std::alloc::Global;
 use std::io::IsTerminal;
 use std::process::ExitCode;
 use std::{env, io};
 
+/// Runs the program with what the system gives, and answers its exit status.
+///
+/// # Errors
+/// Why the words of the command line can't be had.
 fn run_host(rt: &HostRuntime, alloc: Global) -> io::Result<u8> {
     let mut owned = Vec::new(alloc);
     for word in env::args(rt)? {
@@ -24,16 +28,14 @@ fn run_host(rt: &HostRuntime, alloc: Global) -> io::Result<u8> {
     } else {
         Audience::Program
     };
-    let mut out = Counted::new(rt.stdout());
-    Ok(run(
-        rt,
-        alloc,
-        &words,
-        rt.stdin(),
-        &mut out,
-        rt.stderr(),
+    let standard = Standard {
+        input: rt.stdin(),
+        err: rt.stderr(),
         audience,
-    ))
+    };
+    let mut out = Counted::new(rt.stdout());
+    let system = System { files: rt, alloc };
+    Ok(run(&system, &words, standard, &mut out))
 }
 
 fn main(rt: HostRuntime) -> ExitCode {

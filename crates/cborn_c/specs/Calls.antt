@@ -23,17 +23,17 @@ use Rattle.cborn_c.specs.declared.answers.CbornTold.{CbornTold}
 use Rattle.cborn_c.specs.Numbers.{order_of, fault_number, fault_place, one_number, one_place, defect_number, TellsOfBytes, text_number}
 use Rattle.cborn_c.specs.Answers.{Normalised, Shown, Checked, Compared, Matched, NormalisedOne, ShownOne, CheckedOne, MatchedOne}
 
--- the buffer begins with the answer, and is as it was behind that; or it is too small for the answer, and is as it was
+-- the buffer begins with the answer, and is unchanged after it; or it is too small for the answer, and unchanged
 abbrev pub IsPut : List ℕ → List ℕ → List ℕ → ℕ → Type 0
 IsPut answer before after code =
     ((code ≡ 0) × (length answer ≤ length before) × (after ≡ answer ++ drop (length answer) before)) ⊎ ((code ≡ 1) × (length before < length answer) × (after ≡ before))
 
--- an answer was put into the buffer and its length told, or the fault was told and the buffer is as it was
+-- the answer is in the buffer and its length is reported, or the fault is reported and the buffer is unchanged
 abbrev pub Told : Result (List ℕ) EngineFault → List ℕ → List ℕ → CbornTold → ℕ → Type 0
 Told (Ok answer) before after told code = IsPut answer before after code × (told.length ≡ length answer) × (told.place ≡ 0)
 Told (Err why) before after told code = (code ≡ fault_number why) × (told.place ≡ fault_place why) × (told.length ≡ 0) × (after ≡ before)
 
--- a number that was handed in stands for nothing: the buffer, and what is told beside the number, are as they were
+-- an argument's number means nothing: the buffer, and what a call reports besides its number, are unchanged
 abbrev pub IsBad : List ℕ → List ℕ → CbornTold → CbornTold → ℕ → Type 0
 IsBad before after untold told code = (code ≡ 2) × (after ≡ before) × (told ≡ untold)
 
@@ -66,7 +66,7 @@ ShowCall (Some k) (Some out) limit x before after untold told code =
 ShowCall (Some k) None limit x before after untold told code = IsBad before after untold told code
 ShowCall None out limit x before after untold told code = IsBad before after untold told code
 
--- no defect, or this one
+-- no defect, or the number and the offset of the first one
 abbrev pub DefectTold : Option Defect → ℕ → ℕ → Type 0
 DefectTold None place code = (code ≡ 0) × (place ≡ 0)
 DefectTold (Some d) place code = (code ≡ defect_number d.reason) × (place ≡ d.place)
@@ -84,13 +84,13 @@ abbrev pub CheckCall : Option KeyOrdering → ℕ → List ℕ → ℕ → ℕ �
 CheckCall (Some order) limit x unplaced place code = (IsDepth limit → ChecksInto (order_of order) limit x place code) × ((IsDepth limit → ⊥) → IsBadPlaced unplaced place code)
 CheckCall None limit x unplaced place code = IsBadPlaced unplaced place code
 
--- a fault of the first input, or of the second, which has 65,536 more
+-- a fault of the first input, or one of the second, whose number is 65,536 more
 abbrev pub CompareFaultTold : CompareFault → ℕ → ℕ → Type 0
 CompareFaultTold (compared.First why) place code = (code ≡ fault_number why) × (place ≡ fault_place why)
 CompareFaultTold (compared.Second why) place code = (code ≡ fault_number why + 65536) × (place ≡ fault_place why)
 CompareFaultTold compared.OutOfMemory place code = (code ≡ 3) × (place ≡ 0)
 
--- the same; or different at this index, which is told as the place
+-- the same items; or different ones, and the index of the first as the place
 abbrev pub DifferenceTold : Option ℕ → ℕ → ℕ → Type 0
 DifferenceTold None place code = (code ≡ 0) × (place ≡ 0)
 DifferenceTold (Some i) place code = (code ≡ 5) × (place ≡ i)
@@ -109,7 +109,7 @@ CompareCall (Some k) (Some l) limit x y unplaced place code = (IsDepth limit →
 CompareCall (Some k) None limit x y unplaced place code = IsBadPlaced unplaced place code
 CompareCall None l limit x y unplaced place code = IsBadPlaced unplaced place code
 
--- the same, or different, with no place
+-- the same items, or different ones, and no place
 abbrev pub SameTold : Result Bool CompareFault → ℕ → ℕ → Type 0
 SameTold (Ok true) place code = (code ≡ 0) × (place ≡ 0)
 SameTold (Ok false) place code = (code ≡ 5) × (place ≡ 0)
@@ -187,11 +187,11 @@ CompareOneCall None l limit x y unplaced place code = IsBadPlaced unplaced place
 
 -- ---- words and explanations
 
--- the number of a fault, or of that of a second input, or of a defect
+-- the number of a fault, of a fault of a second input, or of a defect
 abbrev pub HasWords : ℕ → Type 0
 HasWords number = ((why : OneFault) × (one_number why ≡ number)) ⊎ ((why : OneFault) × (one_number why + 65536 ≡ number)) ⊎ ((reason : DefectReason) × (defect_number reason ≡ number))
 
--- some words and a zero behind them, put into the buffer. No clause says which words.
+-- some words, and then a zero, are in the buffer. No clause says which words.
 pub record WordsPut (before after : List ℕ) (code : ℕ) : Type 0 where
   pub words : List ℕ
   pub short : length words < 64
@@ -200,23 +200,23 @@ pub record WordsPut (before after : List ℕ) (code : ℕ) : Type 0 where
 abbrev pub WordsCall : ℕ → List ℕ → List ℕ → ℕ → Type 0
 WordsCall number before after code = (HasWords number → WordsPut before after code) × ((HasWords number → ⊥) → (code ≡ 2) × (after ≡ before))
 
--- the number of a fault of the content of an input of this kind
+-- the number of a fault in the content of an input of this format
 abbrev pub IsFaultOf : Kind → ℕ → Type 0
 IsFaultOf kind.Wire number = (reason : BytesReason) × TellsOfBytes reason number
 IsFaultOf kind.Notation number = (reason : TextReason) × (text_number reason ≡ number)
 IsFaultOf kind.Notation2 number = (reason : TextReason) × (text_number reason ≡ number)
 
--- the number of a defect, which bytes alone have
+-- the number of a defect, which only bytes have
 abbrev pub IsDefectOf : Kind → ℕ → Type 0
 IsDefectOf kind.Wire number = (reason : DefectReason) × (defect_number reason ≡ number)
 IsDefectOf kind.Notation number = ⊥
 IsDefectOf kind.Notation2 number = ⊥
 
--- also as the fault of a second input, which has 65,536 more
+-- the number of a fault in the content, of such a fault of a second input, which is 65,536 more, or of a defect
 abbrev pub IsExplained : Kind → ℕ → Type 0
 IsExplained k number = IsFaultOf k number ⊎ ((fault : ℕ) × (fault + 65536 ≡ number) × IsFaultOf k fault) ⊎ IsDefectOf k number
 
--- a text was put into the buffer and its length told, or memory was refused and the buffer is as it was
+-- a text is in the buffer and its length is reported, or memory was refused and the buffer is unchanged
 abbrev pub TextTold : Result (String Global) AllocError → List ℕ → List ℕ → CbornTold → ℕ → Type 0
 TextTold (Ok text) before after told code = IsPut (string_bytes text) before after code × (told.length ≡ length (string_bytes text)) × (told.place ≡ 0)
 TextTold (Err why) before after told code = (code ≡ 3) × (told.place ≡ 0) × (told.length ≡ 0) × (after ≡ before)

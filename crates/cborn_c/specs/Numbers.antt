@@ -1,4 +1,4 @@
--- The numbers by which C names a kind, an order and a fault. That of a fault is 256 times its class, and its reason: classes are 1 bytes, 2 tokens, 3 notation, 4 texts that aren't UTF-8, 5 items that aren't valid, 6 defects, 7 inputs that aren't one item.
+-- The numbers of formats, orders of keys, faults and defects in C. That of a fault or a defect is 256 times its class, plus its reason. The classes: 1 bytes, 2 tokens, 3 notation, 4 texts that aren't UTF-8, 5 invalid items, 6 defects, 7 inputs that aren't one item.
 use Rattle.std.specs.Prelude.{◌≡◌, ◌⊎◌, ℕ, zero, suc, List, Option, None, Some}
 use Rattle.std.specs.declared.cmp.Ordering.{Ordering}
 use Rattle.cborn_model.specs.Orders.{bytewise, length_first}
@@ -97,7 +97,7 @@ abbrev pub count_number : CountReason → ℕ
 count_number counts.NoItem = 1793
 count_number counts.MoreItems = 1794
 
--- A fault of bytes, and its number; a text string that can't be shown has one of its own. A defect is no fault.
+-- A fault of bytes, and its number. A text string that can't be shown has a number of its own. A defect is no fault.
 abbrev pub TellsOfBytes : BytesReason → ℕ → Type 0
 TellsOfBytes (bytes.Malformed r) number = wire_number r ≡ number
 TellsOfBytes (bytes.Invalid invalid.NotUtf8) number = (number ≡ 1281) ⊎ (number ≡ 1026)
@@ -106,7 +106,7 @@ TellsOfBytes (bytes.Invalid invalid.DuplicateKey) number = number ≡ 1283
 TellsOfBytes (bytes.Defect r) number = ⊥
 TellsOfBytes (bytes.Count r) number = count_number r ≡ number
 
--- of a text
+-- the number of a fault of a text
 abbrev pub text_number : TextReason → ℕ
 text_number text.NotUtf8 = 1025
 text_number (text.Token r) = lex_number r
@@ -114,7 +114,7 @@ text_number (text.Notation r) = edn_number r
 text_number (text.Invalid r) = invalid_number r
 text_number (text.Count r) = count_number r
 
--- 3: memory was refused. Of an input that is at hand no read fails, and nothing goes to a writer, so that 3 stands there too.
+-- 3: memory was refused. An input in memory has no failed read or write, so these have the same number.
 abbrev pub fault_number : EngineFault → ℕ
 fault_number (fault.Wire (wire_fault.Refused p r)) = wire_number r
 fault_number (fault.Wire wire_fault.OutOfMemory) = 3

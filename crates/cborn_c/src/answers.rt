@@ -1,4 +1,4 @@
-//! How an answer is told to C.
+//! How answers are reported to C.
 ghost use Rattle.std.specs.Prelude.{◌≡◌};
 ghost use Rattle.cborn_c.specs.Answers.{listed, listed_one};
 ghost use Rattle.cborn_c.specs.Calls.{Told, CheckTold, CompareFaultTold, CompareTold, SameTold, ToldOne, CheckOneTold, SameOneTold};
@@ -12,18 +12,18 @@ use cborn_judge::Defect;
 use std::alloc::Global;
 use std::borrow::CowSlice;
 
-/// What a call tells beside the number that it answers.
+/// What a call reports besides its number.
 #[repr(C)]
 #[derive(Drop)]
 pub struct CbornTold {
-    /// The offset of a fault, in bytes from the start of the input, else 0.
+    /// The offset of a fault, in bytes from the start of the input. 0 where there is none.
     pub place: u64,
-    /// How many bytes the answer takes, also where it didn't fit; 0 at a fault.
+    /// The length of the answer in bytes, even where the buffer was too small. 0 at a fault.
     pub length: u64,
 }
 
-/// Puts an answer to the front of `out`, or tells why there is none. Where `out` is too small, it
-/// is as it was.
+/// Writes an answer to the start of `out`, or reports its fault. Answers the number for C. Where `out`
+/// is too small, or at a fault, `out` is unchanged.
 pub fn put(
     answer: Result<CowSlice<'_, u8, Global>, EngineFault>,
     out: &mut [u8],
@@ -54,7 +54,7 @@ pub fn put(
     }
 }
 
-/// Tells a defect, or why none was looked for.
+/// Reports a defect, that there is none, or the fault of the input. Answers the number for C.
 pub fn defect_told(answer: Result<Option<Defect>, EngineFault>, place: &mut u64) -> u32
     ensures { CheckTold answer place.new result }
 {
@@ -74,7 +74,7 @@ pub fn defect_told(answer: Result<Option<Defect>, EngineFault>, place: &mut u64)
     }
 }
 
-/// Tells a difference, or why none was looked for.
+/// Reports a difference, that there is none, or the fault of an input. Answers the number for C.
 pub fn difference_told(answer: Result<Option<u64>, CompareFault>, place: &mut u64) -> u32
     ensures { CompareTold answer place.new result }
 {
@@ -91,7 +91,7 @@ pub fn difference_told(answer: Result<Option<u64>, CompareFault>, place: &mut u6
     }
 }
 
-/// Tells whether the items are the same, or why they weren't compared.
+/// Reports whether two inputs hold the same items, or the fault of one. Answers the number for C.
 pub fn same_told(answer: Result<bool, CompareFault>, place: &mut u64) -> u32
     ensures { SameTold answer place.new result }
 {
@@ -104,7 +104,7 @@ pub fn same_told(answer: Result<bool, CompareFault>, place: &mut u64) -> u32
     }
 }
 
-/// Tells why two inputs weren't compared.
+/// Reports why two inputs weren't compared. Answers the number for C.
 fn compare_fault_told(why: CompareFault, place: &mut u64) -> u32
     ensures { CompareFaultTold why place.new result }
 {
@@ -124,8 +124,8 @@ fn compare_fault_told(why: CompareFault, place: &mut u64) -> u32
     }
 }
 
-/// Puts an answer to the front of `out`, or tells why there is none where exactly one item is
-/// wanted. Where `out` is too small, it is as it was.
+/// Writes the answer for an input that has to hold one item to the start of `out`, or reports its
+/// fault. Answers the number for C. Where `out` is too small, or at a fault, `out` is unchanged.
 pub fn put_one(
     answer: Result<CowSlice<'_, u8, Global>, OneFault>,
     out: &mut [u8],
@@ -145,7 +145,8 @@ pub fn put_one(
     }
 }
 
-/// Tells a defect, or why none was looked for where exactly one item is wanted.
+/// Reports a defect of an input that has to hold one item, that there is none, or the fault of the
+/// input. Answers the number for C.
 pub fn defect_of_one_told(answer: Result<Option<Defect>, OneFault>, place: &mut u64) -> u32
     ensures { CheckOneTold answer place.new result }
 {
@@ -158,7 +159,8 @@ pub fn defect_of_one_told(answer: Result<Option<Defect>, OneFault>, place: &mut 
     }
 }
 
-/// Tells whether two items are the same, or why they weren't compared.
+/// Reports whether two inputs that have to hold one item each hold the same, or the fault of one.
+/// Answers the number for C.
 pub fn same_one_told(answer: Result<bool, CompareOneFault>, place: &mut u64) -> u32
     ensures { SameOneTold answer place.new result }
 {

@@ -1,4 +1,4 @@
-//! What is said of a fault or a defect, which is what the program says of it.
+//! The explanation of a fault or a defect by its number.
 ghost use Rattle.std.specs.Prelude.{◌≡◌, ◌≢◌, ◌<◌, ◌⊎◌, IfSome, IfNone};
 ghost use Rattle.cborn_causes.specs.declared.reasons.BytesReason.{BytesReason};
 ghost use Rattle.cborn_causes.specs.declared.reasons.TextReason.{TextReason};
@@ -6,16 +6,17 @@ ghost use Rattle.cborn_c.specs.Calls.{IsExplained, TextTold};
 ghost use Rattle.cborn_c.specs.Numbers.{TellsOfBytes, text_number};
 
 use crate::answers::{CbornTold, put};
+use crate::inputs::Input;
 use crate::words::{count_at, defect_at, edn_at, invalid_at, lex_at, of_first, wire_at};
 use cborn_engine::{EngineFault, Kind};
-use cborn_explain::{BytesReason, TextReason, explain_bytes, explain_text};
+use cborn_explain::{BytesReason, NotationText, TextReason, explain_bytes, explain_text};
 use cborn_judge::InvalidReason;
 use cborn_lex::Profile;
 use cborn_model::Limit;
 use std::alloc::{AllocError, Global};
 use std::borrow::CowSlice;
 
-/// Why bytes are refused, where a number stands for that.
+/// The reason for which bytes are refused that has this number. `None`: no such reason has it.
 fn bytes_fault_at(number: u32) -> Option<BytesReason>
     ensures numbered { IfSome result (λ reason. TellsOfBytes reason number) }
     ensures every { IfNone result ((reason : BytesReason) → TellsOfBytes reason number → ⊥) }
@@ -35,7 +36,7 @@ fn bytes_fault_at(number: u32) -> Option<BytesReason>
     }
 }
 
-/// Why a text is refused, where a number stands for that.
+/// The reason for which a text is refused that has this number. `None`: no such reason has it.
 fn text_fault_at(number: u32) -> Option<TextReason>
     ensures numbered { IfSome result (λ reason. text_number reason ≡ number) }
     ensures every { IfNone result ((reason : TextReason) → text_number reason ≢ number) }
@@ -58,36 +59,41 @@ fn text_fault_at(number: u32) -> Option<TextReason>
     }
 }
 
-/// The explanation of a fault or a defect of an input, of which another call told number and place,
-/// or want of memory. None: no input of this kind has that.
+/// The explanation of a fault or a defect, whose number and offset in bytes another call reported for
+/// this input, or that memory for it is refused. `None`: no input of this format has a fault or a defect
+/// with this number.
 pub fn explained(
     alloc: Global,
     limit: Limit,
-    kind: Kind,
-    input: &[u8],
+    input: Input<'_>,
     number: u32,
     place: u64,
 ) -> Option<Result<String, AllocError>>
-    ensures some { IfSome result (λ answer. IsExplained kind number) }
-    ensures none { IfNone result (IsExplained kind number → ⊥) }
+    ensures some { IfSome result (λ answer. IsExplained input.entry.kind number) }
+    ensures none { IfNone result (IsExplained input.entry.kind number → ⊥) }
 {
+    let Input { kind, bytes } = input;
     let profile = match kind {
         Kind::Wire => {
             let reason = match defect_at(number) {
                 Some(defect) => BytesReason::Defect(defect),
                 None => bytes_fault_at(of_first(number))?,
             };
-            return Some(explain_bytes(alloc, limit, input, place, reason));
+            return Some(explain_bytes(alloc, limit, bytes, place, reason));
         }
         Kind::Notation => Profile::One,
         Kind::Notation2 => Profile::Two,
     };
     let reason = text_fault_at(of_first(number))?;
-    Some(explain_text(alloc, limit, profile, input, place, reason))
+    let text = NotationText {
+        profile,
+        text: bytes,
+    };
+    Some(explain_text(alloc, limit, text, place, reason))
 }
 
-/// Puts an explanation to the front of `out`, or tells want of memory. Where `out` is too small, it
-/// is as it was.
+/// Writes an explanation to the start of `out`, and answers the number for C. Where `out` is too small,
+/// or memory was refused, `out` is unchanged.
 pub fn put_text(answer: Result<String, AllocError>, out: &mut [u8], told: &mut CbornTold) -> u32
     ensures { TextTold answer out.old out.new told.new result }
 {

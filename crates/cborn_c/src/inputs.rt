@@ -1,4 +1,4 @@
-//! The calls of the engine, over bytes that are wholly at hand.
+//! The calls of the engine over inputs that are in memory as a whole.
 ghost use Rattle.std.specs.Prelude.{◌≡◌, ◌≤◌, ◌*◌, length, IfOk};
 ghost use Rattle.std.specs.Cow.{cow_slice_items};
 ghost use Rattle.cborn_engine.specs.declared.kinds.Kind.TheVariants as kinds;
@@ -14,10 +14,17 @@ use cborn_model::{Bytewise, KeyOrder, Limit};
 use std::alloc::Global;
 use std::borrow::CowSlice;
 
-/// The canonical form of what the input holds, the keys of maps in the order `O`.
+/// An input in memory, and the format that it is read as.
+#[derive(Clone, Copy)]
+pub struct Input<'a> {
+    pub kind: Kind,
+    pub bytes: &'a [u8],
+}
+
+/// The canonical form of the items of the input, with the keys of maps in the order `O`.
 ///
 /// # Errors
-/// Those of the engine's call over slices.
+/// The fault that the engine reports.
 pub fn normalised<'a, O: KeyOrder>(
     alloc: Global,
     limit: Limit,
@@ -31,10 +38,10 @@ pub fn normalised<'a, O: KeyOrder>(
     normalise_slice::<O>(alloc, limit, from, to, input)
 }
 
-/// What the input spells, as bytes or as notation.
+/// The items of the input as they are spelled, as bytes or in the fixed notation.
 ///
 /// # Errors
-/// Those of the engine's call over slices.
+/// The fault that the engine reports.
 pub fn shown<'a>(
     alloc: Global,
     limit: Limit,
@@ -47,10 +54,10 @@ pub fn shown<'a>(
     show_slice(alloc, limit, from, to, input)
 }
 
-/// The first defect of the bytes, if they aren't their own canonical form under the order `O`.
+/// The first defect of the bytes. `None`: they are deterministic under the order `O`.
 ///
 /// # Errors
-/// Those of the engine's call over slices.
+/// The fault that the engine reports.
 pub fn checked<O: KeyOrder>(
     alloc: Global,
     limit: Limit,
@@ -61,45 +68,56 @@ pub fn checked<O: KeyOrder>(
     check_slice::<O>(alloc, limit, input)
 }
 
-/// The least index at which the items of two inputs differ. The answer doesn't depend on the order
-/// of keys.
+/// The index, from 0, of the first item at which two inputs differ. `None`: they hold the same items.
+/// The answer doesn't depend on an order of keys.
 ///
 /// # Errors
-/// Those of the engine's call over slices.
+/// The fault that the engine reports.
 pub fn compared(
     alloc: Global,
     limit: Limit,
-    kind_a: Kind,
-    first: &[u8],
-    kind_b: Kind,
-    second: &[u8],
+    first: Input<'_>,
+    second: Input<'_>,
 ) -> Result<Option<u64>, CompareFault>
-    ensures { Compared kind_a kind_b limit first.now second.now result }
+    ensures { Compared first.entry.kind second.entry.kind limit first.entry.bytes.now second.entry.bytes.now result }
 {
-    compare_slices::<Bytewise>(alloc, limit, kind_a, first, kind_b, second)
+    compare_slices::<Bytewise>(
+        alloc,
+        limit,
+        first.kind,
+        first.bytes,
+        second.kind,
+        second.bytes,
+    )
 }
 
-/// Whether two inputs hold the same items. The answer doesn't depend on the order of keys.
+/// Whether two inputs hold the same items. The answer doesn't depend on an order of keys.
 ///
 /// # Errors
-/// Those of the engine's call over slices.
+/// The fault that the engine reports.
 pub fn matched(
     alloc: Global,
     limit: Limit,
-    kind_a: Kind,
-    first: &[u8],
-    kind_b: Kind,
-    second: &[u8],
+    first: Input<'_>,
+    second: Input<'_>,
 ) -> Result<bool, CompareFault>
-    ensures { Matched kind_a kind_b limit first.now second.now result }
+    ensures { Matched first.entry.kind second.entry.kind limit first.entry.bytes.now second.entry.bytes.now result }
 {
-    same_items::<Bytewise>(alloc, limit, kind_a, first, kind_b, second)
+    same_items::<Bytewise>(
+        alloc,
+        limit,
+        first.kind,
+        first.bytes,
+        second.kind,
+        second.bytes,
+    )
 }
 
-/// What `normalised` answers of an input that has to hold exactly one item.
+/// The canonical form of the one item that the input has to hold, with the keys of maps in the order
+/// `O`.
 ///
 /// # Errors
-/// Those of the engine's call over slices.
+/// The fault that the engine reports.
 pub fn normalised_one<'a, O: KeyOrder>(
     alloc: Global,
     limit: Limit,
@@ -113,10 +131,10 @@ pub fn normalised_one<'a, O: KeyOrder>(
     normalise_one_slice::<O>(alloc, limit, from, to, input)
 }
 
-/// What `shown` answers of an input that has to hold exactly one item.
+/// The one item that the input has to hold as it is spelled, as bytes or in the fixed notation.
 ///
 /// # Errors
-/// Those of the engine's call over slices.
+/// The fault that the engine reports.
 pub fn shown_one<'a>(
     alloc: Global,
     limit: Limit,
@@ -129,10 +147,11 @@ pub fn shown_one<'a>(
     show_one_slice(alloc, limit, from, to, input)
 }
 
-/// What `checked` answers of bytes that have to hold exactly one item.
+/// The first defect of bytes that have to hold exactly one item. `None`: they are deterministic under
+/// the order `O`.
 ///
 /// # Errors
-/// Those of the engine's call over slices.
+/// The fault that the engine reports.
 pub fn checked_one<O: KeyOrder>(
     alloc: Global,
     limit: Limit,
@@ -143,20 +162,25 @@ pub fn checked_one<O: KeyOrder>(
     check_one_slice::<O>(alloc, limit, input)
 }
 
-/// Whether two inputs hold the same item, each of which has to hold exactly one. The answer doesn't
-/// depend on the order of keys.
+/// Whether two inputs, each of which has to hold exactly one item, hold the same item. The answer
+/// doesn't depend on an order of keys.
 ///
 /// # Errors
-/// Those of the engine's call over slices.
+/// The fault that the engine reports.
 pub fn matched_one(
     alloc: Global,
     limit: Limit,
-    kind_a: Kind,
-    first: &[u8],
-    kind_b: Kind,
-    second: &[u8],
+    first: Input<'_>,
+    second: Input<'_>,
 ) -> Result<bool, CompareOneFault>
-    ensures { MatchedOne kind_a kind_b limit first.now second.now result }
+    ensures { MatchedOne first.entry.kind second.entry.kind limit first.entry.bytes.now second.entry.bytes.now result }
 {
-    same_item::<Bytewise>(alloc, limit, kind_a, first, kind_b, second)
+    same_item::<Bytewise>(
+        alloc,
+        limit,
+        first.kind,
+        first.bytes,
+        second.kind,
+        second.bytes,
+    )
 }

@@ -1,10 +1,10 @@
-//! The calls of `cborn_engine` for C, as `include/cborn.h` declares them: numbers and slices in, a
-//! number and a filled buffer out.
+//! The calls of `cborn_engine` for C, as `include/cborn.h` declares them.
 //!
-//! C passes a slice as a pointer and then a length, and a `Global` as nothing. An answer goes to a
-//! buffer of the caller's; where that is too small nothing is written, and the call tells the
-//! length that the answer takes. No call keeps anything. `specs/Calls.antt` says what each call
-//! answers, `specs/Numbers.antt` what the numbers stand for.
+//! C passes a slice as a pointer and then a length, and a `Global` as nothing. A call answers a number,
+//! and writes its answer to a buffer of the caller's. Where the buffer is too small it writes nothing,
+//! and reports the length that the answer has. Nothing is kept between calls.
+//!
+//! `specs/Calls.antt` says what each call answers, `specs/Numbers.antt` what the numbers mean.
 #![tactic(auto)]
 
 mod answers;
@@ -24,23 +24,23 @@ use answers::{
 use cborn_model::{Bytewise, LengthFirst, Limit};
 use explanations::{explained, put_text};
 use inputs::{
-    checked, checked_one, compared, matched, matched_one, normalised, normalised_one, shown,
+    Input, checked, checked_one, compared, matched, matched_one, normalised, normalised_one, shown,
     shown_one,
 };
 use numbers::{BAD_ARGUMENT, KeyOrdering, kind_at, order_at};
 use std::alloc::Global;
 use words::{defect_at, of_first, one_fault_at, put_words};
 
-/// Writes the canonical form of the items that `input` holds to the front of `out`: their
-/// deterministic encodings (RFC 8949 section 4.2), or the fixed notation of these. `depth` is how
-/// many arrays, maps and tags may stand in one another, from 1 to 1,024. `told` gets the place of a
-/// fault, in bytes from the start of `input`, and the length of the answer in bytes. From bytes to
-/// bytes a buffer that is a third longer than the input is never too small.
+/// Writes the canonical form of the items of `input` to the start of `out`: their deterministic
+/// encodings (RFC 8949 section 4.2), or the fixed notation of these. `from` and `to` number a format,
+/// `order` an order of keys. `depth` is the nesting limit, from 1 to 1,024. `told` gets the offset of
+/// a fault, in bytes from the start of `input`, and the length of the answer in bytes. From bytes to
+/// bytes, a buffer that is a third longer than the input is never too small.
 ///
 /// # Errors
-/// `TOO_SMALL` where the answer is longer than `out`, and its length is told. `BAD_ARGUMENT` where
-/// a number stands for nothing; then `told` is as it was. Else the number of the fault of `input`.
-/// At each of these `out` is as it was.
+/// `TOO_SMALL` where the answer is longer than `out`; its length is reported. `BAD_ARGUMENT` where a
+/// number means nothing; `told` is then unchanged. Else the number of the fault of `input`. At each of
+/// these `out` is unchanged.
 #[unsafe(no_mangle)]
 pub extern "C" fn cborn_normalise(
     alloc: Global,
@@ -74,10 +74,16 @@ pub extern "C" fn cborn_normalise(
     put(answer, out, told)
 }
 
-/// Writes the items of `input` as they are spelled to the front of `out`: as bytes (RFC 8949
-/// section 3), or in the fixed notation (section 8). The arguments and the errors are those of
-/// `cborn_normalise`, but no item is refused for what it means; a text string that isn't UTF-8 is
-/// refused where the output is notation.
+/// Writes the items of `input` as they are spelled to the start of `out`: as bytes (RFC 8949
+/// section 3), or in the fixed notation (section 8). `from` and `to` number a format. `depth` is the
+/// nesting limit, from 1 to 1,024. `told` gets the offset of a fault, in bytes from the start of
+/// `input`, and the length of the answer in bytes. Invalid items are written too. Notation has one
+/// exception: a text string that isn't UTF-8 is refused.
+///
+/// # Errors
+/// `TOO_SMALL` where the answer is longer than `out`; its length is reported. `BAD_ARGUMENT` where a
+/// number means nothing; `told` is then unchanged. Else the number of the fault of `input`. At each of
+/// these `out` is unchanged.
 #[unsafe(no_mangle)]
 pub extern "C" fn cborn_show(
     alloc: Global,
@@ -103,12 +109,13 @@ pub extern "C" fn cborn_show(
 }
 
 /// Tells whether the bytes of `input` are the deterministic encodings of the items that they hold
-/// (RFC 8949 section 4.2), else the number of the first defect. `place` gets its offset in bytes
-/// from the start of `input`.
+/// (RFC 8949 section 4.2), else the number of the first defect. `order` numbers an order of keys.
+/// `depth` is the nesting limit, from 1 to 1,024. `place` gets the offset of the defect, in bytes from
+/// the start of `input`.
 ///
 /// # Errors
-/// `BAD_ARGUMENT` where a number stands for nothing; then `place` is as it was. Else the number of
-/// the fault of `input`, whose offset `place` gets.
+/// `BAD_ARGUMENT` where a number means nothing; `place` is then unchanged. Else the number of the
+/// fault of `input`, and `place` gets its offset in bytes.
 #[unsafe(no_mangle)]
 pub extern "C" fn cborn_check(
     alloc: Global,
@@ -133,12 +140,13 @@ pub extern "C" fn cborn_check(
 }
 
 /// Tells whether two inputs hold the same items (RFC 8949 section 2), else `DIFFERENT`, and `place`
-/// gets the least index, from 0, at which they differ.
+/// gets the index, from 0, of the first item that differs. `from_a` and `from_b` number the formats
+/// of `first` and `second`. `depth` is the nesting limit, from 1 to 1,024.
 ///
 /// # Errors
-/// `BAD_ARGUMENT` where a number stands for nothing; then `place` is as it was. Else the number of
-/// the fault of `first`, or that of the fault of `second` and `OF_SECOND` more; `place` gets its
-/// offset in bytes from the start of that input.
+/// `BAD_ARGUMENT` where a number means nothing; `place` is then unchanged. Else the number of the
+/// fault of `first`, or `OF_SECOND` more than that of `second`, and `place` gets its offset in bytes
+/// from the start of that input.
 #[unsafe(no_mangle)]
 pub extern "C" fn cborn_compare(
     alloc: Global,
@@ -160,14 +168,26 @@ pub extern "C" fn cborn_compare(
     let Some(limit) = Limit::new(depth) else {
         return BAD_ARGUMENT;
     };
-    difference_told(compared(alloc, limit, from_a, first, from_b, second), place)
+    let first = Input {
+        kind: from_a,
+        bytes: first,
+    };
+    let second = Input {
+        kind: from_b,
+        bytes: second,
+    };
+    difference_told(compared(alloc, limit, first, second), place)
 }
 
-/// Tells whether two inputs hold the same items (RFC 8949 section 2), else `DIFFERENT`. They do
-/// exactly if their canonical forms are equal. `place` gets 0: where they differ is not looked for.
+/// Tells whether two inputs hold the same items (RFC 8949 section 2), else `DIFFERENT`. They do if and
+/// only if their canonical forms are equal. `from_a` and `from_b` number the formats of `first` and
+/// `second`. `depth` is the nesting limit, from 1 to 1,024. `place` gets 0, since nothing looks for
+/// where they differ.
 ///
 /// # Errors
-/// Those of `cborn_compare`, told in the same way.
+/// `BAD_ARGUMENT` where a number means nothing; `place` is then unchanged. Else the number of the
+/// fault of `first`, or `OF_SECOND` more than that of `second`, and `place` gets its offset in bytes
+/// from the start of that input.
 #[unsafe(no_mangle)]
 pub extern "C" fn cborn_same(
     alloc: Global,
@@ -189,16 +209,24 @@ pub extern "C" fn cborn_same(
     let Some(limit) = Limit::new(depth) else {
         return BAD_ARGUMENT;
     };
-    same_told(matched(alloc, limit, from_a, first, from_b, second), place)
+    let first = Input {
+        kind: from_a,
+        bytes: first,
+    };
+    let second = Input {
+        kind: from_b,
+        bytes: second,
+    };
+    same_told(matched(alloc, limit, first, second), place)
 }
 
-/// Writes the deterministic encoding of the one item that `input` has to hold to the front of `out`
-/// (RFC 8949 section 4.2), or the fixed notation of it.
+/// Writes the deterministic encoding of the one item that `input` has to hold to the start of `out`
+/// (RFC 8949 section 4.2), or the fixed notation of it. The arguments are those of `cborn_normalise`.
 ///
 /// # Errors
-/// Those of `cborn_normalise`. Of an input for which it has none, `NO_ITEM` where the input holds
-/// no item, at its length, and `MORE_ITEMS` where it holds more than one, at the offset of the
-/// second; at both `out` is as it was.
+/// Each error of `cborn_normalise`. Where it has none: `NO_ITEM` where the input holds no item, with
+/// its length as the offset, and `MORE_ITEMS` where it holds more than one, with the offset of the
+/// second. At each of these `out` is unchanged.
 #[unsafe(no_mangle)]
 pub extern "C" fn cborn_normalise_one(
     alloc: Global,
@@ -232,12 +260,14 @@ pub extern "C" fn cborn_normalise_one(
     put_one(answer, out, told)
 }
 
-/// Writes the one item that `input` has to hold as it is spelled, valid or not, to the front of
-/// `out`: as bytes (RFC 8949 section 3), or in the fixed notation (section 8).
+/// Writes the one item that `input` has to hold as it is spelled, valid or not, to the start of
+/// `out`: as bytes (RFC 8949 section 3), or in the fixed notation (section 8). The arguments are those
+/// of `cborn_show`.
 ///
 /// # Errors
-/// Those of `cborn_show`. Of an input for which it has none, `NO_ITEM` and `MORE_ITEMS`, as
-/// `cborn_normalise_one` tells them.
+/// Each error of `cborn_show`. Where it has none: `NO_ITEM` where the input holds no item, with its
+/// length as the offset, and `MORE_ITEMS` where it holds more than one, with the offset of the second.
+/// At each of these `out` is unchanged.
 #[unsafe(no_mangle)]
 pub extern "C" fn cborn_show_one(
     alloc: Global,
@@ -262,12 +292,13 @@ pub extern "C" fn cborn_show_one(
     put_one(shown_one(alloc, limit, from, to, input), out, told)
 }
 
-/// What `cborn_check` tells of bytes that have to hold exactly one item. Bytes that don't are
-/// refused, also where they have a defect.
+/// Tells whether the one item that `input` has to hold is deterministic (RFC 8949 section 4.2), else
+/// the number of the first defect. The arguments are those of `cborn_check`. An input that doesn't hold
+/// exactly one item is refused even where it has a defect.
 ///
 /// # Errors
-/// Those of `cborn_check`. Of bytes for which it has none, `NO_ITEM` and `MORE_ITEMS`, as
-/// `cborn_normalise_one` tells them.
+/// Each error of `cborn_check`. Where it has none: `NO_ITEM` where the input holds no item, with its
+/// length as the offset, and `MORE_ITEMS` where it holds more than one, with the offset of the second.
 #[unsafe(no_mangle)]
 pub extern "C" fn cborn_check_one(
     alloc: Global,
@@ -292,12 +323,13 @@ pub extern "C" fn cborn_check_one(
 }
 
 /// Tells whether two inputs, each of which has to hold exactly one item, hold the same one (RFC
-/// 8949 section 2), else `DIFFERENT`. `place` gets 0 then.
+/// 8949 section 2), else `DIFFERENT`. `place` gets 0 in both cases. The arguments are those of
+/// `cborn_compare`.
 ///
 /// # Errors
-/// `BAD_ARGUMENT` where a number stands for nothing; then `place` is as it was. Else the number of
-/// the fault of `first`, or that of the fault of `second` and `OF_SECOND` more, as
-/// `cborn_normalise_one` tells it of that input, and `place` gets its offset there.
+/// `BAD_ARGUMENT` where a number means nothing; `place` is then unchanged. Else the number of the
+/// fault of `first`, or `OF_SECOND` more than that of `second`, and `place` gets its offset in bytes
+/// from the start of that input. `NO_ITEM` and `MORE_ITEMS` are among these faults.
 #[unsafe(no_mangle)]
 pub extern "C" fn cborn_compare_one(
     alloc: Global,
@@ -319,19 +351,24 @@ pub extern "C" fn cborn_compare_one(
     let Some(limit) = Limit::new(depth) else {
         return BAD_ARGUMENT;
     };
-    same_one_told(
-        matched_one(alloc, limit, from_a, first, from_b, second),
-        place,
-    )
+    let first = Input {
+        kind: from_a,
+        bytes: first,
+    };
+    let second = Input {
+        kind: from_b,
+        bytes: second,
+    };
+    same_one_told(matched_one(alloc, limit, first, second), place)
 }
 
-/// Writes the words of a fault or a defect to the front of `out`, as the program prints them, and a
-/// zero byte behind them. `number` is what another call answered: that of a fault, also of a second
-/// input's, which has the same words, or of a defect. 64 bytes are always enough.
+/// Writes the words of a fault or a defect to the start of `out`, as the program prints them, and then
+/// a zero byte. `number` is that of a fault or a defect, as another call answered it. A fault of a
+/// second input has the same words. 64 bytes are always enough.
 ///
 /// # Errors
-/// `TOO_SMALL` where `out` is. `BAD_ARGUMENT` where no fault and no defect has this number. At both
-/// `out` is as it was.
+/// `TOO_SMALL` where `out` is too small. `BAD_ARGUMENT` where no fault and no defect has this number.
+/// At both `out` is unchanged.
 #[unsafe(no_mangle)]
 pub extern "C" fn cborn_words(number: u32, out: &mut [u8]) -> u32
     ensures call { WordsCall number out.old out.new result }
@@ -346,16 +383,16 @@ pub extern "C" fn cborn_words(number: u32, out: &mut [u8]) -> u32
     }
 }
 
-/// Writes an explanation of a fault or a defect to the front of `out`, in UTF-8: the lines that the
-/// program writes behind its first one with `--explain`. They say where in `input`, what stands
-/// there, and why. `number` and `place` are what another call told of this input, under the same
-/// limit; the number may be that of a second input's fault. A place beyond the end counts as the
-/// end. `told` gets the length of the explanation in bytes, and the place 0.
+/// Writes an explanation of a fault or a defect to the start of `out`, in UTF-8: the lines that the
+/// program adds with `--explain`, which say where in `input`, what is there, and why. Another call
+/// reported `number` and `place` for this input, under the same limit. The number may be that of a
+/// second input's fault. An offset beyond the end counts as the end. `told` gets the length of the
+/// explanation in bytes, and 0 as the offset.
 ///
 /// # Errors
-/// `TOO_SMALL` where the explanation is longer than `out`, and its length is told. `BAD_ARGUMENT`
-/// where `from` or `depth` stands for nothing, or no input of that kind has a fault or a defect of
-/// this number; then `told` is as it was. `OUT_OF_MEMORY`. At each of these `out` is as it was.
+/// `TOO_SMALL` where the explanation is longer than `out`; its length is reported. `BAD_ARGUMENT`
+/// where `from` or `depth` means nothing, or no input of that format has a fault or a defect with this
+/// number; `told` is then unchanged. `OUT_OF_MEMORY`. At each of these `out` is unchanged.
 #[unsafe(no_mangle)]
 pub extern "C" fn cborn_explain(
     alloc: Global,
@@ -375,14 +412,18 @@ pub extern "C" fn cborn_explain(
     let Some(limit) = Limit::new(depth) else {
         return BAD_ARGUMENT;
     };
-    let Some(answer) = explained(alloc, limit, from, input, number, place) else {
+    let input = Input {
+        kind: from,
+        bytes: input,
+    };
+    let Some(answer) = explained(alloc, limit, input, number, place) else {
         return BAD_ARGUMENT;
     };
     put_text(answer, out, told)
 }
 
-/// The version of the library, 65,536 for each major one, 256 for each minor one, and the patch:
-/// 0.5.0. What follows a release has the number of the next one.
+/// The version of the library as one number: the major version times 65,536, the minor one times 256,
+/// and the patch. It is 0.5.0. What follows a release has the number of the next release.
 #[unsafe(no_mangle)]
 pub extern "C" fn cborn_version() -> u32
     ensures { result ≡ 1280 }

@@ -1,5 +1,5 @@
-//! The numbers by which C names a kind, an order and a fault. That of a fault has its class in the
-//! high byte and its reason in the low one; no number ever changes what it stands for.
+//! The numbers of formats, orders of keys, faults and defects in C. That of a fault or a defect has its
+//! class in the second byte from below, and its reason in the lowest. No number ever changes its meaning.
 ghost use Rattle.std.specs.Prelude.{◌≡◌, ◌<◌};
 ghost use Rattle.cborn_c.specs.Numbers.{numbered_kind, numbered_order, wire_number, lex_number, edn_number, invalid_number, defect_number, fault_number, fault_place, one_number, one_place};
 
@@ -13,25 +13,25 @@ use cborn_wire::{WireFault, WireReason};
 pub const OK: u32 = 0;
 /// The buffer is too small.
 pub const TOO_SMALL: u32 = 1;
-/// A number stands for nothing.
+/// A number means nothing.
 pub const BAD_ARGUMENT: u32 = 2;
-/// Memory was refused.
+/// Out of memory.
 pub const OUT_OF_MEMORY: u32 = 3;
 /// The input has more than 2^30 bytes.
 pub const TOO_LONG: u32 = 4;
 /// Two inputs hold different items.
 pub const DIFFERENT: u32 = 5;
-/// What is added to the number of a fault of the second of two inputs.
+/// What the number of a fault has more if it is that of the second of two inputs.
 pub const OF_SECOND: u32 = 0x10000;
 
-/// How the keys of maps rise (RFC 8949 sections 4.2.1 and 4.2.3).
+/// The sort order of map keys (RFC 8949 sections 4.2.1 and 4.2.3).
 #[derive(Clone, Copy)]
 pub enum KeyOrdering {
     Bytewise,
     LengthFirst,
 }
 
-/// The kind that a number stands for.
+/// The format with this number.
 pub fn kind_at(number: u32) -> Option<Kind>
     ensures { result ≡ numbered_kind number }
 {
@@ -43,7 +43,7 @@ pub fn kind_at(number: u32) -> Option<Kind>
     }
 }
 
-/// The order that a number stands for.
+/// The order of keys with this number.
 pub fn order_at(number: u32) -> Option<KeyOrdering>
     ensures { result ≡ numbered_order number }
 {
@@ -54,7 +54,7 @@ pub fn order_at(number: u32) -> Option<KeyOrdering>
     }
 }
 
-/// Why bytes aren't well-formed.
+/// The number of a reason for which bytes aren't well-formed.
 fn number_wire(reason: WireReason) -> u32
     ensures number { result ≡ wire_number reason }
     ensures small { result < 65536 }
@@ -71,7 +71,7 @@ fn number_wire(reason: WireReason) -> u32
     }
 }
 
-/// Why a text has no tokens.
+/// The number of a reason for which a token is wrong.
 fn number_lex(reason: LexReason) -> u32
     ensures number { result ≡ lex_number reason }
     ensures small { result < 65536 }
@@ -91,7 +91,7 @@ fn number_lex(reason: LexReason) -> u32
     }
 }
 
-/// Why tokens notate no items.
+/// The number of a reason for which tokens notate no items.
 fn number_edn(reason: EdnReason) -> u32
     ensures number { result ≡ edn_number reason }
     ensures small { result < 65536 }
@@ -110,7 +110,7 @@ fn number_edn(reason: EdnReason) -> u32
     }
 }
 
-/// Why an item isn't valid.
+/// The number of a reason for which an item is invalid.
 fn number_invalid(reason: InvalidReason) -> u32
     ensures number { result ≡ invalid_number reason }
     ensures small { result < 65536 }
@@ -122,7 +122,7 @@ fn number_invalid(reason: InvalidReason) -> u32
     }
 }
 
-/// Why bytes aren't deterministic.
+/// The number of a defect, for which bytes aren't deterministic.
 pub fn number_defect(reason: DefectReason) -> u32
     ensures { result ≡ defect_number reason }
 {
@@ -134,8 +134,8 @@ pub fn number_defect(reason: DefectReason) -> u32
     }
 }
 
-/// Why there is no answer. The calls have no reader and no writer that could fail, so the faults of
-/// these have no number of their own.
+/// The number of a fault. Calls from C have no reader and no writer, so a failed read or write has no
+/// number of its own.
 pub fn number_fault(why: EngineFault) -> u32
     ensures number { result ≡ fault_number why }
     ensures small { result < 65536 }
@@ -159,8 +159,8 @@ pub fn number_fault(why: EngineFault) -> u32
     }
 }
 
-/// Where a fault is, in bytes from the start of the input; 0 where it is none of the input's
-/// content.
+/// The offset of a fault, in bytes from the start of the input. 0 where it isn't in the content of the
+/// input.
 pub fn place_of(why: EngineFault) -> u64
     ensures { result ≡ fault_place why }
 {
@@ -183,7 +183,7 @@ pub fn place_of(why: EngineFault) -> u64
     }
 }
 
-/// Why there is no answer where exactly one item is wanted.
+/// The number of a fault of an input that has to hold exactly one item.
 pub fn number_one(why: OneFault) -> u32
     ensures number { result ≡ one_number why }
     ensures small { result < 65536 }
@@ -195,7 +195,8 @@ pub fn number_one(why: OneFault) -> u32
     }
 }
 
-/// Where a fault is where exactly one item is wanted, in bytes from the start of the input.
+/// The offset of a fault of an input that has to hold exactly one item, in bytes from its start. 0
+/// where it isn't in the content of the input.
 pub fn place_of_one(why: OneFault) -> u64
     ensures { result ≡ one_place why }
 {

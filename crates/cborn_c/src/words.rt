@@ -1,4 +1,4 @@
-//! The words of a number, which are those that the program prints.
+//! The words of a number: those that the program prints for that fault or defect.
 ghost use Rattle.std.specs.Prelude.{◌≡◌, ◌≢◌, ◌<◌, ◌≤◌, ◌+◌, ◌⊎◌, ◌∷◌, ◌++◌, [], IfSome, IfNone};
 ghost use Rattle.cborn_engine.specs.declared.faults.EngineFault.{EngineFault};
 ghost use Rattle.cborn_engine.specs.declared.one_faults.OneFault.{OneFault};
@@ -15,10 +15,10 @@ use cborn_lex::{LexFault, LexReason};
 use cborn_wire::{WireFault, WireReason};
 use std::fmt::{Display, Write};
 
-/// What stands before the words of a fault at the start of an input.
+/// What the line of a fault at offset 0 has before the words.
 const AT_START: &[u8] = b"offset 0: ";
 
-/// Why bytes are not well-formed, where a number stands for that.
+/// The reason for which bytes aren't well-formed that has this number. `None`: no such reason has it.
 pub fn wire_at(number: u32) -> Option<WireReason>
     ensures numbered { IfSome result (λ reason. wire_number reason ≡ number) }
     ensures every { IfNone result ((number < 257) ⊎ (264 < number)) }
@@ -36,7 +36,7 @@ pub fn wire_at(number: u32) -> Option<WireReason>
     }
 }
 
-/// Why a text has no tokens.
+/// The reason for which a token is wrong that has this number. `None`: no such reason has it.
 pub fn lex_at(number: u32) -> Option<LexReason>
     ensures numbered { IfSome result (λ reason. lex_number reason ≡ number) }
     ensures every { IfNone result ((number < 513) ⊎ (523 < number)) }
@@ -57,7 +57,7 @@ pub fn lex_at(number: u32) -> Option<LexReason>
     }
 }
 
-/// Why tokens notate no items.
+/// The reason for which tokens notate no items that has this number. `None`: no such reason has it.
 pub fn edn_at(number: u32) -> Option<EdnReason>
     ensures numbered { IfSome result (λ reason. edn_number reason ≡ number) }
     ensures every { IfNone result ((number < 769) ⊎ (778 < number)) }
@@ -77,7 +77,7 @@ pub fn edn_at(number: u32) -> Option<EdnReason>
     }
 }
 
-/// Why an item isn't valid.
+/// The reason for which an item is invalid that has this number. `None`: no such reason has it.
 pub fn invalid_at(number: u32) -> Option<InvalidReason>
     ensures numbered { IfSome result (λ reason. invalid_number reason ≡ number) }
     ensures every { IfNone result ((number < 1281) ⊎ (1283 < number)) }
@@ -90,7 +90,8 @@ pub fn invalid_at(number: u32) -> Option<InvalidReason>
     }
 }
 
-/// Why an input isn't one item, where a number stands for that.
+/// The reason for which an input isn't exactly one item that has this number. `None`: no such reason
+/// has it.
 pub fn count_at(number: u32) -> Option<CountReason>
     ensures numbered { IfSome result (λ reason. count_number reason ≡ number) }
     ensures every { IfNone result ((number < 1793) ⊎ (1794 < number)) }
@@ -102,7 +103,7 @@ pub fn count_at(number: u32) -> Option<CountReason>
     }
 }
 
-/// The number of a fault without what is added to one of a second input.
+/// The number of a fault without `OF_SECOND`, if it is that of a second input.
 pub fn of_first(number: u32) -> u32
     ensures first { number ≤ 65536 → result ≡ number }
     ensures second { 65536 < number → result + 65536 ≡ number }
@@ -114,7 +115,7 @@ pub fn of_first(number: u32) -> u32
     }
 }
 
-/// The defect that a number stands for.
+/// The defect that has this number. `None`: no defect has it.
 pub fn defect_at(number: u32) -> Option<DefectReason>
     ensures numbered { IfSome result (λ reason. defect_number reason ≡ number) }
     ensures every { IfNone result ((number < 1537) ⊎ (1540 < number)) }
@@ -128,7 +129,7 @@ pub fn defect_at(number: u32) -> Option<DefectReason>
     }
 }
 
-/// The fault that a number stands for, at the start of an input.
+/// A fault that has this number, at offset 0. `None`: no fault has it.
 pub fn fault_at(number: u32) -> Option<EngineFault>
     ensures numbered { IfSome result (λ why. fault_number why ≡ number) }
     ensures every { IfNone result ((why : EngineFault) → fault_number why ≢ number) }
@@ -156,7 +157,8 @@ pub fn fault_at(number: u32) -> Option<EngineFault>
     }
 }
 
-/// The fault that a number stands for, at the start of an input, where exactly one item is wanted.
+/// A fault, at offset 0, of an input that has to hold exactly one item, that has this number. `None`:
+/// no such fault has it.
 pub fn one_fault_at(number: u32) -> Option<OneFault>
     ensures numbered { IfSome result (λ why. one_number why ≡ number) }
     ensures every { IfNone result ((why : OneFault) → one_number why ≢ number) }
@@ -171,13 +173,13 @@ pub fn one_fault_at(number: u32) -> Option<OneFault>
     }
 }
 
-/// Puts what a fault or a reason says of itself, without an offset, to the front of `out`, and a
-/// zero behind it. It says less than 64 bytes. Where `out` is too small, it is as it was.
+/// Writes the words of a fault or a defect, without an offset, to the start of `out`, and then a zero
+/// byte: at most 64 bytes in all. Where `out` is too small, it is unchanged.
 pub fn put_words<T: Display>(why: &T, out: &mut [u8]) -> u32
     ensures { WordsPut out.old out.new result }
 {
     let mut line = ArrayString::<63>::new();
-    // what is longer would be cut
+    // words that are longer would be cut
     let _written = write!(line, "{why}");
     let bytes = line.as_str().as_bytes();
     match bytes.strip_prefix(AT_START) {
@@ -186,7 +188,7 @@ pub fn put_words<T: Display>(why: &T, out: &mut [u8]) -> u32
     }
 }
 
-/// Puts a text to the front of `out`, and a zero behind it, where both fit.
+/// Writes a text to the start of `out`, and then a zero byte, if both fit.
 fn put_text(text: &[u8], out: &mut [u8]) -> u32
     ensures { IsPut (text.now ++ 0 ∷ []) out.old out.new result }
 {

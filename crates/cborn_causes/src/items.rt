@@ -1,6 +1,4 @@
-//! Single items of an input, read as nodes: in notation, and compared by what they mean.
-
-ghost use Rattle.std.specs.Prelude.{◌≤◌, length};
+//! Single items of an input, read as nodes: to show them, and to compare them by what they mean.
 
 use cborn_edn::{EdnFault, ShowFault, read_notation, show};
 use cborn_judge::{Invalid, judge};
@@ -9,19 +7,17 @@ use cborn_model::{Limit, Spelled, Valid};
 use cborn_wire::{WireFault, read_one};
 use std::alloc::{AllocError, Global};
 
-/// The item that begins at `at`, in the fixed notation with an end of line behind it. None: no item
-/// stands there, or a text in it isn't UTF-8.
+/// The item that begins at the offset `at`, in the fixed notation and with an end of line. `None`: no
+/// item begins there, or a text string in it isn't UTF-8.
 ///
 /// # Errors
-/// Where memory was refused.
+/// `AllocError` where memory is refused.
 pub(crate) fn notation_at(
     alloc: Global,
     limit: Limit,
     bytes: &[u8],
     at: usize,
-) -> Result<Option<String>, AllocError>
-    requires { at ≤ length bytes.now }
-{
+) -> Result<Option<String>, AllocError> {
     let Some(node) = node_at(alloc, limit, bytes, at)? else {
         return Ok(None);
     };
@@ -34,29 +30,27 @@ pub(crate) fn notation_at(
     }
 }
 
-/// What the item means that begins at `at`. None: no item stands there, or it is invalid.
+/// What the item means that begins at the offset `at`. `None`: no item begins there, or it is invalid.
 ///
 /// # Errors
-/// Where memory was refused.
+/// `AllocError` where memory is refused.
 pub(crate) fn valid_at(
     alloc: Global,
     limit: Limit,
     bytes: &[u8],
     at: usize,
-) -> Result<Option<Valid>, AllocError>
-    requires { at ≤ length bytes.now }
-{
+) -> Result<Option<Valid>, AllocError> {
     match node_at(alloc, limit, bytes, at)? {
         Some(node) => valid_of(alloc, &node),
         None => Ok(None),
     }
 }
 
-/// What the one item means that this text notates. None: it notates no single item, or an invalid
-/// one.
+/// What the one item means that this text notates. `None`: it doesn't notate exactly one item, or the
+/// item is invalid.
 ///
 /// # Errors
-/// Where memory was refused.
+/// `AllocError` where memory is refused.
 pub(crate) fn valid_of_text(
     alloc: Global,
     limit: Limit,
@@ -78,9 +72,10 @@ fn node_at(
     limit: Limit,
     bytes: &[u8],
     at: usize,
-) -> Result<Option<Spelled>, AllocError>
-    requires { at ≤ length bytes.now }
-{
+) -> Result<Option<Spelled>, AllocError> {
+    if at > bytes.len() {
+        return Ok(None);
+    }
     match read_one(alloc, limit, bytes, at) {
         Ok((node, _)) => Ok(Some(node)),
         Err(WireFault::Refused { .. }) => Ok(None),

@@ -1,16 +1,20 @@
-//! Why an input is refused or departs, in a sentence, and pieces of it as they are quoted.
+//! Why an input is refused or isn't deterministic: one sentence for each reason, with quoted pieces of
+//! the input.
 //!
-//! Another call has told a reason, and a walk stands at the place: over bytes a `Walk` of `cborn_paths`,
-//! over a text a [`TextWalk`] of [`walk_text`]. [`push_cause`] and [`Refused`] write the sentence. No
-//! clause says which words these are; that they are safe and end is proved.
+//! Another call found the reason and its offset, and a walk stands there: over bytes a `Walk` of
+//! `cborn_paths`, over a text a [`TextWalk`] of [`walk_text`]. [`RefusedBytes`] and [`RefusedText`] write
+//! the sentence. It is proved that they are safe and end. No clause says which words they write.
 //!
-//! `causes` and `text_causes` have a sentence for each reason (`reasons`), `text_walks` walks over a
-//! text from token to token, `text_spots` finds the character within a token that is at fault, and
-//! `text_keys` the key that another repeats. `quotes` writes pieces of the input so that they change
-//! nothing but the line that they stand in, over `items`, which reads single items.
+//! - `reasons`: the reasons, as other calls report them.
+//! - `byte_causes`, `text_causes`: the sentence for each reason.
+//! - `text_walks`: a walk over a text from token to token.
+//! - `text_spots`: the character within a token that is at fault.
+//! - `text_keys`: the key that a later key repeats.
+//! - `quotes`: quoted pieces, which change nothing but the line that they stand in.
+//! - `items`: single items, read for the sentences.
 #![tactic(auto)]
 
-mod causes;
+mod byte_causes;
 mod items;
 mod quotes;
 mod reasons;
@@ -19,12 +23,12 @@ mod text_keys;
 mod text_spots;
 mod text_walks;
 
-pub use causes::push_cause;
+pub use byte_causes::RefusedBytes;
 pub use quotes::{
     Escaped, line_and_column, push_bytes_around, push_hex, push_item, push_line_around, push_text,
     slice_of,
 };
 pub use reasons::{BytesReason, CountReason, TextReason};
-pub use text_causes::Refused;
+pub use text_causes::RefusedText;
 pub use text_spots::spot_of;
-pub use text_walks::{Before, Bracket, OpenBracket, TextWalk, walk_text};
+pub use text_walks::{Bracket, LastToken, NotationText, OpenBracket, TextWalk, walk_text};

@@ -1,5 +1,5 @@
-//! Pieces of an input, written so that they change nothing but the line that they stand in: long
-//! ones are cut, and control characters and those that turn the direction of a line are escaped.
+//! Quoted pieces of an input. Long pieces are cut. Control characters, and characters that change the
+//! direction of a line, are escaped, so that a piece changes nothing but its own line.
 
 ghost use Rattle.std.specs.Prelude.{◌≤◌, IfOk};
 
@@ -11,22 +11,26 @@ use std::alloc::{AllocError, Global};
 use std::fmt;
 use std::fmt::{Display, Formatter};
 
-/// How many bytes are written before and behind a place.
+/// How many bytes are written before the one at a place.
 const BYTES_BEFORE: usize = 8;
 
-const BYTES_BEHIND: usize = 12;
+/// How many bytes are written after the one at a place.
+const BYTES_AFTER: usize = 12;
 
-/// How many characters of a piece are written, and of a line before and behind a place.
+/// How many characters of a piece are written.
 const PIECE: usize = 40;
 
+/// How many characters of a line are written before a place.
 const LINE_BEFORE: usize = 40;
 
-const LINE_BEHIND: usize = 30;
+/// How many characters of a line are written from a place on.
+const LINE_AFTER: usize = 30;
 
-/// An item that is longer is written only in part, and so that no more of it is looked at.
+/// The most bytes of an item that is read and written as notation. Of a longer one only the start is
+/// read, so that a sentence costs no more for a long item.
 const LONG_ITEM: usize = 512;
 
-/// Writes a character, escaped where it could do more than stand there. Answers its width.
+/// Writes a character, escaped if it isn't plain. Answers how many columns were written.
 pub(crate) fn push_char(out: &mut String, c: char) -> Result<usize, AllocError>
     ensures { IfOk result (λ width. width ≤ 8) }
 {
@@ -43,8 +47,8 @@ pub(crate) fn push_char(out: &mut String, c: char) -> Result<usize, AllocError>
     }
 }
 
-/// A character that a terminal writes as itself: no control, and none that has no width, ends a
-/// line or turns its direction.
+/// Whether a terminal shows the character as itself. It doesn't where the character is a control, has
+/// no width, ends a line or changes the direction of text.
 fn is_plain(c: char) -> bool {
     let code = c as u32;
     !matches!(
@@ -70,8 +74,7 @@ fn is_plain(c: char) -> bool {
     )
 }
 
-/// A text, escaped as pieces of an input are, so that it changes nothing but the line that it stands
-/// in.
+/// A text that displays with its characters escaped as those of quoted pieces are.
 #[derive(Clone, Copy)]
 pub struct Escaped<'a> {
     pub text: &'a str,
@@ -91,13 +94,17 @@ impl Display for Escaped<'_> {
     }
 }
 
-/// The slice from an offset to another; nothing where there is none.
+/// The bytes from one index up to another. Empty where there are no such bytes.
 pub fn slice_of(bytes: &[u8], from: usize, to: usize) -> &[u8] {
     bytes.get(from..to).unwrap_or(&[])
 }
 
-/// Writes the text that these bytes are, at most `most` characters of it, and `..` where there is
-/// more. Answers the width of what is written.
+/// Writes the start of `bytes` as text: at most `most` characters, and those alone that come before
+/// the first byte that isn't UTF-8. `..` follows where that isn't all. Answers how many columns were
+/// written.
+///
+/// # Errors
+/// `AllocError` where memory for `out` is refused.
 pub fn push_text(out: &mut String, bytes: &[u8], most: usize) -> Result<usize, AllocError> {
     let front = bytes.get(..most.saturating_mul(4)).unwrap_or(bytes);
     let mut width: usize = 0;
@@ -118,7 +125,7 @@ pub fn push_text(out: &mut String, bytes: &[u8], most: usize) -> Result<usize, A
     Ok(width)
 }
 
-/// The longest front that is UTF-8.
+/// The longest part from the start that is UTF-8.
 pub(crate) fn valid_front(bytes: &[u8]) -> &str {
     match from_utf8(bytes) {
         Ok(text) => text,
@@ -129,7 +136,11 @@ pub(crate) fn valid_front(bytes: &[u8]) -> &str {
     }
 }
 
-/// Writes these bytes in hexadecimal, at most `most` of them, and `..` where there are more.
+/// Writes at most `most` bytes in hexadecimal, with a space between two, and `..` where there are
+/// more.
+///
+/// # Errors
+/// `AllocError` where memory for `out` is refused.
 pub fn push_hex(out: &mut String, bytes: &[u8], most: usize) -> Result<(), AllocError> {
     for (i, byte) in bytes.iter().enumerate() {
         if i == most {
@@ -143,7 +154,11 @@ pub fn push_hex(out: &mut String, bytes: &[u8], most: usize) -> Result<(), Alloc
     Ok(())
 }
 
-/// Writes the bytes around a place, and marks the one at it.
+/// Writes the bytes around an offset in hexadecimal, and the one at the offset as `>00<`. Where the
+/// offset is the end, it writes `><` there.
+///
+/// # Errors
+/// `AllocError` where memory for `out` is refused.
 pub fn push_bytes_around(out: &mut String, bytes: &[u8], place: usize) -> Result<(), AllocError> {
     let from = place.saturating_sub(BYTES_BEFORE);
     let window = bytes.get(from..).unwrap_or(&[]);
@@ -151,7 +166,7 @@ pub fn push_bytes_around(out: &mut String, bytes: &[u8], place: usize) -> Result
         out.push_str(".. ")?;
     }
     for (i, byte) in window.iter().enumerate() {
-        if i > BYTES_BEFORE + BYTES_BEHIND {
+        if i > BYTES_BEFORE + BYTES_AFTER {
             return out.push_str(" ..");
         }
         if i > 0 {
@@ -169,7 +184,11 @@ pub fn push_bytes_around(out: &mut String, bytes: &[u8], place: usize) -> Result
     Ok(())
 }
 
-/// Writes the item that these bytes are in notation; a long one is cut.
+/// Writes the item that these bytes encode in the fixed notation, cut where it is long. Where they
+/// encode no item that has a notation, it writes them in hexadecimal.
+///
+/// # Errors
+/// `AllocError` where memory is refused.
 pub fn push_item(
     alloc: Global,
     limit: Limit,
@@ -186,7 +205,7 @@ pub fn push_item(
     push_front(out, item)
 }
 
-/// Writes what a long item begins with.
+/// Writes the start of a long item.
 fn push_front(out: &mut String, item: &[u8]) -> Result<(), AllocError> {
     let Some((head, len)) = whole_head(item) else {
         return push_hex(out, item, PIECE / 3);
@@ -210,7 +229,8 @@ fn push_front(out: &mut String, item: &[u8]) -> Result<(), AllocError> {
     }
 }
 
-/// The line and the column of a place in a text, from 1, the column in characters.
+/// The line and the column of an offset in bytes of a text. Both count from 1, the column in
+/// characters.
 pub fn line_and_column(text: &[u8], place: usize) -> (u64, u64) {
     let front = text.get(..place).unwrap_or(text);
     let mut line: u64 = 1;
@@ -226,11 +246,14 @@ pub fn line_and_column(text: &[u8], place: usize) -> (u64, u64) {
     (line, column)
 }
 
-/// Writes the line of a text that a place stands in, cut around the place, and answers the width of
-/// what stands before the place.
+/// Writes the line of a text that holds an offset in bytes, cut around that offset. Answers how many
+/// columns were written before it.
+///
+/// # Errors
+/// `AllocError` where memory for `out` is refused.
 pub fn push_line_around(out: &mut String, text: &[u8], place: usize) -> Result<usize, AllocError> {
     let before = text.get(..place).unwrap_or(text);
-    let behind = text.get(place..).unwrap_or(&[]);
+    let after = text.get(place..).unwrap_or(&[]);
     let from = start_of_piece(before);
     let piece = before.get(from..).unwrap_or(&[]);
     let mut width: usize = 0;
@@ -241,16 +264,16 @@ pub fn push_line_around(out: &mut String, text: &[u8], place: usize) -> Result<u
     for c in valid_front(piece).chars() {
         width = width.saturating_add(push_char(out, c)?);
     }
-    let end = behind.iter().position(|b| *b == b'\n' || *b == b'\r');
+    let end = after.iter().position(|b| *b == b'\n' || *b == b'\r');
     let rest = match end {
-        Some(end) => behind.get(..end).unwrap_or(behind),
-        None => behind,
+        Some(end) => after.get(..end).unwrap_or(after),
+        None => after,
     };
-    push_text(out, rest, LINE_BEHIND)?;
+    push_text(out, rest, LINE_AFTER)?;
     Ok(width)
 }
 
-/// Where the piece of the last line begins that is written before a place.
+/// The index at which the written part of the last line begins.
 fn start_of_piece(before: &[u8]) -> usize {
     let mut from = before.len();
     let mut count: usize = 0;

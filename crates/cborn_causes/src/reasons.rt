@@ -1,35 +1,35 @@
-//! Reasons, as other calls tell them.
+//! Reasons, as other calls report them.
 
 use cborn_edn::EdnReason;
 use cborn_judge::{DefectReason, InvalidReason};
 use cborn_lex::LexReason;
 use cborn_wire::WireReason;
 
-/// Why bytes are refused, or aren't in the deterministic encoding.
+/// Why bytes are refused, or aren't deterministic.
 #[derive(Clone, Copy, PartialEq, Eq, Debug)]
 pub enum BytesReason {
-    /// They are not well-formed.
+    /// They aren't well-formed (RFC 8949 section 3, appendix C).
     Malformed(WireReason),
-    /// An item isn't valid, or a text can't be shown.
+    /// An item is invalid (RFC 8949 section 5.3), or a text string can't be shown.
     Invalid(InvalidReason),
-    /// An item isn't in the deterministic encoding.
+    /// An item isn't in the deterministic encoding (RFC 8949 section 4.2).
     Defect(DefectReason),
-    /// They are no single item.
+    /// They don't hold exactly one item.
     Count(CountReason),
 }
 
-/// Why a text is refused.
+/// Why a text of the notation is refused.
 #[derive(Clone, Copy, PartialEq, Eq, Debug)]
 pub enum TextReason {
     /// It isn't UTF-8.
     NotUtf8,
-    /// A token is bad.
+    /// A token is wrong.
     Token(LexReason),
-    /// The tokens are no text of the grammar, or mean nothing.
+    /// A syntax error between tokens, or tokens that notate no item.
     Notation(EdnReason),
-    /// An item isn't valid.
+    /// An item is invalid (RFC 8949 section 5.3).
     Invalid(InvalidReason),
-    /// It notates no single item.
+    /// It doesn't notate exactly one item.
     Count(CountReason),
 }
 
@@ -38,12 +38,12 @@ pub enum TextReason {
 pub enum CountReason {
     /// It holds none.
     NoItem,
-    /// It holds more.
+    /// It holds more than one.
     MoreItems,
 }
 
 impl CountReason {
-    /// What is said of it.
+    /// The sentence for this reason.
     pub(crate) fn sentence(self) -> &'static str {
         match self {
             CountReason::NoItem =>

@@ -1,11 +1,11 @@
 //! Why a text is refused: a sentence for each reason.
 
-use crate::causes::push_too_deep;
+use crate::byte_causes::push_too_deep;
 use crate::quotes::{line_and_column, push_char, push_text, valid_front};
 use crate::reasons::TextReason;
 use crate::text_keys::{earlier_key, key_at};
 use crate::text_spots::indicator_at;
-use crate::text_walks::{Before, Bracket, TextWalk};
+use crate::text_walks::{Bracket, LastToken, NotationText, TextWalk};
 use cborn_edn::EdnReason;
 use cborn_judge::InvalidReason;
 use cborn_lex::{LexReason, Profile, are_hex, hex_code, is_low};
@@ -15,19 +15,23 @@ use std::alloc::{AllocError, Global};
 /// How many characters of a word, a number or a key are written.
 const WORD: usize = 40;
 
-/// A text that is refused at a place, what a walk up to it found, and the character that is at
-/// fault.
+/// A text that is refused, and where.
 #[derive(Clone, Copy)]
-pub struct Refused<'a> {
-    pub text: &'a [u8],
-    pub profile: Profile,
+pub struct RefusedText<'a> {
+    pub input: NotationText<'a>,
+    /// The nesting limit under which it is refused.
     pub limit: Limit,
+    /// The offset in bytes that was reported with the reason.
     pub place: usize,
+    /// The offset in bytes of the character at fault, as `spot_of` finds it.
     pub spot: usize,
 }
 
-impl Refused<'_> {
-    /// Writes why it has this reason.
+impl RefusedText<'_> {
+    /// Writes the sentence for `reason`. `walk` stands at the place.
+    ///
+    /// # Errors
+    /// `AllocError` where memory is refused.
     pub fn push_cause(
         &self,
         alloc: Global,
@@ -55,22 +59,22 @@ impl Refused<'_> {
     }
 
     fn push_not_utf8(&self, out: &mut String) -> Result<(), AllocError> {
-        let byte = self.text.get(self.place).copied().unwrap_or(0);
+        let byte = self.input.text.get(self.place).copied().unwrap_or(0);
         write!(
             out,
             "a text is UTF-8, and the byte {byte:02x} here begins no character or is cut off"
         )
     }
 
-    /// Writes line and column of an offset.
+    /// Writes the line and the column of an offset.
     fn push_place(&self, out: &mut String, place: usize) -> Result<(), AllocError> {
-        let (line, column) = line_and_column(self.text, place);
+        let (line, column) = line_and_column(self.input.text, place);
         write!(out, "{line}:{column}")
     }
 
     /// Writes the character at fault, in quotes.
     fn push_spot(&self, out: &mut String) -> Result<(), AllocError> {
-        let rest = self.text.get(self.spot..).unwrap_or(&[]);
+        let rest = self.input.text.get(self.spot..).unwrap_or(&[]);
         let front = rest.get(..4).unwrap_or(rest);
         match valid_front(front).chars().next() {
             Some(c) => {
@@ -82,26 +86,26 @@ impl Refused<'_> {
         }
     }
 
-    /// A quote is at fault, and with it what stands before.
+    /// Whether the character at fault is a closing quote.
     fn is_quote(&self) -> bool {
-        self.text.get(self.spot) == Some(&b'\'')
+        self.input.text.get(self.spot) == Some(&b'\'')
     }
 
-    /// Writes where the character at fault stands, between these words; without first words the
-    /// character itself.
-    fn push_at_spot(&self, out: &mut String, before: &str, behind: &str) -> Result<(), AllocError> {
+    /// Writes `before`, the line and the column of the character at fault, and `after`. Where `before`
+    /// is empty, it writes the character and `at` in its place.
+    fn push_at_spot(&self, out: &mut String, before: &str, after: &str) -> Result<(), AllocError> {
         if before.is_empty() {
             self.push_spot(out)?;
             out.push_str(" at ")?;
         }
         out.push_str(before)?;
         self.push_place(out, self.spot)?;
-        out.push_str(behind)
+        out.push_str(after)
     }
 
-    /// The run of letters, digits, points, underscores and a sign at an offset.
+    /// The letters, digits, points, underscores and minus signs that an offset begins.
     fn word_at(&self, place: usize) -> &[u8] {
-        let rest = self.text.get(place..).unwrap_or(&[]);
+        let rest = self.input.text.get(place..).unwrap_or(&[]);
         let len = rest.iter().position(|b| !is_word(*b)).unwrap_or(rest.len());
         rest.get(..len).unwrap_or(rest)
     }
@@ -112,7 +116,7 @@ impl Refused<'_> {
         out.push('\'')
     }
 
-    /// The number at the place, without its indicator.
+    /// Writes the number at the place without its encoding indicator.
     fn push_number(&self, out: &mut String) -> Result<(), AllocError> {
         let word = self.word_at(self.place);
         let len = word.iter().position(|b| *b == b'_').unwrap_or(word.len());
@@ -121,7 +125,7 @@ impl Refused<'_> {
         out.push('\'')
     }
 
-    /// Why a token is bad.
+    /// Writes why a token is wrong.
     fn push_token(&self, out: &mut String, reason: LexReason) -> Result<(), AllocError> {
         match reason {
             LexReason::UnexpectedCharacter => self.push_unexpected_character(out),
@@ -173,9 +177,9 @@ impl Refused<'_> {
         }
     }
 
-    /// What is wrong with an escape, or with a character that isn't one.
+    /// Writes what is wrong with an escape, or with a character that has to be escaped.
     fn push_bad_escape(&self, out: &mut String) -> Result<(), AllocError> {
-        match self.text.get(self.spot..).unwrap_or(&[]) {
+        match self.input.text.get(self.spot..).unwrap_or(&[]) {
             [b'\\', b'u', a, b, c, d, ..] if are_hex(*a, *b, *c, *d) => {
                 out.push_str(if is_low(hex_code(*a, *b, *c, *d)) {
                     "the escape at "
@@ -200,8 +204,8 @@ impl Refused<'_> {
     }
 
     fn push_unexpected_character(&self, out: &mut String) -> Result<(), AllocError> {
-        match self.text.get(self.place) {
-            Some(b'#') if self.profile == Profile::One => {
+        match self.input.text.get(self.place) {
+            Some(b'#') if self.input.profile == Profile::One => {
                 out.push_str("comments from # to the end of a line are read with notation-2 alone")
             }
             Some(byte) if byte.is_ascii_alphabetic() => {
@@ -226,7 +230,7 @@ impl Refused<'_> {
         out.push_str(" is no number: it lacks digits, or begins with a 0 that it doesn't need")
     }
 
-    /// Why tokens are no text of the grammar, or mean nothing.
+    /// Writes why the tokens are a syntax error, or notate no item.
     fn push_notation(
         &self,
         out: &mut String,
@@ -268,7 +272,8 @@ impl Refused<'_> {
         }
     }
 
-    /// Why a nesting is too deep. An integer beyond 64 bits is a tag over a byte string.
+    /// Writes why a nesting is too deep. An integer beyond 64 bits adds a level, since it is encoded as a
+    /// tag of a byte string.
     fn push_deep(&self, out: &mut String) -> Result<(), AllocError> {
         push_too_deep(self.limit, out, "arrays, maps, tags and <<..>>")?;
         if self.is_at_number() {
@@ -277,11 +282,12 @@ impl Refused<'_> {
         Ok(())
     }
 
+    /// Whether the token at the place is a number.
     fn is_at_number(&self) -> bool {
-        matches!(self.text.get(self.place), Some(b'-' | b'0'..=b'9'))
+        matches!(self.input.text.get(self.place), Some(b'-' | b'0'..=b'9'))
     }
 
-    /// Why no encoding indicator may stand at the token at the place.
+    /// Why the token at the place may not have its encoding indicator.
     fn unwanted_indicator(&self, walk: &TextWalk) -> &'static str {
         let bracket = walk.open.last().map(|open| open.bracket);
         if self.is_at_number() {
@@ -303,19 +309,21 @@ impl Refused<'_> {
         }
     }
 
-    /// The indicator of the string that begins at the place, or of the `>>` there, is `_` alone.
+    /// Whether the encoding indicator of the string that begins at the place, or of the `>>` there, is
+    /// `_` alone. True too where it has none.
     fn is_indefinite(&self) -> bool {
-        let token = self.text.get(self.place..).unwrap_or(&[]);
+        let token = self.input.text.get(self.place..).unwrap_or(&[]);
         let at = match token {
             [b'>', b'>', ..] => 2,
             _ => indicator_at(token),
         };
         match token.get(at..).unwrap_or(&[]) {
-            [b'_', behind, ..] => !behind.is_ascii_digit(),
+            [b'_', next, ..] => !next.is_ascii_digit(),
             _ => true,
         }
     }
 
+    /// Writes what is missing at the end of the text, and which bracket is open.
     fn push_unexpected_end(&self, out: &mut String, walk: &TextWalk) -> Result<(), AllocError> {
         out.push_str("the text ends, and here must stand ")?;
         self.push_allowed(out, walk)?;
@@ -331,31 +339,31 @@ impl Refused<'_> {
         }
     }
 
-    /// Writes what may stand behind the last token.
+    /// Writes what may follow the last token.
     fn push_allowed(&self, out: &mut String, walk: &TextWalk) -> Result<(), AllocError> {
-        if matches!(walk.before, Before::Piece) {
+        if matches!(walk.last, LastToken::Piece) {
             out.push_str("a further piece of the string, or ")?;
         }
-        let is_behind = matches!(walk.before, Before::Piece | Before::Item);
-        let may_end = matches!(walk.before, Before::Opening)
-            || matches!(walk.before, Before::Separator) && self.profile == Profile::Two;
+        let is_whole = matches!(walk.last, LastToken::Piece | LastToken::Item);
+        let may_end = matches!(walk.last, LastToken::Opening)
+            || matches!(walk.last, LastToken::Separator) && self.input.profile == Profile::Two;
         let words = match walk.open.last() {
-            None if is_behind => "a comma, or the end",
-            None if matches!(walk.before, Before::Opening) => "an item, or the end",
+            None if is_whole => "a comma, or the end",
+            None if matches!(walk.last, LastToken::Opening) => "an item, or the end",
             None => "an item",
             Some(open) => match open.bracket {
-                Bracket::Array if is_behind => "a comma or ]",
+                Bracket::Array if is_whole => "a comma or ]",
                 Bracket::Array if may_end => "an item or ]",
-                Bracket::Map if is_behind && open.is_at_key() => "a colon",
-                Bracket::Map if is_behind => "a comma or }",
+                Bracket::Map if is_whole && open.is_at_key() => "a colon",
+                Bracket::Map if is_whole => "a comma or }",
                 Bracket::Map if !open.is_at_key() => "a value",
                 Bracket::Map if may_end => "a key or }",
                 Bracket::Map => "a key",
-                Bracket::Tag(_) | Bracket::Simple if is_behind => ")",
+                Bracket::Tag(_) | Bracket::Simple if is_whole => ")",
                 Bracket::Simple => "a number",
-                Bracket::Chunks if is_behind => "a comma or )",
+                Bracket::Chunks if is_whole => "a comma or )",
                 Bracket::Chunks => "a string",
-                Bracket::Embedded if is_behind => "a comma or >>",
+                Bracket::Embedded if is_whole => "a comma or >>",
                 Bracket::Embedded if may_end => "an item or >>",
                 _ => "an item",
             },
@@ -363,28 +371,18 @@ impl Refused<'_> {
         out.push_str(words)
     }
 
-    /// The key that the key at the place repeats.
+    /// Writes which key the key at the place repeats.
     fn push_duplicate(
         &self,
         alloc: Global,
         out: &mut String,
         walk: &TextWalk,
     ) -> Result<(), AllocError> {
-        let text = self.text;
-        let key = key_at(alloc, self.profile, text, self.place)?;
+        let key = key_at(alloc, self.input, self.place)?;
         out.push_str("the key ")?;
         push_text(out, key, WORD)?;
         let found = match walk.open.last() {
-            Some(open) => {
-                earlier_key(
-                    alloc,
-                    self.limit,
-                    self.profile,
-                    text,
-                    open.place,
-                    self.place,
-                )?
-            }
+            Some(open) => earlier_key(alloc, self.limit, self.input, open.place, self.place)?,
             None => None,
         };
         match found {
@@ -398,7 +396,7 @@ impl Refused<'_> {
     }
 }
 
-/// What a bracket is written as.
+/// How an opening bracket is quoted.
 fn opening(bracket: Bracket) -> &'static str {
     match bracket {
         Bracket::Array => "[",
@@ -410,7 +408,7 @@ fn opening(bracket: Bracket) -> &'static str {
     }
 }
 
-/// A character of a word, of a number or of an indicator.
+/// Whether a word, a number or an encoding indicator may hold this character.
 fn is_word(byte: u8) -> bool {
     byte.is_ascii_alphanumeric() || matches!(byte, b'_' | b'.' | b'-')
 }

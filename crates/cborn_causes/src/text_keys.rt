@@ -1,26 +1,25 @@
-//! The key of a text that a later key repeats.
+//! The key in a text that a later key repeats.
 
 use crate::items::valid_of_text;
 use crate::quotes::{slice_of, valid_front};
-use crate::text_walks::{Before, TextWalk};
-use cborn_lex::Profile;
+use crate::text_walks::{LastToken, NotationText, TextWalk};
 use cborn_model::{Limit, same};
 use std::alloc::{AllocError, Global};
 
-/// Where the key stands that is the same as the one at `later`, in the map whose bracket stands at
-/// `map`. None promises nothing.
+/// The offset of a key in the map whose bracket is at the offset `map`: the first that is the same as
+/// the key at the offset `later`. `None` says nothing: a key that can't be read alone isn't compared.
 ///
 /// # Errors
-/// Where memory was refused.
+/// `AllocError` where memory is refused.
 pub(crate) fn earlier_key(
     alloc: Global,
     limit: Limit,
-    profile: Profile,
-    text: &[u8],
+    input: NotationText<'_>,
     map: usize,
     later: usize,
 ) -> Result<Option<usize>, AllocError> {
-    let wanted = valid_front(key_at(alloc, profile, text, later)?);
+    let NotationText { profile, text } = input;
+    let wanted = valid_front(key_at(alloc, input, later)?);
     let Some(wanted) = valid_of_text(alloc, limit, profile, wanted)? else {
         return Ok(None);
     };
@@ -42,16 +41,16 @@ pub(crate) fn earlier_key(
     Ok(None)
 }
 
-/// The key that begins at `place`, up to its colon.
+/// The key that begins at the offset `place`, up to its colon.
 ///
 /// # Errors
-/// Where memory was refused.
-pub(crate) fn key_at(
+/// `AllocError` where memory is refused.
+pub(crate) fn key_at<'a>(
     alloc: Global,
-    profile: Profile,
-    text: &[u8],
+    input: NotationText<'a>,
     place: usize,
-) -> Result<&[u8], AllocError> {
+) -> Result<&'a [u8], AllocError> {
+    let NotationText { profile, text } = input;
     let inside = text.get(place..).unwrap_or(&[]);
     let front = valid_front(inside);
     let mut walk = TextWalk::new(alloc);
@@ -59,7 +58,7 @@ pub(crate) fn key_at(
     'tokens: for _ in 0..front.len() {
         stop = walk.stop;
         if !walk.take_next(alloc, profile, front, front.len())?
-            || matches!(walk.before, Before::Separator) && walk.open.is_empty()
+            || matches!(walk.last, LastToken::Separator) && walk.open.is_empty()
         {
             break;
         }

@@ -1,12 +1,10 @@
-//! The very character within a token that is at fault.
-
-ghost use Rattle.std.specs.Prelude.{◌≤◌, length};
+//! The character within a token that is at fault.
 
 use crate::reasons::TextReason;
 use cborn_lex::{LexReason, are_hex, hex_code, is_high, is_low};
 
-/// Where the character stands that is at fault for this reason, which is told of `place`: that
-/// place itself, or one within the token that begins there.
+/// The offset in bytes of the character that is at fault. `place` is the offset that was reported
+/// with the reason. The answer is that offset, or one within the token that begins there.
 pub fn spot_of(text: &[u8], place: usize, reason: TextReason) -> usize {
     let token = text.get(place..).unwrap_or(&[]);
     let within = match reason {
@@ -20,7 +18,7 @@ pub fn spot_of(text: &[u8], place: usize, reason: TextReason) -> usize {
     place.saturating_add(within)
 }
 
-/// The escape of a string in quotes that isn't one, or the character that has to be escaped.
+/// The index of the first wrong escape of a quoted string, or of a character that has to be escaped.
 fn bad_escape(token: &[u8]) -> usize {
     let quote = token.first().copied().unwrap_or(0);
     let mut at = 1;
@@ -34,17 +32,17 @@ fn bad_escape(token: &[u8]) -> usize {
     at.min(token.len())
 }
 
-/// The length of the character or the escape at the front. None where it is none, or the string
-/// ends.
+/// How many bytes the escape at the start has, or 1 for a byte of a character. `None`: the escape is
+/// wrong, the character has to be escaped, or nothing is left.
 fn unit_len(quote: u8, rest: &[u8]) -> Option<usize> {
     match rest {
-        [b'\\', b'u', a, b, c, d, behind @ ..] if are_hex(*a, *b, *c, *d) => {
+        [b'\\', b'u', a, b, c, d, rest @ ..] if are_hex(*a, *b, *c, *d) => {
             let code = hex_code(*a, *b, *c, *d);
             if is_low(code) {
                 return None;
             }
             if is_high(code) {
-                pair_len(behind)
+                pair_len(rest)
             } else {
                 Some(6)
             }
@@ -61,9 +59,10 @@ fn unit_len(quote: u8, rest: &[u8]) -> Option<usize> {
     }
 }
 
-/// The length of a pair of surrogates, of which the second has to stand at the front.
-fn pair_len(behind: &[u8]) -> Option<usize> {
-    match behind {
+/// How many bytes a pair of surrogate escapes has. `rest` follows the first, and has to begin with the
+/// second. `None`: it doesn't.
+fn pair_len(rest: &[u8]) -> Option<usize> {
+    match rest {
         [b'\\', b'u', a, b, c, d, ..] if are_hex(*a, *b, *c, *d) => {
             if is_low(hex_code(*a, *b, *c, *d)) {
                 Some(12)
@@ -75,7 +74,8 @@ fn pair_len(behind: &[u8]) -> Option<usize> {
     }
 }
 
-/// The character of `h'..'` that is no digit, or the quote where their number is odd.
+/// The index in `h'..'` of the first character that is no digit. Where all are digits, their number
+/// is odd, and it is the index of the closing quote.
 fn bad_hex(token: &[u8]) -> usize {
     let mut is_comment = false;
     let mut opened = 2;
@@ -95,7 +95,8 @@ fn bad_hex(token: &[u8]) -> usize {
     0
 }
 
-/// The character of `b64'..'` that is in no alphabet, or the quote.
+/// The index in `b64'..'` of the first character that no alphabet of base64 has. Where all are in
+/// one, it is the index of the closing quote.
 fn bad_base64(token: &[u8]) -> usize {
     for (i, byte) in token.iter().enumerate() {
         if i >= 4 && !is_base64(*byte) && !is_white(*byte) {
@@ -113,7 +114,7 @@ fn is_white(byte: u8) -> bool {
     matches!(byte, b' ' | b'\t' | b'\n' | b'\r')
 }
 
-/// The character of a number that is no digit of its base; its start where digits alone make none.
+/// The index in a number of the first character that is no digit of its base. 0: all are digits.
 fn bad_digit(token: &[u8]) -> usize {
     let signed = matches!(token.first(), Some(b'-'));
     let body = if signed {
@@ -149,12 +150,13 @@ fn is_digit(base: u8, byte: u8) -> bool {
     }
 }
 
-/// A character that a number's body may hold.
+/// Whether the token of a number goes on with this character.
 fn is_body(byte: u8) -> bool {
     byte.is_ascii_alphanumeric() || byte == b'.'
 }
 
-/// The underscore of a token's indicator: the last of its characters that begins one.
+/// The index of the underscore that begins a token's encoding indicator. Of a string it is the index
+/// after the closing quote. 0: there is none.
 pub(crate) fn indicator_at(token: &[u8]) -> usize {
     let quote = match token {
         [b'"', ..] => b'"',

@@ -1,13 +1,20 @@
-//! A walk over a text from token to token, which keeps what is open.
+//! A walk over a text from token to token. It keeps the brackets that are open.
 
 use crate::quotes::valid_front;
 use cborn_lex::{BareToken, Kind, LexFault, Profile, next_token};
 use cborn_paths::Step;
 use std::alloc::{AllocError, Global};
 
-/// No text that another call has read has more open: 1,024 levels, and the string or the simple
-/// value inside.
+/// The most brackets that can be open in a text whose fault another call reported: 1,024 levels, and
+/// a string or a simple value inside.
 const MOST_OPEN: usize = 1026;
+
+/// A text of the notation, and the profile that it is read under.
+#[derive(Clone, Copy)]
+pub struct NotationText<'a> {
+    pub profile: Profile,
+    pub text: &'a [u8],
+}
 
 /// What a bracket opens.
 #[derive(Clone, Copy)]
@@ -16,11 +23,11 @@ pub enum Bracket {
     Map,
     /// A tag of this number.
     Tag(u128),
-    /// A string in chunks, behind `(_`.
+    /// A string in chunks, after `(_`.
     Chunks,
-    /// A simple value, behind `simple(`.
+    /// A simple value, after `simple(`.
     Simple,
-    /// Items of a byte string, behind `<<`.
+    /// Items of a byte string, after `<<`.
     Embedded,
 }
 
@@ -28,16 +35,17 @@ pub enum Bracket {
 #[derive(Clone, Copy)]
 pub struct OpenBracket {
     pub bracket: Bracket,
-    /// The offset of its token.
+    /// The offset in bytes of its token.
     pub place: usize,
-    /// How many parts are behind: items, or keys and values.
+    /// How many of its parts are whole. A part is an item, or a key or a value of a map.
     pub parts: u64,
-    /// Of a map, the slice of the text that the last key is.
+    /// In a map, the offsets in bytes at which the last key begins and ends. Where there is no key,
+    /// both are `place`.
     pub key: (usize, usize),
 }
 
 impl OpenBracket {
-    /// Where its next part stands, if parts of it are counted.
+    /// The step of a path to its next part. `None`: a simple value has no parts.
     pub fn step(&self) -> Option<Step> {
         match self.bracket {
             Bracket::Array => Some(Step::Element(self.parts)),
@@ -55,7 +63,7 @@ impl OpenBracket {
         }
     }
 
-    /// A map, in which a key stands next or has just been read.
+    /// Whether it is a map in which a key comes next, or a key has just been read.
     pub(crate) fn is_at_key(&self) -> bool {
         matches!(self.bracket, Bracket::Map) && self.parts % 2 == 0
     }
@@ -63,43 +71,44 @@ impl OpenBracket {
 
 /// What the last token was.
 #[derive(Clone, Copy)]
-pub enum Before {
-    /// None, or a bracket that opens.
+pub enum LastToken {
+    /// None yet, or an opening bracket.
     Opening,
     /// A comma or a colon.
     Separator,
-    /// A string, behind which another piece of it may stand.
+    /// A string. Another piece of it may follow.
     Piece,
-    /// Any other item.
+    /// The end of any other item.
     Item,
 }
 
-/// A walk, before a token.
+/// A walk that has come between two tokens.
 #[derive(Drop)]
 pub struct TextWalk {
-    /// How many items at the top are behind.
+    /// How many items outside of all brackets a comma has ended.
     pub items: u64,
     /// The brackets that are open, the innermost last.
     pub open: Vec<OpenBracket>,
-    pub before: Before,
-    /// Where the last token ends.
+    pub last: LastToken,
+    /// The offset in bytes at which the last token ends.
     pub stop: usize,
-    /// What the last string stands for, in a buffer that is used again. Nothing is read of it.
+    /// A buffer for the content of strings, which the lexer asks for. Nothing reads it.
     content: Vec<u8>,
 }
 
-/// Walks over a text up to the token at `place`, or that holds it, or the first that is bad.
+/// Walks over a text, and stops before the token that begins at the offset `place` or holds it, and
+/// before the first that is wrong. `place` is an offset in bytes from the start of the text.
 ///
 /// # Errors
-/// Where memory was refused.
+/// `AllocError` where memory is refused.
 pub fn walk_text(
     alloc: Global,
-    profile: Profile,
-    text: &[u8],
+    input: NotationText<'_>,
     place: usize,
 ) -> Result<TextWalk, AllocError> {
+    let profile = input.profile;
     let mut walk = TextWalk::new(alloc);
-    let text = valid_front(text);
+    let text = valid_front(input.text);
     'tokens: for _ in 0..text.len() {
         if !walk.take_next(alloc, profile, text, place)? {
             break;
@@ -114,17 +123,17 @@ impl TextWalk {
         TextWalk {
             items: 0,
             open: Vec::new(alloc),
-            before: Before::Opening,
+            last: LastToken::Opening,
             stop: 0,
             content: Vec::new(alloc),
         }
     }
 
-    /// Goes on behind the next token, and answers whether it did: it stops at one that stands at
-    /// `place` or holds it, at a bad one, and at the end.
+    /// Goes on past the next token, and answers whether it did. It doesn't where the token begins at
+    /// `place` or holds it, where it is wrong, and at the end.
     ///
     /// # Errors
-    /// Where memory was refused.
+    /// `AllocError` where memory is refused.
     pub(crate) fn take_next(
         &mut self,
         alloc: Global,
@@ -157,7 +166,7 @@ impl TextWalk {
         }
     }
 
-    /// Goes on after a token, with the number that it has if it is a tag.
+    /// Goes on past a token. `number` is the number of a tag.
     fn take(&mut self, token: &BareToken, number: u128) -> Result<(), AllocError> {
         let start = token.start;
         match token.kind {
@@ -167,20 +176,20 @@ impl TextWalk {
             Kind::ChunkOpen => self.begin(Bracket::Chunks, start)?,
             Kind::SimpleOpen => self.begin(Bracket::Simple, start)?,
             Kind::EmbedOpen => self.begin(Bracket::Embedded, start)?,
-            Kind::EmbedClose(_) => self.end(Before::Piece),
-            Kind::ArrayClose | Kind::MapClose | Kind::ParenClose => self.end(Before::Item),
+            Kind::EmbedClose(_) => self.end(LastToken::Piece),
+            Kind::ArrayClose | Kind::MapClose | Kind::ParenClose => self.end(LastToken::Item),
             Kind::Comma => self.separate(),
             Kind::Colon => self.end_key(),
-            Kind::Number { .. } | Kind::Word(_) => self.put(Before::Item, start),
-            Kind::Text(_) | Kind::Bytes { .. } => self.put(Before::Piece, start),
+            Kind::Number { .. } | Kind::Word(_) => self.put(LastToken::Item, start),
+            Kind::Text(_) | Kind::Bytes { .. } => self.put(LastToken::Piece, start),
         }
         self.stop = token.stop;
         Ok(())
     }
 
-    /// What may be the first token of a key stands at `start`.
+    /// Notes that a token begins at `start`, if it is the first of a key.
     fn begin_part(&mut self, start: usize) {
-        let is_first = matches!(self.before, Before::Opening | Before::Separator);
+        let is_first = matches!(self.last, LastToken::Opening | LastToken::Separator);
         if let Some(open) = self.open.last_mut() {
             if is_first && open.is_at_key() {
                 open.key = (start, start);
@@ -196,47 +205,47 @@ impl TextWalk {
             parts: 0,
             key: (place, place),
         })?;
-        self.before = Before::Opening;
+        self.last = LastToken::Opening;
         Ok(())
     }
 
-    fn end(&mut self, before: Before) {
+    fn end(&mut self, last: LastToken) {
         let _ = self.open.pop();
-        self.before = before;
+        self.last = last;
     }
 
-    fn put(&mut self, before: Before, start: usize) {
+    fn put(&mut self, last: LastToken, start: usize) {
         self.begin_part(start);
-        self.before = before;
+        self.last = last;
     }
 
-    /// A comma.
+    /// Goes on past a comma.
     fn separate(&mut self) {
         match self.open.last_mut() {
             Some(open) => open.parts = open.parts.saturating_add(1),
             None => self.items = self.items.saturating_add(1),
         }
-        self.before = Before::Separator;
+        self.last = LastToken::Separator;
     }
 
-    /// A colon, behind a key.
+    /// Goes on past the colon after a key.
     fn end_key(&mut self) {
         let stop = self.stop;
         if let Some(open) = self.open.last_mut() {
             open.key.1 = stop;
             open.parts = open.parts.saturating_add(1);
         }
-        self.before = Before::Separator;
+        self.last = LastToken::Separator;
     }
 
-    /// Where the key begins and ends whose colon was the last token, where no bracket is open but
-    /// that of its map.
+    /// The offsets in bytes at which a key begins and ends whose colon was the last token. `None`: the
+    /// last token was something else, or another bracket is open than that of one map.
     pub(crate) fn key_before_colon(&self) -> Option<(usize, usize)> {
         match self.open.as_slice() {
             [open]
                 if matches!(open.bracket, Bracket::Map)
                     && open.parts % 2 == 1
-                    && matches!(self.before, Before::Separator) => { Some(open.key) }
+                    && matches!(self.last, LastToken::Separator) => { Some(open.key) }
             _ => None,
         }
     }

@@ -1,4 +1,4 @@
--- What the program exits with.
+-- The exit statuses of the program.
 use Rattle.std.specs.Prelude.{ℕ, ◌≡◌}
 use Rattle.cborn_engine.specs.declared.EngineFault.{EngineFault}
 use Rattle.cborn_engine.specs.declared.EngineFault.TheVariants as fault
@@ -11,26 +11,26 @@ use Rattle.cborn_commands.specs.declared.lines.Answer.TheVariants as answer
 use Rattle.cborn_commands.specs.declared.lines.Trouble.{Trouble}
 use Rattle.cborn_commands.specs.declared.lines.Trouble.TheVariants as trouble
 
--- 0: the inputs are the same, or the input is deterministic; 1: they aren't
+-- 0: the inputs hold the same items, or the input is deterministic. 1: they don't, or it isn't.
 abbrev pub status_of_answer : Answer → ℕ
 status_of_answer answer.Same = 0
 status_of_answer answer.Deterministic = 0
 status_of_answer (answer.DifferentAt i) = 1
 status_of_answer (answer.Defective d) = 1
 
--- 4: a read, a write or memory failed; 2: the input is refused
+-- 4: a read or a write failed, or out of memory. 2: the input is refused.
 abbrev pub status_of_fault : EngineFault → ℕ
 status_of_fault fault.ReadFault = 4
 status_of_fault fault.WriteFault = 4
 status_of_fault fault.OutOfMemory = 4
 status_of_fault _ = 2
 
--- the same where exactly one item is wanted; 2 too: the input holds none, or more
+-- the status of a fault where exactly one item is wanted. 2: the input is refused, or holds no item or more than one.
 abbrev pub status_of_one : OneFault → ℕ
 status_of_one (one.Engine why) = status_of_fault why
 status_of_one _ = 2
 
--- the same of what keeps a task from being done; 4 too: a file can't be opened
+-- the status of what keeps a task from being done. 4: a file can't be opened, too.
 abbrev pub status_of_trouble : Trouble → ℕ
 status_of_trouble (trouble.Engine why) = status_of_fault why
 status_of_trouble (trouble.Compare (compared.First why)) = status_of_fault why

@@ -1,9 +1,10 @@
-//! The lines behind a refusal, a defect or a difference, which `--explain` asks for.
+//! What `--explain` adds to a refusal, a defect or a difference.
 
 use cborn_edn::{EdnFault, ShowFault};
 use cborn_engine::{EngineFault, Kind, OneFault, normalise_slice};
 use cborn_explain::{
-    BytesReason, CountReason, TextReason, explain_bytes, explain_difference, explain_text, hint_of,
+    BytesReason, CountReason, NotationText, TextReason, explain_bytes, explain_difference,
+    explain_text, hint_of,
 };
 use cborn_judge::{Defect, Invalid, InvalidReason};
 use cborn_lex::{LexFault, Profile};
@@ -11,76 +12,86 @@ use cborn_model::{KeyOrder, Limit};
 use cborn_wire::WireFault;
 use std::alloc::{AllocError, Global};
 
-/// Adds to `lines` why an input is refused, of which this was read. Nothing, where the fault isn't
-/// of its content.
+/// The bytes of an input, or the refused growth for which some are missing.
+pub type Bytes<'a> = Result<&'a [u8], AllocError>;
+
+/// Lines that say why an input is refused. Empty where the fault isn't in its content.
+///
+/// # Errors
+/// `AllocError` where memory is refused, or was for the bytes of the input.
 pub fn explain_fault(
     alloc: Global,
     limit: Limit,
     kind: Kind,
-    input: Result<&[u8], AllocError>,
+    input: Bytes<'_>,
     fault: OneFault,
-    lines: &mut String,
-) {
-    if let Some(reason) = reason_of(kind, fault) {
-        put(explanation(alloc, limit, input, reason), lines);
+) -> Result<String, AllocError> {
+    match reason_of(kind, fault) {
+        Some(Reason::Bytes(reason, place)) => explain_bytes(alloc, limit, input?, place, reason),
+        Some(Reason::Text(profile, reason, place)) => {
+            let text = input?;
+            let input = NotationText { profile, text };
+            explain_text(alloc, limit, input, place, reason)
+        }
+        None => Ok(String::new(alloc)),
     }
 }
 
-/// Adds to `lines` why an input isn't deterministic.
+/// Lines that say why an input isn't deterministic.
+///
+/// # Errors
+/// `AllocError` where memory is refused, or was for the bytes of the input.
 pub fn explain_defect(
     alloc: Global,
     limit: Limit,
-    input: Result<&[u8], AllocError>,
+    input: Bytes<'_>,
     defect: Defect,
-    lines: &mut String,
-) {
-    let reason = Reason::Bytes(BytesReason::Defect(defect.reason), defect.place);
-    put(explanation(alloc, limit, input, reason), lines);
+) -> Result<String, AllocError> {
+    let reason = BytesReason::Defect(defect.reason);
+    explain_bytes(alloc, limit, input?, defect.place, reason)
 }
 
-/// Adds to `lines` where two inputs differ. Nothing, where one is refused, as neither is that was
-/// compared.
+/// Lines that say where two inputs differ that were compared, with the keys of maps in the order `O`.
+///
+/// # Errors
+/// `AllocError` where memory is refused, or was for the bytes of an input.
 pub fn explain_index<O: KeyOrder>(
     alloc: Global,
     limit: Limit,
     kinds: (Kind, Kind),
-    inputs: (Result<&[u8], AllocError>, Result<&[u8], AllocError>),
-    lines: &mut String,
-) {
+    inputs: (Bytes<'_>, Bytes<'_>),
+) -> Result<String, AllocError> {
     match difference::<O>(alloc, limit, kinds, inputs) {
-        Ok(text) => put(Ok(text), lines),
-        Err(EngineFault::OutOfMemory) => put_no_memory(lines),
-        Err(_) => {}
+        Ok(text) => Ok(text),
+        Err(EngineFault::OutOfMemory) => Err(AllocError),
+        // no input is refused that was compared
+        Err(_) => Ok(String::new(alloc)),
     }
 }
 
-/// Adds to `lines` what an input looks like that was read as bytes, where it looks like a text.
-pub fn explain_kind(
-    alloc: Global,
-    kind: Kind,
-    input: Result<&[u8], AllocError>,
-    lines: &mut String,
-) {
-    if kind == Kind::Wire {
-        put(hint(alloc, input), lines);
+/// A line that says what an input looks like that was read as bytes. Empty where it doesn't look like
+/// a text, or was read as one.
+///
+/// # Errors
+/// `AllocError` where memory is refused, or was for the bytes of the input.
+pub fn explain_kind(alloc: Global, kind: Kind, input: Bytes<'_>) -> Result<String, AllocError> {
+    if kind != Kind::Wire {
+        return Ok(String::new(alloc));
     }
-}
-
-fn hint(alloc: Global, input: Result<&[u8], AllocError>) -> Result<String, AllocError> {
     match hint_of(input?) {
         Some(hint) => format!(in alloc; "  hint  {hint}\n"),
         None => Ok(String::new(alloc)),
     }
 }
 
-/// What an input is refused for, and where.
+/// Why an input is refused, and at which offset in bytes.
 #[derive(Clone, Copy)]
 enum Reason {
     Bytes(BytesReason, u64),
     Text(Profile, TextReason, u64),
 }
 
-/// What a fault of an input tells, where it is of its content.
+/// The reason and the offset of a fault. `None`: it isn't in the content of the input.
 fn reason_of(kind: Kind, fault: OneFault) -> Option<Reason> {
     match fault {
         OneFault::Engine(fault) => reason_of_content(kind, fault),
@@ -128,22 +139,7 @@ fn of_text(kind: Kind, reason: TextReason, place: u64) -> Reason {
     Reason::Text(profile, reason, place)
 }
 
-fn explanation(
-    alloc: Global,
-    limit: Limit,
-    input: Result<&[u8], AllocError>,
-    reason: Reason,
-) -> Result<String, AllocError> {
-    let input = input?;
-    match reason {
-        Reason::Bytes(reason, place) => explain_bytes(alloc, limit, input, place, reason),
-        Reason::Text(profile, reason, place) => {
-            explain_text(alloc, limit, profile, input, place, reason)
-        }
-    }
-}
-
-/// Where the items of two inputs differ.
+/// Lines that say where the items of two inputs differ.
 ///
 /// # Errors
 /// `OutOfMemory`, and the fault of an input that is refused.
@@ -151,31 +147,9 @@ fn difference<O: KeyOrder>(
     alloc: Global,
     limit: Limit,
     kinds: (Kind, Kind),
-    inputs: (Result<&[u8], AllocError>, Result<&[u8], AllocError>),
+    inputs: (Bytes<'_>, Bytes<'_>),
 ) -> Result<String, EngineFault> {
     let ours = normalise_slice::<O>(alloc, limit, kinds.0, Kind::Wire, inputs.0?)?;
     let theirs = normalise_slice::<O>(alloc, limit, kinds.1, Kind::Wire, inputs.1?)?;
     Ok(explain_difference::<O>(alloc, limit, &ours, &theirs)?)
-}
-
-/// The line of an explanation for which memory was refused.
-const OUT_OF_MEMORY: &str = "  out of memory\n";
-
-/// Adds an explanation to `lines`, or that there is no memory for it.
-fn put(explanation: Result<String, AllocError>, lines: &mut String) {
-    let is_put = match explanation {
-        Ok(text) => lines.push_str(text.as_str()).is_ok(),
-        Err(_) => false,
-    };
-    if !is_put {
-        put_no_memory(lines);
-    }
-}
-
-/// Adds to `lines` that there is no memory for an explanation. That is said once: an input that
-/// wasn't kept has neither an explanation nor a hint.
-fn put_no_memory(lines: &mut String) {
-    if !lines.as_str().ends_with(OUT_OF_MEMORY) {
-        let _ = lines.push_str(OUT_OF_MEMORY);
-    }
 }

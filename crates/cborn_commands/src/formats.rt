@@ -1,9 +1,9 @@
-//! The formats of the command line, as the engine has them.
+//! The formats of the command line, as the engine names them.
 
 use cborn_engine::Kind;
 use cborn_options::Format;
 
-/// What the engine calls a format.
+/// The engine's name of a format.
 pub fn kind_of(format: Format) -> Kind {
     match format {
         Format::Wire => Kind::Wire,

@@ -1,4 +1,4 @@
-//! Files that the program reads.
+//! The files that the program reads.
 ghost use Rattle.std.specs.Prelude.{◌≡◌, ◌≤◌, ◌+◌, None};
 ghost use Rattle.std.specs.Io.{ReadsAtMost};
 ghost use Rattle.std.specs.Io.KnownBytes.{ReadConsumes};
@@ -11,8 +11,8 @@ use std::io::{ErrorKind, Read};
 use std::rt::Files;
 use std::{fs, io};
 
-/// A file that is opened at its first read. An opening that fails counts as a failed read, and each
-/// later read fails as well.
+/// A file that is opened at its first read. Where it can't be opened, that read fails, and so does each
+/// later one.
 #[derive(Drop)]
 pub struct LateFile<'r, 'p, F: Files> {
     rt: &'r F,
@@ -23,7 +23,7 @@ pub struct LateFile<'r, 'p, F: Files> {
 }
 
 impl<'r, 'p, F: Files> LateFile<'r, 'p, F> {
-    /// The file at `path`, not yet opened.
+    /// The file at `path`, which isn't opened yet.
     pub fn new(rt: &'r F, path: &'p str) -> Self {
         LateFile {
             rt,
@@ -39,6 +39,7 @@ impl<'r, 'p, F: Files> LateFile<'r, 'p, F> {
         self.is_missing
     }
 
+    /// The open file, which is taken out of here.
     fn opened(&mut self) -> io::Result<F::File>
         ensures { self.new.failed ≡ self.old.failed }
     {
@@ -79,7 +80,7 @@ impl<F: Files> Source for LateFile<'_, '_, F> {
     }
 }
 
-/// A source of which something is noted as it is read.
+/// A source, with notes of what was read from it.
 #[derive(Drop)]
 pub struct Noted<S> {
     pub inner: S,
@@ -111,13 +112,13 @@ impl<S: Source> Source for Noted<S> {
     }
 }
 
-/// What is noted of an input, for what is said of it on standard error.
+/// What is kept of an input, so that standard error can say more of it.
 #[derive(Drop)]
 pub enum Notes {
     Nothing,
-    /// What it looks like.
+    /// What its bytes look like.
     Look(Look),
-    /// All of it.
+    /// All of its bytes.
     Whole(Kept),
 }
 
@@ -131,16 +132,16 @@ impl Notes {
     }
 }
 
-/// The bytes of an input.
+/// The bytes of an input that were read.
 #[derive(Drop)]
 pub struct Kept {
     bytes: Vec<u8>,
-    /// The refused growth for which some weren't kept.
+    /// The refused growth for which some bytes are missing.
     lost: Option<AllocError>,
 }
 
 impl Kept {
-    /// None yet.
+    /// No bytes yet.
     pub fn new(alloc: Global) -> Self {
         Kept {
             bytes: Vec::new(alloc),
@@ -154,10 +155,10 @@ impl Kept {
         }
     }
 
-    /// What was read.
+    /// All bytes that were read.
     ///
     /// # Errors
-    /// Where memory for some of it was refused.
+    /// `AllocError` where memory for some of them was refused.
     pub fn bytes(&self) -> Result<&[u8], AllocError> {
         match self.lost {
             None => Ok(self.bytes.as_slice()),

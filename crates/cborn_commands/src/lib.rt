@@ -1,14 +1,15 @@
-//! What the program does, of its words, its readers and its writers.
+//! What the program does with its words, its readers and its writers.
 //!
-//! [`run`] is all of it: it has the words read (`cborn_options`), does what they ask, says on standard
-//! error what there is to say, and gives the status. The program `cborn` hands it what the system
-//! gives, or tells by [`tell_words`] why that gives no words.
+//! [`run`] is all of it. It has the words read (`cborn_options`), does what they ask for, writes remarks
+//! to standard error, and answers the exit status. The program `cborn` calls it with what the system
+//! gives, or [`tell_words`] where the system gives no words.
 //!
-//! `tasks` has the commands, over the calls of `cborn_engine`, and `inputs` the files that they read.
-//! `lines` has the lines that are printed, `statuses` what the program exits with. `remarks` is what
-//! else is said on standard error, `explanations` the part of it that `--explain` asks for, by
-//! `cborn_explain`. `usage` tells why there is no task. `specs/Statuses.antt` says which status goes
-//! with what.
+//! - `systems`: what a run is given.
+//! - `tasks`: the commands, by the calls of `cborn_engine`.
+//! - `inputs`: the files that they read.
+//! - `lines`: the lines that are printed; `usage` those on a wrong command line.
+//! - `remarks`: what else standard error gets. `explanations` has the part that `--explain` asks for.
+//! - `statuses`: the exit statuses. `specs/Statuses.antt` says which one goes with what.
 #![tactic(auto)]
 
 mod explanations;
@@ -18,9 +19,11 @@ mod lines;
 mod remarks;
 mod runs;
 mod statuses;
+mod systems;
 mod tasks;
 mod usage;
 
 pub use remarks::Audience;
 pub use runs::run;
+pub use systems::{Standard, System};
 pub use usage::tell_words;

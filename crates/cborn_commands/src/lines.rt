@@ -12,7 +12,7 @@ use std::fmt::{Display, Formatter};
 use std::io::Write;
 use std::{fmt, io};
 
-/// Why a task was not done.
+/// Why a task wasn't done.
 #[derive(Clone, Copy)]
 pub enum Trouble<'a> {
     /// The file of this name can't be opened.
@@ -21,13 +21,13 @@ pub enum Trouble<'a> {
     CannotReadFirst(&'a str),
     /// The second of two files can't be opened.
     CannotReadSecond(&'a str),
-    /// The engine gave no answer.
+    /// The engine reported a fault.
     Engine(EngineFault),
-    /// The engine gave no answer for one of two inputs.
+    /// The engine reported a fault of one of two inputs.
     Compare(CompareFault),
-    /// It gave none for an input that has to hold exactly one item.
+    /// The engine reported a fault of an input that has to hold exactly one item.
     One(OneFault),
-    /// It gave none for one of two such inputs.
+    /// The engine reported a fault of one of two such inputs.
     CompareOne(CompareOneFault),
 }
 
@@ -47,16 +47,16 @@ impl From<OneFault> for Trouble<'_> {
     }
 }
 
-/// What a command tells in a line on standard output.
+/// What a command prints in a line on standard output.
 #[derive(Clone, Copy)]
 pub enum Answer {
     /// The inputs hold the same items.
     Same,
-    /// They differ at the item of this index, from 0, or only one input has it.
+    /// They differ first at the item with this index, from 0, or only one of them has it.
     DifferentAt(u64),
-    /// The input is its own deterministic encoding.
+    /// The input is deterministic.
     Deterministic,
-    /// It isn't, since it has this defect.
+    /// The input isn't deterministic, and this is its first defect.
     Defective(Defect),
 }
 
@@ -71,10 +71,10 @@ impl Display for Answer {
     }
 }
 
-/// Prints an answer on a line, flushes, and gives the status that goes with it.
+/// Prints an answer on a line and flushes it. Answers the exit status that goes with it: 0 or 1.
 ///
 /// # Errors
-/// Where the line can't be written.
+/// `Trouble::Engine(EngineFault::WriteFault)` where the line can't be written or flushed.
 pub fn tell_answer<'a, W: Write>(out: &mut Counted<W>, answer: Answer) -> Result<u8, Trouble<'a>>
     ensures status { IfOk result (λ status. status ≡ status_of_answer answer) }
     ensures flushed { OnOk result (out.new.unflushed ≡ 0) }
@@ -95,10 +95,10 @@ fn status_of_answer(answer: Answer) -> u8
     }
 }
 
-/// Prints something and an end after it, and flushes.
+/// Prints `text` and then `end`, and flushes.
 ///
 /// # Errors
-/// Where it can't be written.
+/// The error of the write or the flush that fails.
 pub fn print<W: Write, T: Display>(out: &mut Counted<W>, text: &T, end: &str) -> io::Result<()>
     ensures flushed { OnOk result (out.new.unflushed ≡ 0) }
 {
@@ -106,7 +106,7 @@ pub fn print<W: Write, T: Display>(out: &mut Counted<W>, text: &T, end: &str) ->
     out.flush()
 }
 
-/// Prints a trouble on a line, and gives its status. That the line can't be printed is ignored.
+/// Prints a trouble on a line, and answers its exit status: 2 or more. A write that fails is ignored.
 pub fn tell_trouble<E: Write>(err: &mut E, trouble: Trouble<'_>) -> u8
     ensures status { result ≡ status_of_trouble trouble.entry }
     ensures undone { 2 ≤ result }
@@ -114,8 +114,8 @@ pub fn tell_trouble<E: Write>(err: &mut E, trouble: Trouble<'_>) -> u8
     explain_trouble(err, trouble, "")
 }
 
-/// Prints a trouble on a line and further lines after it, and gives its status. That they can't be
-/// printed is ignored.
+/// Prints a trouble on a line and `lines` after it, and answers its exit status: 2 or more. A write
+/// that fails is ignored.
 pub fn explain_trouble<E: Write>(err: &mut E, trouble: Trouble<'_>, lines: &str) -> u8
     ensures status { result ≡ status_of_trouble trouble.entry }
     ensures undone { 2 ≤ result }
@@ -126,7 +126,7 @@ pub fn explain_trouble<E: Write>(err: &mut E, trouble: Trouble<'_>, lines: &str)
     status_of_trouble(trouble)
 }
 
-/// Prints lines, if there are any. That they can't be printed is ignored.
+/// Prints lines, if there are any. A write that fails is ignored.
 pub fn print_lines<E: Write>(err: &mut E, lines: &str) {
     if !lines.is_empty() {
         let _ = write!(err, "{lines}");
@@ -145,7 +145,8 @@ fn print_trouble<E: Write>(err: &mut E, trouble: Trouble<'_>) -> io::Result<()> 
     }
 }
 
-/// Prints a line that ends with the name of a file, which may hold any character.
+/// Prints a line that ends with the name of a file. The name is escaped, since it may hold any
+/// character.
 fn print_after<E: Write>(err: &mut E, start: &str, name: &str) -> io::Result<()> {
     let name = Escaped { text: name };
     writeln!(err, "{start}{name}")
@@ -176,7 +177,7 @@ fn status_of_fault(fault: EngineFault) -> u8
     }
 }
 
-/// The status of a fault of an input, which may have to hold exactly one item.
+/// The exit status of a fault: 2 where an input is refused, else 4.
 pub fn status_of_one(fault: OneFault) -> u8
     ensures status { result ≡ status_of_one fault }
     ensures undone { 2 ≤ result }

@@ -1,9 +1,9 @@
-//! What the program exits with.
+//! The exit statuses of the program.
 
-/// Done, or the inputs are the same, or the input is deterministic.
+/// Done, the inputs hold the same items, or the input is deterministic.
 pub const DONE: u8 = 0;
 
-/// The inputs differ, or the input isn't deterministic.
+/// The inputs hold different items, or the input isn't deterministic.
 pub const DIFFERENT: u8 = 1;
 
 /// An input is refused.
@@ -12,5 +12,5 @@ pub const REFUSED: u8 = 2;
 /// The command line is wrong.
 pub const USAGE: u8 = 3;
 
-/// A file can't be opened, a read or a write failed, or memory was refused.
+/// A file can't be opened, a read or a write failed, or out of memory.
 pub const FAILED: u8 = 4;

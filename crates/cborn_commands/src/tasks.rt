@@ -7,33 +7,65 @@ use crate::inputs::{LateFile, Noted};
 use crate::lines::{Answer, Trouble, tell_answer};
 use crate::remarks::Remarks;
 use crate::statuses::DONE;
+use crate::systems::System;
 use cborn_engine::{
     CompareFault, CompareOneFault, Counted, Kind, Source, check, check_one, compare, compare_one,
     normalise, normalise_one, show_all, show_one,
 };
 use cborn_model::{Bytewise, KeyOrder, LengthFirst, Limit};
-use cborn_options::{Action, Items, Order, Purpose, Task};
+use cborn_options::{Action, Format, Items, Order, Purpose, Task};
 use std::alloc::Global;
 use std::fs;
 use std::io::{Read, Write};
 use std::rt::Files;
 
-/// What an input has to be.
+/// With what memory an input is read, and what it has to be.
 #[derive(Clone, Copy)]
 struct Wanted {
+    alloc: Global,
     limit: Limit,
     items: Items,
 }
 
-/// Does a task, flushes what it wrote, and gives its status: `DONE` or `DIFFERENT`. Puts into
-/// `remarks` what is said on standard error then, or behind the line of a trouble.
+/// The name of a file, and the format that it is read as.
+#[derive(Clone, Copy)]
+struct Named<'a> {
+    name: &'a str,
+    kind: Kind,
+}
+
+impl<'a> Named<'a> {
+    fn new(name: &'a str, format: Format) -> Self {
+        let kind = kind_of(format);
+        Named { name, kind }
+    }
+}
+
+/// Does a task, flushes what it wrote, and answers the exit status: `DONE` or `DIFFERENT`. Adds to
+/// `remarks` what standard error gets then, or gets after the line of a trouble.
 ///
 /// # Errors
-/// What keeps the task from being done, in the words that are told of it. Where that is a refusal,
-/// the writer is as it was.
+/// Why the task wasn't done. Where an input is refused, nothing is written to `out`.
 pub fn perform<'a, F: Files, I: Read + Drop, W: Write>(
-    rt: &F,
-    alloc: Global,
+    system: &System<'_, F>,
+    task: &Task<'a>,
+    input: I,
+    out: &mut Counted<W>,
+    remarks: &mut Remarks,
+) -> Result<u8, Trouble<'a>>
+    ensures status { IfOk result (λ status. status ≤ 1) }
+    ensures untouched { IfErr result (λ why. IsRefusal why → out.new ≡ out.old) }
+    ensures flushed { OnOk result (out.new.unflushed ≡ 0) }
+{
+    match task.order {
+        Order::Bytewise => act::<Bytewise, F, I, W>(system, task, input, out, remarks),
+        Order::LengthFirst => act::<LengthFirst, F, I, W>(system, task, input, out, remarks),
+    }
+}
+
+/// Does a task with the keys of maps in the order `O`. Answers what `perform` does.
+fn act<'a, O: KeyOrder, F: Files, I: Read + Drop, W: Write>(
+    system: &System<'_, F>,
     task: &Task<'a>,
     input: I,
     out: &mut Counted<W>,
@@ -45,44 +77,27 @@ pub fn perform<'a, F: Files, I: Read + Drop, W: Write>(
 {
     let Task {
         action,
-        order,
         limit,
         items,
         ..
     } = *task;
-    let wanted = Wanted { limit, items };
-    match order {
-        Order::Bytewise => act::<Bytewise, F, I, W>(rt, alloc, wanted, action, input, out, remarks),
-        Order::LengthFirst => {
-            act::<LengthFirst, F, I, W>(rt, alloc, wanted, action, input, out, remarks)
-        }
-    }
-}
-
-/// The same, the keys of maps in the order `O`.
-fn act<'a, O: KeyOrder, F: Files, I: Read + Drop, W: Write>(
-    rt: &F,
-    alloc: Global,
-    wanted: Wanted,
-    action: Action<'a>,
-    input: I,
-    out: &mut Counted<W>,
-    remarks: &mut Remarks,
-) -> Result<u8, Trouble<'a>>
-    ensures status { IfOk result (λ status. status ≤ 1) }
-    ensures untouched { IfErr result (λ why. IsRefusal why → out.new ≡ out.old) }
-    ensures flushed { OnOk result (out.new.unflushed ≡ 0) }
-{
+    let alloc = system.alloc;
+    let wanted = Wanted {
+        alloc,
+        limit,
+        items,
+    };
+    let file_system = system.files;
     match action {
         Action::Read {
             file: None,
             purpose,
-        } => read_for::<O, I, W>(alloc, wanted, purpose, input, out, remarks),
+        } => read_for::<O, I, W>(wanted, purpose, input, out, remarks),
         Action::Read {
             file: Some(name),
             purpose,
-        } => match fs::open(rt, name) {
-            Ok(file) => read_for::<O, F::File, W>(alloc, wanted, purpose, file, out, remarks),
+        } => match fs::open(file_system, name) {
+            Ok(file) => read_for::<O, F::File, W>(wanted, purpose, file, out, remarks),
             Err(_) => Err(Trouble::CannotRead(name)),
         },
         Action::Compare {
@@ -91,14 +106,13 @@ fn act<'a, O: KeyOrder, F: Files, I: Read + Drop, W: Write>(
             from_a,
             from_b,
         } => {
-            let files = (first, second);
-            let kinds = (kind_of(from_a), kind_of(from_b));
-            compare_files::<O, F, W>(rt, alloc, wanted, files, kinds, out, remarks)
+            let files = (Named::new(first, from_a), Named::new(second, from_b));
+            compare_files::<O, F, W>(system, wanted, files, out, remarks)
         }
     }
 }
 
-/// What is told of two inputs.
+/// The answer on two inputs, by the index of the first difference.
 fn difference(index: Option<u64>) -> Answer {
     match index {
         None => Answer::Same,
@@ -106,9 +120,8 @@ fn difference(index: Option<u64>) -> Answer {
     }
 }
 
-/// Reads one input, and writes what is asked of it.
+/// Reads one input, and writes what is asked for.
 fn read_for<'a, O: KeyOrder, I: Read + Drop, W: Write>(
-    alloc: Global,
     wanted: Wanted,
     purpose: Purpose,
     input: I,
@@ -119,11 +132,15 @@ fn read_for<'a, O: KeyOrder, I: Read + Drop, W: Write>(
     ensures untouched { IfErr result (λ why. IsRefusal why → out.new ≡ out.old) }
     ensures flushed { OnOk result (out.new.unflushed ≡ 0) }
 {
-    let Wanted { limit, items } = wanted;
+    let Wanted {
+        alloc,
+        limit,
+        items,
+    } = wanted;
     let kind = kind_of(purpose.from());
     let mut reader = Noted {
         inner: Counted::new(input),
-        notes: remarks.notes(alloc, kind),
+        notes: remarks.notes(kind),
     };
     let answer = match items {
         Items::Any => answer_for::<O, _, W>(alloc, limit, purpose, &mut reader, out),
@@ -132,7 +149,7 @@ fn read_for<'a, O: KeyOrder, I: Read + Drop, W: Write>(
     let answer = match answer {
         Ok(answer) => answer,
         Err(trouble) => {
-            remarks.on_trouble(alloc, limit, kind, &reader.notes, trouble);
+            remarks.on_trouble(kind, &reader.notes, trouble);
             return Err(trouble);
         }
     };
@@ -140,11 +157,11 @@ fn read_for<'a, O: KeyOrder, I: Read + Drop, W: Write>(
         None => DONE,
         Some(answer) => tell_answer(out, answer)?,
     };
-    remarks.on_answer(alloc, limit, kind, &reader.notes, answer);
+    remarks.on_answer(kind, &reader.notes, answer);
     Ok(status)
 }
 
-/// Reads one input, and writes what is asked of it, or gives the answer to be told.
+/// Reads one input, and writes what is asked for, or answers what is to be printed.
 #[tactic(auto, using(crate::proofs::Refusals::refused_is_unwritten))]
 fn answer_for<'a, O: KeyOrder, R: Source, W: Write>(
     alloc: Global,
@@ -173,8 +190,8 @@ fn answer_for<'a, O: KeyOrder, R: Source, W: Write>(
     }
 }
 
-/// Reads one input, which has to hold exactly one item, and writes what is asked of it, or gives the
-/// answer to be told.
+/// Reads one input, which has to hold exactly one item, and writes what is asked for, or answers what
+/// is to be printed.
 #[tactic(auto, using(crate::proofs::Refusals::refused_one_is_unwritten))]
 fn answer_for_one<'a, O: KeyOrder, R: Source, W: Write>(
     alloc: Global,
@@ -203,13 +220,11 @@ fn answer_for_one<'a, O: KeyOrder, R: Source, W: Write>(
     }
 }
 
-/// Compares two files. The second is opened once the first was read and judged.
+/// Compares two files. The second is opened only once the first has been read and isn't refused.
 fn compare_files<'a, O: KeyOrder, F: Files, W: Write>(
-    rt: &F,
-    alloc: Global,
+    system: &System<'_, F>,
     wanted: Wanted,
-    files: (&'a str, &'a str),
-    kinds: (Kind, Kind),
+    files: (Named<'a>, Named<'a>),
     out: &mut Counted<W>,
     remarks: &mut Remarks,
 ) -> Result<u8, Trouble<'a>>
@@ -217,42 +232,47 @@ fn compare_files<'a, O: KeyOrder, F: Files, W: Write>(
     ensures untouched { IfErr result (λ why. IsRefusal why → out.new ≡ out.old) }
     ensures flushed { OnOk result (out.new.unflushed ≡ 0) }
 {
-    let Wanted { limit, items } = wanted;
-    let file = match fs::open(rt, files.0) {
+    let (first, second) = files;
+    let kinds = (first.kind, second.kind);
+    let file_system = system.files;
+    let file = match fs::open(file_system, first.name) {
         Ok(file) => file,
-        Err(_) => return Err(Trouble::CannotReadFirst(files.0)),
+        Err(_) => return Err(Trouble::CannotReadFirst(first.name)),
     };
     let mut reader = Noted {
         inner: Counted::new(file),
-        notes: remarks.notes(alloc, kinds.0),
+        notes: remarks.notes(first.kind),
     };
     let mut late = Noted {
-        inner: LateFile::new(rt, files.1),
-        notes: remarks.notes(alloc, kinds.1),
+        inner: LateFile::new(file_system, second.name),
+        notes: remarks.notes(second.kind),
     };
-    let compared = compare_readers::<O, _, _>(alloc, limit, items, kinds, &mut reader, &mut late);
-    let missing = late.inner.is_missing().then_some(files.1);
+    let compared = compare_readers::<O, _, _>(wanted, kinds, &mut reader, &mut late);
+    let missing = late.inner.is_missing().then_some(second.name);
     let told = tell_comparison(out, compared, missing);
-    remarks.on_comparison::<O>(alloc, limit, kinds, (&reader.notes, &late.notes), told);
+    remarks.on_comparison::<O>(kinds, (&reader.notes, &late.notes), told);
     told
 }
 
-/// Why two inputs weren't compared.
+/// Why two inputs weren't compared: they hold any number of items, or have to hold one.
 #[derive(Clone, Copy)]
 enum Uncompared {
     Items(CompareFault),
     One(CompareOneFault),
 }
 
-/// The index of the first difference of two inputs, if there is one. Of two items it is 0.
+/// The index, from 0, of the first item at which two inputs differ. `None`: they hold the same items.
 fn compare_readers<O: KeyOrder, R: Source, Q: Source>(
-    alloc: Global,
-    limit: Limit,
-    items: Items,
+    wanted: Wanted,
     kinds: (Kind, Kind),
     first: &mut R,
     second: &mut Q,
 ) -> Result<Option<u64>, Uncompared> {
+    let Wanted {
+        alloc,
+        limit,
+        items,
+    } = wanted;
     match items {
         Items::Any => match compare::<O, _, _>(alloc, limit, kinds.0, first, kinds.1, second) {
             Ok(index) => Ok(index),
@@ -266,8 +286,8 @@ fn compare_readers<O: KeyOrder, R: Source, Q: Source>(
     }
 }
 
-/// Tells how a comparison came out. `missing` is the name of the second file, where it can't be
-/// opened.
+/// Prints the answer of a comparison, or answers why there is none. `missing` is the name of the second
+/// file where it couldn't be opened.
 fn tell_comparison<'a, W: Write>(
     out: &mut Counted<W>,
     compared: Result<Option<u64>, Uncompared>,

@@ -1,4 +1,4 @@
-//! What is told where the command line gives no task.
+//! What is printed where the command line gives no task.
 ghost use Rattle.std.specs.Prelude.{◌≡◌, ◌≤◌, ◌⊎◌, IfOk, IfErr};
 ghost use Rattle.cborn_commands.specs.Statuses.{status_of_trouble};
 
@@ -11,7 +11,8 @@ use std::alloc::Global;
 use std::io;
 use std::io::Write;
 
-/// Prints why there is no task, and gives the status.
+/// Prints why the command line gives no task: help or the version to `out`, a mistake to `err`. Answers
+/// the exit status.
 pub fn tell_usage<W: Write, E: Write + Drop>(
     alloc: Global,
     why: &Error,
@@ -30,7 +31,7 @@ pub fn tell_usage<W: Write, E: Write + Drop>(
     }
 }
 
-/// Prints why there is no task: a text on the command line, or what the program says of itself.
+/// Prints a mistake to `err`, or help or the version to `out`. Answers the exit status.
 fn answer_usage<'a, W: Write, E: Write>(
     alloc: Global,
     why: &Error,
@@ -59,8 +60,8 @@ fn answer_usage<'a, W: Write, E: Write>(
     }
 }
 
-/// Prints why the command line can't be taken: a word of it isn't UTF-8, or else the trouble with
-/// it in its own words, as that memory was refused.
+/// Prints why the words of the command line can't be had. Answers the exit status: 3 where a word isn't
+/// UTF-8, else 4. A write that fails is ignored.
 pub fn tell_words<E: Write>(err: &mut E, why: io::Error) -> u8
     ensures { (result ≡ USAGE) ⊎ (result ≡ FAILED) }
 {

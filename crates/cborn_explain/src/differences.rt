@@ -1,4 +1,4 @@
-//! Where two sequences of items differ, and what stands there.
+//! The lines on where two sequences of items differ, and what stands there.
 
 ghost use Rattle.std.specs.Prelude.{◌≡◌, [], IfOk};
 ghost use Rattle.std.specs.String.{string_bytes};
@@ -6,20 +6,20 @@ ghost use Rattle.std.specs.String.{string_bytes};
 use crate::notes::push_path;
 use cborn_causes::{push_hex, push_item, slice_of};
 use cborn_model::{KeyOrder, Limit, Major};
-use cborn_paths::{behind, walk_to_difference, whole_head};
+use cborn_paths::{end_of_item, walk_to_difference, whole_head};
 use cborn_wire::Argument;
 use std::alloc::{AllocError, Global};
 use std::cmp::Ordering;
 
-/// How many bytes are written of what two sides don't share that are written the same.
+/// How many bytes are written of each of two items whose notations are cut to the same text.
 const REST: usize = 8;
 
-/// Lines that say where two deterministic encodings first differ, the keys of maps in the order
-/// `O`: the path to that place, which is the same in both, and what stands there in each, or that
-/// only one has it. Nothing where they are equal.
+/// Lines that say where two deterministic encodings first differ, with the keys of maps in the order
+/// `O`: the path to that place, which is the same in both, and what each input has there. Empty where
+/// they are equal.
 ///
 /// # Errors
-/// Where memory was refused.
+/// `AllocError` where memory is refused.
 pub fn explain_difference<O: KeyOrder>(
     alloc: Global,
     limit: Limit,
@@ -65,13 +65,13 @@ pub fn explain_difference<O: KeyOrder>(
     Ok(out)
 }
 
-/// The item that begins at an offset; no bytes where there is none.
+/// The bytes of the item that begins at an offset. Empty where there is none.
 fn part_at(alloc: Global, bytes: &[u8], at: usize) -> Result<&[u8], AllocError> {
-    let end = behind(alloc, bytes, at)?;
+    let end = end_of_item(alloc, bytes, at)?;
     Ok(slice_of(bytes, at, end))
 }
 
-/// How many bytes two items begin with that are the same.
+/// How many bytes two items have in common at their start.
 fn common_len(ours: &[u8], theirs: &[u8]) -> usize {
     let mut len: usize = 0;
     for (a, b) in ours.iter().zip(theirs.iter()) {
@@ -83,9 +83,9 @@ fn common_len(ours: &[u8], theirs: &[u8]) -> usize {
     len
 }
 
-/// Writes what stands on one side, in its notation. `order`: where it is a key, how it compares
-/// with the key on the other side; the lesser key is one that the other map lacks. `shared`: where
-/// both sides are written the same, how many bytes they have in common.
+/// Writes the item of one side, whose text is `notation`. `order` is how a key compares with the key
+/// of the other side: the lesser key is missing in the other map. `shared` is how many bytes both items
+/// have in common, where their notations are the same text.
 fn push_side(
     out: &mut String,
     item: &[u8],
@@ -120,8 +120,7 @@ fn push_side(
     }
 }
 
-/// Of two maps that differ in their number of pairs, writes the first key that one of them has
-/// alone.
+/// Writes the first key that only one of two maps has. Of anything else it writes nothing.
 fn push_lone_key<O: KeyOrder>(
     alloc: Global,
     limit: Limit,
@@ -143,8 +142,8 @@ fn push_lone_key<O: KeyOrder>(
                 Ordering::Less => ("first", our_key),
                 Ordering::Greater => ("second", their_key),
                 Ordering::Equal => {
-                    left = behind_pair(alloc, left, our_key.len())?;
-                    right = behind_pair(alloc, right, their_key.len())?;
+                    left = after_pair(alloc, left, our_key.len())?;
+                    right = after_pair(alloc, right, their_key.len())?;
                     continue;
                 }
             },
@@ -157,7 +156,7 @@ fn push_lone_key<O: KeyOrder>(
     Ok(())
 }
 
-/// The pairs of a map of definite length.
+/// What follows the head of a map. `None`: the item is no map.
 fn pairs_of(item: &[u8]) -> Option<&[u8]> {
     let (head, len) = whole_head(item)?;
     if head.major_type() == Major::Map {
@@ -167,8 +166,8 @@ fn pairs_of(item: &[u8]) -> Option<&[u8]> {
     }
 }
 
-/// What follows a key of this length, and its value.
-fn behind_pair(alloc: Global, pairs: &[u8], key: usize) -> Result<&[u8], AllocError> {
-    let end = behind(alloc, pairs, key)?;
+/// What follows the first pair. `key` is the length of its key in bytes.
+fn after_pair(alloc: Global, pairs: &[u8], key: usize) -> Result<&[u8], AllocError> {
+    let end = end_of_item(alloc, pairs, key)?;
     Ok(pairs.get(end..).unwrap_or(&[]))
 }

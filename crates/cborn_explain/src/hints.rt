@@ -1,4 +1,4 @@
-//! Bytes that look like something else.
+//! Bytes that look like a text: a caller may have forgotten to name its format.
 
 ghost use Rattle.std.specs.Prelude.{◌≡◌, ◌<◌, ◌↔◌, ◌⊎◌, length, All, IsSome, IsTrue, Some, None};
 ghost use Rattle.cborn_explain.specs.Hints.{IsTextByte};
@@ -30,8 +30,8 @@ impl Display for Hint {
     }
 }
 
-/// What the bytes look like, where they are all printable ASCII and white space. None: they aren't,
-/// or there are none.
+/// What bytes look like that are all printable ASCII or white space. `None`: one isn't, or there are no
+/// bytes.
 pub fn hint_of(bytes: &[u8]) -> Option<Hint>
     ensures { IsSome result ↔ All IsTextByte bytes.now × 0 < length bytes.now }
 {
@@ -40,32 +40,32 @@ pub fn hint_of(bytes: &[u8]) -> Option<Hint>
     look.hint()
 }
 
-/// What bytes look like, noted as they come in, so that none is kept.
+/// What the bytes so far look like. None of them is kept.
 #[derive(Clone, Copy)]
 pub struct Look {
-    /// All of them are printable ASCII and white space.
+    /// All of them are printable ASCII or white space.
     pub is_text: bool,
-    /// The last of a text; none where there is no byte yet.
+    /// The last byte. `None`: there is none yet. Once a byte is no text, this stays as it was.
     pub last: Option<u8>,
-    /// What is known of a text's digits.
+    /// Which of them are hexadecimal digits. Once a byte is no text, this stays as it was.
     pub digits: Digits,
 }
 
 /// Which characters of a text are hexadecimal digits.
 #[derive(Clone, Copy)]
 pub enum Digits {
-    /// There are none: all is white space.
+    /// None: all characters are white space.
     Missing,
-    /// All but white space, and their number is even.
+    /// All but the white space, and their number is even.
     Even,
-    /// All but white space, and their number is odd.
+    /// All but the white space, and their number is odd.
     Odd,
-    /// There is another character.
+    /// Not all: a character is neither a digit nor white space.
     Mixed,
 }
 
 impl Look {
-    /// Before the first byte.
+    /// A look at no bytes yet.
     pub fn new() -> Self
         ensures text { IsTrue result.is_text }
         ensures last { result.last ≡ None }
@@ -77,7 +77,7 @@ impl Look {
         }
     }
 
-    /// Looks at the next bytes. Behind the first byte that no text has nothing is looked at any more.
+    /// Looks at the next bytes. After a byte that isn't text, none is looked at any more.
     pub fn see(&mut self, bytes: &[u8])
         ensures text { IsTrue self.new.is_text ↔ IsTrue self.old.is_text × All IsTextByte bytes.now }
         ensures some { IsTrue self.new.is_text → (IsSome self.new.last ↔ IsSome self.old.last ⊎ (0 < length bytes.now)) }
@@ -87,21 +87,21 @@ impl Look {
         }
         self.is_text = bytes.iter().all(|b| is_text_byte(*b));
         if self.is_text {
-            self.digits = self.digits.behind(bytes);
+            self.digits = self.digits.and(bytes);
             if let Some(last) = bytes.last() {
                 self.last = Some(*last);
             }
         }
     }
 
-    /// Whether the last byte of a text ends a line.
+    /// Whether all bytes so far are text, and the last one ends a line.
     pub fn ends_line(self) -> bool
         ensures { IsTrue result ↔ IsTrue self.is_text × self.last ≡ Some 10 }
     {
         self.is_text && self.last == Some(b'\n')
     }
 
-    /// What all of the bytes look like, as [`hint_of`] says it of them.
+    /// What the bytes so far look like: the answer of [`hint_of`] for all of them.
     pub fn hint(self) -> Option<Hint>
         ensures { IsSome result ↔ IsTrue self.is_text × IsSome self.last }
     {
@@ -116,8 +116,8 @@ impl Look {
 }
 
 impl Digits {
-    /// With the next characters of a text.
-    fn behind(self, bytes: &[u8]) -> Digits {
+    /// Which are digits once these characters of a text have come too.
+    fn and(self, bytes: &[u8]) -> Digits {
         let mut digits = self;
         for byte in bytes.iter() {
             digits = match digits {
@@ -132,7 +132,7 @@ impl Digits {
     }
 }
 
-/// Printable ASCII, or white space.
+/// Whether the byte is printable ASCII or white space.
 fn is_text_byte(byte: u8) -> bool
     ensures { IsTrue result ↔ IsTextByte byte }
 {

@@ -1,4 +1,4 @@
-//! Where an input departs from what is asked of it, and why, in lines for people.
+//! Explanations in lines for people: where an input is refused or isn't deterministic, and why.
 //!
 //! ```text
 //! path   item 0 {"keys" #1} [2]
@@ -6,17 +6,16 @@
 //! why    a float of 16 bits begins here, and floats are left out
 //! ```
 //!
-//! Another call tells that an input is refused, at which offset and for what reason. The calls here
-//! take that and the input, and walk once over it, up to the offset: [`explain_bytes`] from head to
-//! head, [`explain_text`] from token to token. What is open on the way is kept as one small record a
-//! level, and that is the path. [`explain_difference`] does the same for two deterministic encodings
-//! that differ. [`hint_of`] tells of bytes that they look like a text, and [`Look`] of what comes in by
+//! Another call refused the input, and reported an offset and a reason. The calls here are given
+//! these and the input, and walk over it once, up to the offset: [`explain_bytes`] from head to head,
+//! [`explain_text`] from token to token. [`explain_difference`] says where two deterministic encodings
+//! differ. [`hint_of`] says whether bytes look like a text, and [`Look`] does so of bytes that come in
 //! pieces.
 //!
-//! `cborn_paths` walks over bytes, and gives the path alone, with a proof of where it leads; `cborn_causes`
-//! has the sentence for each reason, and quotes the input. Here these become lines: `notes` has the
-//! explanation of an input, `differences` that of two, `path_lines` writes a path. docs/FORMATS.md has
-//! the form of the lines.
+//! `cborn_paths` has the walk over bytes and the path, with a proof of where the path leads.
+//! `cborn_causes` has the sentence for each reason, and quotes the input. `notes` makes the lines of one
+//! input, `differences` those of two, and `path_lines` writes a path. docs/FORMATS.md has the form of
+//! the lines.
 #![tactic(auto)]
 
 mod differences;
@@ -24,7 +23,7 @@ mod hints;
 mod notes;
 mod path_lines;
 
-pub use cborn_causes::{BytesReason, CountReason, Escaped, TextReason};
+pub use cborn_causes::{BytesReason, CountReason, Escaped, NotationText, TextReason};
 pub use cborn_paths::{Difference, Path, Step, find_difference, path_to};
 pub use differences::explain_difference;
 pub use hints::{Digits, Hint, Look, hint_of};

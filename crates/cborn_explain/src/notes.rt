@@ -1,25 +1,25 @@
-//! An explanation: where, what stands there, and why.
+//! The lines of an explanation: where, what stands there, and why.
 
 use crate::hints::hint_of;
 use crate::path_lines::{PathWriter, step_text};
 use cborn_causes::{
-    BytesReason, Refused, TextReason, TextWalk, line_and_column, push_bytes_around, push_cause,
-    push_item, push_line_around, push_text, slice_of, spot_of, walk_text,
+    BytesReason, NotationText, RefusedBytes, RefusedText, TextReason, TextWalk, line_and_column,
+    push_bytes_around, push_item, push_line_around, push_text, slice_of, spot_of, walk_text,
 };
-use cborn_lex::Profile;
 use cborn_model::Limit;
 use cborn_paths::{Step, Walk, walk_to_place};
 use std::alloc::{AllocError, Global};
 
-/// How many characters of a key of a text are written.
+/// How many characters of a key in a text are written.
 const KEY: usize = 40;
 
-/// Lines that say where bytes are refused, or aren't in the deterministic encoding, and why: the
-/// path to `place`, the bytes around it, and a sentence. `place` is an offset in bytes from their
-/// start, and stands with `reason` for what another call told of them under the same limit.
+/// Lines that say where bytes are refused or aren't deterministic, and why: the path to `place`, the
+/// bytes around it, a sentence, and a hint where the bytes look like a text. Another call reported
+/// `place`, an offset in bytes from the start, and `reason`, under the same limit. An offset beyond the
+/// end counts as the end.
 ///
 /// # Errors
-/// Where memory was refused.
+/// `AllocError` where memory is refused.
 pub fn explain_bytes(
     alloc: Global,
     limit: Limit,
@@ -35,39 +35,43 @@ pub fn explain_bytes(
     out.push_str("\n  bytes ")?;
     push_bytes_around(&mut out, bytes, place)?;
     out.push_str("\n  why   ")?;
-    push_cause(alloc, limit, &mut out, bytes, &walk, reason)?;
+    let refused = RefusedBytes {
+        bytes,
+        walk: &walk,
+        limit,
+    };
+    refused.push_cause(alloc, &mut out, reason)?;
     out.push('\n')?;
     push_hint(&mut out, bytes)?;
     Ok(out)
 }
 
-/// Lines that say where a text of the notation is refused, and why: the path to `place`, line and
-/// column and the line itself with a mark below it, and a sentence. `place` is an offset in bytes
-/// from the start of the text, and stands with `reason` for what another call told of it under the
-/// same limit. Where the reason is told of a token as a whole, the mark stands at the character
-/// within it that is at fault.
+/// Lines that say where a text of the notation is refused, and why: the path to `place`, its line and
+/// column, that line with a mark below, and a sentence. Another call reported `place`, an offset in
+/// bytes from the start of the text, and `reason`, under the same limit. An offset beyond the end
+/// counts as the end. Where a whole token was reported, the mark is at the character within it that is
+/// at fault.
 ///
 /// # Errors
-/// Where memory was refused.
+/// `AllocError` where memory is refused.
 pub fn explain_text(
     alloc: Global,
     limit: Limit,
-    profile: Profile,
-    text: &[u8],
+    input: NotationText<'_>,
     place: u64,
     reason: TextReason,
 ) -> Result<String, AllocError> {
+    let text = input.text;
     let place = place_in(text, place);
-    let walk = walk_text(alloc, profile, text, place)?;
+    let walk = walk_text(alloc, input, place)?;
     let spot = spot_of(text, place, reason);
     let mut out = String::new(alloc);
     out.push_str("  path  ")?;
     push_text_path(alloc, &mut out, text, &walk)?;
     push_text_around(&mut out, text, spot)?;
     out.push_str("  why   ")?;
-    let refused = Refused {
-        text,
-        profile,
+    let refused = RefusedText {
+        input,
         limit,
         place,
         spot,
@@ -77,12 +81,12 @@ pub fn explain_text(
     Ok(out)
 }
 
-/// An offset as an index, at most the length.
+/// The offset as an index: at most the length of the bytes.
 fn place_in(bytes: &[u8], place: u64) -> usize {
     place.min(bytes.len() as u64) as usize
 }
 
-/// Writes the path to where a walk has come.
+/// Writes the path to where a walk over bytes has come.
 pub(crate) fn push_path(
     alloc: Global,
     limit: Limit,
@@ -128,7 +132,7 @@ fn push_text_path(
     path.end(out)
 }
 
-/// Writes where a place in a text is, and its line with a mark below.
+/// Writes the line and the column of an offset, and that line with a mark below.
 fn push_text_around(out: &mut String, text: &[u8], place: usize) -> Result<(), AllocError> {
     let (line, column) = line_and_column(text, place);
     write!(out, "\n  line  {line}:{column}\n  text  ")?;
@@ -140,7 +144,7 @@ fn push_text_around(out: &mut String, text: &[u8], place: usize) -> Result<(), A
     out.push_str("^\n")
 }
 
-/// Writes what else bytes look like.
+/// Writes the hint on bytes that look like a text.
 fn push_hint(out: &mut String, bytes: &[u8]) -> Result<(), AllocError> {
     match hint_of(bytes) {
         Some(hint) => {

@@ -3,8 +3,8 @@
 use cborn_paths::Step;
 use std::alloc::{AllocError, Global};
 
-/// Writes steps of a path behind one another. A step that is written as the one before it is
-/// counted.
+/// Writes the steps of a path in a line. Steps in a row that are written alike are written once, with
+/// their count.
 #[derive(Drop)]
 pub(crate) struct PathWriter {
     last: String,
@@ -12,7 +12,7 @@ pub(crate) struct PathWriter {
 }
 
 impl PathWriter {
-    /// A path of which nothing is written.
+    /// A writer that has written nothing.
     pub(crate) fn new(alloc: Global) -> PathWriter {
         PathWriter {
             last: String::new(alloc),
@@ -20,7 +20,7 @@ impl PathWriter {
         }
     }
 
-    /// Goes on by a step, which is written so.
+    /// Writes the next step, whose text is `step`.
     pub(crate) fn step(&mut self, out: &mut String, step: String) -> Result<(), AllocError> {
         if self.times > 0 && self.last.as_str() == step.as_str() {
             self.times = self.times.saturating_add(1);
@@ -36,7 +36,8 @@ impl PathWriter {
         Ok(())
     }
 
-    /// Ends the path, or what is counted.
+    /// Writes the count of the last step, where it came more than once. It has to be called after the
+    /// last step.
     pub(crate) fn end(&mut self, out: &mut String) -> Result<(), AllocError> {
         if self.times > 1 {
             let times = self.times;
@@ -46,7 +47,7 @@ impl PathWriter {
     }
 }
 
-/// A step; of the value of a map's pair, `key` is its key as it is to be written.
+/// The text of a step. `key` is the text of the key where the step leads to a value of a map.
 pub(crate) fn step_text(alloc: Global, step: Step, key: &str) -> Result<String, AllocError> {
     match step {
         Step::Item(index) => format!(in alloc; "item {index}"),

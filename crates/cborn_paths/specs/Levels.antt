@@ -1,4 +1,4 @@
--- What is open where a walk stands, and the path to what comes next there.
+-- The levels that are open where a walk is, and the path to the head that comes next.
 use Rattle.std.specs.Prelude.{List, [], ◌∷◌, ◌++◌}
 use Rattle.cborn_paths.specs.declared.paths.Step.{Step}
 use Rattle.cborn_paths.specs.declared.paths.Step.TheVariants as paths
@@ -8,7 +8,7 @@ use Rattle.cborn_paths.specs.declared.walks.Level.{Level}
 use Rattle.cborn_paths.specs.declared.walks.Open.{Open}
 use Rattle.cborn_paths.specs.declared.walks.Walk.{Walk}
 
--- the step to its next part
+-- the step to the next part of a level
 abbrev pub step_of : Nesting → Step
 step_of (Sequence n) = paths.Item n
 step_of (Array s n) = paths.Element n
@@ -18,7 +18,7 @@ step_of (Tag t) = paths.Content t
 step_of (ByteChunks n) = paths.Chunk n
 step_of (TextChunks n) = paths.Chunk n
 
--- What is open, the innermost first, and the input itself last.
+-- The open levels, the innermost first, and the input itself last.
 
 abbrev pub turned : List Level → List Open → List Level
 turned ls [] = ls
@@ -30,7 +30,7 @@ open_levels top outer = top.level ∷ turned [] outer
 abbrev pub levels : Walk → List Level
 levels w = open_levels w.top w.outer.items
 
--- the steps to what comes next
+-- the steps to the head that comes next
 abbrev pub path_of : List Level → List Step
 path_of [] = []
 path_of (l ∷ ls) = path_of ls ++ step_of l.nesting ∷ []

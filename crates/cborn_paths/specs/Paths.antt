@@ -6,7 +6,7 @@ use Rattle.cborn_wire.specs.Slots.{Begun, begun_items, begun_pairs, begun_value,
 use Rattle.cborn_paths.specs.declared.paths.Step.{Step}
 use Rattle.cborn_paths.specs.declared.paths.Step.TheVariants.{Item, Element, Key, Value, Content, Chunk}
 
--- Into what has begun, to the part that comes next: parts are counted from 0, by those that are whole before it.
+-- The step into an item that has begun, to the part that comes next. Parts are counted from 0: the index is how many are whole before it.
 abbrev pub step_in : Begun → Step
 step_in (begun_items p a ts) = Element (count ts)
 step_in (begun_pairs p a es) = Key (count_entries es)
@@ -14,16 +14,16 @@ step_in (begun_value p a es k) = Value (count_entries es)
 step_in (begun_tag p w n) = Content n
 step_in (begun_chunks p k cs) = Chunk (length cs)
 
--- Behind these whole items, into what is open, the innermost first: to an item of the sequence, and on inwards.
+-- The path after these whole items, into the items that are open, the innermost first: the step to an item of the sequence, and then the steps inwards.
 abbrev pub steps : Trees → List Begun → List Step
 steps ts [] = Item (count ts) ∷ []
 steps ts (o ∷ os) = steps ts os ++ step_in o ∷ []
 
--- The bytes f end between two heads: they are whole items, and the beginnings of what is open at their end. What comes next there has this path. No more is open than the highest nesting limit lets be.
+-- The bytes f end between two heads: they are whole items, and then the beginnings of the items that are open at their end. The head that comes next has this path. No more levels are open than the highest nesting limit allows.
 abbrev pub EndsAt : List ℕ → List Step → Type 0
 EndsAt f path = (ts : Trees) × (os : List Begun) × FitsAll ts × (depth_all ts ≤ 1024) × AreBegun 1024 os × (f ≡ spelled_all ts ++ beginnings os) × (path ≡ steps ts os)
 
--- The path leads to the place in x: no longer front of x, up to the place, ends between two heads than the one behind which it leads. So it leads to the node, or to the head, that begins at the place or, with the bytes of its string, holds it. Where x isn't well-formed before the place, it leads to the first head that isn't whole or may not stand there.
+-- The path leads to the place in x: it leads to what follows f, the longest front of x up to the place that ends between two heads. So it leads to the head that begins at the place, or that holds it together with the bytes of its string. Where x isn't well-formed before the place, it leads to the first head that isn't whole or may not stand there.
 abbrev pub LeadsTo : List ℕ → ℕ → List Step → Type 0
 LeadsTo x place path =
     (f : List ℕ) × (y : List ℕ) × (x ≡ f ++ y) × (length f ≤ place) × EndsAt f path
@@ -34,16 +34,16 @@ abbrev pub is_key : Step → Bool
 is_key (Key n) = true
 is_key _ = false
 
--- a path as far as the first key into which it leads, if it leads into one
+-- a path up to the first key into which it leads, or all of it
 abbrev pub up_to_key : List Step → List Step
 up_to_key [] = []
 up_to_key (s ∷ path) = s ∷ (if is_key s then [] else up_to_key path)
 
--- the first n bytes of x and y are the same, and no more
+-- x and y have their first n bytes in common, and no more
 abbrev pub DifferFirstAt : List ℕ → List ℕ → ℕ → Type 0
 DifferFirstAt x y n = (n ≤ length x) × (n ≤ length y) × (take n x ≡ take n y) × (take (n + 1) x ≡ take (n + 1) y → ⊥)
 
--- In x and in y the path leads to the byte at which they first differ; but to a key as a whole, the outermost, where it would lead into one. The place is where that begins, in both.
+-- In x and in y the path leads to the byte at which they first differ, or, where that lies in a key, to the outermost such key. The place is where that head or key begins, in both.
 abbrev pub LeadsToDifference : List ℕ → List ℕ → ℕ → List Step → Type 0
 LeadsToDifference x y place path =
     (n : ℕ) × (whole : List Step) × DifferFirstAt x y n × LeadsTo x n whole × LeadsTo y n whole

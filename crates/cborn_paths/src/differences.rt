@@ -8,20 +8,21 @@ use crate::paths::Path;
 use crate::walks::Walk;
 use std::alloc::{AllocError, Global};
 
-/// Where two deterministic encodings first differ.
+/// Where two sequences of items first differ.
 #[derive(Drop)]
 pub struct Difference {
-    /// The offset in bytes, in both, of the head that differs; of a key that differs, or a part of
-    /// which does, that of the key.
+    /// An offset in bytes, the same in both inputs: that of the head that differs. Where the
+    /// difference lies in a key of a map, it is the offset of the key.
     pub place: u64,
-    /// The path to it, which is the same in both.
+    /// The path to that offset, the same in both inputs.
     pub path: Path,
 }
 
-/// Where two encodings first differ, of a key that differs the key as a whole. None: they are equal.
+/// The offset and the path at which two sequences of items first differ. A difference within a key
+/// is reported at the outermost key around it. `None`: the bytes are equal.
 ///
 /// # Errors
-/// Where memory was refused.
+/// `AllocError` where memory for the path is refused.
 pub fn find_difference(
     alloc: Global,
     first: &[u8],
@@ -37,11 +38,11 @@ pub fn find_difference(
     Ok(Some(Difference { place, path }))
 }
 
-/// A walk over `first` to where they first differ; but to a key as a whole, the outermost. None: they
-/// are equal.
+/// A walk over `first` that ends where the two first differ, or at the outermost key around that.
+/// `None`: the bytes are equal.
 ///
 /// # Errors
-/// Where memory was refused.
+/// `AllocError` where memory for the open levels is refused.
 pub fn walk_to_difference(
     alloc: Global,
     first: &[u8],
@@ -59,7 +60,7 @@ pub fn walk_to_difference(
     Ok(Some(walk))
 }
 
-/// How many bytes two lists have in common at their front.
+/// How many bytes the two inputs have in common at their start.
 fn common_len(first: &[u8], second: &[u8]) -> usize
     ensures ours { result ≤ length first.now }
     ensures theirs { result ≤ length second.now }

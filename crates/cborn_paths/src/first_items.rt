@@ -6,19 +6,19 @@ ghost use Rattle.cborn_model.specs.Tree.{Trees, no_item};
 ghost use Rattle.cborn_paths.specs.Levels.{levels, path_of};
 ghost use Rattle.cborn_paths.specs.Paths.{EndsAt, LeadsTo};
 ghost use Rattle.cborn_paths.specs.declared.paths.Step.TheVariants.{Item};
-ghost use Rattle.cborn_paths.specs.devices.FirstItem.{IsBefore, IsUpTo, IsBehind};
+ghost use Rattle.cborn_paths.specs.devices.FirstItem.{IsBefore, IsUpTo, IsAfter};
 ghost use Rattle.cborn_paths.specs.devices.Walks.{IsWalked};
 
 use crate::nestings::Nesting;
 use crate::walks::Walk;
 use std::alloc::{AllocError, Global};
 
-/// Where the first item of some bytes ends (RFC 8949 section 3, RFC 8742): an offset in bytes from
-/// their start. What follows it isn't looked at. `None`: the bytes are no sequence of items but the
-/// empty one, within the highest nesting limit.
+/// Where the first item of some bytes ends: an offset in bytes from their start (RFC 8949 section 3,
+/// RFC 8742). What follows the item isn't read. `None`: the bytes don't begin with a whole item that
+/// is no deeper than the highest nesting limit.
 ///
 /// # Errors
-/// Where memory was refused.
+/// `AllocError` where memory for the open levels is refused.
 pub fn first_end(alloc: Global, bytes: &[u8]) -> Result<Option<usize>, AllocError>
     ensures item { IfOk result (λ found. IfSome found (λ end. (end ≤ length bytes.now) × EndsAt (take end bytes.now) (Item 1 ∷ []))) }
     ensures none { IfOk result (λ found. found ≡ None → (limit : ℕ) (nodes : Trees) → limit ≤ 1024 → Wellformed limit nodes bytes.now → nodes ≡ no_item) }
@@ -31,20 +31,21 @@ pub fn first_end(alloc: Global, bytes: &[u8]) -> Result<Option<usize>, AllocErro
     }
 }
 
-/// Where the item ends that begins at `at`, or where no head follows that may stand there, or the
-/// end of the bytes.
+/// Where the item ends that begins at `at`: an offset in bytes from the start of `bytes`. Where no
+/// whole item begins there, the answer is the offset of the first head that isn't whole or may not
+/// stand where it does. Where `at` lies beyond the end, the answer is the length.
 ///
 /// # Errors
-/// Where memory was refused.
-pub fn behind(alloc: Global, bytes: &[u8], at: usize) -> Result<usize, AllocError> {
+/// `AllocError` where memory for the open levels is refused.
+pub fn end_of_item(alloc: Global, bytes: &[u8], at: usize) -> Result<usize, AllocError> {
     if at > bytes.len() {
         return Ok(bytes.len());
     }
-    item_end(alloc, bytes, at)
+    end_within(alloc, bytes, at)
 }
 
-/// What `behind` answers within the bytes.
-fn item_end(alloc: Global, bytes: &[u8], at: usize) -> Result<usize, AllocError>
+/// What [`end_of_item`] answers of an offset within the bytes.
+fn end_within(alloc: Global, bytes: &[u8], at: usize) -> Result<usize, AllocError>
     requires { at ≤ length bytes.now }
     ensures { IfOk result (λ end. end ≤ length bytes.now) }
 {
@@ -55,13 +56,13 @@ fn item_end(alloc: Global, bytes: &[u8], at: usize) -> Result<usize, AllocError>
 }
 
 impl Walk {
-    /// Goes on from before the first item to its end, and answers whether it has one. Else it goes
-    /// up to the first head that isn't whole or may not stand there.
+    /// Walks over the first item, and answers whether the item is whole. If it isn't, the walk
+    /// stops at the first head that isn't whole or may not stand where it does.
     fn take_item(&mut self, bytes: &[u8]) -> Result<bool, AllocError>
         requires walked { IsWalked bytes.now self.old }
         requires before { IsBefore (levels self.old) }
         ensures walked { OnOk result (IsWalked bytes.now self.new) }
-        ensures item { IfOk result (λ has. has ≡ true → IsBehind (levels self.new)) }
+        ensures item { IfOk result (λ has. has ≡ true → IsAfter (levels self.new)) }
         ensures none { IfOk result (λ has. has ≡ false → IsBefore (levels self.new) × LeadsTo bytes.now (length bytes.now) (path_of (levels self.new))) }
     {
         'heads: while !self.has_item() {
@@ -72,9 +73,9 @@ impl Walk {
         Ok(true)
     }
 
-    /// An item is whole, and nothing is open.
+    /// Whether the first item is whole. A walk that begins before it ends then, so nothing is open.
     fn has_item(&self) -> bool
-        ensures item { result ≡ true → IsUpTo (levels self.now) → IsBehind (levels self.now) }
+        ensures item { result ≡ true → IsUpTo (levels self.now) → IsAfter (levels self.now) }
         ensures none { result ≡ false → IsUpTo (levels self.now) → IsBefore (levels self.now) }
     {
         self.outer.len() == 0 && matches!(self.top.level.nesting, Nesting::Sequence(1..))

@@ -1,14 +1,15 @@
-//! Where a place in some bytes stands among their items: the path to it, and where two inputs differ.
+//! Paths: where an offset in some bytes lies among their items, and where two inputs differ.
 //!
-//! Start with [`path_to`] and [`find_difference`]. Their clauses say where a path leads:
-//! `specs/Paths.antt` defines that over the nodes that bytes spell. Both walk once over the bytes, up to
-//! the place, from head to head. What is open on the way is kept as one small record a level
-//! ([`Nesting`]), and that is the path. [`walk_to_place`] and [`walk_to_difference`] give the [`Walk`]
-//! itself, of which `specs/Levels.antt` says which path it has, to whoever writes more of the place
-//! than its path.
+//! Start with [`path_to`] and [`find_difference`]. Their clauses say where a path leads, and
+//! `specs/Paths.antt` defines it over the nodes that the bytes spell.
 //!
-//! `heads` has the heads as a walk meets them, with the bytes of their strings
-//! (`specs/shared/WholeHeads.antt`). `specs/devices/Walks.antt` is a device of the proofs.
+//! Both calls walk from head to head, once, up to the offset. The walk keeps one small record
+//! ([`Nesting`]) for each open level, and the path is made of these records. Whoever writes more than
+//! the path takes the [`Walk`] itself from [`walk_to_place`] or [`walk_to_difference`].
+//! `specs/Levels.antt` says which path a walk has. [`first_end`] says where the first item ends.
+//!
+//! `heads` reads a head together with the bytes of its string (`specs/shared/WholeHeads.antt`), and
+//! says where a head may stand. `specs/devices` has devices of the proofs.
 #![tactic(auto)]
 
 mod differences;
@@ -20,7 +21,7 @@ mod places;
 mod walks;
 
 pub use differences::{Difference, find_difference, walk_to_difference};
-pub use first_items::{behind, first_end};
+pub use first_items::{end_of_item, first_end};
 pub use heads::{content_len, whole_head};
 pub use nestings::Nesting;
 pub use paths::{Path, Step};

@@ -1,4 +1,4 @@
-//! What can be open on the way to a place, and how much of it is whole.
+//! What can be open on the way to an offset, and how many of its parts are whole.
 
 ghost use Rattle.std.specs.Prelude.{◌≡◌, ◌<◌, ◌+◌, ◌^◌};
 ghost use Rattle.cborn_paths.specs.Paths.{is_key};
@@ -7,23 +7,24 @@ ghost use Rattle.cborn_paths.specs.devices.Walks.{parts_of, unless_full, with_pa
 
 use crate::paths::Step;
 
-/// The input, or what has begun in it, and how many of its parts are whole. An array or a map has as
-/// many as its head announces, or any number where its length is indefinite.
+/// The input, or an item in it that has begun and hasn't ended. The last number is how many of its
+/// parts are whole. An `Option` is the number that the head announces, `None` where the length is
+/// indefinite.
 #[derive(Clone, Copy)]
 pub enum Nesting {
-    /// The input itself, which is a sequence of items.
+    /// The input itself: a sequence of items.
     Sequence(u64),
-    /// An array, with the number of elements that are announced.
+    /// An array; its parts are elements.
     Array(Option<u64>, u64),
-    /// A map, with the number of pairs that are announced; a key comes next.
+    /// A map in which a key comes next; its parts are pairs.
     Map(Option<u64>, u64),
-    /// A map, with the number of pairs that are announced; the value of a pair comes next.
+    /// A map in which the value of a pair comes next; its parts are pairs.
     MapValue(Option<u64>, u64),
     /// A tag of this number.
     Tag(u64),
-    /// A byte string of indefinite length, in chunks.
+    /// A byte string of indefinite length; its parts are chunks.
     ByteChunks(u64),
-    /// A text string of indefinite length.
+    /// A text string of indefinite length; its parts are chunks.
     TextChunks(u64),
 }
 
@@ -42,14 +43,14 @@ impl Nesting {
         }
     }
 
-    /// A key comes next, or is open.
+    /// Whether a key of a map comes next, or has begun and hasn't ended.
     pub fn is_at_key(self) -> bool
         ensures { result ≡ is_key (step_of self) }
     {
         matches!(self, Nesting::Map(_, _))
     }
 
-    /// What it is with one part more. None: it is whole with that.
+    /// The same level with one more whole part. `None`: that was its last part.
     pub(crate) fn with_part(self) -> Option<Nesting>
         requires { parts_of self + 1 < 2 ^ 64 }
         ensures { result ≡ with_part self }
@@ -70,7 +71,7 @@ impl Nesting {
     }
 }
 
-/// `more`, unless as many parts are whole as are announced.
+/// `more`, or `None` where as many parts are whole as are announced.
 fn unless_full(size: Option<u64>, parts: u64, more: Nesting) -> Option<Nesting>
     ensures { result ≡ unless_full size parts more }
 {

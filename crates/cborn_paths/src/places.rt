@@ -1,4 +1,4 @@
-//! Walks to a place, and the path to it.
+//! A walk to an offset, and the path to it.
 
 ghost use Rattle.std.specs.Prelude.{◌≡◌, ◌≤◌, ◌⊎◌, length, IfOk};
 ghost use Rattle.cborn_paths.specs.Levels.{levels, path_of};
@@ -8,13 +8,13 @@ use crate::paths::Path;
 use crate::walks::Walk;
 use std::alloc::{AllocError, Global};
 
-/// The path to a place in some bytes, an offset in bytes from their start: to the node, or the head,
-/// that begins there or, with the bytes of its string, holds it (RFC 8949 section 3). Where bytes
-/// before the place aren't well-formed, it leads to the first head that isn't whole or may not stand
-/// where it stands, or stands in as many arrays, maps and tags as any limit lets be open.
+/// The path to `place`, an offset in bytes from the start of `bytes` (RFC 8949 section 3). It leads to
+/// the head that begins there, or that holds the place together with the bytes of its string. Where
+/// the bytes before the place aren't well-formed, it leads to the first head that isn't whole, may not
+/// stand where it does, or is deeper than the highest nesting limit.
 ///
 /// # Errors
-/// Where memory was refused.
+/// `AllocError` where memory for the path is refused.
 pub fn path_to(alloc: Global, bytes: &[u8], place: u64) -> Result<Path, AllocError>
     ensures leads { IfOk result (λ path. LeadsTo bytes.now place path.steps.items) }
 {
@@ -22,10 +22,10 @@ pub fn path_to(alloc: Global, bytes: &[u8], place: u64) -> Result<Path, AllocErr
     walk.path(alloc)
 }
 
-/// A walk to where the path of [`path_to`] leads.
+/// A walk that ends where the path of [`path_to`] leads.
 ///
 /// # Errors
-/// Where memory was refused.
+/// `AllocError` where memory for the open levels is refused.
 pub fn walk_to_place(alloc: Global, bytes: &[u8], place: u64) -> Result<Walk, AllocError>
     ensures leads { IfOk result (λ walk. LeadsTo bytes.now place (path_of (levels walk))) }
     ensures within { IfOk result (λ walk. walk.at ≤ length bytes.now) }
@@ -36,7 +36,7 @@ pub fn walk_to_place(alloc: Global, bytes: &[u8], place: u64) -> Result<Walk, Al
     Ok(walk)
 }
 
-/// An offset as an index, at most the length.
+/// The offset as an index: at most the length of the bytes.
 fn place_in(bytes: &[u8], place: u64) -> usize
     ensures within { result ≤ length bytes.now }
     ensures place { (result ≡ place) ⊎ ((result ≡ length bytes.now) × (length bytes.now ≤ place)) }

@@ -1,4 +1,4 @@
-//! A walk over bytes from head to head, which keeps what is open.
+//! A walk over bytes from head to head. It keeps the levels that are open.
 
 ghost use Rattle.std.specs.Prelude.{◌≡◌, ◌≤◌, ◌<◌, ℕ, List, true, false, length, IfOk, OnOk};
 ghost use Rattle.cborn_wire.specs.HeadReading.{major_at, seen_argument};
@@ -14,14 +14,15 @@ use cborn_model::Major;
 use cborn_wire::{Argument, Head};
 use std::alloc::{AllocError, Global};
 
-/// What is open, and the offset of its head.
+/// An open level, and the offset in bytes of its head.
 #[derive(Clone, Copy)]
 pub struct Level {
     pub nesting: Nesting,
     pub place: usize,
 }
 
-/// What is open, and where the last key in it begins and ends.
+/// An open level, and the offsets in bytes at which the last key of its map begins and ends. Where
+/// there is no key, both are the offset of its head.
 #[derive(Clone, Copy)]
 pub struct Open {
     pub level: Level,
@@ -29,7 +30,7 @@ pub struct Open {
 }
 
 impl Open {
-    /// What begins at `place`.
+    /// A level whose head is at `place`, without a key.
     fn new(nesting: Nesting, place: usize) -> Open
         ensures { result.level ≡ record { nesting = nesting; place = place } }
     {
@@ -40,19 +41,19 @@ impl Open {
     }
 }
 
-/// A walk, between two heads.
+/// A walk that has come between two heads.
 #[derive(Drop)]
 pub struct Walk {
-    /// The innermost of what is open, or the input itself.
+    /// The innermost open level, or the input itself.
     pub top: Open,
-    /// What is around it, the innermost last; the first is the input itself.
+    /// The levels around it, the innermost last. The first is the input itself.
     pub outer: Vec<Open>,
-    /// The offset of the next head.
+    /// The offset in bytes of the next head.
     pub at: usize,
 }
 
 impl Walk {
-    /// A walk at the front of some bytes.
+    /// A walk before the first head.
     pub(crate) fn new(alloc: Global) -> Walk
         ensures walked { (x : List ℕ) → IsWalked x result }
         ensures before { IsBefore (levels result) }
@@ -65,8 +66,8 @@ impl Walk {
         }
     }
 
-    /// Goes on from head to head, up to the one at `place`, or that with its string holds `place`,
-    /// or that isn't whole or may not stand there.
+    /// Goes on from head to head. It stops before the head at `place`, or that holds it together with
+    /// its string, and before a head that isn't whole or may not stand where it does.
     pub(crate) fn walk_to(&mut self, bytes: &[u8], place: usize) -> Result<(), AllocError>
         requires within { place ≤ length bytes.now }
         requires before { self.old.at ≤ place }
@@ -79,8 +80,8 @@ impl Walk {
         Ok(())
     }
 
-    /// Goes on behind the next head and the bytes of its string, where these end at `place` at
-    /// most, and answers whether it did.
+    /// Goes on past the next head and the bytes of its string, and answers whether it did. It doesn't
+    /// where these end beyond `place`, or the head isn't whole or may not stand there.
     pub(crate) fn step(&mut self, bytes: &[u8], place: usize) -> Result<bool, AllocError>
         requires within { place ≤ length bytes.now }
         requires before { self.old.at ≤ place }
@@ -104,7 +105,8 @@ impl Walk {
         Ok(true)
     }
 
-    /// Takes a head, which begins at `start` and with its string ends where the walk is.
+    /// Adds a head to the open levels. It begins at `start`, and ends with its string where the walk
+    /// is.
     fn take(&mut self, head: Head, start: usize) -> Result<(), AllocError>
         requires counted { AreCounted (levels self.old) }
         ensures open { OnOk result (levels self.new ≡ take_head (levels self.old) start (major_at head.major) (seen_argument head.argument)) }
@@ -134,7 +136,7 @@ impl Walk {
 }
 
 impl Walk {
-    /// Opens what begins at `start`.
+    /// Opens a level whose head is at `start`.
     fn begin(&mut self, nesting: Nesting, start: usize) -> Result<(), AllocError>
         ensures open { OnOk result (levels self.new ≡ begun (levels self.old) start nesting) }
         ensures at { self.new.at ≡ self.old.at }
@@ -145,7 +147,7 @@ impl Walk {
         Ok(())
     }
 
-    /// Puts an item that begins at `start`, and ends where the walk is, into what is open.
+    /// Counts a whole item, which begins at `start` and ends where the walk is.
     fn put(&mut self, start: usize)
         requires counted { AreCounted (levels self.old) }
         ensures open { levels self.new ≡ finish (levels self.old) }
@@ -155,7 +157,7 @@ impl Walk {
         self.finish();
     }
 
-    /// A part begins, which of a map may be a key.
+    /// Notes that a part begins at `start`, if it is a key of a map.
     fn begin_part(&mut self, start: usize)
         ensures open { levels self.new ≡ levels self.old }
         ensures at { self.new.at ≡ self.old.at }
@@ -165,7 +167,7 @@ impl Walk {
         }
     }
 
-    /// A part ends where the walk is, which of a map may be a key.
+    /// Notes that a part ends where the walk is, if it is a key of a map.
     fn end_part(&mut self)
         ensures open { levels self.new ≡ levels self.old }
         ensures at { self.new.at ≡ self.old.at }
@@ -175,7 +177,7 @@ impl Walk {
         }
     }
 
-    /// Leaves the innermost of what is open, if anything is.
+    /// Leaves the innermost open level, if there is one.
     fn leave(&mut self)
         ensures open { levels self.new ≡ leave (levels self.old) }
         ensures at { self.new.at ≡ self.old.at }
@@ -185,7 +187,7 @@ impl Walk {
         }
     }
 
-    /// An item is whole, and with it what it is the last part of.
+    /// Counts a whole item, and each level that ends with it.
     fn finish(&mut self)
         requires counted { AreCounted (levels self.old) }
         ensures open { levels self.new ≡ finish (levels self.old) }
@@ -194,8 +196,8 @@ impl Walk {
         'levels: while self.finish_innermost() {}
     }
 
-    /// A part of the innermost is whole. Where that is whole with it, it is left, and that is
-    /// answered: it is a part of what is around it.
+    /// Counts a whole part of the innermost level. Where that was its last part, leaves the level and
+    /// answers `true`: the level is then a whole part of the one around it.
     fn finish_innermost(&mut self) -> bool
         requires counted { AreCounted (levels self.old) }
         ensures left { result ≡ true → (finish (levels self.new) ≡ finish (levels self.old)) × (length (levels self.new) < length (levels self.old)) × AreCounted (levels self.new) }
@@ -218,7 +220,10 @@ impl Walk {
         }
     }
 
-    /// The path to what comes next.
+    /// The path to the head that comes next.
+    ///
+    /// # Errors
+    /// `AllocError` where memory for the path is refused.
     pub fn path(&self, alloc: Global) -> Result<Path, AllocError>
         ensures { IfOk result (λ path. path.steps.items ≡ path_of (levels self.now)) }
     {
@@ -230,7 +235,8 @@ impl Walk {
         Ok(Path { steps })
     }
 
-    /// Where the last key begins and ends of what is open at this step of the path.
+    /// The offsets in bytes at which the last key begins and ends in the open level with this index,
+    /// as [`Walk::path`] has its steps.
     pub fn key_at(&self, step: usize) -> (usize, usize) {
         match self.outer.get(step) {
             Some(open) => open.key,
@@ -238,7 +244,7 @@ impl Walk {
         }
     }
 
-    /// Goes back from within a key to where it begins: of keys in one another the outermost.
+    /// Goes back to the start of the outermost key around the walk, if there is one.
     pub(crate) fn leave_keys(&mut self)
         ensures path { path_of (levels self.new) ≡ up_to_key (path_of (levels self.old)) }
         ensures back { (x : List ℕ) → IsOpened x self.old.at (levels self.old) → (self.new.at ≤ self.old.at) × IsOpened x self.new.at (levels self.new) }
@@ -248,7 +254,7 @@ impl Walk {
         }
     }
 
-    /// Something that is open stands in a key.
+    /// Whether an open level lies in a key.
     fn is_in_key(&self) -> bool
         ensures { result ≡ has_key (path_of (around (levels self.now))) }
     {
@@ -260,7 +266,7 @@ impl Walk {
         false
     }
 
-    /// Goes back to where the innermost of what is open begins, if anything is.
+    /// Goes back to the start of the innermost open level, if there is one.
     fn back_out(&mut self)
         requires { 0 < length (around (levels self.old)) }
         ensures levels { levels self.new ≡ around (levels self.old) }
@@ -274,7 +280,7 @@ impl Walk {
     }
 }
 
-/// How many parts are announced.
+/// How many parts a head announces. `None`: the length is indefinite.
 fn size_of(argument: Argument) -> Option<u64>
     ensures { result ≡ size_of (seen_argument argument) }
 {

@@ -1,4 +1,4 @@
--- How much of the first item a walk has behind it.
+-- How far a walk over the first item has come.
 use Rattle.std.proofs.Common.{◌≡◌, refl, sym, ap, ◌∙◌, subst, ℕ, ◌+◌, ◌≤◌, List, [], ◌∷◌, ◌++◌, length, take, Bool, true, false, Option, Some, None, if◌then◌else◌, inl, inr, arith, append-nil, length-append}
 use Rattle.std.specs.Prelude.{nat_le}
 use Rattle.cborn_model.specs.declared.heads.Major.{Major}
@@ -20,7 +20,7 @@ use Rattle.cborn_paths.specs.declared.walks.Open.{Open}
 use Rattle.cborn_paths.specs.Levels.{step_of, path_of, turned, open_levels}
 use Rattle.cborn_paths.proofs.Walking.Levels.{count_open}
 use Rattle.cborn_paths.specs.Paths.{EndsAt, LeadsTo, steps}
-use Rattle.cborn_paths.specs.devices.FirstItem.{IsBefore, IsBehind, IsUpTo}
+use Rattle.cborn_paths.specs.devices.FirstItem.{IsBefore, IsAfter, IsUpTo}
 use Rattle.cborn_paths.specs.devices.Walks.{with_part, or_around, finish, leave, begun, take_head, IsOpened}
 use Rattle.cborn_paths.proofs.Walking.Whole.{taken_between}
 use Rattle.cborn_paths.proofs.Walking.Keys.{opened_ends}
@@ -67,13 +67,13 @@ taken_up ls place majors.Other Unbounded h = finish_up (leave ls) (leave_before 
 
 -- ---- the item is whole
 
-behind_path : (ls : List Level) → IsBehind ls → path_of ls ≡ Item 1 ∷ []
-behind_path [] h = absurd h
-behind_path (l ∷ []) h = ap (λ (n : Nesting). step_of n ∷ []) h
-behind_path (l ∷ m ∷ ls) h = absurd h
+after_path : (ls : List Level) → IsAfter ls → path_of ls ≡ Item 1 ∷ []
+after_path [] h = absurd h
+after_path (l ∷ []) h = ap (λ (n : Nesting). step_of n ∷ []) h
+after_path (l ∷ m ∷ ls) h = absurd h
 
-pub item_ends : (x : List ℕ) (at : ℕ) (ls : List Level) → IsOpened x at ls → IsBehind ls → EndsAt (take at x) (Item 1 ∷ [])
-item_ends x at ls opened h = subst (EndsAt (take at x)) (behind_path ls h) (opened_ends x at ls opened)
+pub item_ends : (x : List ℕ) (at : ℕ) (ls : List Level) → IsOpened x at ls → IsAfter ls → EndsAt (take at x) (Item 1 ∷ [])
+item_ends x at ls opened h = subst (EndsAt (take at x)) (after_path ls h) (opened_ends x at ls opened)
 
 -- ---- there is none
 
@@ -118,10 +118,10 @@ none_stands x ls before (f, y, whole, up, (us, os, fits, deep, are_begun, is, pa
 
 -- ---- where more than the input is open
 
-none_behind : (l : Level) (ls : List Level) → 1 ≤ length ls → IsUpTo (l ∷ ls) → IsBefore (l ∷ ls)
-none_behind l [] some h = absurd (omega (arith, some))
-none_behind l (m ∷ ls) some (inl h) = h
-none_behind l (m ∷ ls) some (inr h) = absurd h
+none_after : (l : Level) (ls : List Level) → 1 ≤ length ls → IsUpTo (l ∷ ls) → IsBefore (l ∷ ls)
+none_after l [] some h = absurd (omega (arith, some))
+none_after l (m ∷ ls) some (inl h) = h
+none_after l (m ∷ ls) some (inr h) = absurd h
 
 pub amid_item : (top : Open) (os : List Open) → 1 ≤ length os → IsUpTo (open_levels top os) → IsBefore (open_levels top os)
-amid_item top os some h = none_behind top.level (turned [] os) (omega (arith, some, count_open top os)) h
+amid_item top os some h = none_after top.level (turned [] os) (omega (arith, some, count_open top os)) h

@@ -89,7 +89,7 @@ place_is (begun_value q a es k) p h = h.0
 place_is (begun_tag q w n) p h = h
 place_is (begun_chunks q k cs) p h = h.0
 
--- What is open ends there as it ends behind what it holds.
+-- What is open ends there as it does after the levels inside it.
 pub opened_back : (x : List ℕ) (at : ℕ) (l m : Level) (ls : List Level) → IsOpened x at (l ∷ m ∷ ls) → (l.place ≤ at) × IsOpened x l.place (m ∷ ls)
 opened_back x at l m ls (within, (ready, os, ground, bytes, kept)) = go os ground bytes kept
   where

@@ -72,7 +72,7 @@ module _ (at : ℕ) (ready : Trees) (os : List Begun) (begun : AreBegun 1024 os)
   abbrev here : List ℕ → Option WireReason
   here g = reason_here 1024 (scanning.levels_of os) g
 
-  -- a single byte, behind which another belongs
+  -- a single byte that has to be followed by another
   single : (b : ℕ) → None ≡ here (b ∷ []) → info_at (b % 32) ≡ Next One → IsAmid (over (b ∷ []))
   single b none one =
       let clear : head_reason (slot os) (leb 1024 (open_depth os)) (major_at (b / 32)) (info_at (b % 32)) [] ≡ None = sym (reason_levels 1024 os (major_at (b / 32)) (info_at (b % 32)) begun) ∙ sym none in

@@ -69,7 +69,7 @@ taken_between g ts os fits deep begun is =
 ends_between : (g : List ℕ) (path : List Step) → EndsAt g path → (ready : Trees) × (os : List Begun) × (run 1024 (start 0) g ≡ Live (length g) ready os nothing)
 ends_between g path (ts, os, fits, deep, begun, is, e) = (all_from 0 ts, open_from (0 + length (spelled_all (all_from 0 ts))) os, taken_between g ts os fits deep begun is)
 
--- The path leads to all places behind the end, too.
+-- The path leads to all places beyond the end, too.
 pub leads_beyond : (x : List ℕ) (n place : ℕ) (path : List Step) → (n ≡ place) ⊎ ((n ≡ length x) × (length x ≤ place)) → LeadsTo x n path → LeadsTo x place path
 leads_beyond x n place path (inl e) h = subst (λ k. LeadsTo x k path) e h
 leads_beyond x n place path (inr (e, l)) (f, y, whole, up, at, longest) =
