@@ -22,6 +22,7 @@ pub mod Cutting
 pub mod Utf8
 pub mod NextPieces
 pub mod BareTokens
+pub mod Blocks
 pub mod Going
 pub mod Counts
 pub mod Stepping

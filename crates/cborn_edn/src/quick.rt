@@ -97,19 +97,18 @@ fn take_first(
         b'0'..=b'9' => take_integer(limit, profile, text, here, writer),
         b'"' => take_text(limit, profile, text, here, writer),
         b'-' => take_negative(limit, profile, text, here, writer),
-        b'[' => take_array(limit, profile, text, here, writer),
-        b'{' => take_map(limit, profile, text, here, writer),
+        b'[' => take_row(limit, profile, text, here, writer),
+        b'{' => take_pairs(limit, profile, text, here, writer),
         b'f' | b'n' | b't' | b'u' => take_word(limit, profile, text, here, writer),
-        b']' | b'}' => take_empty(limit, profile, text, here, writer),
         b'<' => take_embedded(limit, profile, text, here, writer),
         b'(' => take_chunked(limit, profile, text, here, writer),
         _ => take_gap(limit, profile, text, here, writer),
     }
 }
 
-/// The end of an array or a map right after its opening bracket.
+/// The bracket of an array that opens, and the one that ends it, where this is right after it.
 #[inline(always)]
-fn take_empty(
+fn take_row(
     limit: Limit,
     profile: Profile,
     text: &str,
@@ -118,18 +117,56 @@ fn take_empty(
 ) -> Result<bool, AllocError>
     requires reading { IsReading profile limit text.now here.old writer.old }
     requires inside { here.old.at < length text.now }
-    requires bracket { (slice_index text.now here.old.at ≡ 93) ⊎ (slice_index text.now here.old.at ≡ 125) }
+    requires wanted { (here.old.stand ≡ stands.Wants) ⊎ (here.old.stand ≡ stands.WantsMore) }
+    requires bracket { slice_index text.now here.old.at ≡ 91 }
     ensures read { OnOk result (IsReading profile limit text.now here.new writer.new) }
     ensures on { OnOk result (here.old.at ≤ here.new.at) }
     ensures further { IfOk result (λ ok. ok ≡ true → here.old.at < here.new.at) }
 {
-    if !is_first(here.stand) {
-        return Ok(false);
+    if !stands_at(b']', text.as_bytes(), here.at + 1) {
+        return take_array(limit, profile, text, here, writer);
     }
-    if text.as_bytes()[here.at] == b']' {
-        return take_array_end(limit, profile, text, here, writer);
+    let taken = take_array(limit, profile, text, here, writer)?;
+    if taken && is_first(here.stand) && stands_at(b']', text.as_bytes(), here.at) {
+        take_array_end(limit, profile, text, here, writer)?;
     }
-    take_map_end(limit, profile, text, here, writer)
+    Ok(taken)
+}
+
+/// The bracket of a map that opens, and the one that ends it, where this is right after it.
+#[inline(always)]
+fn take_pairs(
+    limit: Limit,
+    profile: Profile,
+    text: &str,
+    here: &mut Here,
+    writer: &mut Writer,
+) -> Result<bool, AllocError>
+    requires reading { IsReading profile limit text.now here.old writer.old }
+    requires inside { here.old.at < length text.now }
+    requires wanted { (here.old.stand ≡ stands.Wants) ⊎ (here.old.stand ≡ stands.WantsMore) }
+    requires bracket { slice_index text.now here.old.at ≡ 123 }
+    ensures read { OnOk result (IsReading profile limit text.now here.new writer.new) }
+    ensures on { OnOk result (here.old.at ≤ here.new.at) }
+    ensures further { IfOk result (λ ok. ok ≡ true → here.old.at < here.new.at) }
+{
+    if !stands_at(b'}', text.as_bytes(), here.at + 1) {
+        return take_map(limit, profile, text, here, writer);
+    }
+    let taken = take_map(limit, profile, text, here, writer)?;
+    if taken && is_first(here.stand) && stands_at(b'}', text.as_bytes(), here.at) {
+        take_map_end(limit, profile, text, here, writer)?;
+    }
+    Ok(taken)
+}
+
+/// Whether the character `c` stands at the offset `at` of `text`.
+#[inline(always)]
+fn stands_at(c: u8, text: &[u8], at: usize) -> bool
+    ensures within { result ≡ true → at < length text.now }
+    ensures is { result ≡ true → slice_index text.now at ≡ c }
+{
+    at < text.len() && text[at] == c
 }
 
 /// Whether an item is wanted, and no comma stands before it.
@@ -138,6 +175,24 @@ fn is_first(stand: Stand) -> bool
     ensures { result ≡ true → stand ≡ stands.Wants }
 {
     matches!(stand, Stand::Wants)
+}
+
+/// A space, if one stands there.
+#[inline(always)]
+pub(crate) fn skip_space(
+    limit: Limit,
+    profile: Profile,
+    text: &str,
+    here: &mut Here,
+    writer: &Writer,
+)
+    requires { IsReading profile limit text.now here.old writer.now }
+    ensures read { IsReading profile limit text.now here.new writer.now }
+    ensures on { here.old.at ≤ here.new.at }
+{
+    if stands_at(b' ', text.as_bytes(), here.at) {
+        here.at += 1;
+    }
 }
 
 /// White space and comments.

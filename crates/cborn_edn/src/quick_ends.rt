@@ -8,7 +8,7 @@ ghost use Rattle.cborn_edn.specs.devices.Steps as pure;
 use crate::endings::{end_array, end_embedded, end_entry, end_key, end_map, end_tag, has_chunks};
 use crate::marks::embed_end_at;
 use crate::passes::bounded_len;
-use crate::quick::take_gap;
+use crate::quick::{skip_space, take_gap};
 use crate::states::{Here, Writer};
 use crate::strings::{end_chunk, end_chunks, end_item};
 use crate::texts::ends_string;
@@ -44,7 +44,7 @@ pub(crate) fn take_after(
     }
 }
 
-/// A comma after an item.
+/// A comma after an item, and a space after it.
 #[inline(always)]
 fn take_comma(
     limit: Limit,
@@ -66,11 +66,12 @@ fn take_comma(
     let taken = end_entry(here, writer);
     if taken {
         here.at = at + 1;
+        skip_space(limit, profile, text, here, writer);
     }
     Ok(taken)
 }
 
-/// A colon after an item.
+/// A colon after an item, and a space after it.
 #[inline(always)]
 fn take_colon(
     limit: Limit,
@@ -91,6 +92,7 @@ fn take_colon(
     let taken = end_key(here, writer);
     if taken {
         here.at = at + 1;
+        skip_space(limit, profile, text, here, writer);
     }
     Ok(taken)
 }

@@ -7,7 +7,7 @@ gaps-init c = (c.requires, nothing c.args.profile c.args.text.now c.args.at)
 
 pub gaps-preserved-then-is_white : goal.gaps-preserved-then-is_white
 gaps-preserved-then-is_white c =
-    (omega (arith, c.gaps-test.true), join c.args.profile c.args.text.now c.args.at c.gaps.place (c.gaps.place + 1) [] [] c.gaps.invariant.1 (white_here c.args.profile c.args.text.now c.gaps.place c.gaps-test.true (sym c.is_white.ensures ∙ c.if-is_white.true)))
+    (c.white_end-place.ensures.within, join c.args.profile c.args.text.now c.args.at c.gaps.place c.white_end-place.result [] [] c.gaps.invariant.1 (c.white_end-place.ensures.gap c.args.profile))
 
 pub gaps-preserved-then-c-eq47 : goal.gaps-preserved-then-c-eq47
 gaps-preserved-then-c-eq47 c =

@@ -1,14 +1,11 @@
-use Rattle.std.proofs.Common.{◌+◌, ◌-◌, length, take, drop, arith}
-use Rattle.std.proofs.lemmas.List.{take_rest}
-use Rattle.cborn_edn.proofs.Reader.CommonTokens.{comment_here, plain_comment}
+use Rattle.std.proofs.Common.{◌+◌, ◌∙◌, refl, drop, arith, length}
+use Rattle.std.proofs.lemmas.List.{length-drop, get_or-drop}
+use Rattle.cborn_edn.proofs.Reader.CommonTokens.{comment_here}
 use Rattle.cborn_edn.proofs.gaps.slashed_end.Goals as goal
 
-pub returns-then-tail-run-eq47-clause-gap : goal.returns-then-tail-run-eq47-clause-gap
-returns-then-tail-run-eq47-clause-gap c =
-    let run = c.plain_run-run.result in
-    comment_here c.args.profile c.args.text.now _ c.args.at run c.requires.inside c.requires.slash (take_rest c.args.text.now (c.args.at + 1)) c.if-run-tail.true (plain_comment (take run (take (length c.args.text.now - (c.args.at + 1)) (drop (c.args.at + 1) c.args.text.now))) c.plain_run-run.ensures.plain) (omega (arith, c.if-tail-run-eq47.true))
-
-pub returns-clause-gap : goal.returns-clause-gap
-returns-clause-gap c =
-    let found = c.in_ok-len.ensures in
-    comment_here c.args.profile c.args.text.now _ c.args.at c.in_ok-len.len c.requires.inside c.requires.slash (take_rest c.args.text.now (c.args.at + 1)) found.0 found.1 found.2
+pub returns-then-len-lt16-clause-gap : goal.returns-then-len-lt16-clause-gap
+returns-then-len-lt16-clause-gap c =
+    let text = c.args.text.now in
+    let at = c.args.at in
+    let len = c.place_in_block-len.result in
+    comment_here c.args.profile text (drop (at + 1) text) at len c.requires.inside c.requires.slash refl (omega (arith, length-drop (at + 1) text, c.if-text-next-ge16.true, c.if-len-lt16.true)) c.place_in_block-len.ensures.before (get_or-drop (at + 1) text len 0 ∙ c.place_in_block-len.ensures.found c.if-len-lt16.true)
