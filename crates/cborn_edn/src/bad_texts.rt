@@ -17,7 +17,7 @@ pub(crate) fn lowest_bad_text(items: &[Spelled]) -> Option<u64>
     found
 }
 
-/// The same of a node.
+/// The lowest place in a node of a text string or a text chunk that isn't UTF-8.
 #[cycle(bad_text)]
 fn bad_text(node: &Node) -> Option<u64>
     ensures { result ≡ pure.bad_text node.now }
@@ -32,7 +32,7 @@ fn bad_text(node: &Node) -> Option<u64>
     }
 }
 
-/// The same of the items of an array.
+/// The lowest such place in the items of an array.
 #[cycle(bad_text)]
 fn bad_item(items: &[Node]) -> Option<u64>
     ensures { result ≡ pure.bad_item (trees items.now) }
@@ -44,7 +44,7 @@ fn bad_item(items: &[Node]) -> Option<u64>
     found
 }
 
-/// The same of the pairs of a map.
+/// The lowest such place in the pairs of a map.
 #[cycle(bad_text)]
 fn bad_pair(pairs: &[(Node, Node)]) -> Option<u64>
     ensures { result ≡ pure.bad_pair (entries pairs.now) }
@@ -56,7 +56,7 @@ fn bad_pair(pairs: &[(Node, Node)]) -> Option<u64>
     found
 }
 
-/// The same of the chunks of a text string.
+/// The lowest place of a chunk of a text string that isn't UTF-8.
 fn bad_chunk(chunks: &[Chunk]) -> Option<u64>
     ensures { result ≡ pure.bad_chunk chunks.now }
 {

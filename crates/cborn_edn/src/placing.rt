@@ -114,7 +114,7 @@ fn put_node<'a>(node: &mut Node, places: &'a [u64]) -> &'a [u64]
     }
 }
 
-/// The same of the items of an array.
+/// Puts places into the items of an array, and gives the places that are left.
 #[cycle(put_node)]
 fn put_items<'a>(items: &mut [Node], places: &'a [u64]) -> &'a [u64]
     ensures items { trees items.new ≡ pure.put_all places.now (trees items.old) }
@@ -127,7 +127,7 @@ fn put_items<'a>(items: &mut [Node], places: &'a [u64]) -> &'a [u64]
     left
 }
 
-/// The same of the pairs of a map.
+/// Puts places into the pairs of a map, and gives the places that are left.
 #[cycle(put_node)]
 fn put_pairs<'a>(pairs: &mut [(Node, Node)], places: &'a [u64]) -> &'a [u64]
     ensures pairs { entries pairs.new ≡ pure.put_entries places.now (entries pairs.old) }
@@ -140,7 +140,7 @@ fn put_pairs<'a>(pairs: &mut [(Node, Node)], places: &'a [u64]) -> &'a [u64]
     left
 }
 
-/// The same of a key and its value.
+/// Puts places into a key and its value, and gives the places that are left.
 #[cycle(put_node)]
 fn put_pair<'a>(pair: &mut (Node, Node), places: &'a [u64]) -> &'a [u64]
     ensures key { pair.new.0 ≡ pure.put places.now pair.old.0 }
@@ -151,7 +151,7 @@ fn put_pair<'a>(pair: &mut (Node, Node), places: &'a [u64]) -> &'a [u64]
     put_node(&mut pair.1, left)
 }
 
-/// The same of the chunks of a string.
+/// Puts places into the chunks of a string, and gives the places that are left.
 fn put_chunks<'a>(chunks: &mut [Chunk], places: &'a [u64]) -> &'a [u64]
     ensures chunks { chunks.new ≡ pure.put_chunks places.now chunks.old }
     ensures left { result.now ≡ pure.left_by_chunks places.now chunks.old }

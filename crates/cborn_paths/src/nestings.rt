@@ -50,7 +50,7 @@ impl Nesting {
         matches!(self, Nesting::Map(_, _))
     }
 
-    /// The same level with one more whole part. `None`: that was its last part.
+    /// This level once one more of its parts is complete. `None`: that was its last part.
     pub(crate) fn with_part(self) -> Option<Nesting>
         requires { parts_of self + 1 < 2 ^ 64 }
         ensures { result ≡ with_part self }

@@ -38,7 +38,7 @@ pub(crate) enum Ask {
     /// Where they first depart. A key in which they do waits, since its own place in the order isn't
     /// known yet.
     Place(Global),
-    /// The same, once the keys that waited are settled. No key waits.
+    /// Where they first depart, now that the keys that waited are settled. No key waits.
     Settled(Global),
 }
 
@@ -174,7 +174,7 @@ pub(crate) enum Walked {
     Unknown,
     /// No item stands there.
     Nothing,
-    /// The same as `Unknown`, since memory was refused.
+    /// A growth was refused: the error of it is kept in `Asked`.
     Refused,
 }
 

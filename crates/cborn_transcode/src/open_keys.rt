@@ -28,7 +28,7 @@ impl OpenKeys {
         !self.lefts.is_empty() && self.come_to(left)
     }
 
-    /// The same, where there are any.
+    /// Whether a key begins where so many bytes are left, looked up among the keys that there are.
     #[inline(never)]
     fn come_to(&mut self, left: usize) -> bool {
         for at in self.passed..self.lefts.len() {

@@ -98,7 +98,7 @@ fn walk_settled<'a, O: KeyOrder>(
     walked
 }
 
-/// The same, where a key waits.
+/// Walks over the item at the front once more, in which a key waits: the keys are settled first.
 #[inline(never)]
 fn walk_again<'a, O: KeyOrder>(
     alloc: Global,
@@ -159,7 +159,7 @@ fn walk_item<'a, O: KeyOrder>(asked: &mut Asked<'a, O>, room: u64, bytes: &'a [u
     }
 }
 
-/// The same of the `n` items of an array, from behind its head.
+/// How many bytes follow the `n` items of an array, after its head, or where they first depart.
 #[cycle(walked)]
 #[inline(never)]
 fn walk_array<'a, O: KeyOrder>(
@@ -189,7 +189,7 @@ fn walk_array<'a, O: KeyOrder>(
     Walked::Behind(rest.len())
 }
 
-/// The same as `walk_item`, quicker where an integer comes first.
+/// How many bytes follow the item at the front, or where it first departs. An integer is quick.
 #[cycle(walked)]
 #[inline(always)]
 fn walk_element<'a, O: KeyOrder>(asked: &mut Asked<'a, O>, room: u64, bytes: &'a [u8]) -> Walked
@@ -206,7 +206,7 @@ fn walk_element<'a, O: KeyOrder>(asked: &mut Asked<'a, O>, room: u64, bytes: &'a
     walk_item::<O>(asked, room, bytes)
 }
 
-/// The same of the `n` pairs of a map, from behind its head.
+/// How many bytes follow the `n` pairs of a map, after its head, or where they first depart.
 #[cycle(walked)]
 #[inline(never)]
 fn walk_map<'a, O: KeyOrder>(asked: &mut Asked<'a, O>, room: u64, n: u64, bytes: &'a [u8]) -> Walked
@@ -243,7 +243,7 @@ fn walk_map<'a, O: KeyOrder>(asked: &mut Asked<'a, O>, room: u64, n: u64, bytes:
     Walked::Behind(rest.len())
 }
 
-/// The same of the item under the tag `n`, from behind that.
+/// How many bytes follow the item under the tag `n`, after its head, or where it first departs.
 #[cycle(walked)]
 #[inline(never)]
 fn walk_tagged<'a, O: KeyOrder>(
