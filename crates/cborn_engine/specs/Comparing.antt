@@ -24,7 +24,7 @@ pub record AreCompared (k l : Kind) (limit : ℕ) (x y : List ℕ) (answer : Opt
   pub held2 : Holds l limit y theirs
   pub difference : Difference ours theirs answer
 
--- What comparing these two inputs answers: the first is refused before a byte of the second is read. Want of memory is told of neither input, but as the comparison's own.
+-- What comparing these two inputs answers: the first is refused before a byte of the second is read. Out of memory is reported of neither input, but as the comparison's own.
 abbrev pub CompareAnswers : Kind → Kind → ℕ → ℕ → List ℕ → List ℕ → Result (Option ℕ) CompareFault → Type 0
 CompareAnswers k l limit most x y (Ok answer) = (length x ≤ most) × (length y ≤ most) × AreCompared k l limit x y answer
 CompareAnswers k l limit most x y (Err (compared.First why)) = IsRefused k limit most x why × (why ≢ fault.OutOfMemory) × (y ≡ [])
@@ -32,7 +32,7 @@ CompareAnswers k l limit most x y (Err (compared.Second why)) =
     (length x ≤ most) × ((items : List Value) × Holds k limit x items) × IsRefused l limit most y why × (why ≢ fault.OutOfMemory)
 CompareAnswers k l limit most x y (Err compared.OutOfMemory) = (length x ≤ most) × (length y ≤ most)
 
--- the readers were read to their ends before this was told
+-- the readers were read to their ends before this was answered
 abbrev pub AreRead : Result (Option ℕ) CompareFault → Option (List ℕ) → Option (List ℕ) → Type 0
 AreRead (Ok answer) rest rest2 = IsAtEnd rest × IsAtEnd rest2
 AreRead (Err (compared.First why)) rest rest2 = IsRead {A = Option ℕ} (Err why) rest

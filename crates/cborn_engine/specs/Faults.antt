@@ -1,4 +1,4 @@
--- A lower fault as the engine tells it: want of memory is its own.
+-- A lower fault as the engine gives it: out of memory is its own.
 use Rattle.cborn_wire.specs.declared.WireFault.{WireFault}
 use Rattle.cborn_wire.specs.declared.WireFault.TheVariants as wire
 use Rattle.cborn_lex.specs.declared.faults.LexFault.TheVariants as lex
@@ -43,7 +43,7 @@ abbrev pub of_invalid : Invalid → EngineFault
 of_invalid (invalid.Refused p r) = fault.Invalid (invalid.Refused p r)
 of_invalid invalid.OutOfMemory = fault.OutOfMemory
 
--- a fault of one of two inputs, as their comparison tells it
+-- a fault of one of two inputs, as their comparison gives it
 abbrev pub of_first : EngineFault → CompareFault
 of_first fault.OutOfMemory = compared.OutOfMemory
 of_first why = compared.First why

@@ -25,7 +25,7 @@ Spells kind.Wire limit input nodes = Wellformed limit (trees nodes) input
 Spells kind.Notation limit input nodes = IsNotation profile.One limit input nodes
 Spells kind.Notation2 limit input nodes = IsNotation profile.Two limit input nodes
 
--- it spells them, and each says where it stands: in bytes one after another from the start, in a text where it is notated
+-- it spells them, and each says where it is: in bytes one after another from the start, in a text where it is notated
 abbrev pub SpellsInPlace : Kind → ℕ → List ℕ → List Tree → Type 0
 SpellsInPlace kind.Wire limit input nodes = Wellformed limit (trees nodes) input × PlacedAll 0 (trees nodes)
 SpellsInPlace k limit input nodes = Spells k limit input nodes

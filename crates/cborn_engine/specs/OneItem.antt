@@ -42,7 +42,7 @@ pub record SecondStarts (k : Kind) (limit : ℕ) (input : List ℕ) (p : ℕ) : 
   pub spelled : SpellsInPlace k limit input (first ∷ second ∷ rest)
   pub here : place second ≡ p
 
--- Why it isn't one item: it spells none, which is told at its end; or more, which is told where the second starts.
+-- Why it isn't one item: it spells none, which is reported at its end; or more, which is reported where the second starts.
 abbrev pub IsNotOne : Kind → ℕ → List ℕ → OneFault → Type 0
 IsNotOne k limit input (one.Engine why) = ⊥
 IsNotOne k limit input (one.NoItem p) = Spells k limit input [] × (p ≡ length input)
@@ -74,7 +74,7 @@ CheckedWhole order limit input (Err why) = IsRefusedWhole kind.Wire limit most_b
 
 -- ---- of two inputs, each of which has to hold one item
 
--- want of memory is told of neither input, but as the comparison's own
+-- out of memory is reported of neither input, but as the comparison's own
 abbrev pub of_first_one : OneFault → CompareOneFault
 of_first_one (one.Engine fault.OutOfMemory) = compared.OutOfMemory
 of_first_one why = compared.First why
@@ -103,7 +103,7 @@ MatchedWhole k l limit x y (Err compared.OutOfMemory) = length x ≤ most_bytes
 
 -- ---- of an input that is read
 
--- The reader was read to its end before this was told.
+-- The reader was read to its end before this was answered.
 abbrev pub IsReadForOne : {A : Type 0} → Result A OneFault → Option (List ℕ) → Type 0
 IsReadForOne {A} (Err (one.Engine why)) rest = IsRead {A = A} (Err why) rest
 IsReadForOne _ rest = IsAtEnd rest
@@ -145,7 +145,7 @@ MatchAnswers k l limit x y (Err (compared.First why)) = IsNoItem (IsRefused k li
 MatchAnswers k l limit x y (Err (compared.Second why)) = (length x ≤ most_bytes) × HoldsOne k limit x × IsNoItem (IsRefused l limit most_bytes y) l limit y why
 MatchAnswers k l limit x y (Err compared.OutOfMemory) = (length x ≤ most_bytes) × (length y ≤ most_bytes)
 
--- the readers were read to their ends before this was told
+-- the readers were read to their ends before this was answered
 abbrev pub AreReadForOne : Result Bool CompareOneFault → Option (List ℕ) → Option (List ℕ) → Type 0
 AreReadForOne (Ok same) rest rest2 = IsAtEnd rest × IsAtEnd rest2
 AreReadForOne (Err (compared.First why)) rest rest2 = IsReadForOne {A = Bool} (Err why) rest

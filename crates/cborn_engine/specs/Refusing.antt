@@ -43,7 +43,7 @@ IsRefused kind.Wire limit most input (fault.TextInput p) = ⊥
 IsRefused k limit most input (fault.TextInput p) = (length input ≤ most) × (IsUtf8 input → ⊥) × IsValidUpTo input p
 IsRefused k limit most input _ = ⊥
 
--- the reader was read to its end before this was told
+-- the reader was read to its end before this was answered
 abbrev pub IsRead : {A : Type 0} → Result A EngineFault → Option (List ℕ) → Type 0
 IsRead (Err fault.TooLong) rest = ⊤
 IsRead (Err fault.ReadFault) rest = ⊤

@@ -22,9 +22,9 @@ use std::alloc::Global;
 /// The input has at most 2^30 bytes.
 ///
 /// # Errors
-/// `ReadFault`, `TooLong`, `Wire` and `OutOfMemory`, as `load_within` tells them of bytes, and
+/// `ReadFault`, `TooLong`, `Wire` and `OutOfMemory`, as `load_within` gives them for bytes, and
 /// `Invalid`: the first flaw of the first item that isn't valid, at its offset in bytes from the
-/// start of the input. A defect is told only of bytes whose items are all valid.
+/// start of the input. A defect is reported only of bytes whose items are all valid.
 #[tactic(auto, using(crate::proofs::Streams::Counted::read_counted))]
 pub fn check<O: KeyOrder, R: Source>(
     alloc: Global,
@@ -40,8 +40,8 @@ pub fn check<O: KeyOrder, R: Source>(
 }
 
 /// The first defect of these bytes, or the fault of their content. No fault is the reader's. A defect
-/// is told only where the bytes hold items; where they hold none, a reason is found. Where memory was
-/// refused, the bytes are told to be at fault if they are.
+/// is reported only where the bytes hold items; where they hold none, a reason is found. Where memory was
+/// refused, the fault of the bytes is answered if they have one.
 ///
 /// # Errors
 /// The fault of their content, or `OutOfMemory`.

@@ -45,7 +45,7 @@ impl CompareFault {
 ///
 /// # Errors
 /// `First`, where the first input gave no items, by `ReadFault`, `TooLong` or the fault of its
-/// content as `normalise` tells it, at its offset in bytes from the start of that input; then not a
+/// content as `normalise` gives it, at its offset in bytes from the start of that input; then not a
 /// byte of the second was read. `Second`, likewise, where the first input gave items and the second
 /// gave none. `OutOfMemory` may come at any time, before a byte of the second was read or once the
 /// first is known to hold items, and is never inside of `First` or `Second`.

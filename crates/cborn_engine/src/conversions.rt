@@ -23,7 +23,7 @@ use std::alloc::{AllocError, Global};
 
 /// Writes the canonical form of the items that the input holds: their deterministic encodings one
 /// after another, the keys of maps in the order `O` (RFC 8949 section 4.2), or the fixed notation
-/// of these. The writer is flushed behind the answer, also where that is empty. The input has at
+/// of these. The writer is flushed after the answer, also where that is empty. The input has at
 /// most 2^30 bytes.
 ///
 /// # Errors
@@ -53,7 +53,7 @@ pub fn normalise<O: KeyOrder, R: Source, W: Sink>(
 }
 
 /// Writes the items of the input as they are spelled: as bytes (RFC 8949 section 3), or in the
-/// fixed notation (section 8). The writer is flushed behind the answer, also where that is empty.
+/// fixed notation (section 8). The writer is flushed after the answer, also where that is empty.
 /// The input has at most 2^30 bytes.
 ///
 /// # Errors

@@ -71,7 +71,7 @@ pub fn load_within<R: Source>(
 const PIECE: usize = 4096;
 
 /// The items of bytes, of which none is kept once it was fed. After a fault the bytes are read on
-/// to their end and not fed, so that a failed read and a byte too many are told in its place.
+/// to their end and not fed, so that a failed read and a byte too many are reported in its place.
 ///
 /// # Errors
 /// Those of `load_within`.

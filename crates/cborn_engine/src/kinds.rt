@@ -13,7 +13,7 @@ pub enum Kind {
     /// Diagnostic notation of profile 1 (RFC 8949 section 8, RFC 8610 appendix G).
     Notation,
     /// As an input, diagnostic notation of profile 2, which allows comments to the end of a line
-    /// and commas behind the last item. As an output, the same as `Notation`.
+    /// and commas after the last item. As an output it is what `Notation` is.
     Notation2,
 }
 

@@ -108,7 +108,7 @@ pub fn compared()
     ensures { (k l : Kind) (limit : ℕ) (x y : List ℕ) → AreCompared k l limit x y None ↔ HoldSameItems k l limit x y }
 {}
 
-/// The canonical form of one input of bytes behind another is that of the one behind that of the
+/// The canonical form of two inputs of bytes, one after the other, is that of the first and then that of the
 /// other.
 pub fn joined<O: KeyOrder>()
     ensures { (limit : ℕ) (x y v w : List ℕ) → IsCanonical O.order kinds.Wire kinds.Wire limit x v → IsCanonical O.order kinds.Wire kinds.Wire limit y w → IsCanonical O.order kinds.Wire kinds.Wire limit (x ++ y) (v ++ w) }
@@ -163,7 +163,7 @@ pub fn one_list()
     ensures larger { (k : Kind) (limit most : ℕ) (x : List ℕ) (vs : List Value) → limit ≤ most → Holds k limit x vs → Holds k most x vs }
 {}
 
-/// What was read to its end of a reader that tells its bytes is all that it had.
+/// What was read to its end of a reader that says its bytes is all that it had.
 pub fn whole_input()
     ensures { (x input : List ℕ) (after : Option (List ℕ)) → Consumes (Some x) after input → IsAtEnd after → input ≡ x }
 {}

@@ -12,7 +12,7 @@ use thiserror::Error;
 /// Why a call that wants exactly one item of its input gave no answer.
 #[derive(Clone, Copy, PartialEq, Eq, Debug, Error)]
 pub enum OneFault {
-    /// What the call for any number of items tells. It comes before the two that follow.
+    /// The fault of the call for any number of items. It comes before the two that follow.
     #[error("{0}")]
     Engine(EngineFault),
     /// The input holds no item. The place is its length in bytes.

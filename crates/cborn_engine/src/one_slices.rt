@@ -16,7 +16,7 @@ use std::borrow::CowSlice;
 /// What `normalise_slice` answers of an input that has to hold exactly one item.
 ///
 /// # Errors
-/// `Engine`, with what `normalise_slice` tells of the input. Else `NoItem` or `MoreItems`.
+/// `Engine`, with the fault that `normalise_slice` gives for the input. Else `NoItem` or `MoreItems`.
 pub fn normalise_one_slice<'a, O: KeyOrder>(
     alloc: Global,
     limit: Limit,
@@ -35,7 +35,7 @@ pub fn normalise_one_slice<'a, O: KeyOrder>(
 /// What `show_slice` answers of an input that has to hold exactly one item, valid or not.
 ///
 /// # Errors
-/// `Engine`, with what `show_slice` tells of the input. Else `NoItem` or `MoreItems`.
+/// `Engine`, with the fault that `show_slice` gives for the input. Else `NoItem` or `MoreItems`.
 pub fn show_one_slice<'a>(
     alloc: Global,
     limit: Limit,
@@ -54,7 +54,7 @@ pub fn show_one_slice<'a>(
 /// refused, also where they have a defect.
 ///
 /// # Errors
-/// `Engine`, with what `check_slice` tells of the bytes. Else `NoItem` or `MoreItems`.
+/// `Engine`, with the fault that `check_slice` gives for the bytes. Else `NoItem` or `MoreItems`.
 pub fn check_one_slice<O: KeyOrder>(
     alloc: Global,
     limit: Limit,
@@ -71,7 +71,7 @@ pub fn check_one_slice<O: KeyOrder>(
 /// doesn't depend on `O`.
 ///
 /// # Errors
-/// `First`, where the first input gives no item, by the fault that `normalise_one_slice` tells of
+/// `First`, where the first input gives no item, by the fault that `normalise_one_slice` gives for
 /// it. `Second`, likewise, where the first gives one and the second gives none. `OutOfMemory` is
 /// never inside of these.
 pub fn same_item<O: KeyOrder>(

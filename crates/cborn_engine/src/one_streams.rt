@@ -24,7 +24,7 @@ use std::alloc::Global;
 /// the order `O` (RFC 8949 section 4.2), or the fixed notation of it.
 ///
 /// # Errors
-/// `Engine`, with what `normalise` tells. Of an input for which it tells nothing, `NoItem` or
+/// `Engine`, with the fault that `normalise` gives. Where it gives none, `NoItem` or
 /// `MoreItems`; at these the writer is as it was.
 pub fn normalise_one<O: KeyOrder, R: Source, W: Sink>(
     alloc: Global,
@@ -50,7 +50,7 @@ pub fn normalise_one<O: KeyOrder, R: Source, W: Sink>(
 /// section 3), or in the fixed notation (section 8).
 ///
 /// # Errors
-/// `Engine`, with what `show_all` tells. Of an input for which it tells nothing, `NoItem` or
+/// `Engine`, with the fault that `show_all` gives. Where it gives none, `NoItem` or
 /// `MoreItems`; at these the writer is as it was.
 pub fn show_one<R: Source, W: Sink>(
     alloc: Global,
@@ -76,7 +76,7 @@ pub fn show_one<R: Source, W: Sink>(
 /// also where they have a defect.
 ///
 /// # Errors
-/// `Engine`, with what `check` tells. Else `NoItem` or `MoreItems`.
+/// `Engine`, with the fault that `check` gives. Else `NoItem` or `MoreItems`.
 pub fn check_one<O: KeyOrder, R: Source>(
     alloc: Global,
     limit: Limit,
@@ -94,7 +94,7 @@ pub fn check_one<O: KeyOrder, R: Source>(
 /// doesn't depend on `O`. Each input has at most 2^30 bytes.
 ///
 /// # Errors
-/// `First`, where the first input gave no item, by the fault that `normalise_one` tells of it; then
+/// `First`, where the first input gave no item, by the fault that `normalise_one` gives for it; then
 /// not a byte of the second was read. `Second`, likewise, where the first input gave an item and
 /// the second gave none. `OutOfMemory` may come at any time, and is never inside of `First` or
 /// `Second`.

@@ -37,7 +37,7 @@ use std::borrow::CowSlice;
 ///
 /// # Errors
 /// `TooLong` where the input has more than 2^30 bytes. Else the fault of its content, as
-/// `normalise` tells it, at its offset in bytes from the start of the input, or `OutOfMemory`.
+/// `normalise` gives it, at its offset in bytes from the start of the input, or `OutOfMemory`.
 pub fn normalise_slice<'a, O: KeyOrder>(
     alloc: Global,
     limit: Limit,
@@ -61,7 +61,7 @@ pub fn normalise_slice<'a, O: KeyOrder>(
 ///
 /// # Errors
 /// `TooLong` where the input has more than 2^30 bytes. Else the fault of its content, as `show_all`
-/// tells it, at its offset in bytes from the start of the input, or `OutOfMemory`.
+/// gives it, at its offset in bytes from the start of the input, or `OutOfMemory`.
 pub fn show_slice<'a>(
     alloc: Global,
     limit: Limit,
@@ -89,7 +89,7 @@ pub fn show_slice<'a>(
 ///
 /// # Errors
 /// `TooLong` where there are more than 2^30 bytes. Else the fault of their content, as `check`
-/// tells it, at its offset from their start, or `OutOfMemory`.
+/// gives it, at its offset from their start, or `OutOfMemory`.
 pub fn check_slice<O: KeyOrder>(
     alloc: Global,
     limit: Limit,
@@ -109,7 +109,7 @@ pub fn check_slice<O: KeyOrder>(
 /// which the items differ or only one input has an item. The answer doesn't depend on `O`.
 ///
 /// # Errors
-/// `First`, where the first input gives no items, by the fault that `normalise_slice` tells of it.
+/// `First`, where the first input gives no items, by the fault that `normalise_slice` gives for it.
 /// `Second`, likewise, where the first gives items and the second gives none. `OutOfMemory` is
 /// never inside of these.
 pub fn compare_slices<O: KeyOrder>(
@@ -133,7 +133,7 @@ pub fn compare_slices<O: KeyOrder>(
 /// answer doesn't depend on `O`.
 ///
 /// # Errors
-/// `First`, where the first input gives no items, by the fault that `normalise_slice` tells of it.
+/// `First`, where the first input gives no items, by the fault that `normalise_slice` gives for it.
 /// `Second`, likewise, where the first gives items and the second gives none. `OutOfMemory` is
 /// never inside of these.
 pub fn same_items<O: KeyOrder>(

@@ -37,7 +37,7 @@ pub(crate) fn index_at(input: &[u8], place: u64) -> Option<u64>
 }
 
 /// The length of the head at the front, and of a definite string's bytes with it. None where no
-/// such piece stands there.
+/// such piece begins there.
 #[inline(always)]
 fn piece_len(bytes: &[u8]) -> Option<usize>
     ensures some { IfSome result (λ len. 0 < len) }

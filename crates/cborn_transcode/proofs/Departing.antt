@@ -42,7 +42,7 @@ abbrev pub number_of : Argument → ℕ → ℕ
 number_of (Given w n) k = n
 number_of Unbounded k = k
 
--- the node at the front is the array whose head stands there
+-- the node at the front is the array whose head is there
 pub record IsArray (total n : ℕ) (t : Tree) (mid rest : List ℕ) : Type 0 where
   pub place : ℕ
   pub width : Width
@@ -105,7 +105,7 @@ module _ (order : List ℕ → List ℕ → Ordering) where
 
   -- ---- what was encoded of the front is the encoding of what the node there means
 
-  -- the node that stands at the front is the one that was read there, but for its place
+  -- the node that is at the front is the one that was read there, but for its place
   met : {P : Tree → Type 0} {room : ℕ} (total : ℕ) (t : Tree) (input rest tail : List ℕ) → Stands total t input rest → (i : NodeRead P room input tail) → (rest ≡ tail) × (spelled t ≡ spelled i.node) × ((v : Value) → Means i.node v → Means t v)
   met total t input rest tail s i =
       let f = one_front t i.node rest tail s.fits i.fits (sym s.read ∙ i.read) in
@@ -168,7 +168,7 @@ module _ (order : List ℕ → List ℕ → Ordering) where
           (omega arith, λ p r g. (g.0, inr g.1, g.2)),
         )
 
-    -- a defect stands no lower than the nodes
+    -- a defect is no lower than the nodes
     pub low : (ts : Trees) (vs : Values) (p q : ℕ) (r : DefectReason) → PlacedAll p ts → AllMean ts vs → DefectInAll order ts q r → p ≤ q
     low no_item vs p q r h m d = absurd d.1
     low (more t ts) no_values p q r h m d = absurd m

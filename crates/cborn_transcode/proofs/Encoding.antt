@@ -1,4 +1,4 @@
--- What nodes are encoded as, and what is written one behind the other.
+-- What nodes are encoded as, and what is written one after the other.
 use Rattle.std.proofs.Common.{◌≡◌, ◌≢◌, ℕ, ◌+◌, ◌⊎◌, ◌<◌, ◌^◌, inl, inr, List, [], ◌∷◌, ◌++◌, length, take, drop, Bool, true, false, refl, sym, ap, ◌∙◌, subst, arith, append_assoc, length-append, take_at, drop_at, Ordering}
 use Rattle.cborn_model.specs.Bytes.{IsShortest, big_endian}
 use Rattle.cborn_model.specs.declared.heads.Major.{Major}
@@ -15,12 +15,12 @@ use Rattle.cborn_det.specs.Appending.{Appends, Replaces}
 use Rattle.cborn_det.proofs.Room.{holds_below}
 use Rattle.cborn_transcode.specs.Transcoding.{IsEncodedAs}
 
--- ---- parts that are written one behind the other
+-- ---- parts that are written one after the other
 
 pub appends_both : {P Q R : List ℕ → Type 0} (old : List ℕ) {mid new : List ℕ} → Appends P old mid → Appends Q mid new → ((x y : List ℕ) → P x → Q y → R (x ++ y)) → Appends R old new
 appends_both old a b f = (a.0 ++ b.0, f a.0 b.0 a.1 b.1, b.2 ∙ ap (λ l. l ++ b.0) a.2 ∙ append_assoc old a.0 b.0)
 
--- the bytes behind a head
+-- the bytes after a head
 pub appends_behind : {P R : List ℕ → Type 0} (old b : List ℕ) {mid new : List ℕ} → Appends P old mid → new ≡ mid ++ b → ((h : List ℕ) → P h → R (h ++ b)) → Appends R old new
 appends_behind old b a e f = (a.0 ++ b, f a.0 a.1, e ∙ ap (λ l. l ++ b) a.2 ∙ append_assoc old a.0 b)
 

@@ -40,7 +40,7 @@ use Rattle.cborn_wire.proofs.Parts.Openings.{opened}
 
 -- ---- a map
 
--- the node at the front is the map whose head stands there
+-- the node at the front is the map whose head is there
 pub record IsMap (total n : ℕ) (t : Tree) (mid rest : List ℕ) : Type 0 where
   pub place : ℕ
   pub width : Width
@@ -261,7 +261,7 @@ module _ (order : List ℕ → List ℕ → Ordering) where
           let clear = item_clears order laws total half mid short w l (spelled v ++ (spelled_entries ws ++ rest)) key_stands in
           key_falls before (fallen before l y (coded_key room mid y w e) f) (λ q t d. absurd (clear.1 q t d))
 
-      -- ---- behind a key that is in order
+      -- ---- after a key that is in order
 
       module _ (room : ℕ) (mid y : List ℕ) (before : Option (Bor (List ℕ))) (w : ItemWalked order room half mid) (e : half ≡ y ++ mid) (above : Below order before y) where
         key_clear : (spelled v ++ (spelled_entries ws ++ rest) ≡ mid) × FindsDefect (DefectIn order l) None

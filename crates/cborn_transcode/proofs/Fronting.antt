@@ -32,7 +32,7 @@ module _ (order : List ℕ → List ℕ → Ordering) where
       let own : IsTranscoded order limit x x = record { nodes = i.nodes; items = i.holds.0; read = record { spells = refl; fit = i.fits; shallow = i.shallow }; meant = i.holds.1; encoded = i.holds.2 } in
       subst (λ y. IsTranscoded order limit y y) (sym e) own
 
-  -- where no encoding follows the nodes xs, none that stand at the same front go on further
+  -- where no encoding follows the nodes xs, none that are at the same front go on further
   no_further : (limit : ℕ) (xs us : List Tree) (vs : List Value) (rest front tail : List ℕ) → spelled_all (trees xs) ++ rest ≡ front ++ tail → FitsAll (trees xs) → Wellformed limit (trees us) front → AllZip Means us vs → DetSeq order vs front → AreProper (values_of vs)
       → ((x after : List ℕ) → rest ≡ x ++ after → ItemTranscoded order limit rest after [] x → ⊥) → length front ≤ length (spelled_all (trees xs))
   no_further limit xs [] vs rest front tail e f w m d p none = omega (arith, ap length w.spells)

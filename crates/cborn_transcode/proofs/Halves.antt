@@ -24,7 +24,7 @@ use Rattle.cborn_transcode.proofs.Keying.{spanned_behind, spanned_between, risin
 
 -- ---- pairs that are moved together, one by one
 
--- the first i of all pairs, which lay in b, lie one after another from the start up to a place; what is behind the last of them is as it was
+-- the first i of all pairs, which lay in b, lie one after another from the start up to a place; what is after the last of them is as it was
 pub record MovedUpTo (start : ℕ) (b : List ℕ) (all now : List Span) (i at after : ℕ) (out : List ℕ) : Type 0 where
   pub low : at ≤ after
   pub inside : after ≤ length out
@@ -124,7 +124,7 @@ moved_next start b all now i at after out d len new m n inside l same sum copied
 
 -- ---- the halves
 
--- pairs behind the start, once their spans are rearranged
+-- pairs after the start, once their spans are rearranged
 pub rearranged : (start : ℕ) (b : List ℕ) (es : List Entry) (ss now : List Span) → start ≤ length b → AreSpans start es ss → drop start b ≡ joined es → IsPermutation ss now → IsPermutation es (all_spanned b now)
 rearranged start b es ss now l a e m = subst (λ (z : List Entry). IsPermutation z (all_spanned b now)) (spanned_behind start b es ss l a e) (IsPermutation-map (spanned b) ss now m)
 
@@ -172,7 +172,7 @@ others_put b moved others copy start middle from key value len at sum room fits 
     (λ j. front j ++ (same j ++ behind j))
     ∙ ap (λ z. take start b ++ z) (ap (λ z. others ++ (z ++ tail)) is ∙ sym (append_assoc others pair tail) ∙ ap (λ k. (others ++ pair) ++ drop k b) (sym size))
 
--- the first of the pairs, behind the front and before a tail
+-- the first of the pairs, after the front and before a tail
 pub first_joined : (b : List ℕ) (all others : List Span) (last : Span) (copy : List ℕ) → all ≡ others ++ last ∷ [] → copy ≡ joined (all_spanned b others) → copy ++ ((spanned b last).0 ++ (spanned b last).1) ≡ joined (all_spanned b all)
 first_joined b all others last copy e c =
     ap (λ z. z ++ ((spanned b last).0 ++ (spanned b last).1)) c ∙ sym (joined_more (all_spanned b others) (spanned b last)) ∙ ap joined (sym (map-append (spanned b) others (last ∷ [])) ∙ ap (all_spanned b) (sym e))
@@ -186,7 +186,7 @@ all_last : {X : Type 0} (P : X → Type 0) (xs : List X) (x : X) → AllByRecurs
 all_last P [] x h = h.0
 all_last P (y ∷ xs) x h = all_last P xs x h.1
 
--- the room for the last of the pairs behind the others
+-- the room for the last of the pairs after the others
 pub last_fits : (start : ℕ) (b tail copy : List ℕ) (es : List Entry) (old now others : List Span) (last : Span) → start ≤ length b → AreSpans start es old → drop start b ≡ joined es ++ tail → IsPermutation old now → now ≡ others ++ last ∷ [] → copy ≡ joined (all_spanned b others)
     → (last.start + (last.key_len + last.value_len) ≤ length b) × (start + length copy + (last.key_len + last.value_len) ≤ length b)
 last_fits start b tail copy es old now others last l a e m parts is =

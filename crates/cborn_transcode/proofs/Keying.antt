@@ -70,7 +70,7 @@ spans_more p (f ∷ es) [] e s a b c d = absurd a
 spans_more p (f ∷ es) (t ∷ ss) e s a b c d =
     (a.0, a.1, a.2, spans_more (p + length f.0 + length f.1) es ss e s a.3 (omega (arith, b, length-append (f.0 ++ f.1) (joined es), length-append f.0 f.1)) c d)
 
--- entries that stand one after another between a front and a tail are found where their spans say
+-- entries that lie one after another between a front and a tail are found where their spans say
 pub spanned_between : (front tail : List ℕ) (es : List Entry) (ss : List Span) (p : ℕ) → p ≡ length front → AreSpans p es ss → all_spanned (front ++ (joined es ++ tail)) ss ≡ es
 spanned_between front tail [] [] p q a = refl
 spanned_between front tail [] (s ∷ ss) p q a = absurd a
@@ -99,7 +99,7 @@ spanned_behind start b es ss l a e =
 pub one_spanned : (es fs : List Entry) (ss : List Span) (b : List ℕ) → AreSpans 0 es ss → b ≡ joined es → AreSpans 0 fs ss → b ≡ joined fs → es ≡ fs
 one_spanned es fs ss b a e c f = sym (spanned_all [] es ss 0 refl a) ∙ ap (λ z. all_spanned z ss) (sym e ∙ f) ∙ spanned_all [] fs ss 0 refl c
 
--- ---- pairs that are written from where they stand, the last place first
+-- ---- pairs that are written from where they are, the last place first
 
 -- what was written of all places, when these are left
 pub record WrittenUpTo (order : List ℕ → List ℕ → Ordering) (b : List ℕ) (before : Option (Bor (List ℕ))) (left all : List PairPlace) (old now : List ℕ) : Type 0 where
@@ -130,7 +130,7 @@ at_middle : (P : Entry → Type 0) (fs more : List Entry) (e : Entry) → AllByR
 at_middle P [] more e h = h.0
 at_middle P (f ∷ fs) more e h = at_middle P fs more e h.1
 
--- the last key of some stands once more behind them
+-- the last key of some is once more after them
 twice : (fs more : List Entry) (e : Entry) (js : List (List ℕ)) → keys fs ≡ js ++ e.0 ∷ [] → HasDistinctKeys (fs ++ e ∷ more) → ⊥
 twice [] more e [] q h = cc
 twice [] more e (j ∷ js) q h = cc

@@ -19,7 +19,7 @@ behind s t l = grind (arith, nat_tests)
 overlap_turned : (s t : Span) → overlap s t ≡ overlap t s
 overlap_turned s t = grind (arith, nat_tests)
 
--- of two that don't overlap, the one that begins later begins behind the other
+-- of two that don't overlap, the one that begins later begins after the other
 after : (s t : Span) → overlap s t ≡ false → s.start ≤ t.start → 0 < t.key_len → end_of s ≤ t.start
 after s t o l k = grind (arith, nat_tests)
 

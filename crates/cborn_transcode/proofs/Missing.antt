@@ -54,7 +54,7 @@ pub first_chunk : (m : Major) (mid rest : List ℕ) (cs : List Chunk) → ((z : 
 first_chunk m mid rest [] none e n = none rest e.0
 first_chunk m mid rest (c ∷ cs) none e n = n c (flat_map (chunk_bytes m) cs ++ (255 ∷ rest)) (e.0 ∙ append_assoc (chunk_bytes m c) (flat_map (chunk_bytes m) cs) (255 ∷ rest)) e.1.0 (λ text. (e.2 text).0)
 
--- the chunks behind one that was taken
+-- the chunks after one that was taken
 pub chunk_after : {P : Chunk → Type 0} (m : Major) (mid after rest : List ℕ) (cs : List Chunk) → ((z : List ℕ) → mid ≡ 255 ∷ z → ⊥) → ChunkRead P m mid after → HaveChunks m mid rest cs → (ds : List Chunk) × HaveChunks m after rest ds
 chunk_after m mid after rest [] none x e = absurd (none rest e.0)
 chunk_after m mid after rest (c ∷ cs) none x e =

@@ -33,7 +33,7 @@ zipped [] back t (v ∷ vs) m = (v, m.0)
 zipped (u ∷ front) back t [] m = absurd m
 zipped (u ∷ front) back t (v ∷ vs) m = zipped front back t vs m.1
 
--- where of whatever node stands behind those that were read it is known that it means nothing
+-- where of whatever node follows those that were read it is known that it means nothing
 pub none_after : {P : List Tree → Type 0} (B : Tree → Type 0) (room n : ℕ) (input rest : List ℕ) → ((t : Tree) → B t → MeansNothing t) → NodesRead P room n input rest → (rest ≡ [] → ⊥) → Only B room rest → HoldsNoItems room input
 unfolding Only HoldsNoItems
 none_after B room n input rest not s some only nodes items w m =
@@ -53,7 +53,7 @@ pub nothing_after : {P : List Tree → Type 0} (room n : ℕ) (input rest : List
 unfolding Only HoldsNoItem
 nothing_after room n input rest s some h = none_after MeansNothing room n input rest (λ t b. b) s some (λ tail t. h tail t)
 
--- the nodes behind those that stand at the front
+-- the nodes after those that are at the front
 record Behind (limit : ℕ) (mid : List ℕ) : Type 0 where
   nodes : List Tree
   items : List Value

@@ -1,4 +1,4 @@
--- Where a node stands, and one that spells the same put there.
+-- Where a node is, and one that spells the same put there.
 use Rattle.std.proofs.Common.{◌≡◌, ℕ, [], ◌++◌, sym, ap, ◌∙◌}
 use Rattle.cborn_model.specs.Placed.{Placed}
 use Rattle.cborn_model.specs.Spelled.{spelled, Fits}
@@ -7,7 +7,7 @@ use Rattle.cborn_wire.specs.Places.{placed_from, all_from}
 use Rattle.cborn_wire.proofs.Spelled.AsPlaced.{same_all-from}
 use Rattle.cborn_wire.proofs.Spelled.OneReading.{one_spelling}
 
--- where a node stands
+-- where a node is
 pub stands : (p : ℕ) (t : Tree) → Placed p t → place t ≡ p
 stands p (Uint q w n) h = h
 stands p (Nint q w n) h = h
@@ -24,7 +24,7 @@ abbrev first_of : Trees → Tree → Tree
 first_of no_item d = d
 first_of (more t ts) d = t
 
--- a node that spells what a placed one spells, put where that stands, is that one
+-- a node that spells what a placed one spells, put where that is, is that one
 pub put_there : (p : ℕ) (t u : Tree) → Fits t → Fits u → Placed p t → spelled t ≡ spelled u → placed_from p u ≡ t
 put_there p t u f g h e =
     let ts : Trees = more t no_item in

@@ -1,4 +1,4 @@
--- What nodes mean does not depend on where they stand.
+-- What nodes mean does not depend on where they are.
 use Rattle.std.proofs.Common.{◌≡◌, ℕ, suc, ◌+◌, ◌≤◌, inl, inr, List, [], ◌∷◌, ◌++◌, length, Bool, true, false, refl, sym, ap, ◌∙◌, subst, Ordering}
 use Rattle.std.specs.List.{AllZip}
 use Rattle.cborn_model.specs.declared.nodes.Chunk.{Chunk}

@@ -92,7 +92,7 @@ module _ (order : List ℕ → List ℕ → Ordering) where
       no_map Endless p.nodes q.nodes p.holds.es rest tail (tt, p.fits) (tt, q.fits) (omega (arith, short, ap length p.read, length-append (spelled_entries (entries p.nodes)) (255 ∷ rest)))
       (sym (endless_split Map (spelled_entries (entries p.nodes)) p.read refl) ∙ endless_split Map (spelled_entries (entries q.nodes)) q.read refl) p.holds.encoded repeats q.holds.0 q.holds.1 q.holds.2
 
-  -- the same of pairs that stand as they are encoded
+  -- pairs that are their own encodings
   pub found_repeats : {room n : ℕ} {spans : List Span} {input rest : List ℕ} → n < 2 ^ 64 → Short input → PairsFound order room n spans input rest → (HasDistinctKeys (all_spanned input spans) → ⊥) → (half : ℕ) (tail : List ℕ) → IsMapRead half n input tail → ⊥
   found_repeats {spans = spans} {rest = rest} l short s repeats half tail q =
       let p = s.holds in

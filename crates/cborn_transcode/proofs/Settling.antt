@@ -10,7 +10,7 @@ use Rattle.cborn_transcode.specs.devices.Departing.{KeyIs}
 use Rattle.cborn_transcode.proofs.Departing.{coded}
 use Rattle.cborn_transcode.proofs.Falling.{one_code}
 
--- the key at the front was encoded, and that compared with x: so it is known of these bytes wherever they stand
+-- the key at the front was encoded, and that compared with x: so it is known of these bytes wherever they are
 pub settled : (order : List ℕ → List ℕ → Ordering) → IsKeyOrder order → (x input key out : List ℕ) (left : ℕ) (above : Bool) → length input < 2 ^ 64 → ItemLeaves order 1024 input left [] out → key ≡ take (length input - left) input → (IsTrue above ↔ (order x out ≡ Less)) → (tail : List ℕ) → KeyIs order x (key ++ tail) above
 settled order laws x input key out left above short l k h tail total t rest y s e =
     let i = l.2 in

@@ -91,7 +91,7 @@ none_some : (o : Option WireReason) (r : WireReason) → o ≡ None → o ≡ So
 none_some None r e f = cc
 none_some (Some q) r e f = cc
 
--- where no whole head is read none stands
+-- where no whole head is read there is none
 pub no_head_stands : (m : Major) (a : Argument) (input y : List ℕ) (r : HeadRead) → ReadsHead input r → ((h : Head) (n : ℕ) → r ≡ Full h n → ⊥) → ArgumentFits a → reason_alone (head m a ++ y) ≡ None → input ≡ head m a ++ y → ⊥
 no_head_stands m a input y (Full h n) i other f free e = other h n refl
 no_head_stands m a input y Short i other f free e =

@@ -1,4 +1,4 @@
--- A walk that finds neither what follows an item nor its departure: no item stands there, or whatever item does has a defect, or is too deep.
+-- A walk that finds neither what follows an item nor its departure: there is no item, or whatever item does has a defect, or is too deep.
 use Rattle.std.proofs.Common.{◌≡◌, ◌⊎◌, ◌^◌, ℕ, suc, ◌-◌, ◌<◌, ◌≤◌, inl, inr, List, [], ◌∷◌, ◌++◌, length, take, refl, sym, ap, ◌∙◌, subst, arith, length-append, Option, None, Bor, Ordering, take_at}
 use Rattle.std.specs.Prelude.{IsTrue, IsUtf8, true, false}
 use Rattle.cborn_model.specs.declared.heads.Major.{Major}
@@ -39,7 +39,7 @@ use Rattle.cborn_transcode.proofs.Fronting.{own_walked}
 use Rattle.cborn_transcode.proofs.Tagging.{is_tag, string_under}
 use Rattle.cborn_transcode.proofs.Telling.{tell_none}
 
--- ---- leaves of which none stands
+-- ---- leaves of which there is none
 
 content_at : (t : Tree) (m : Major) (w : Width) (n : ℕ) (input rest : List ℕ) (total : ℕ) → (m ≡ ByteString) ⊎ (m ≡ TextString) → WidthFits w n → NoContent m n input → Stands total t (head m (Given w n) ++ input) rest → ((opening t).0 ≡ m) × ((opening t).1 ≡ Given w n) × (contents t ++ rest ≡ input) → ⊥
 content_at (Bytes q v b) m w n input rest total k f h s o = h b rest (record { read = sym o.2; len = ap (λ z. number_of z n) o.1; bytes = s.fits.1 }) (λ e. (let z : ByteString ≡ TextString = o.0 ∙ e in absurd cc))
@@ -140,7 +140,7 @@ short_loose : (b : List ℕ) → length b ≤ 8 → IsLoose b
 short_loose [] l = tt
 short_loose (x ∷ b) l = inr l
 
--- what is known of the byte string that stands behind a shortest head
+-- what is known of the byte string that follows a shortest head
 pub string_behind : (total n : ℕ) (major : Major) (t : Tree) (input tail rest b : List ℕ) → LeastHeadRead major n input tail → Stands total t input rest → IsByteString t b → (major ≡ ByteString) × (b ++ rest ≡ tail) × (length b ≡ n)
 string_behind total n major t input tail rest b h s is =
     let o = opened t major (Given (least n) n) tail rest s.fits h.fits (sym s.read ∙ h.read) in

@@ -1,4 +1,4 @@
--- Strings behind a head that was read, and integers over byte strings.
+-- Strings after a head that was read, and integers over byte strings.
 use Rattle.std.proofs.Common.{◌≡◌, ℕ, ◌≤◌, List, [], ◌∷◌, ◌++◌, length, take, drop, refl, sym, ap, ◌∙◌, subst, append_assoc, append-nil, take_at, drop_at, Bool}
 use Rattle.cborn_model.specs.Bytes.{AreBytes, IsShortest, big_endian}
 use Rattle.cborn_model.specs.declared.heads.Major.{Major}
@@ -41,7 +41,7 @@ pub fixed_taken : {negative : Bool} {n : ℕ} {digits new : List ℕ} (old : Lis
     → BignumTaken negative (head ByteString (Given w n) ++ input) (drop n input) old new
 fixed_taken {n = n} {digits} old w input b l f bs ss v a = bytes_read 0 w f (string_front n input l b) (digits, (take n input, refl, (digits, bs, ss, v, refl)), a)
 
--- over chunks, which were gathered behind what stood there
+-- over chunks, which were gathered after what was there
 pub chunks_taken : {negative : Bool} {start : ℕ} {input after rest digits mid new : List ℕ} (old : List ℕ) → start ≡ length old → ChunksTaken ByteString input after old mid → after ≡ 255 ∷ rest
     → AreBytes digits → IsShortest digits → big_endian digits ≡ big_endian (drop start mid) → Appends (IsInteger negative digits) (take start mid) new
     → BignumTaken negative (head ByteString Unbounded ++ input) rest old new

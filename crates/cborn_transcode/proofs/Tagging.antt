@@ -37,7 +37,7 @@ content_means q w n t v (inl m) = (bytes m.1.0, string_means t m.1.0 m.1.1)
 content_means q w n t v (inr (inl m)) = (bytes m.1.0, string_means t m.1.0 m.1.1)
 content_means q w n t v (inr (inr m)) = (m.2, m.3)
 
--- the node at the front is the tag whose head stands there
+-- the node at the front is the tag whose head is there
 pub record IsTag (total n : ℕ) (t : Tree) (mid rest : List ℕ) : Type 0 where
   pub width : Width
   pub content : Tree

@@ -118,7 +118,7 @@ module _ (order : List ℕ → List ℕ → Ordering) (input : List ℕ) where
   halts_kept o Nothing h = tt
 
 module _ (order : List ℕ → List ℕ → Ordering) (room : ℕ) where
-  -- what stands behind the head at the front
+  -- what follows the head at the front
   pub walks_from : (x tail : List ℕ) (major k : Major) (n : ℕ) (w : Walked) → LeastHeadRead major n x tail → major ≡ k → WalksBehind order room k n tail w → Walks order room x w
   walks_from x tail major k n w h e s =
       tell (Leaves (WalkedBehind order room k n tail)) (Leaves (ItemWalked order room x)) (StopsBehind order k n tail) (Stops order x) (λ l. LacksBehind order l room k n tail) (λ l. Lacks order l room x) w

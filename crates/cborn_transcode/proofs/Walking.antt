@@ -1,4 +1,4 @@
--- Items that stand as they are encoded.
+-- Items that are their own encodings.
 use Rattle.std.proofs.Common.{◌≡◌, ◌≢◌, ℕ, ◌+◌, ◌-◌, ◌⊎◌, ◌<◌, ◌≤◌, List, [], ◌∷◌, ◌++◌, length, take, drop, drop_at, IsPermutation, Bool, true, false, refl, sym, ap, ◌∙◌, subst, arith, append_assoc, append-nil, length-append, Option, Some, None, Bor, Ordering, Equal}
 use Rattle.std.specs.Prelude.{IsTrue}
 use Rattle.std.proofs.lemmas.List.{append_cancel_right, map-append, take-append-drop, length-drop}
@@ -156,7 +156,7 @@ module _ (order : List ℕ → List ℕ → Ordering) where
         last = (keys es, map-append (λ (z : Entry). z.0) es (last ∷ []) ∙ ap (λ l. keys es ++ l ∷ []) same);
       })
 
-  -- ---- behind a head
+  -- ---- after a head
 
   array_own : (n : ℕ) (ts : List Tree) → WidthFits (least n) n → length ts ≡ n → AreDeterministic order ts → IsDeterministic order (Items 0 (Fixed (least n)) (trees ts))
   array_own n ts h l e =
@@ -209,7 +209,7 @@ bignum_found {x} {tail} {content} {rest} {major} {n} h e c r long l b s =
 pub all_walked : (order : List ℕ → List ℕ → Ordering) (limit n : ℕ) (input : List ℕ) → ItemsWalked order limit n input [] → IsTranscoded order limit input input
 all_walked order limit n input s = normalised order limit n input input (items_copied order [] input s (sym (append-nil input)) refl)
 
--- ---- what is left, told by its length
+-- ---- what is left, known by its length
 
 same_last : (input rest x : List ℕ) (len : ℕ) → length rest ≡ len → (front : List ℕ) → input ≡ front ++ rest → IsLast input len x → rest ≡ x
 same_last input rest x len l front e s =
@@ -230,7 +230,7 @@ module _ (order : List ℕ → List ℕ → Ordering) {room : ℕ} where
       let w = item_last s l in
       node_as w (spelled w.node, w.holds, append_cancel_right front (spelled w.node) rest (sym e ∙ w.read))
 
-  -- ---- items without children, told by where they end
+  -- ---- items without children, known by where they end
 
   pub leaf_walked : {x tail : List ℕ} {major : Major} {n left : ℕ} → LeastHeadRead major n x tail → Leaves (WalkedBehind order room major n tail) left → Leaves (ItemWalked order room x) left
   leaf_walked h s = (s.0, s.1, walked_from order h refl s.2)

@@ -39,14 +39,14 @@ spanned written s = (take s.key_len (drop s.start written), take s.value_len (dr
 abbrev pub all_spanned : List ℕ → List Span → List Entry
 all_spanned written = map (spanned written)
 
--- where entries lie that stand one after another from a place on
+-- where entries lie that follow one another from a place on
 abbrev pub AreSpans : ℕ → List Entry → List Span → Type 0
 AreSpans p [] [] = Unit {0}
 AreSpans p [] (s ∷ ss) = ⊥
 AreSpans p (e ∷ es) [] = ⊥
 AreSpans p (e ∷ es) (s ∷ ss) = (s.start ≡ p) × (s.key_len ≡ length e.0) × (s.value_len ≡ length e.1) × AreSpans (p + length e.0 + length e.1) es ss
 
--- entries with keys that aren't empty stand one after another from the start to the end of the bytes, where the spans say
+-- entries with keys that aren't empty follow one another from the start to the end of the bytes, where the spans say
 pub record AreLaid (start : ℕ) (es : List Entry) (spans : List Span) (b : List ℕ) : Type 0 where
   pub inside : start ≤ length b
   pub laid : AreSpans start es spans
@@ -100,7 +100,7 @@ module _ (order : List ℕ → List ℕ → Ordering) (room : ℕ) where
   abbrev pub ItemTranscoded : List ℕ → List ℕ → List ℕ → List ℕ → Type 0
   ItemTranscoded input rest old new = NodeRead (λ t. Appends (IsEncodedAs order t) old new) room input rest
 
-  -- such a node, behind which so many bytes are left
+  -- such a node, after which so many bytes are left
   abbrev pub ItemLeaves : List ℕ → ℕ → List ℕ → List ℕ → Type 0
   ItemLeaves input left old new = Leaves (λ rest. ItemTranscoded input rest old new) left
 
@@ -128,7 +128,7 @@ pub record IsTranscoded (order : List ℕ → List ℕ → Ordering) (limit : �
 abbrev pub MeansNothing : Tree → Type 0
 MeansNothing t = (item : Value) → Means t item → ⊥
 
--- whatever node, no deeper than the room, stands at the front, it means no item
+-- whatever node, no deeper than the room, is at the front, it means no item
 unfoldable pub HoldsNoItem : (room : ℕ) (input : List ℕ) → Type 0
 HoldsNoItem room input = (rest : List ℕ) (t : NodeRead (λ _. Unit {0}) room input rest) → MeansNothing t.node
 
@@ -142,7 +142,7 @@ IsIntegral Unsigned = Unit {0}
 IsIntegral Negative = Unit {0}
 IsIntegral _ = ⊥
 
--- the argument stands in the first width that has room for it
+-- the argument is in the first width that has room for it
 abbrev pub IsLeast : Argument → Type 0
 IsLeast (arguments.Given w n) = w ≡ least n
 IsLeast arguments.Endless = ⊥

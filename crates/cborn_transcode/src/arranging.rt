@@ -18,7 +18,7 @@ use std::cmp::Ordering;
 const COPIED_AT_ONCE: usize = 65_536;
 
 /// Arranges the pairs that `out` has from `start` on, and that lie at `spans`, so that their keys
-/// rise. Where the keys rise as they stand, nothing is moved. An error where two keys are equal.
+/// rise. Where the keys rise as they are, nothing is moved. An error where two keys are equal.
 pub(crate) fn arrange<O: KeyOrder>(
     alloc: Global,
     spans: &mut Vec<Span>,
@@ -80,7 +80,7 @@ fn set_in_halves<O: KeyOrder>(
 }
 
 /// Sets the last of the pairs, as many as fit half of the bytes, after the others. These are moved
-/// together, in the order in which they lie; `spans` keeps them, and as their hints where they stand
+/// together, in the order in which they lie; `spans` keeps them, and as their hints where they are
 /// in the order of the keys.
 fn set_last(
     alloc: Global,
@@ -102,7 +102,7 @@ fn set_last(
     Ok(())
 }
 
-/// How many pairs stand before the last ones, which are as many as fit the room.
+/// How many pairs come before the last ones, which are as many as fit the room.
 fn first_count(spans: &[Span], room: usize) -> usize
     ensures { result ≤ length spans.now }
 {
@@ -200,7 +200,7 @@ fn total_len(spans: &[Span]) -> usize {
     total
 }
 
-/// Arranges pairs so that their keys rise, and tells whether they do: they don't only where two are
+/// Arranges pairs so that their keys rise, and answers whether they do: they don't only where two are
 /// equal. It goes by their hints, and where those don't suit the order, by the order alone.
 #[inline(always)]
 fn sort_rising<O: KeyOrder>(written: &[u8], spans: &mut Vec<Span>) -> bool

@@ -1,6 +1,6 @@
 //! Where a walk stops: at the first departure from the deterministic encoding (RFC 8949 section
-//! 4.2), or where no item stands. Nothing here runs for bytes that don't depart, so all of it stands
-//! out of line.
+//! 4.2), or where there is no item. Nothing here runs for bytes that don't depart, so none of it is
+//! inlined.
 
 ghost use Rattle.std.specs.Prelude.{◌≡◌, ◌⊎◌, ◌-◌, ◌≤◌, ℕ, List, Some, IfOk, OnOk, MatchOption, IsTrue, false};
 ghost use Rattle.std.specs.declared.cmp.Ordering.{Ordering};
@@ -33,7 +33,7 @@ pub enum Departure {
 /// What a walk is asked.
 #[derive(Clone, Copy)]
 pub(crate) enum Ask {
-    /// Whether the bytes depart. Where a bignum or a key does, it isn't told where.
+    /// Whether the bytes depart. Where a bignum or a key does, the answer doesn't say where.
     Whether,
     /// Where they first depart. A key in which they do waits, since its own place in the order isn't
     /// known yet.
@@ -106,8 +106,7 @@ impl<'a, O: KeyOrder> Asked<'a, O> {
         Ok(())
     }
 
-    /// Whether the key at the front of `bytes` is above the one before. None where no key stands
-    /// there.
+    /// Whether the key at the front of `bytes` is above the one before. None where there is no key.
     ///
     /// # Errors
     /// Memory was refused.
@@ -128,7 +127,7 @@ impl<'a, O: KeyOrder> Asked<'a, O> {
         is_encoded_above::<O>(alloc, before, bytes)
     }
 
-    /// What `stop` tells of an input of `total` bytes, where the walk stopped.
+    /// The answer for an input of `total` bytes, where the walk stopped with `stop`.
     ///
     /// # Errors
     /// Memory was refused.
@@ -169,10 +168,10 @@ pub(crate) enum Walked {
     LooseBignum(usize),
     /// Its first departure is the order of a key, with so many bytes from there on.
     KeyOrder(usize),
-    /// No item that is its own encoding stands there. Where one departs isn't known: the walk isn't
+    /// There is no item that is its own encoding. Where one departs isn't known: the walk isn't
     /// asked, or a key waits.
     Unknown,
-    /// No item stands there.
+    /// There is no item.
     Nothing,
     /// A growth was refused: the error of it is kept in `Asked`.
     Refused,
@@ -180,7 +179,7 @@ pub(crate) enum Walked {
 
 impl Walked {
     /// Whether it stays what is found of a key with `len` bytes from its start on, whatever the key's
-    /// place in the order: nothing stands there, memory was refused, or the departure is at the start.
+    /// place in the order: nothing is there, memory was refused, or the departure is at the start.
     fn is_at(self, len: usize) -> bool
         ensures at { IsTrue result → IsAt len self }
         ensures later { result ≡ false → IsNotAt len self }
@@ -242,8 +241,8 @@ pub(crate) fn bignum_departure<'a, O: KeyOrder>(
     }
 }
 
-/// Whether the byte string at the front, whole or in chunks, is loose as a bignum. None where no byte
-/// string stands there.
+/// Whether the byte string at the front, whole or in chunks, is loose as a bignum. None where there is
+/// no byte string.
 ///
 /// # Errors
 /// Memory was refused.
@@ -260,8 +259,8 @@ fn is_loose<O: KeyOrder>(alloc: Global, bytes: &[u8]) -> Result<Option<bool>, Al
     Ok(Some(loose_defect(0, content).is_some()))
 }
 
-/// Whether the key at the front of `bytes`, encoded, is above the one before. None where no key
-/// stands there.
+/// Whether the key at the front of `bytes`, encoded, is above the one before. None where there is
+/// no key.
 ///
 /// # Errors
 /// Memory was refused.

@@ -414,8 +414,8 @@ pub(crate) enum Begun {
     Whole(usize),
 }
 
-/// Writes the head of a map of `n` pairs, which stand at the front of `bytes`, and the pairs where
-/// they are many and can be written from where they stand.
+/// Writes the head of a map of `n` pairs, which are at the front of `bytes`, and the pairs where
+/// they are many and can be written from there.
 ///
 /// # Errors
 /// Two keys are equal, or memory was refused.

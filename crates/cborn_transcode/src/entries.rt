@@ -15,7 +15,7 @@ use std::cmp::Ordering;
 pub(crate) struct Span {
     /// A number that rises with the key, as a rule. What is written doesn't rest on it.
     pub hint: u64,
-    /// How many bytes stand before the key.
+    /// How many bytes are before the key.
     pub start: usize,
     /// The length of the key in bytes.
     pub key_len: usize,

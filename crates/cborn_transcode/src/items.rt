@@ -12,7 +12,7 @@ use std::alloc::{AllocError, Global};
 use std::mem;
 
 /// Appends the encoding of the item at the front of `bytes`, which is no deeper than `room`, and
-/// answers what follows it. None where no such item stands there.
+/// answers what follows it. None where no such item is there.
 ///
 /// # Errors
 /// Memory was refused.
@@ -47,7 +47,7 @@ pub(crate) fn put_item<'a, O: KeyOrder, N: Noting<O>>(
 }
 
 /// Appends the encoding of the key at the front of `bytes`, which is no deeper than `room`, and notes
-/// it with those in it. Whether such a key stands there.
+/// it with those in it. Answers whether there is such a key.
 ///
 /// # Errors
 /// Memory was refused.

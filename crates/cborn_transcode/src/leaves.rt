@@ -89,7 +89,7 @@ pub(crate) fn set_string(
     put_string(text, &content, out)
 }
 
-/// How many bytes the chunks up to a break hold, for the head that stands before them. It promises
+/// How many bytes the chunks up to a break hold, for the head before them. It promises
 /// nothing: what is then copied is counted.
 pub(crate) fn joined_len(bytes: &[u8]) -> u64 {
     let mut rest = bytes;
@@ -112,7 +112,7 @@ pub(crate) fn joined_len(bytes: &[u8]) -> u64 {
 }
 
 /// Chunks of a byte string up to a break, whose contents are appended; answers what follows the
-/// break. None where no such chunks stand there.
+/// break. None where no such chunks are there.
 ///
 /// # Errors
 /// Memory was refused.
@@ -132,7 +132,7 @@ fn put_chunks<'a>(bytes: &'a [u8], out: &mut Vec<u8>) -> Result<Option<&'a [u8]>
 }
 
 /// A chunk of a byte string, whose content is appended; answers what follows it. None where no such
-/// chunk stands there.
+/// chunk is there.
 ///
 /// # Errors
 /// Memory was refused.
@@ -172,7 +172,7 @@ fn put_content<'a>(
 }
 
 /// The integer of tag 2, or 3 where negative, over a byte string, which may come in chunks (RFC
-/// 8949 section 3.4.3); answers what follows it. None where no byte string stands there.
+/// 8949 section 3.4.3); answers what follows it. None where no byte string is there.
 ///
 /// # Errors
 /// Memory was refused.
@@ -218,8 +218,8 @@ fn put_fixed_bignum<'a>(
     Ok(Some(rest))
 }
 
-/// The integer over the chunks of a byte string, up to their break. They are gathered where the
-/// integer is to stand. None where no such chunks stand there.
+/// The integer over the chunks of a byte string, up to their break. They are gathered in the place of
+/// the integer. None where no such chunks are there.
 ///
 /// # Errors
 /// Memory was refused.

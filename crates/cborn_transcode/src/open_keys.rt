@@ -2,8 +2,8 @@
 
 use std::alloc::{AllocError, Global};
 
-/// The keys of maps that a pass is inside of. Behind a pass that gave no answer, these are those that
-/// hold the place where it gave up; tests hold that, and no clause does.
+/// The keys of maps that a pass is inside of. After a pass that gave no answer, these are those that
+/// hold the place where it stopped. No clause says so; a test does.
 #[derive(Drop)]
 pub struct OpenKeys {
     /// Of each how many bytes there are from there on, the outermost first.
@@ -21,8 +21,8 @@ impl OpenKeys {
         }
     }
 
-    /// Whether a pass gave up inside the key with `left` bytes from there on. Who asks goes over the
-    /// input from the front to the end, and asks of each key before those behind it.
+    /// Whether a pass stopped inside the key with `left` bytes from there on. The caller goes over the
+    /// input from the front to the end, and asks of each key before those after it.
     #[inline(always)]
     pub fn has_key(&mut self, left: usize) -> bool {
         !self.lefts.is_empty() && self.come_to(left)

@@ -50,8 +50,8 @@ pub fn transcode_after<O: KeyOrder>(
 
 /// Appends the deterministic encoding of the item at the front of the bytes, which is no deeper than
 /// `room`, the keys of maps in the order `O` (RFC 8949 section 4.2); answers what follows it, which
-/// isn't looked at. None where no such item stands there. Then, and after an error, nothing is
-/// promised of what `out` holds, and `open` has the keys that hold the place where it gave up.
+/// isn't looked at. None where no such item is there. Then, and after an error, nothing is
+/// promised of what `out` holds, and `open` has the keys that hold the place where it stopped.
 ///
 /// # Errors
 /// A growth of the memory was refused.

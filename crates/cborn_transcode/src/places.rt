@@ -1,4 +1,4 @@
-//! Great maps whose pairs stand in the input as they are written, only out of order: they are
+//! Great maps whose pairs are in the input as they are written, only out of order: they are
 //! written straight from there.
 
 ghost use Rattle.std.specs.Prelude.{◌≡◌, ◌-◌, ◌≤◌, ℕ, List, [], length, drop, IsPermutation, IfSome, IfOk};
@@ -20,7 +20,7 @@ use std::cmp::Ordering;
 pub(crate) struct PairPlace {
     /// As that of a span.
     pub hint: u64,
-    /// How many bytes stand before the key.
+    /// How many bytes are before the key.
     pub start: u32,
     /// The length of the key in bytes.
     pub key_len: u16,
@@ -76,7 +76,7 @@ fn find_pairs<O: KeyOrder>(
     Ok(Some(bytes.len() - at))
 }
 
-/// Where the item ends that begins at `at`, if it stands there in its deterministic encoding and
+/// Where the item ends that begins at `at`, if it is its own deterministic encoding and
 /// holds no others.
 #[inline(always)]
 fn leaf_end(bytes: &[u8], at: usize) -> Option<usize>
@@ -109,7 +109,7 @@ fn place_of<O: KeyOrder>(start: usize, middle: usize, end: usize, bytes: &[u8]) 
     })
 }
 
-/// From how many announced pairs on it is tried first to write them from where they stand: fewer
+/// From how many announced pairs on it is tried first to write them from where they are: fewer
 /// need little room either way.
 const GREAT: u64 = 1000;
 

@@ -1,4 +1,4 @@
-//! Runs of items that are deterministic as they stand.
+//! Runs of items that are deterministic as they are.
 
 ghost use Rattle.std.specs.Prelude.{◌<◌, ◌≤◌, ℕ, List, length, drop, IfOk, IsTrue};
 ghost use Rattle.std.specs.declared.cmp.Ordering.{Ordering};

@@ -19,7 +19,7 @@ pub(crate) struct SettledKey<'k, O: KeyOrder> {
 
 impl<'k, O: KeyOrder> SettledKey<'k, O> {
     /// The key at the front of `waiting`, which is the one at the front of `bytes`, with `left` bytes
-    /// behind it and this encoding. None where it isn't.
+    /// after it and this encoding. None where it isn't.
     pub(crate) fn new(
         waiting: &'k [u8],
         before: &'k [u8],

@@ -21,7 +21,7 @@ pub(crate) fn int_len(bytes: &[u8]) -> usize
     len
 }
 
-/// The big-endian number of the bytes behind the first.
+/// The big-endian number of the bytes after the first.
 #[inline(always)]
 fn top(a: u8, b: u8, c: u8, d: u8) -> u32
     ensures { result ≡ top_of a b c d }
@@ -29,7 +29,7 @@ fn top(a: u8, b: u8, c: u8, d: u8) -> u32
     u32::from(a) * 16777216 + u32::from(b) * 65536 + u32::from(c) * 256 + u32::from(d)
 }
 
-/// The length of the integer with this initial byte, and the least number of the four bytes behind
+/// The length of the integer with this initial byte, and the least number of the four bytes after
 /// it with which its head is the shortest. The length is 0 where no integer begins so.
 #[inline(always)]
 fn form(first: u8) -> (usize, u32)
@@ -39,8 +39,8 @@ fn form(first: u8) -> (usize, u32)
     if first > 63 {
         return (0, 0);
     }
-    // By the low five bits the wide forms stand side by side, and are looked up rather than branched to.
-    // The least arguments 24, 256, 65536 and 2^32 as they stand in the four bytes: 24 * 2^24, 256 * 2^16,
+    // The wide forms are next to one another by the low five bits, and are looked up rather than branched to.
+    // The least arguments 24, 256, 65536 and 2^32 as they are in the four bytes: 24 * 2^24, 256 * 2^16,
     // 65536, and 1 in the upper four of eight.
     match first % 32 {
         0..=23 => (1, 0),

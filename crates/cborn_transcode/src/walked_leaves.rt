@@ -1,4 +1,4 @@
-//! What a walk finds in place of items without children, and of keys.
+//! What a walk finds of items without children, and of keys.
 
 ghost use Rattle.std.specs.Prelude.{◌≡◌, ◌≢◌, ◌⊎◌, ◌≤◌, ◌++◌, ℕ, List, false, length, IsTrue, IfSome};
 ghost use Rattle.std.specs.declared.cmp.Ordering.{Ordering};
@@ -15,7 +15,7 @@ use cborn_model::{KeyOrder, Major, is_simple_value, shortest};
 use cborn_wire::{Argument, HeadRead, read_head};
 
 /// The major type and the argument of the head at the front, which is the shortest, and what
-/// follows it. None: whatever item stands there departs.
+/// follows it. None: whatever item is there departs.
 #[inline(always)]
 pub(crate) fn read_least(bytes: &[u8]) -> Option<(Major, u64, &[u8])>
     ensures read { IfSome result (λ r. LeastHeadRead r.0 r.1 bytes.now r.2.now) }
@@ -34,8 +34,8 @@ pub(crate) fn read_least(bytes: &[u8]) -> Option<(Major, u64, &[u8])>
     Some((head.major_type(), n, &bytes[len..]))
 }
 
-/// How many bytes follow what stands behind the shortest head of the major type with the argument
-/// `n`, where that head begins no item that holds others. None: no item stands there.
+/// How many bytes follow the item of which the shortest head, of the major type with the argument `n`,
+/// was read, if it is one that holds no others. None: no item is there.
 #[inline(always)]
 pub(crate) fn walk_leaf(major: Major, n: u64, bytes: &[u8]) -> Option<usize>
     ensures walked { IfSome result (λ left. (order : List ℕ → List ℕ → Ordering) (room : ℕ) → Leaves (WalkedBehind order room major n bytes.now) left) }
@@ -75,7 +75,7 @@ fn walk_content(major: Major, n: u64, bytes: &[u8]) -> Option<usize>
 }
 
 /// How many bytes follow the byte string of a bignum, which is neither within 64 bits nor begins
-/// with a zero (RFC 8949 section 3.4.3). None: whatever bignum stands there departs.
+/// with a zero (RFC 8949 section 3.4.3). None: whatever bignum is there departs.
 #[inline(never)]
 pub(crate) fn walk_bignum(bytes: &[u8]) -> Option<usize>
     ensures walked { IfSome result (Leaves (BignumWalked bytes.now)) }
@@ -110,7 +110,7 @@ pub(crate) fn last(bytes: &[u8], len: usize) -> &[u8]
     split_before(bytes, len).1
 }
 
-/// What stands before the last `len` of the bytes, and these.
+/// What is before the last `len` of the bytes, and these.
 #[inline(always)]
 pub(crate) fn split_before(bytes: &[u8], len: usize) -> (&[u8], &[u8])
     requires { len ≤ length bytes.now }

@@ -37,7 +37,7 @@ pub fn deterministic_front<O: KeyOrder>(limit: Limit, bytes: &[u8]) -> usize
 /// after another, none deeper than `limit`, the keys of maps in the order `O` (RFC 8949 section
 /// 4.2); that they nowhere do; or that they hold no items.
 ///
-/// The bytes are walked over once, in place, up to the departure. What stands behind it isn't
+/// The bytes are walked over once, in place, up to the departure. What follows it isn't
 /// looked at, so that a departure promises nothing of bytes that hold no items. Memory is taken only
 /// where a bignum or a key departs, for its encoding; where a key does that isn't the first of its
 /// map, the item is walked over once more.
@@ -120,7 +120,7 @@ fn walk_again<'a, O: KeyOrder>(
 
 /// The item at the front of the bytes, which is its own deterministic encoding, no deeper than
 /// `room`, the keys of maps in the order `O` (RFC 8949 section 4.2); and what follows it, which
-/// isn't looked at. None: no such encoding stands there. No memory is taken.
+/// isn't looked at. None: no such encoding is there. No memory is taken.
 #[inline(always)]
 pub fn split_item<O: KeyOrder>(room: u64, bytes: &[u8]) -> Option<(&[u8], &[u8])>
     requires { room ≤ 1024 }
@@ -135,7 +135,7 @@ pub fn split_item<O: KeyOrder>(room: u64, bytes: &[u8]) -> Option<(&[u8], &[u8])
 }
 
 /// How many bytes follow the item at the front, which is no deeper than `room`, or where it first
-/// departs, or that no item stands there.
+/// departs, or that no item is there.
 #[cycle(walked)]
 #[inline(always)]
 fn walk_item<'a, O: KeyOrder>(asked: &mut Asked<'a, O>, room: u64, bytes: &'a [u8]) -> Walked

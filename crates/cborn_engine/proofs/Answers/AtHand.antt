@@ -50,7 +50,7 @@ module _ (limit most : ℕ) (input : List ℕ) (l : length input ≤ most) where
   not_checked order (Ok d) f n = tt
   not_checked order (Err why) f n = refused_whole kind.Wire limit most input why l n (f l)
 
--- what a search that finds nothing tells
+-- what follows from a search that finds nothing
 pub none_found : {A : Type 0} (o : Option A) (b : Bool) (P : Type 0) (Q : A → Type 0) → is_some o ≡ not b → IsTrue b → MatchOption o P Q → P
 none_found None b P Q e t h = h
 none_found (Some x) b P Q e t h = absurd (let f : not b ≡ false = ap not t in cc)

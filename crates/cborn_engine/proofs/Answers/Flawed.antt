@@ -23,13 +23,13 @@ use Rattle.cborn_engine.specs.devices.Encoding.{kind_of}
 use Rattle.cborn_engine.specs.Reading.{most_bytes}
 use Rattle.cborn_engine.specs.Refusing.{IsRefused}
 
--- a refusal of nodes that stand elsewhere, at this place, is one of the nodes of the text, at that place
+-- a refusal of nodes that are elsewhere, at this place, is one of the nodes of the text, at that place
 abbrev pub IsCarried : Profile → List ℕ → List ℕ → ℕ → ℕ → Type 0
 IsCarried p text bytes place there =
     length text < 2 ^ 56 → (limit : ℕ) (nodes others : List Tree) (r : InvalidReason) → Notates p limit text (trees nodes) → spelled_all (trees nodes) ≡ bytes
     → Wellformed limit (trees others) bytes → PlacedAll 0 (trees others) → IsRefusalOfAll others (invalid.Refused place r) → IsRefusalOfAll nodes (invalid.Refused there r)
 
--- of whatever nodes of the text, and of whatever nodes that the bytes spell, none stands at this place, and no chunk
+-- of whatever nodes of the text, and of whatever nodes that the bytes spell, none is at this place, and no chunk
 abbrev pub HasNoStart : Profile → List ℕ → List ℕ → ℕ → Type 0
 HasNoStart p text bytes place =
     length text < 2 ^ 56 → (limit : ℕ) (nodes others : List Tree) → Notates p limit text (trees nodes) → spelled_all (trees nodes) ≡ bytes → Wellformed limit (trees others) bytes → PlacedAll 0 (trees others)

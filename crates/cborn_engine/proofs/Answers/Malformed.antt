@@ -23,7 +23,7 @@ use Rattle.cborn_engine.specs.Faults.{of_first}
 use Rattle.cborn_engine.specs.Holding.{Spells, Holds}
 use Rattle.cborn_engine.specs.Whole.{TellsFault, TellsFirstFault}
 
--- nothing is to be told of what spells nodes
+-- nothing is wrong with what spells nodes
 pub wellformed : {A : Type 0} (k : Kind) (limit : ℕ) (input : List ℕ) (ts : Trees) (result : Result A EngineFault) → (k ≡ kind.Wire → Wellformed limit ts input) → TellsFault k limit input result
 wellformed k limit input ts result w p r e f = absurd (not_both limit input p r (ts, w e) f)
 
@@ -46,7 +46,7 @@ of_text k p limit input result e q r w f = absurd (never p (sym e ∙ w))
     never profile.One e = cc
     never profile.Two e = cc
 
--- what was found is told
+-- what was found is answered
 pub refused : {A : Type 0} (k : Kind) (limit : ℕ) (input : List ℕ) (q : ℕ) (s : WireReason) → Fault limit input q s → TellsFault {A = A} k limit input (Err (fault.Wire (wire.Refused q s)))
 refused k limit input q s g p r e f =
     let t = one_fault limit input q p s r g f in

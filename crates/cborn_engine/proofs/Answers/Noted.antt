@@ -45,11 +45,11 @@ module _ (p : Profile) (limit : ℕ) (text bytes : List ℕ) (u : IsUtf8 text) (
         encoded = n.encoded;
       }
 
-  -- their bytes are told
+  -- their bytes are written
   pub as_bytes : (out : Kind) → out ≡ kind.Wire → IsShown (kind_of p) out limit text bytes
   as_bytes out w = record { nodes = (nodes_of s); spelled = notated; shown = subst (λ k. IsSpelledAs k (nodes_of s) bytes) (sym w) (sym (spells_of s)) }
 
-  -- their text is told
+  -- their text is written
   pub as_text : (out : Kind) → (out ≡ kind.Wire → ⊥) → (answer : List ℕ) → IsShownText limit bytes answer → length text ≤ most_bytes → IsShown (kind_of p) out limit text answer
   as_text out never answer t l =
       let same = same_nodes (trees t.nodes) (trees (nodes_of s)) t.read.fit (fits l) (t.read.spells ∙ sym (spells_of s)) in

@@ -1,4 +1,4 @@
--- What is answered where an input is told in another form.
+-- What is answered where an input is written in another form.
 use Rattle.std.proofs.Common.{◌≡◌, ◌≤◌, ℕ, List, [], length, refl, sym, ap, ◌∙◌, subst, Option, Result, Ok, Err, Vec, Global}
 use Rattle.cborn_model.specs.Tree.{Tree, Trees, trees}
 use Rattle.cborn_model.specs.Spelled.{Wellformed, spelled_all}
@@ -21,7 +21,7 @@ use Rattle.cborn_streams.specs.Writing.{Sends, WriteAnswers}
 use Rattle.cborn_engine.proofs.Answers.Told.{answer_of}
 use Rattle.cborn_engine.proofs.Answers.Unanswered.{nothing_written}
 
--- a refusal is told as it is
+-- a refusal is answered as it is
 pub refused : (k out : Kind) (limit most : ℕ) (input : List ℕ) (why : EngineFault) → IsRefused k limit most input why × IsNoFlaw why → TellAnswers k out limit most input (Err why)
 refused k out limit most input (fault.Show w) r = absurd r.0
 refused k out limit most input _ r = r
@@ -41,7 +41,7 @@ own_spelling limit input (ts, w, p) =
       shown = sym (ap spelled_all same ∙ w.spells);
     }
 
--- well-formed bytes that aren't told as this kind
+-- well-formed bytes that aren't written as this kind
 pub untold_text : (out : Kind) (limit most place : ℕ) (input : List ℕ) → length input ≤ most → (ts : Trees) × Wellformed limit ts input × PlacedAll 0 ts
     → ((most : ℕ) (nodes : List Tree) → Wellformed most (trees nodes) input → PlacedAll 0 (trees nodes) → IsUnshownAs out nodes (unshown.NotUtf8 place))
     → TellAnswers kind.Wire out limit most input (Err (fault.Show (unshown.NotUtf8 place)))

@@ -93,7 +93,7 @@ held_sound order k limit input vs x short h d =
 -- ---- what follows for the canonical form of what an input holds
 
 module _ (order : List ℕ → List ℕ → Ordering) (laws : IsKeyOrder order) (k out : Kind) (limit : ℕ) (x w : List ℕ) (short : length x ≤ most_bytes) (c : IsCanonical order k out limit x w) where
-  -- the encoding that the output is, or tells
+  -- the encoding that the output is, or is the notation of
   encoded : (e : List ℕ) × DetSeq order c.items e × IsWrittenAs out e w
   encoded = canon_is order out c.items w c.written
 

@@ -124,7 +124,7 @@ module _ (order : List ℕ → List ℕ → Ordering) where
           values_of_seq order back.items v (same_encoded order laws (value_list vs) back.items v s.proper back.proper f same),
         )
 
-  -- ---- one input behind another
+  -- ---- one input after another
 
   transcoded_items : (limit : ℕ) (x z old v : List ℕ) → (a : IsCanonical order kind.Wire kind.Wire limit x v) → ItemsTranscoded order limit (length a.held.nodes) (x ++ z) z old (old ++ v)
   transcoded_items limit x z old v a = record {

@@ -1,4 +1,4 @@
--- What nodes mean is valid if it has an encoding, since its heads tell how long its parts are.
+-- What nodes mean is valid if it has an encoding, since its heads give the lengths of its parts.
 use Rattle.std.proofs.Common.{◌≤◌, ◌<◌, ◌^◌, ℕ, inl, inr, Bool, true, false, List, [], ◌∷◌, length, refl, sym, subst, arith, Ordering}
 use Rattle.std.specs.List.{AllZip, AllByRecursion}
 use Rattle.cborn_model.specs.Bytes.{big_endian, IsShortest}

@@ -57,7 +57,7 @@ module _ (order : List ℕ → List ℕ → Ordering) where
     read : Wellformed limit (trees nodes) left
     meant : AllZip Means nodes vs
 
-  -- the items to come behind the first ones, which are the same
+  -- the items to come after the first ones, which are the same
   record Further (limit : ℕ) (vs ws : List Value) (left right : List ℕ) : Type 0 where
     others : List Value
     others2 : List Value
@@ -99,7 +99,7 @@ module _ (order : List ℕ → List ℕ → Ordering) (laws : IsKeyOrder order) 
       let one : a.0 ≡ b.0 = one_of_same order laws v w a.0 b.0 h.proper.0 h.proper2.0 same a.2 b.2 in
       never b.1 (b.4 ∙ ap (λ (z : List ℕ). z ++ b.1) (sym (first ∙ one))))
 
-  -- the nodes behind the first one
+  -- the nodes after the first one
   nodes_behind : (limit : ℕ) (ts : List Tree) (v : Value) (vs : List Value) (left l : List ℕ) → (d : DetSeq order (v ∷ vs) left) → IsProper v → Wellformed limit (trees ts) left → AllZip Means ts (v ∷ vs) → l ≡ d.1 → NodesAhead order limit vs l
   nodes_behind limit [] v vs left l d p w m e = absurd m
   nodes_behind limit (t ∷ ts) v vs left l d p w m e =
@@ -197,13 +197,13 @@ module _ (order : List ℕ → List ℕ → Ordering) (laws : IsKeyOrder order) 
           lift = λ j q. let same : suc j + k ≡ j + (k + 1) = omega arith in subst (λ (i : ℕ). Difference s.a s.b (Some i)) same (s.lift (suc j) (t.lift j q));
         }
 
-    -- an encoding stands at the front of what is left of ours
+    -- an encoding is at the front of what is left of ours
     pub front_left : (left right : List ℕ) (k : ℕ) → SoFar order limit ours theirs left right k → 0 < length left → ((front rest : List ℕ) → left ≡ front ++ rest → ItemTranscoded order limit left rest [] front → ⊥) → ⊥
     front_left left right k s some none = let f = first_node limit s.spelt.nodes s.vs left s.ahead.det s.ahead.proper s.spelt.read s.spelt.meant some in none f.0 f.1 f.2 f.3
 
 -- ---- an encoding at the front
 
--- less is left behind an item
+-- less is left after an item
 pub item_less : {P : Tree → Type 0} {room : ℕ} {input rest : List ℕ} → NodeRead P room input rest → length rest < length input
 item_less {rest = rest} x = omega (arith, ap length x.read, length-append (spelled x.node) rest, some_bytes x.node)
 

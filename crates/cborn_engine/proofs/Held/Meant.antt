@@ -59,7 +59,7 @@ unplaced_once kind.Wire limit input ns ms h g = same_nodes (trees ns) (trees ms)
 unplaced_once kind.Notation limit input ns ms h g = ap (λ (us : List Tree). unplaced_all (trees us)) (notates_once profile.One limit input ns ms h g)
 unplaced_once kind.Notation2 limit input ns ms h g = ap (λ (us : List Tree). unplaced_all (trees us)) (notates_once profile.Two limit input ns ms h g)
 
--- nodes that an input spells mean the same items, wherever they say that they stand
+-- nodes that an input spells mean the same items, whatever places they say
 pub means_too : (k : Kind) (limit : ℕ) (input : List ℕ) (ns ms : List Tree) (vs : List Value) → Spells k limit input ns → Spells k limit input ms → AllZip Means ns vs → AllZip Means ms vs
 means_too k limit input ns ms vs h g m = zip_mean ms vs (same_meaning (trees ns) (trees ms) (unplaced_once k limit input ns ms h g) (values_of vs) (all_mean ns vs m))
 

@@ -125,7 +125,7 @@ simple_back p n x v d =
 module _ (order : List ℕ → List ℕ → Ordering) (laws : IsKeyOrder order) where
   -- ---- maps
 
-  -- an entry of a pair reads back wherever it stands, and its key is that of the pair
+  -- an entry of a pair reads back wherever it is, and its key is that of the pair
   abbrev Backed : ℕ → Value × Value → Entry → Type 0
   Backed deep r e = ((p : ℕ) → EntryReadsBack deep p r e) × IsProper r.0 × Det order r.0 e.0
 

@@ -40,7 +40,7 @@ shown_as_bytes kind.Wire limit x v s =
 shown_as_bytes kind.Notation limit x v s = let t = text_back profile.One limit x v s.nodes s.spelled s.shown in record { nodes = t.nodes; spelled = t.notated; shown = t.spelled }
 shown_as_bytes kind.Notation2 limit x v s = let t = text_back profile.Two limit x v s.nodes s.spelled s.shown in record { nodes = t.nodes; spelled = t.notated; shown = t.spelled }
 
--- nodes that are one, but for their places, are told as one
+-- nodes that are one, but for their places, are shown as one
 one_telling : (out : Kind) (ns ms : List Tree) (v w : List ℕ) → unplaced_all (trees ns) ≡ unplaced_all (trees ms) → IsSpelledAs out ns v → IsSpelledAs out ms w → v ≡ w
 one_telling kind.Wire ns ms v w e s t = s ∙ same_bytes (trees ns) (trees ms) e ∙ sym t
 one_telling kind.Notation ns ms v w e s t = s.1 ∙ same_text (trees ns) (trees ms) e ∙ sym t.1

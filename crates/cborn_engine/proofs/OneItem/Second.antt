@@ -38,7 +38,7 @@ some_steps ts (o ∷ os) = omega (arith, length-append (steps ts os) (step_in o 
 same_index : (n m : ℕ) → Item n ∷ [] ≡ Item m ∷ [] → n ≡ m
 same_index n m e = cc
 
--- the node that a front spells which ends behind one
+-- the node that a front spells which ends after one
 front_node : (x : List ℕ) → EndsAt x (Item 1 ∷ []) → (u : Tree) × Fits u × (spelled u ≡ x)
 front_node x (us, os, fit, deep, begun, is, path) = go us os fit is path
   where

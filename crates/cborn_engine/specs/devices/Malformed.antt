@@ -1,4 +1,4 @@
--- A device: the fault of bytes that aren't well-formed, as it is told. No public contract cites it.
+-- A device: the fault of bytes that aren't well-formed, as it is answered. No public contract cites it.
 use Rattle.std.specs.Prelude.{◌≡◌, ℕ, List}
 use Rattle.cborn_wire.specs.declared.faults.WireFault.TheVariants as wire
 use Rattle.cborn_wire.specs.declared.faults.WireReason.{WireReason}

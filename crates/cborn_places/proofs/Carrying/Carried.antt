@@ -1,4 +1,4 @@
--- The first flaw that is found in bytes is the first flaw of the nodes of a text that spell these bytes, where the same start stands in the text.
+-- The first flaw that is found in bytes is the first flaw of the nodes of a text that spell these bytes, at the start of the same number in the text.
 use Rattle.std.proofs.Common.{◌≡◌, ℕ, zero, suc, ◌^◌, ◌<◌, ◌≤◌, inl, inr, List, [], ◌∷◌, length, map, sym, ap, ◌∙◌, subst, None, Some, arith, option_map}
 use Rattle.std.specs.Prelude.{slice_get, Option, Result, Ok, Err, IfOk, IfSome}
 use Rattle.std.proofs.lemmas.List.{map-append}
@@ -86,7 +86,7 @@ places_moved : (f : ℕ → ℕ) (off place : ℕ) (us : List Tree) → f off �
 places_moved f off place [] e = tt
 places_moved f off place (u ∷ us) e = (λ here. place-moved f u ∙ ap f here ∙ e, places_moved f off place us e)
 
--- The same of a text, where both starts were told by their number.
+-- That for a text, where both starts are given by their number.
 pub flaw_told : (profile : Profile) (text bytes : List ℕ) (index offset place : ℕ) → AreBytes text → length text < 2 ^ 56
     → ((limit : ℕ) (nodes : Trees) → Wellformed limit nodes bytes → PlacedAll 0 nodes → slice_get (starts_all nodes) index ≡ Some offset)
     → ((limit : ℕ) (nodes : Trees) → Notates profile limit text nodes → slice_get (starts_all nodes) index ≡ Some place)
@@ -96,7 +96,7 @@ flaw_told profile text bytes index offset place are_bytes short at there limit n
     let rise = spots_rise profile limit text (trees nodes) notated in
     flaw_carried limit bytes nodes others fit spells whole placed rise index offset place r (at limit (trees others) whole placed) (there limit (trees nodes) notated)
 
--- And nodes that stand at the one start stand at the other.
+-- And nodes that are at the one start are at the other.
 pub place_told : (profile : Profile) (text bytes : List ℕ) (index offset place : ℕ) → AreBytes text → length text < 2 ^ 56
     → ((limit : ℕ) (nodes : Trees) → Wellformed limit nodes bytes → PlacedAll 0 nodes → slice_get (starts_all nodes) index ≡ Some offset)
     → ((limit : ℕ) (nodes : Trees) → Notates profile limit text nodes → slice_get (starts_all nodes) index ≡ Some place)

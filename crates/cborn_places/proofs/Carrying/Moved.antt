@@ -1,4 +1,4 @@
--- Nodes that stand elsewhere: each place p is f p.
+-- Nodes that are elsewhere: each place p is f p.
 use Rattle.std.proofs.Common.{◌≡◌, ℕ, List, [], ◌∷◌, ◌++◌, map, refl, sym, ap, ◌∙◌}
 use Rattle.std.proofs.lemmas.List.{map-append}
 use Rattle.cborn_model.specs.declared.nodes.Chunk.{Chunk}

@@ -89,7 +89,7 @@ module _ (f : ℕ → ℕ) where
 
 -- ---- a map from a list that rises to any of its length
 
--- the member of the second list where p stands in the first
+-- the member of the second list where p is in the first
 abbrev lookup : List ℕ → List ℕ → ℕ → ℕ
 lookup [] ys p = 0
 lookup (x ∷ xs) [] p = 0

@@ -1,4 +1,4 @@
--- The starts of nodes in their bytes rise, the spots are some of them, and each flaw stands at a spot.
+-- The starts of nodes in their bytes rise, the spots are some of them, and each flaw is at a spot.
 use Rattle.std.proofs.Common.{◌≡◌, ◌∙◌, ℕ, suc, ◌+◌, inl, inr, List, [], ◌∷◌, ◌++◌, length, map, refl, sym, ap, subst, Some}
 use Rattle.std.specs.Prelude.{slice_get}
 use Rattle.cborn_model.specs.declared.nodes.Chunk.{Chunk}
@@ -72,7 +72,7 @@ mutual
       part_append (spots k) (starts k) (spots v ++ spots_entries es) (starts v ++ starts_entries es) (spots_part k)
       (part_append (spots v) (starts v) (spots_entries es) (starts_entries es) (spots_part v) (spots_entries_part es))
 
--- ---- flaws stand at spots
+-- ---- flaws are at spots
 
 own_spot : (t : Tree) → IsIn (place t) (spots t)
 own_spot (Uint p w n) = inl refl

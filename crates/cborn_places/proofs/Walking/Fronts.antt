@@ -63,7 +63,7 @@ same_arguments m (Given w n) (Given v k) r s h i info e = same_given m w v n k r
 same_arguments m (Given w n) Unbounded r s h i info e = let is : Given w n ≡ Unbounded = unended_for (Given w n) info in cc
 same_arguments m Unbounded b r s h i info e = let is : b ≡ Unbounded = unended_for b (sym info) in ap (λ c. length (head m c) + content_of m c) (sym is)
 
--- The whole length is told by the head at the front.
+-- The head at the front gives the whole length.
 pub one_length : (m j : Major) (a b : Argument) (r s : List ℕ) → ArgumentFits a → ArgumentFits b → head m a ++ r ≡ head j b ++ s → length (head m a) + content_of m a ≡ length (head j b) + content_of j b
 one_length m j a b r s h i e =
     let f = first m a r in

@@ -12,7 +12,7 @@ use Rattle.cborn_places.specs.devices.Pieces.{Piece, piece_bytes, all_bytes, IsP
 use Rattle.cborn_places.proofs.Walking.Fronts.{break_first, no_break_first, piece_some}
 use Rattle.cborn_places.proofs.Walking.Parts.{all_parts}
 
--- The walk is at this offset, before some pieces, and behind so many of the starts, all of them before the place that it looks for.
+-- The walk is at this offset, before some pieces, and after so many of the starts, all of them before the place that it looks for.
 pub record Passed (starts x : List ℕ) (place at index : ℕ) : Type 0 where
   pub before : List ℕ
   pub early : AllByRecursion (λ q. q < place) before
@@ -79,7 +79,7 @@ module _ (x : List ℕ) (place at index n : ℕ) (front : List ℕ) (same : fron
   pub piece_passed : (get_or front 0 0 ≡ 255 → ⊥) → IsPassed x place at index → IsPassed x place (at + n) (index + 1)
   piece_passed first h limit nodes well placed = passes (starts_all nodes) false (λ p rest is e. no_break_first p front rest e first) (h limit nodes well placed)
 
--- Where no break stands, a start does.
+-- Where there is no break, there is a start.
 pub starts_here : (x : List ℕ) (place at index : ℕ) → at < length x → (get_or x at 0 ≡ 255 → ⊥) → IsPassed x place at index
     → (limit : ℕ) (nodes : Trees) → Wellformed limit nodes x → PlacedAll 0 nodes → slice_get (starts_all nodes) index ≡ Some at
 starts_here x place at index within first h limit nodes well placed = let p = h limit nodes well placed in go p p.pieces p.are p.left p.start
@@ -115,7 +115,7 @@ late place at (p ∷ ps) l =
 none_some : (p : ℕ) → None ≡ Some p → ⊥
 none_some p e = cc
 
--- between starts before a place and starts behind it
+-- between starts before a place and starts after it
 amid : (place : ℕ) (before rest : List ℕ) → AllByRecursion (λ q. q < place) before → AllByRecursion (λ q. place < q) rest → (i : ℕ) → slice_get (before ++ rest) i ≡ Some place → ⊥
 amid place [] [] h k i e = none_some place e
 amid place [] (y ∷ ys) h k zero e = let same : y ≡ place = same_Some y place e in omega (arith, same, k.0)
@@ -124,13 +124,13 @@ amid place (x ∷ xs) rest h k zero e = let same : x ≡ place = same_Some x pla
 amid place (x ∷ xs) rest h k (suc i) e = amid place xs rest h.1 k i e
 
 module _ (x : List ℕ) (place at index : ℕ) (h : IsPassed x place at index) where
-  -- behind the place
+  -- after the place
   pub passed_over : place < at → IsNoStart x place
   passed_over over limit nodes well placed i e =
       let p = h limit nodes well placed in
       amid place p.before (starts_from at p.pieces) p.early (late place at p.pieces over) i (ap (λ (l : List ℕ). slice_get l i) (sym p.start) ∙ e)
 
-  -- at its end, or where no piece stands
+  -- at its end, or where there is no piece
   pub no_piece_there : (front : List ℕ) → front ≡ drop at x → ((p : Piece) (rest : List ℕ) → IsPiece p → front ≡ piece_bytes p ++ rest → ⊥) → IsNoStart x place
   no_piece_there front same none limit nodes well placed i e = let p = h limit nodes well placed in go p p.pieces p.are p.left p.start
     where
@@ -138,7 +138,7 @@ module _ (x : List ℕ) (place at index : ℕ) (h : IsPassed x place at index) w
       go p [] are left start = amid place p.before [] p.early tt i (ap (λ (l : List ℕ). slice_get l i) (sym start) ∙ e)
       go p (q ∷ ps) are left start = none q (all_bytes ps) are.0 (same ∙ left)
 
-  -- where a break stands
+  -- where there is a break
   pub break_there : place ≤ at → get_or x at 0 ≡ 255 → IsNoStart x place
   break_there beyond first limit nodes well placed i e = let p = h limit nodes well placed in go p p.pieces p.are p.left p.start
     where

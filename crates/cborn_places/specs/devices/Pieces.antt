@@ -7,7 +7,7 @@ use Rattle.cborn_model.specs.Heads.{Argument, Unbounded, head}
 use Rattle.cborn_wire.specs.HeadReading.{ArgumentFits, reason_alone}
 use Rattle.cborn_wire.specs.shared.Scanning.{content_of}
 
--- a head, of a break too, and the bytes of a definite string behind it
+-- a head, of a break too, and the bytes of a definite string after it
 pub record Piece : Type 0 where
   pub major : Major
   pub argument : Argument
@@ -19,7 +19,7 @@ piece_bytes p = head p.major p.argument ++ p.content
 abbrev pub all_bytes : List Piece → List ℕ
 all_bytes = flat_map piece_bytes
 
--- the head is one that may stand somewhere
+-- the head is one that may be somewhere
 pub record IsPiece (p : Piece) : Type 0 where
   pub free : (y : List ℕ) → reason_alone (head p.major p.argument ++ y) ≡ None
   pub fits : ArgumentFits p.argument

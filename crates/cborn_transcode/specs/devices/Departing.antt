@@ -30,7 +30,7 @@ use Rattle.cborn_transcode.specs.Transcoding.{IsContent, IsEncodedAs, HoldsNoIte
 use Rattle.cborn_wire.specs.Parts.{Leaves, StringRead}
 use Rattle.cborn_transcode.specs.shared.Walking.{ItemWalked, LeastHeadRead, WalkedBehind}
 
--- the node stands at the front of the input, and means an item
+-- the node is at the front of the input, and means an item
 pub record Stands (total : ℕ) (t : Tree) (input rest : List ℕ) : Type 0 where
   pub item : Value
   pub read : input ≡ spelled t ++ rest
@@ -38,7 +38,7 @@ pub record Stands (total : ℕ) (t : Tree) (input rest : List ℕ) : Type 0 wher
   pub placed : Placed (total - length input) t
   pub meant : Means t item
 
--- the n nodes stand at the front of the input one after another, and mean items
+-- the n nodes are at the front of the input one after another, and mean items
 pub record AllStand (total n : ℕ) (ts : Trees) (input rest : List ℕ) : Type 0 where
   pub items : Values
   pub read : input ≡ spelled_all ts ++ rest
@@ -47,7 +47,7 @@ pub record AllStand (total n : ℕ) (ts : Trees) (input rest : List ℕ) : Type 
   pub meant : AllMean ts items
   pub count : count ts ≡ n
 
--- the n pairs stand at the front of the input one after another, and mean items
+-- the n pairs are at the front of the input one after another, and mean items
 pub record PairsStand (total n : ℕ) (es : Entries) (input rest : List ℕ) : Type 0 where
   pub items : Couples
   pub read : input ≡ spelled_entries es ++ rest
@@ -56,7 +56,7 @@ pub record PairsStand (total n : ℕ) (es : Entries) (input rest : List ℕ) : T
   pub meant : EntriesMean es items
   pub count : count_entries es ≡ n
 
--- no item stands at the front
+-- no item is at the front
 abbrev pub NoneStands : List ℕ → Type 0
 NoneStands input = (total : ℕ) (t : Tree) (rest : List ℕ) → Stands total t input rest → ⊥
 
@@ -64,12 +64,12 @@ NoneStands input = (total : ℕ) (t : Tree) (rest : List ℕ) → Stands total t
 abbrev pub NoContent : Major → ℕ → List ℕ → Type 0
 NoContent major n input = (content rest : List ℕ) → StringRead n input content rest → IsContent major content → ⊥
 
--- of which items a walk knows that none stands at the front: of any, or of those without a defect
+-- of which items a walk knows that none is at the front: of any, or of those without a defect
 pub data Lacking : Type 0 where
   any_item : Lacking
   without_defect : Lacking
 
--- what is known of what a walk found: that so many bytes follow the item, that so many follow the place of its first departure, or that no such item stands there
+-- what is known of what a walk found: that so many bytes follow the item, that so many follow the place of its first departure, or that no such item is there
 abbrev pub Tell : (ℕ → Type 0) → (DefectReason → ℕ → Type 0) → (Lacking → Type 0) → Walked → Type 0
 Tell behind stops lacks (Behind left) = behind left
 Tell behind stops lacks (LongHead left) = stops reasons.LongHead left
@@ -120,13 +120,13 @@ IsNotAt len w = Tell (λ left. ⊤) (λ r left. left ≢ len) (λ k. ⊤) w
 abbrev pub Tells : ℕ → Walked → Defect → Type 0
 Tells total w d = Departs (λ r left. (left ≤ total) × (d.place ≡ total - left) × (d.reason ≡ r)) w
 
--- what is told of an input of so many bytes
+-- what is answered of an input of so many bytes
 abbrev pub IsTold : ℕ → Walked → Departure → Type 0
 IsTold total w Deterministic = ⊥
 IsTold total w (First d) = Tells total w d
 IsTold total w departures.Nothing = w ≡ Nothing
 
--- no byte string stands at the front
+-- no byte string is at the front
 abbrev pub HasNoString : List ℕ → Type 0
 HasNoString input = (total : ℕ) (t : Tree) (rest b : List ℕ) → Stands total t input rest → IsByteString t b → ⊥
 
@@ -151,7 +151,7 @@ module _ (order : List ℕ → List ℕ → Ordering) where
   abbrev pub Stops : List ℕ → DefectReason → ℕ → Type 0
   Stops input r left = (left ≤ length input) × ((total : ℕ) (t : Tree) (rest : List ℕ) → length input ≤ total → Stands total t input rest → FindsDefect (DefectIn order t) (Some (record { place = total - left; reason = r })))
 
-  -- the same of an item behind the shortest head of this major type with the argument n
+  -- an item after the shortest head of this major type with the argument n
   abbrev pub StopsBehind : Major → ℕ → List ℕ → DefectReason → ℕ → Type 0
   StopsBehind m n input r left = WidthFits (least n) n → Stops (head m (Given (least n) n) ++ input) r left
 
@@ -163,15 +163,15 @@ module _ (order : List ℕ → List ℕ → Ordering) where
   IsOf any_item t = Unit {0}
   IsOf without_defect t = FindsDefect (DefectIn order t) None
 
-  -- no such item, no deeper than the room, stands at the front
+  -- no such item, no deeper than the room, is at the front
   abbrev pub Lacks : Lacking → ℕ → List ℕ → Type 0
   Lacks k room input = (total : ℕ) (t : Tree) (rest : List ℕ) → length input ≤ total → Stands total t input rest → depth t ≤ room → IsOf k t → ⊥
 
-  -- the same of an item behind the shortest head of this major type with the argument n
+  -- an item after the shortest head of this major type with the argument n
   abbrev pub LacksBehind : Lacking → ℕ → Major → ℕ → List ℕ → Type 0
   LacksBehind k room m n input = WidthFits (least n) n → Lacks k room (head m (Given (least n) n) ++ input)
 
-  -- whatever item stands at the front, no deeper than the room, has a defect
+  -- whatever item is at the front, no deeper than the room, has a defect
   abbrev pub Strays : ℕ → List ℕ → Type 0
   Strays = Lacks without_defect
 
@@ -195,7 +195,7 @@ module _ (order : List ℕ → List ℕ → Ordering) where
   abbrev pub RemainAmong : Entries → Entries → Type 0
   RemainAmong us es = (depth_entries us ≤ depth_entries es) × ((p : ℕ) (r : DefectReason) → DefectAmong order us p r → DefectAmong order es p r)
 
-  -- the nodes before the last `left` of n at the front of the input have no defect, and these stand at the front of what follows
+  -- the nodes before the last `left` of n at the front of the input have no defect, and these are at the front of what follows
   abbrev pub Leads : ℕ → ℕ → List ℕ → List ℕ → Type 0
   Leads n left input mid = (total : ℕ) (ts : Trees) (rest : List ℕ) → length input ≤ total → AllStand total n ts input rest → (us : Trees) × AllStand total left us mid rest × Decides us ts × Remain us ts
 
@@ -212,11 +212,11 @@ module _ (order : List ℕ → List ℕ → Ordering) where
   Falls before no_entry p = ⊥
   Falls before (entry l v es) p = ((p ≡ place l) × IsBelowKey before l) ⊎ Descends order l es p
 
-  -- what a map is checked for from some pairs on, beside its head
+  -- what a map is checked for from some pairs on, besides its head
   abbrev pub DefectOn : Option (Bor (List ℕ)) → Entries → ℕ → DefectReason → Type 0
   DefectOn before es p r = ((r ≡ reasons.KeyOrder) × Falls before es p) ⊎ DefectAmong order es p r
 
-  -- the pairs before the last `left` of n have no defect, and these stand behind the key before
+  -- the pairs before the last `left` of n have no defect, and these follow the key before
   abbrev pub LeadsPairs : ℕ → ℕ → Option (Bor (List ℕ)) → List ℕ → List ℕ → Type 0
   LeadsPairs n left before input mid = (total : ℕ) (es : Entries) (rest : List ℕ) → length input ≤ total → PairsStand total n es input rest
       → (us : Entries) × PairsStand total left us mid rest × ((o : Option Defect) → FindsDefect (DefectOn before us) o → FindsDefect (MapDefect order es) o) × RemainAmong us es

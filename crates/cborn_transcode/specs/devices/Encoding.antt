@@ -22,7 +22,7 @@ abbrev pub HeadOpen : (major place : ℕ) → Argument → (old mid : List ℕ) 
 HeadOpen major place (Given w n) old mid = Appends (IsLeastHead major n) old mid
 HeadOpen major place Unbounded old mid = (place ≡ length old) × (mid ≡ old ++ 0 ∷ [])
 
--- a string in chunks, which are joined behind a head
+-- a string in chunks, which are joined after a head
 pub record ChunksOpen (text : Bool) (kept : OpenString) (old new : List ℕ) (cs : List Chunk) : Type 0 where
   pub mid : List ℕ
   pub head : Appends (IsLeastHead (code (major_of text)) kept.len) old mid

@@ -25,7 +25,7 @@ pub record AreApart (start len : ℕ) (ss : List Span) : Type 0 where
   pub within : AllByRecursion (LiesIn start len) ss
   pub apart : IsDistinct overlap ss
 
--- pairs lie from a place on in so many bytes, each behind the one before it
+-- pairs lie from a place on in so many bytes, each after the one before it
 abbrev pub Follow : ℕ → ℕ → List Span → Type 0
 Follow p len [] = p ≤ len
 Follow p len (s ∷ ss) = (p ≤ s.start) × Follow (end_of s) len ss

@@ -15,7 +15,7 @@ use Rattle.cborn_transcode.specs.Transcoding.{IsContent}
 abbrev pub NoChunk : Major → List ℕ → Type 0
 NoChunk major input = (c : Chunk) (rest : List ℕ) → input ≡ chunk_bytes major c ++ rest → WidthFits c.width (length c.bytes) × AreBytes c.bytes → IsContent major c.bytes → ⊥
 
--- the chunks stand at the front, up to a break
+-- the chunks are at the front, up to a break
 abbrev pub HaveChunks : Major → List ℕ → List ℕ → List Chunk → Type 0
 HaveChunks major input rest cs = (input ≡ flat_map (chunk_bytes major) cs ++ (255 ∷ rest)) × ChunksFit cs × (major ≡ TextString → ChunksAreText cs)
 

@@ -1,4 +1,4 @@
--- A device of the proofs: how far the pairs of a great map were written from where they stand. No public contract cites it.
+-- A device of the proofs: how far the pairs of a great map were written from where they are. No public contract cites it.
 use Rattle.std.specs.Prelude.{◌≡◌, ℕ, List, ◌++◌, IsPermutation, Result, Ok, Err, ⊤}
 use Rattle.std.specs.declared.cmp.Ordering.{Ordering}
 use Rattle.cborn_model.specs.Orders.{Rising}
@@ -15,7 +15,7 @@ use Rattle.cborn_transcode.specs.Transcoding.{all_spanned, IsMapRead, MapTransco
 use Rattle.cborn_transcode.specs.shared.Walking.{spans_of}
 use Rattle.cborn_wire.specs.Parts.{Leaves}
 
--- the pairs at the places are written, so arranged that their keys rise; or something is, behind what stood there; or two of the keys are equal
+-- the pairs at the places are written, so arranged that their keys rise; or something is, after what was there; or two of the keys are equal
 abbrev pub PlacesPut : (List ℕ → List ℕ → Ordering) → List ℕ → List PairPlace → List ℕ → List ℕ → Result Placed Unarranged → Type 0
 PlacesPut order bytes places old new (Ok put.All) = (fs : List Entry) × IsPermutation (all_spanned bytes (spans_of places)) fs × Rising order (keys fs) × (new ≡ old ++ joined fs)
 PlacesPut order bytes places old new (Ok put.UpToFall) = (x : List ℕ) × (new ≡ old ++ x)

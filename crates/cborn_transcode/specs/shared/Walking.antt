@@ -35,7 +35,7 @@ pub record LeastHeadRead (major : Major) (n : ℕ) (input rest : List ℕ) : Typ
 abbrev pub top_of : ℕ → ℕ → ℕ → ℕ → ℕ
 top_of a b c d = a * 16777216 + b * 65536 + c * 256 + d
 
--- an integer with this initial byte has a head of this length, which is the shortest if the four bytes behind it make at least this number
+-- an integer with this initial byte has a head of this length, which is the shortest if the four bytes after it make at least this number
 abbrev pub IsIntegerForm : ℕ → ℕ → ℕ → Type 0
 IsIntegerForm first len top =
     (first / 32 < 2)
@@ -93,6 +93,6 @@ module _ (order : List ℕ → List ℕ → Ordering) (room : ℕ) where
   abbrev pub PairsWalked : ℕ → Option (Bor (List ℕ)) → List ℕ → List ℕ → Type 0
   PairsWalked n before = PairsRead (HaveRisingKeys order before) room n
 
-  -- what the input has behind the shortest head of this major type with the argument n makes an item of it
+  -- what the input has after the shortest head of this major type with the argument n makes an item of it
   abbrev pub WalkedBehind : Major → ℕ → List ℕ → List ℕ → Type 0
   WalkedBehind m n input rest = WidthFits (least n) n → ItemWalked (head m (Given (least n) n) ++ input) rest

@@ -8,7 +8,7 @@ use Rattle.cborn_transcode.proofs.leaves.put_chunks.Given as goal
 abbrev pub decreases-chunks : goal.decreases-chunks
 decreases-chunks l = length l.rest
 
--- the chunks so far, behind which stand the others of whatever chunks stand there up to a break
+-- the chunks so far, after which come the others, up to a break, whatever chunks there are
 abbrev pub invariant-chunks : goal.invariant-chunks
 invariant-chunks l = record {
   taken : ChunksTaken ByteString l.bytes l.rest l.initial.out.items l.out.items;
