@@ -25,7 +25,8 @@ CALLS = {
 }
 HEADLINE = {"cborn_engine/src/laws.rt": ["fn headline"], "cborn_engine/src/slices.rt": ["fn normalise_slice: canonical"], **ORDERS}
 BYTES = {"cborn_engine/src/laws.rt": ["fn headline_of_bytes"], "cborn_engine/src/slices.rt": ["fn normalise_slice: bytes"], **ORDERS}
-SAID_IN = ["README.md", "docs/DEFINITIONS.md"]
+# how many of the figures, the largest first, each document says
+SAID_IN = {"README.md": 2, "docs/DEFINITIONS.md": 5}
 CHAPTERS = {"First chapter: bytes": "bytes", "Second chapter: notation": "headline"}
 USE = re.compile(r"(?:unfoldable )?(?:pub )?use ([\w.-]+?)(?:\.\{([^}]*)\}| as ([\w-]+))?;?$")
 HEAD = re.compile(r"(?:(?:abbrev|pub|unfoldable|opaque) )*(?:(?:record|data) )?([^\s(){}]+)")
@@ -313,7 +314,7 @@ def main():
         f"{kit:,} lines of the kit's own",
     ]
     texts = {name: (ROOT / name).read_text() for name in SAID_IN}
-    wrong = [f"{name} doesn't say: {words}" for name, text in texts.items() for words in told if words not in text]
+    wrong = [f"{name} doesn't say: {words}" for name, text in texts.items() for words in told[: SAID_IN[name]] if words not in text]
     wrong += [f"leads to no declaration: {name}" for name in sorted(LOST)]
     for chapter, name in CHAPTERS.items():
         wrong += misprinted(texts["docs/DEFINITIONS.md"], chapter, counts[name])
