@@ -1,4 +1,4 @@
-//! A text is read by way of nodes, and nodes are shown, in each form. By their contracts these calls
+//! A text is read to its nodes, and nodes are shown, in each form. By their contracts these calls
 //! could always answer out of memory. Which answer is right is a clause.
 
 use cborn_edn::{EdnFault, EdnReason, read_notation, show};
@@ -91,14 +91,23 @@ fn reads_the_second_profile(rt: HostRuntime) -> Result<(), Fail> {
     Ok(())
 }
 
-/// What stands this many times before the middle, and what stands as often after it: as deep as the
-/// limit.
-const NESTED: [(&str, usize, &str, &str); 5] = [
+/// What comes this many times before the middle, and what comes as often after it: nests as deep as
+/// the limit, and an escape at each place of a block of sixteen letters.
+const NESTED: [(&str, usize, &str, &str); 14] = [
     ("[", 128, "", "]"),
     ("1(", 128, "0", ")"),
     ("{0: ", 128, "\"a\"", "}"),
     ("[", 127, "18446744073709551616", "]"),
     ("<<", 128, "", ">>"),
+    ("[1, ", 127, "[]", "]"),
+    ("\"a", 1, "\\n", "b\""),
+    ("\"aaaaaaaaaaaaaaa", 1, "\\n", "\""),
+    ("\"aaaaaaaaaaaaaaaa", 1, "\\n", "\""),
+    ("\"aaaaaaaaaaaaaaaaa", 1, "\\n", "\""),
+    ("\"aaaaaaaaaaaaaaa", 1, "\\n", "bbbbbbbbbbbbbbbb\""),
+    ("\"aaaaaaaaaaaaaaaa", 1, "\\n", "bbbbbbbbbbbbbbb\""),
+    ("\"", 1, "\\n", "bbbbbbbbbbbbbbbbbbbbbbbbbbbbbbb\""),
+    ("\"aaaaaaaaaaaaaaaaaaaaaaaaaaaaaaaa", 1, "\\n", "\""),
 ];
 
 /// `front` repeated, `middle`, and `back` repeated as often.
@@ -120,7 +129,8 @@ fn nested(
     Ok(text)
 }
 
-/// Catches a limit that is one too small.
+/// Catches a limit that is one too small, and an escape that isn't read where a block of letters
+/// ends.
 #[test]
 fn reads_nests(rt: HostRuntime) -> Result<(), Fail> {
     for (front, count, middle, back) in NESTED {
