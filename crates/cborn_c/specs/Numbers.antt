@@ -17,12 +17,12 @@ use Rattle.cborn_judge.specs.declared.faults.InvalidReason.TheVariants as invali
 use Rattle.cborn_judge.specs.declared.faults.Invalid.TheVariants as invalid_fault
 use Rattle.cborn_judge.specs.declared.defects.DefectReason.{DefectReason}
 use Rattle.cborn_judge.specs.declared.defects.DefectReason.TheVariants as defect
-use Rattle.cborn_causes.specs.declared.reasons.CountReason.{CountReason}
-use Rattle.cborn_causes.specs.declared.reasons.CountReason.TheVariants as counts
-use Rattle.cborn_causes.specs.declared.reasons.BytesReason.{BytesReason}
-use Rattle.cborn_causes.specs.declared.reasons.BytesReason.TheVariants as bytes
-use Rattle.cborn_causes.specs.declared.reasons.TextReason.{TextReason}
-use Rattle.cborn_causes.specs.declared.reasons.TextReason.TheVariants as text
+use Rattle.cborn_explain.specs.declared.reasons.CountReason.{CountReason}
+use Rattle.cborn_explain.specs.declared.reasons.CountReason.TheVariants as counts
+use Rattle.cborn_explain.specs.declared.reasons.BytesReason.{BytesReason}
+use Rattle.cborn_explain.specs.declared.reasons.BytesReason.TheVariants as bytes
+use Rattle.cborn_explain.specs.declared.reasons.TextReason.{TextReason}
+use Rattle.cborn_explain.specs.declared.reasons.TextReason.TheVariants as text
 use Rattle.cborn_engine.specs.declared.faults.EngineFault.{EngineFault}
 use Rattle.cborn_engine.specs.declared.faults.EngineFault.TheVariants as fault
 use Rattle.cborn_engine.specs.declared.one_faults.OneFault.{OneFault}

@@ -1,7 +1,7 @@
 //! The explanation of a fault or a defect by its number.
 ghost use Rattle.std.specs.Prelude.{◌≡◌, ◌≢◌, ◌<◌, ◌⊎◌, IfSome, IfNone};
-ghost use Rattle.cborn_causes.specs.declared.reasons.BytesReason.{BytesReason};
-ghost use Rattle.cborn_causes.specs.declared.reasons.TextReason.{TextReason};
+ghost use Rattle.cborn_explain.specs.declared.reasons.BytesReason.{BytesReason};
+ghost use Rattle.cborn_explain.specs.declared.reasons.TextReason.{TextReason};
 ghost use Rattle.cborn_c.specs.Calls.{IsExplained, TextTold};
 ghost use Rattle.cborn_c.specs.Numbers.{TellsOfBytes, text_number};
 

@@ -4,7 +4,7 @@ ghost use Rattle.std.specs.Prelude.{◌≡◌, [], IfOk};
 ghost use Rattle.std.specs.String.{string_bytes};
 
 use crate::notes::push_path;
-use cborn_causes::{push_hex, push_item, slice_of};
+use crate::quotes::{push_hex, push_item, slice_of};
 use cborn_model::{KeyOrder, Limit, Major};
 use cborn_paths::{end_of_item, walk_to_difference, whole_head};
 use cborn_wire::Argument;

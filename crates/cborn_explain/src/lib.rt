@@ -12,19 +12,38 @@
 //! differ. [`hint_of`] says whether bytes look like a text, and [`Look`] does so of bytes that come in
 //! pieces.
 //!
-//! `cborn_paths` has the walk over bytes and the path, with a proof of where the path leads.
-//! `cborn_causes` has the sentence for each reason, and quotes the input. `notes` makes the lines of one
-//! input, `differences` those of two, and `path_lines` writes a path. docs/FORMATS.md has the form of
-//! the lines.
+//! `cborn_paths` has the walk over bytes and the path, with a proof of where the path leads. Of the
+//! words that the lines have it is proved that they are written safely, and that each call ends. No
+//! clause says which words they are. docs/FORMATS.md has the form of the lines.
+//!
+//! - `notes`: the lines of one input; start here. `differences`: those of two.
+//! - `path_lines`: a path in a line. `hints`: whether bytes look like a text.
+//! - `reasons`: the reasons, as other calls report them.
+//! - `byte_causes`, `text_causes`: the sentence for each reason.
+//! - `text_walks`: a walk over a text from token to token.
+//! - `text_spots`: the character within a token that is at fault.
+//! - `text_keys`: the key that a later key repeats.
+//! - `quotes`: quoted pieces of the input, which change nothing but their line.
+//! - `items`: single items, read for the sentences.
 #![tactic(auto)]
 
+mod byte_causes;
 mod differences;
 mod hints;
+mod items;
 mod notes;
 mod path_lines;
+mod quotes;
+mod reasons;
+mod text_causes;
+mod text_keys;
+mod text_spots;
+mod text_walks;
 
-pub use cborn_causes::{BytesReason, CountReason, Escaped, NotationText, TextReason};
 pub use cborn_paths::{Difference, Path, Step, find_difference, path_to};
 pub use differences::explain_difference;
 pub use hints::{Digits, Hint, Look, hint_of};
 pub use notes::{explain_bytes, explain_text};
+pub use quotes::Escaped;
+pub use reasons::{BytesReason, CountReason, TextReason};
+pub use text_walks::NotationText;

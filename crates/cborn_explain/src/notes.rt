@@ -1,11 +1,15 @@
 //! The lines of an explanation: where, what stands there, and why.
 
+use crate::byte_causes::RefusedBytes;
 use crate::hints::hint_of;
 use crate::path_lines::{PathWriter, step_text};
-use cborn_causes::{
-    BytesReason, NotationText, RefusedBytes, RefusedText, TextReason, TextWalk, line_and_column,
-    push_bytes_around, push_item, push_line_around, push_text, slice_of, spot_of, walk_text,
+use crate::quotes::{
+    line_and_column, push_bytes_around, push_item, push_line_around, push_text, slice_of,
 };
+use crate::reasons::{BytesReason, TextReason};
+use crate::text_causes::RefusedText;
+use crate::text_spots::spot_of;
+use crate::text_walks::{NotationText, TextWalk, walk_text};
 use cborn_model::Limit;
 use cborn_paths::{Step, Walk, walk_to_place};
 use std::alloc::{AllocError, Global};

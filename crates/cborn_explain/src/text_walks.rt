@@ -18,7 +18,7 @@ pub struct NotationText<'a> {
 
 /// What a bracket opens.
 #[derive(Clone, Copy)]
-pub enum Bracket {
+pub(crate) enum Bracket {
     Array,
     Map,
     /// A tag of this number.
@@ -33,20 +33,20 @@ pub enum Bracket {
 
 /// A bracket that is open.
 #[derive(Clone, Copy)]
-pub struct OpenBracket {
-    pub bracket: Bracket,
+pub(crate) struct OpenBracket {
+    pub(crate) bracket: Bracket,
     /// The offset in bytes of its token.
-    pub place: usize,
+    pub(crate) place: usize,
     /// How many of its parts are whole. A part is an item, or a key or a value of a map.
-    pub parts: u64,
+    pub(crate) parts: u64,
     /// In a map, the offsets in bytes at which the last key begins and ends. Where there is no key,
     /// both are `place`.
-    pub key: (usize, usize),
+    pub(crate) key: (usize, usize),
 }
 
 impl OpenBracket {
     /// The step of a path to its next part. `None`: a simple value has no parts.
-    pub fn step(&self) -> Option<Step> {
+    pub(crate) fn step(&self) -> Option<Step> {
         match self.bracket {
             Bracket::Array => Some(Step::Element(self.parts)),
             Bracket::Map => {
@@ -71,7 +71,7 @@ impl OpenBracket {
 
 /// What the last token was.
 #[derive(Clone, Copy)]
-pub enum LastToken {
+pub(crate) enum LastToken {
     /// None yet, or an opening bracket.
     Opening,
     /// A comma or a colon.
@@ -84,14 +84,14 @@ pub enum LastToken {
 
 /// A walk that has come between two tokens.
 #[derive(Drop)]
-pub struct TextWalk {
+pub(crate) struct TextWalk {
     /// How many items outside of all brackets a comma has ended.
-    pub items: u64,
+    pub(crate) items: u64,
     /// The brackets that are open, the innermost last.
-    pub open: Vec<OpenBracket>,
-    pub last: LastToken,
+    pub(crate) open: Vec<OpenBracket>,
+    pub(crate) last: LastToken,
     /// The offset in bytes at which the last token ends.
-    pub stop: usize,
+    pub(crate) stop: usize,
     /// A buffer for the content of strings, which the lexer asks for. Nothing reads it.
     content: Vec<u8>,
 }
@@ -101,7 +101,7 @@ pub struct TextWalk {
 ///
 /// # Errors
 /// `AllocError` where memory is refused.
-pub fn walk_text(
+pub(crate) fn walk_text(
     alloc: Global,
     input: NotationText<'_>,
     place: usize,

@@ -1,5 +1,5 @@
 use Rattle.std.proofs.Common.{◌≤◌, length}
-use Rattle.cborn_causes.proofs.quotes.start_of_piece.Given as goal
+use Rattle.cborn_explain.proofs.quotes.start_of_piece.Given as goal
 
 abbrev pub invariant-loop-from : goal.invariant-loop-from
 invariant-loop-from l = l.from ≤ length l.before

@@ -18,12 +18,12 @@ const ENCODING: usize = 16;
 
 /// Bytes that are refused or aren't deterministic, and where.
 #[derive(Clone, Copy)]
-pub struct RefusedBytes<'a> {
-    pub bytes: &'a [u8],
+pub(crate) struct RefusedBytes<'a> {
+    pub(crate) bytes: &'a [u8],
     /// A walk over the bytes up to the place that was reported with the reason.
-    pub walk: &'a Walk,
+    pub(crate) walk: &'a Walk,
     /// The nesting limit under which they are refused.
-    pub limit: Limit,
+    pub(crate) limit: Limit,
 }
 
 impl<'a> RefusedBytes<'a> {
@@ -31,7 +31,7 @@ impl<'a> RefusedBytes<'a> {
     ///
     /// # Errors
     /// `AllocError` where memory is refused.
-    pub fn push_cause(
+    pub(crate) fn push_cause(
         &self,
         alloc: Global,
         out: &mut String,

@@ -5,7 +5,7 @@ use cborn_lex::{LexReason, are_hex, hex_code, is_high, is_low};
 
 /// The offset in bytes of the character that is at fault. `place` is the offset that was reported
 /// with the reason. The answer is that offset, or one within the token that begins there.
-pub fn spot_of(text: &[u8], place: usize, reason: TextReason) -> usize {
+pub(crate) fn spot_of(text: &[u8], place: usize, reason: TextReason) -> usize {
     let token = text.get(place..).unwrap_or(&[]);
     let within = match reason {
         TextReason::Token(LexReason::BadEscape) => bad_escape(token),

@@ -17,14 +17,14 @@ const WORD: usize = 40;
 
 /// A text that is refused, and where.
 #[derive(Clone, Copy)]
-pub struct RefusedText<'a> {
-    pub input: NotationText<'a>,
+pub(crate) struct RefusedText<'a> {
+    pub(crate) input: NotationText<'a>,
     /// The nesting limit under which it is refused.
-    pub limit: Limit,
+    pub(crate) limit: Limit,
     /// The offset in bytes that was reported with the reason.
-    pub place: usize,
+    pub(crate) place: usize,
     /// The offset in bytes of the character at fault, as `spot_of` finds it.
-    pub spot: usize,
+    pub(crate) spot: usize,
 }
 
 impl RefusedText<'_> {
@@ -32,7 +32,7 @@ impl RefusedText<'_> {
     ///
     /// # Errors
     /// `AllocError` where memory is refused.
-    pub fn push_cause(
+    pub(crate) fn push_cause(
         &self,
         alloc: Global,
         out: &mut String,

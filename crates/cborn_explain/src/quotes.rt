@@ -95,7 +95,7 @@ impl Display for Escaped<'_> {
 }
 
 /// The bytes from one index up to another. Empty where there are no such bytes.
-pub fn slice_of(bytes: &[u8], from: usize, to: usize) -> &[u8] {
+pub(crate) fn slice_of(bytes: &[u8], from: usize, to: usize) -> &[u8] {
     bytes.get(from..to).unwrap_or(&[])
 }
 
@@ -105,7 +105,7 @@ pub fn slice_of(bytes: &[u8], from: usize, to: usize) -> &[u8] {
 ///
 /// # Errors
 /// `AllocError` where memory for `out` is refused.
-pub fn push_text(out: &mut String, bytes: &[u8], most: usize) -> Result<usize, AllocError> {
+pub(crate) fn push_text(out: &mut String, bytes: &[u8], most: usize) -> Result<usize, AllocError> {
     let front = bytes.get(..most.saturating_mul(4)).unwrap_or(bytes);
     let mut width: usize = 0;
     let mut count: usize = 0;
@@ -141,7 +141,7 @@ pub(crate) fn valid_front(bytes: &[u8]) -> &str {
 ///
 /// # Errors
 /// `AllocError` where memory for `out` is refused.
-pub fn push_hex(out: &mut String, bytes: &[u8], most: usize) -> Result<(), AllocError> {
+pub(crate) fn push_hex(out: &mut String, bytes: &[u8], most: usize) -> Result<(), AllocError> {
     for (i, byte) in bytes.iter().enumerate() {
         if i == most {
             return out.push_str(" ..");
@@ -159,7 +159,7 @@ pub fn push_hex(out: &mut String, bytes: &[u8], most: usize) -> Result<(), Alloc
 ///
 /// # Errors
 /// `AllocError` where memory for `out` is refused.
-pub fn push_bytes_around(out: &mut String, bytes: &[u8], place: usize) -> Result<(), AllocError> {
+pub(crate) fn push_bytes_around(out: &mut String, bytes: &[u8], place: usize) -> Result<(), AllocError> {
     let from = place.saturating_sub(BYTES_BEFORE);
     let window = bytes.get(from..).unwrap_or(&[]);
     if from > 0 {
@@ -189,7 +189,7 @@ pub fn push_bytes_around(out: &mut String, bytes: &[u8], place: usize) -> Result
 ///
 /// # Errors
 /// `AllocError` where memory is refused.
-pub fn push_item(
+pub(crate) fn push_item(
     alloc: Global,
     limit: Limit,
     out: &mut String,
@@ -231,7 +231,7 @@ fn push_front(out: &mut String, item: &[u8]) -> Result<(), AllocError> {
 
 /// The line and the column of an offset in bytes of a text. Both count from 1, the column in
 /// characters.
-pub fn line_and_column(text: &[u8], place: usize) -> (u64, u64) {
+pub(crate) fn line_and_column(text: &[u8], place: usize) -> (u64, u64) {
     let front = text.get(..place).unwrap_or(text);
     let mut line: u64 = 1;
     let mut column: u64 = 1;
@@ -251,7 +251,7 @@ pub fn line_and_column(text: &[u8], place: usize) -> (u64, u64) {
 ///
 /// # Errors
 /// `AllocError` where memory for `out` is refused.
-pub fn push_line_around(out: &mut String, text: &[u8], place: usize) -> Result<usize, AllocError> {
+pub(crate) fn push_line_around(out: &mut String, text: &[u8], place: usize) -> Result<usize, AllocError> {
     let before = text.get(..place).unwrap_or(text);
     let after = text.get(place..).unwrap_or(&[]);
     let from = start_of_piece(before);
