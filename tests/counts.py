@@ -27,9 +27,9 @@ MOST = 2.5
 MOST_OF_MAPS = 6
 # what is known to hold more: lists of keys, and texts that `show` has written when the input turns out to be refused
 HELD = {
-    "map, first key again": 10.6,
-    "map, keys that fall": 10.6,
-    "count of 2^64-1 pairs": 20,
+    "map, first key again": 9,
+    "map, keys that fall": 9,
+    "count of 2^64-1 pairs": 14.5,
     "last byte is a break": 7.5,
     "last item is too deep": 4.5,
     "last text isn't UTF-8": 4.5,

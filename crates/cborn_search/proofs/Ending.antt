@@ -10,31 +10,31 @@ use Rattle.cborn_descent.proofs.Onlies.{never_rises, array_descended, endless_de
 use Rattle.cborn_descent.proofs.Maps.{map_descended, endless_map_descended}
 use Rattle.cborn_descent.proofs.Chunks.{chunks_fail, never_chunk}
 use Rattle.cborn_search.specs.declared.finding.Search.{Search}
-use Rattle.cborn_search.specs.declared.finding.Search.TheVariants.{Behind, Malformed, Refused}
+use Rattle.cborn_search.specs.declared.finding.Search.TheVariants.{Found, Malformed, Refused}
 use Rattle.cborn_search.specs.devices.Ending.{Ends, Lacks, ChunksFail}
 
 -- a search that found nothing ends that around it
-pub ends_other : (P Q : List ℕ → Type 0) {M N : Type 0} (r : Search) → ((left : ℕ) → r ≡ Behind left → ⊥) → (M → N) → Ends P M r → Ends Q N r
-ends_other P Q (Behind left) not f e = absurd (not left refl)
+pub ends_other : (P Q : List ℕ → Type 0) {M N : Type 0} (r : Search) → ((left : ℕ) → r ≡ Found left → ⊥) → (M → N) → Ends P M r → Ends Q N r
+ends_other P Q (Found left) not f e = absurd (not left refl)
 ends_other P Q Malformed not f e = f e
 ends_other P Q (Refused x) not f e = tt
 
-pub lacks_other : (P : List ℕ → Type 0) {M N : Type 0} (r : Search) → ((left : ℕ) → r ≡ Behind left → ⊥) → (M → N) → Ends P M r → Lacks N r
-lacks_other P (Behind left) not f e = absurd (not left refl)
+pub lacks_other : (P : List ℕ → Type 0) {M N : Type 0} (r : Search) → ((left : ℕ) → r ≡ Found left → ⊥) → (M → N) → Ends P M r → Lacks N r
+lacks_other P (Found left) not f e = absurd (not left refl)
 lacks_other P Malformed not f e = f e
 lacks_other P (Refused x) not f e = tt
 
 pub ends_lacking : (Q : List ℕ → Type 0) {M N : Type 0} (r : Search) → (M → N) → Lacks M r → Ends Q N r
-ends_lacking Q (Behind left) f e = absurd e
+ends_lacking Q (Found left) f e = absurd e
 ends_lacking Q Malformed f e = f e
 ends_lacking Q (Refused x) f e = tt
 
 pub ends_as : {P Q : List ℕ → Type 0} {M N : Type 0} (r : Search) → ((left : ℕ) → Leaves P left → Leaves Q left) → (M → N) → Ends P M r → Ends Q N r
-ends_as (Behind left) f g e = f left e
+ends_as (Found left) f g e = f left e
 ends_as Malformed f g e = g e
 ends_as (Refused x) f g e = tt
 
--- ---- where no node stands
+-- ---- where there is no node
 
 pub no_array : (room : ℕ) (w : Width) (n : ℕ) (input : List ℕ) → WidthFits w n → ItemsFail Never (room - 1) n false input → Only Never room (head Array (Given w n) ++ input)
 no_array room w n input f s = array_descended Never Never room w n input descents.Malformed never_rises f s

@@ -12,13 +12,13 @@ use Rattle.cborn_wire.proofs.Spelled.AsPlaced.{spelled-from, depth-from, fits-fr
 use Rattle.cborn_det.specs.Det.{Det}
 use Rattle.cborn_judge.specs.Flaws.{Flaw}
 use Rattle.cborn_judge.proofs.Meaning.Judging.{no_flaw, meaning}
-use Rattle.cborn_judge.proofs.Meaning.Meanings.{meaning_valid, some_bytes}
+use Rattle.cborn_judge.proofs.Meaning.Meanings.{meaning_valid}
 use Rattle.cborn_judge.proofs.SameKeys.Pushing.{keys_push, keys_skip}
 use Rattle.cborn_transcode.specs.Transcoding.{ItemTranscoded, HoldsNoItem}
 use Rattle.cborn_transcode.proofs.Opening.{stands}
 use Rattle.cborn_transcode.proofs.Placing.{means-from}
 use Rattle.cborn_search.specs.Flawed.{Told, FindsTold, IsEarliestTold, IsSound, NodeAt, Searched, SeenKey, seen_bytes, seen_position, seen_place}
-use Rattle.cborn_search.specs.devices.Marks.{AreMarked, KeyTaken, KeyJoined}
+use Rattle.cborn_search.specs.devices.Marks.{AreMarked, KeyAdded, KeyJoined}
 use Rattle.cborn_search.specs.declared.keys.Keys.{Keys}
 use Rattle.cborn_search.specs.declared.searched_maps.SearchedMap.{SearchedMap}
 use Rattle.cborn_search.proofs.Searching.{still}
@@ -27,9 +27,9 @@ use Rattle.cborn_search.proofs.Marking.{marked_wider}
 -- ---- a key that was encoded
 
 -- the encoding joins the keys as that of the node, at its place
-pub key_taken : (room total : ℕ) (pairs x rest out : List ℕ) (old new : Keys) → length x < 2 ^ 64 → ItemTranscoded bytewise room x rest [] out
-    → ((ks : List SeenKey) (n : ℕ) → AreMarked total pairs (total - length x) ks old → AreMarked total pairs (suc (total - length x)) (ks ++ (out, n, total - length x) ∷ []) new) → KeyTaken room total pairs x old new rest
-key_taken room total pairs x rest out old new short s marked =
+pub key_added : (room total : ℕ) (pairs x rest out : List ℕ) (old new : Keys) → length x < 2 ^ 64 → ItemTranscoded bytewise room x rest [] out
+    → ((ks : List SeenKey) (n : ℕ) → AreMarked total pairs (total - length x) ks old → AreMarked total pairs (suc (total - length x)) (ks ++ (out, n, total - length x) ∷ []) new) → KeyAdded room total pairs x old new rest
+key_added room total pairs x rest out old new short s marked =
     let p : ℕ = total - length x in
     let t : Tree = placed_from p s.node in
     let item : Value = s.holds.1.0 in
@@ -52,8 +52,8 @@ some_told None e = absurd (cc)
 some_told (Some f) e = (f, refl)
 
 module _ (room total : ℕ) (pairs x : List ℕ) (old new : SearchedMap) where
-  pub taken_joins : {left : ℕ} → Leaves (KeyTaken room total pairs x old.keys new.keys) left → new.first ≡ old.first → Leaves (KeyJoined room total pairs x old new) left
-  taken_joins s e = (
+  pub added_joins : {left : ℕ} → Leaves (KeyAdded room total pairs x old.keys new.keys) left → new.first ≡ old.first → Leaves (KeyJoined room total pairs x old new) left
+  added_joins s e = (
     s.0,
     s.1,
     record {
@@ -101,13 +101,9 @@ module _ (room total : ℕ) (pairs x : List ℕ) (old new : SearchedMap) where
     },
   )
 
-  -- what is left is what stands behind it
+  -- what is left is what follows it
   pub joined_last : {left : ℕ} {rest : List ℕ} → Leaves (KeyJoined room total pairs x old new) left → ((front back : List ℕ) → x ≡ front ++ back → length back ≡ left → rest ≡ back) → KeyJoined room total pairs x old new rest
   joined_last s last = subst (KeyJoined room total pairs x old new) (sym (last (spelled s.2.key.node) s.0 s.2.key.read s.1)) s.2
-
--- something stands there
-pub some_key : (room : ℕ) (x rest key out : List ℕ) → x ≡ key ++ rest → ItemTranscoded bytewise room x rest [] out → 0 < length key
-some_key room x rest key out e s = omega (arith, some_bytes s.node, ap length s.read ∙ length-append (spelled s.node) rest, ap length e ∙ length-append key rest)
 
 -- a key without a flaw means something
 pub sound_key : (room total : ℕ) (x : List ℕ) → (rest : List ℕ) × NodeAt IsSound room total x rest → HoldsNoItem room x → ⊥

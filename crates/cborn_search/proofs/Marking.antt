@@ -24,12 +24,12 @@ use Rattle.cborn_judge.proofs.Loops.Firsts.{Either}
 use Rattle.cborn_judge.proofs.Loops.Passing.{passed_one}
 use Rattle.cborn_judge.proofs.SameKeys.Repeating.{repeat_again, again_repeat, InOrder, again_tied, sorted_in_order}
 use Rattle.cborn_search.specs.Flawed.{Told, IsEarliestTold, FindsTold, SeenKey, seen_bytes, seen_position, seen_place, AreSeen}
-use Rattle.cborn_search.specs.devices.Marks.{number_at, written_at, bytes_at, place_at, mark_bytes, mark_place, mark_order, IsMark, PlacesRise, AreMarked, IsPushed, IsWritten, Comes, InPlace, ComesAfter, TieAfter, TieFlaw}
+use Rattle.cborn_search.specs.devices.Marks.{number_at, written_at, elsewhere, mark_end, IsOwnMark, IsWrittenMark, bytes_at, place_at, mark_bytes, mark_place, mark_order, IsMark, PlacesRise, AreMarked, IsKept, IsWritten, Comes, InPlace, ComesAfter, TieAfter, TieFlaw}
 use Rattle.cborn_search.specs.declared.keys.Keys.{Keys}
 use Rattle.cborn_search.specs.declared.keys.Mark.{Mark}
 use Rattle.cborn_search.proofs.Searching.{both_told, alike_told}
 
--- ---- what a mark tells
+-- ---- what a mark says
 
 part_stays : (at len : ℕ) (bytes x : List ℕ) → at + len ≤ length bytes → take len (drop at (bytes ++ x)) ≡ take len (drop at bytes)
 part_stays at len bytes x l =
@@ -73,28 +73,29 @@ number_eight : (n : ℕ) → n < 2 ^ 64 → number_at (to_be_bytes w64 n) ≡ n
 number_eight n l = number_read (to_be_bytes w64 n) (omega arith) ∙ ap (from_be_bytes w64) (take_all 8 (to_be_bytes w64 n) (omega arith)) ∙ from_be_bytes-to_be_bytes_8 n l
 
 module _ (total : ℕ) (pairs : List ℕ) where
-  in_pairs : (written : List ℕ) (m : Mark) → m.start < length pairs → (mark_bytes pairs written m ≡ take m.len (drop m.start pairs)) × (mark_place total pairs written m ≡ total - (length pairs - m.start))
-  in_pairs written m l = let e = lt-ltb m.start (length pairs) l in (ap (λ b. bytes_at b pairs written m) e, ap (λ b. place_at b total pairs written m) e)
+  in_pairs : (written : List ℕ) (m : Mark) → m.start < elsewhere → (mark_bytes pairs written m ≡ take m.len (drop m.start pairs)) × (mark_place total pairs written m ≡ total - (length pairs - m.start))
+  in_pairs written m l = let e = lt-ltb m.start elsewhere l in (ap (λ b. bytes_at b pairs written m) e, ap (λ b. place_at b total pairs written m) e)
 
-  in_written : (written : List ℕ) (m : Mark) → length pairs ≤ m.start → (mark_bytes pairs written m ≡ written_at m.len written) × (mark_place total pairs written m ≡ number_at (drop m.len written))
-  in_written written m l = let e = le-ltb m.start (length pairs) l in (ap (λ b. bytes_at b pairs written m) e, ap (λ b. place_at b total pairs written m) e)
+  in_written : (written : List ℕ) (m : Mark) → elsewhere ≤ m.start → (mark_bytes pairs written m ≡ written_at (mark_end m) written) × (mark_place total pairs written m ≡ number_at (drop (mark_end m) written))
+  in_written written m l = let e = le-ltb m.start elsewhere l in (ap (λ b. bytes_at b pairs written m) e, ap (λ b. place_at b total pairs written m) e)
 
-  -- the same where more is written
+  -- the mark is still that of the key where more is written
   mark_stays : (written x : List ℕ) (m : Mark) (k : SeenKey) → IsMark total pairs written m k → IsMark total pairs (written ++ x) m k
-  mark_stays written x m k h = by (cases_lt m.start (length pairs))
+  mark_stays written x m k h = by (cases_lt m.start elsewhere)
     where
-      by : (m.start < length pairs) ⊎ (length pairs ≤ m.start) → IsMark total pairs (written ++ x) m k
+      by : (m.start < elsewhere) ⊎ (elsewhere ≤ m.start) → IsMark total pairs (written ++ x) m k
       by (inl e) =
           let a = in_pairs written m e in
           let b = in_pairs (written ++ x) m e in
           (b.0 ∙ sym a.0 ∙ h.0, b.1 ∙ sym a.1 ∙ h.1, (λ f. absurd (omega (arith, e, f))))
       by (inr e) =
+          let end : ℕ = mark_end m in
           let l = h.2 e in
           let a = in_written written m e in
           let b = in_written (written ++ x) m e in (
-            b.0 ∙ written_stays m.len written x l.0 l.1 ∙ sym a.0 ∙ h.0,
-            b.1 ∙ behind_stays m.len written x (omega (arith, l.0)) ∙ sym a.1 ∙ h.1,
-            (λ f. (omega (arith, l.0, length-append written x), subst (λ n. n ≤ m.len) (sym (len_stays m.len written x l.0)) l.1)),
+            b.0 ∙ written_stays end written x l.0 l.1 ∙ sym a.0 ∙ h.0,
+            b.1 ∙ behind_stays end written x (omega (arith, l.0)) ∙ sym a.1 ∙ h.1,
+            (λ f. (omega (arith, l.0, length-append written x), subst (λ n. n ≤ end) (sym (len_stays end written x l.0)) l.1)),
           )
 
   marks_stay : (written x : List ℕ) (ms : List Mark) (ks : List SeenKey) → AllZip (IsMark total pairs written) ms ks → AllZip (IsMark total pairs (written ++ x)) ms ks
@@ -122,25 +123,22 @@ module _ (total : ℕ) (pairs : List ℕ) where
   marked_wider p q ks keys l h = record { are = h.are; rise = rise_wider 0 p q ks l h.rise }
 
   -- a key that stays in the pairs
-  own_mark : (written front input key rest : List ℕ) (m : Mark) (n : ℕ) → length pairs ≤ total → pairs ≡ front ++ input → input ≡ key ++ rest → 0 < length key → m.start ≡ length pairs - length input → m.len ≡ length key → IsMark total pairs written m (key, n, total - length input)
-  own_mark written front input key rest m n l f e some s k =
+  own_mark : (written front input key rest : List ℕ) (m : Mark) (n : ℕ) → length pairs ≤ total → pairs ≡ front ++ input → input ≡ key ++ rest → IsOwnMark (length pairs - length input) (length key) m → IsMark total pairs written m (key, n, total - length input)
+  own_mark written front input key rest m n l f e o =
       let long : length pairs ≡ length front + length input = ap length f ∙ length-append front input in
-      let start : m.start ≡ length front = omega (arith, s, long) in
-      let inside : m.start < length pairs = omega (arith, start, long, some, ap length e ∙ length-append key rest) in
-      let here = in_pairs total pairs written m inside in
+      let start : m.start ≡ length front = omega (arith, o.0, long) in
+      let low : m.start < elsewhere = omega (arith, o.0, o.2) in
+      let here = in_pairs total pairs written m low in
       let behind : drop m.start pairs ≡ input = (λ i. drop (start i) (f i)) ∙ drop-append_seam front input in
-      let bytes : take m.len (drop m.start pairs) ≡ key = (λ i. take (k i) (behind i)) ∙ ap (take (length key)) e ∙ take-append_seam key rest in
+      let bytes : take m.len (drop m.start pairs) ≡ key = (λ i. take (o.1 i) (behind i)) ∙ ap (take (length key)) e ∙ take-append_seam key rest in
       let place : total - (length pairs - m.start) ≡ total - length input = omega (arith, start, long, l) in
-      (here.0 ∙ bytes, here.1 ∙ place, (λ f. absurd (omega (arith, inside, f))))
-
-  pub own_marked : (front input key rest : List ℕ) (old new : Keys) → length pairs ≤ total → pairs ≡ front ++ input → input ≡ key ++ rest → 0 < length key → IsPushed (length pairs - length input) (length key) old new → (ks : List SeenKey) (n : ℕ) → AreMarked total pairs (total - length input) ks old
-      → AreMarked total pairs (suc (total - length input)) (ks ++ (key, n, total - length input) ∷ []) new
-  own_marked front input key rest old new l f e some u ks n h =
-      marked_more (total - length input) [] old new ks (key, n, total - length input) u.0 h (u.1 ∙ sym (append-nil old.written.items)) u.2 (own_mark (old.written.items ++ []) front input key rest u.0 n l f e some u.3 u.4) refl
+      (here.0 ∙ bytes, here.1 ∙ place, (λ f. absurd (omega (arith, low, f))))
 
   -- a key whose encoding is written
-  written_mark : (written encoding : List ℕ) (m : Mark) (n p : ℕ) → p < 2 ^ 64 → length encoding < 2 ^ 64 → length pairs ≤ m.start → m.len ≡ length (written ++ encoding) → IsMark total pairs (((written ++ encoding) ++ to_be_bytes w64 p) ++ to_be_bytes w64 (length encoding)) m (encoding, n, p)
-  written_mark written encoding m n p low short z s =
+  written_mark : (written encoding : List ℕ) (m : Mark) (n p : ℕ) → p < 2 ^ 64 → length encoding < 2 ^ 64 → IsWrittenMark (length (written ++ encoding)) m → IsMark total pairs (((written ++ encoding) ++ to_be_bytes w64 p) ++ to_be_bytes w64 (length encoding)) m (encoding, n, p)
+  written_mark written encoding m n p low short w =
+      let end : ℕ = mark_end m in
+      let s : end ≡ length (written ++ encoding) = w.1 in
       let place : List ℕ = to_be_bytes w64 p in
       let len : List ℕ = to_be_bytes w64 (length encoding) in
       let front : List ℕ = written ++ encoding in
@@ -148,26 +146,33 @@ module _ (total : ℕ) (pairs : List ℕ) where
       let eight : 8 ≡ length place = omega arith in
       let both : length (place ++ len) ≡ 16 = omega (arith, length-append place len) in
       let long : length front ≡ length written + length encoding = length-append written encoding in
-      let here = in_written total pairs whole m z in
-      let behind : drop m.len whole ≡ place ++ len = (λ i. drop (s i) (append_assoc front place len i)) ∙ drop-append_seam front (place ++ len) in
-      let last : drop 8 (drop m.len whole) ≡ len = ap (drop 8) behind ∙ (λ i. drop (eight i) (place ++ len)) ∙ drop-append_seam place len in
-      let count : number_at (drop 8 (drop m.len whole)) ≡ length encoding = ap number_at last ∙ number_eight (length encoding) short in
-      let first : m.len - length encoding ≡ length written = omega (arith, s, long) in
+      let here = in_written total pairs whole m w.0 in
+      let behind : drop end whole ≡ place ++ len = (λ i. drop (s i) (append_assoc front place len i)) ∙ drop-append_seam front (place ++ len) in
+      let last : drop 8 (drop end whole) ≡ len = ap (drop 8) behind ∙ (λ i. drop (eight i) (place ++ len)) ∙ drop-append_seam place len in
+      let count : number_at (drop 8 (drop end whole)) ≡ length encoding = ap number_at last ∙ number_eight (length encoding) short in
+      let first : end - length encoding ≡ length written = omega (arith, s, long) in
       let all : whole ≡ written ++ (encoding ++ (place ++ len)) = append_assoc front place len ∙ append_assoc written encoding (place ++ len) in
-      let bytes : written_at m.len whole ≡ encoding = (λ i. take (count i) (drop (m.len - count i) whole)) ∙ (λ i. take (length encoding) (drop (first i) (all i))) ∙ ap (take (length encoding)) (drop-append_seam written (encoding ++ (place ++ len))) ∙ take-append_seam encoding (place ++ len) in
-      let number : number_at (drop m.len whole) ≡ p = ap number_at behind ∙ number_stays place len (omega arith) ∙ number_eight p low in (
+      let bytes : written_at end whole ≡ encoding = (λ i. take (count i) (drop (end - count i) whole)) ∙ (λ i. take (length encoding) (drop (first i) (all i))) ∙ ap (take (length encoding)) (drop-append_seam written (encoding ++ (place ++ len))) ∙ take-append_seam encoding (place ++ len) in
+      let number : number_at (drop end whole) ≡ p = ap number_at behind ∙ number_stays place len (omega arith) ∙ number_eight p low in (
         here.0 ∙ bytes,
         here.1 ∙ number,
         (λ x. (omega (arith, s, both, ap length (append_assoc front place len) ∙ length-append front (place ++ len)), omega (arith, count, s, long))),
       )
 
-  pub written_marked : (p : ℕ) (encoding : List ℕ) (old new : Keys) → length pairs < 2 ^ 64 → IsWritten p encoding old new → (ks : List SeenKey) (n : ℕ) → AreMarked total pairs p ks old → AreMarked total pairs (suc p) (ks ++ (encoding, n, p) ∷ []) new
-  written_marked p encoding old new short u ks n h =
+  pub written_marked : (p : ℕ) (encoding : List ℕ) (old new : Keys) → IsWritten p encoding old new → (ks : List SeenKey) (n : ℕ) → AreMarked total pairs p ks old → AreMarked total pairs (suc p) (ks ++ (encoding, n, p) ∷ []) new
+  written_marked p encoding old new u ks n h =
       let b : List ℕ = old.written.items in
       let place : List ℕ = to_be_bytes w64 p in
       let len : List ℕ = to_be_bytes w64 (length encoding) in
       let behind : ((b ++ encoding) ++ place) ++ len ≡ b ++ (encoding ++ (place ++ len)) = append_assoc (b ++ encoding) place len ∙ append_assoc b encoding (place ++ len) in
-      marked_more p (encoding ++ (place ++ len)) old new ks (encoding, n, p) u.0 h (u.3 ∙ behind) u.4 (subst (λ w. IsMark total pairs w u.0 (encoding, n, p)) behind (written_mark b encoding u.0 n p u.1 u.2 (omega (arith, short, u.5)) u.6)) refl
+      marked_more p (encoding ++ (place ++ len)) old new ks (encoding, n, p) u.0 h (u.3 ∙ behind) u.4 (subst (λ w. IsMark total pairs w u.0 (encoding, n, p)) behind (written_mark b encoding u.0 n p u.1 u.2 u.5)) refl
+
+  -- a key that is its own encoding
+  pub kept_marked : (front input key rest : List ℕ) (old new : Keys) → length pairs ≤ total → pairs ≡ front ++ input → input ≡ key ++ rest → IsKept (total - length input) (length pairs - length input) key old new → (ks : List SeenKey) (n : ℕ) → AreMarked total pairs (total - length input) ks old
+      → AreMarked total pairs (suc (total - length input)) (ks ++ (key, n, total - length input) ∷ []) new
+  kept_marked front input key rest old new l f e (inl u) ks n h =
+      marked_more (total - length input) [] old new ks (key, n, total - length input) u.0 h (u.2.0 ∙ sym (append-nil old.written.items)) u.2.1 (own_mark (old.written.items ++ []) front input key rest u.0 n l f e u.1) refl
+  kept_marked front input key rest old new l f e (inr u) ks n h = written_marked (total - length input) key old new u ks n h
 
 -- ---- marks and keys are repeated alike
 
@@ -378,7 +383,7 @@ module _ (total end : ℕ) (pairs : List ℕ) (keys : Keys) where
               let u = again_marked total pairs written keys.marks.items ks z.0 h.are z.1 in
               (t.0, u.0, (tied u.0).0 u.1, u.2.1 ∙ z.2)
 
--- as the search answers it, of lists that are those of the keys
+-- as the search gives it, of lists that are those of the keys
 pub repeated_of : (total end : ℕ) (pairs : List ℕ) (keys : Keys) (bytes : List ℕ) (seen ms : List Mark) (ns : List Pair) (ks : List SeenKey) (o : Option Told) → bytes ≡ keys.written.items → seen ≡ ms → InPlace total pairs bytes seen × FindsTold (TieFlaw total pairs bytes seen) o
     → IsPermutation keys.marks.items ms → AreMarked total pairs end ks keys → AreSeen ks ns → FindsTold (RepeatFlaw (entries ns)) o
 repeated_of total end pairs keys bytes seen ms ns ks o e f t p h s =

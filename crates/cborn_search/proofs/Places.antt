@@ -1,4 +1,4 @@
--- Where what was read stands: one behind another, and inside one another.
+-- The places of what was read: one after another, and inside one another.
 use Rattle.std.proofs.Common.{◌≡◌, ℕ, ◌+◌, ◌-◌, ◌≤◌, List, [], ◌∷◌, ◌++◌, length, refl, sym, ap, ◌∙◌, subst, arith, length-append}
 use Rattle.std.specs.List.{flat_map}
 use Rattle.cborn_model.specs.declared.heads.Width.{Width}
@@ -14,7 +14,7 @@ use Rattle.cborn_wire.specs.Parts.{Pair}
 use Rattle.cborn_wire.proofs.Machine.SoundItems.{placed_chunks-snoc}
 use Rattle.cborn_wire.proofs.Parts.Heads.{behind}
 
--- ---- one behind another
+-- ---- one after another
 
 node_last : (p : ℕ) (ts : List Tree) (t : Tree) → PlacedAll p (trees ts) → Placed (p + length (spelled_all (trees ts))) t → PlacedAll p (trees (ts ++ t ∷ []))
 node_last p [] t h k = (let e : p + 0 ≡ p = omega arith in subst (λ q. Placed q t) e k, tt)

@@ -38,12 +38,12 @@ both_told = found_both flaw_rank told_place told_reason
 pub alike_told : (F G : ℕ → InvalidReason → Type 0) (o : Option Told) → ((p : ℕ) (r : InvalidReason) → F p r ↔ G p r) → FindsTold F o → FindsTold G o
 alike_told = found_alike flaw_rank told_place told_reason
 
--- nothing is found beside what was found
+-- finding nothing changes nothing
 pub still : (a : Option Told) → IsEarliestTold a None a
 still None = refl
 still (Some x) = refl
 
--- what is behind a head that was read
+-- what follows a head that was read
 pub seen_from : (room total : ℕ) (flaw : Option Told) (s : Bool) {x tail : List ℕ} {h : Head} {n : ℕ} {m : Major} {a : Argument} (r : Search) → tail ≡ drop n x → IsHeadOf x h n → major_at h.major ≡ m → h.argument ≡ a → length x ≤ total
     → (ArgumentFits (seen_argument a) → length (head m (seen_argument a) ++ tail) ≤ total → total - length x ≡ total - length (head m (seen_argument a) ++ tail) → NodeSearched room total (head m (seen_argument a) ++ tail) flaw s r)
     → NodeSearched room total x flaw s r

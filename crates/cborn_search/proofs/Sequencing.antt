@@ -61,6 +61,6 @@ whole_read P room n input rest e x =
 pub flaw_found : (room n : ℕ) (input rest : List ℕ) (o : Option Told) → length rest ≡ 0 → NodesAt (HaveVerdict o) room (length input) n input rest → IsFirstFlawOf room input o
 flaw_found room n input rest o e x = let w = whole_read (HaveVerdict o) room n input rest e x in record { nodes = x.nodes; read = w.0; placed = w.1; verdict = x.holds.1 }
 
--- nodes that spell the same bytes, and stand at the same place
+-- nodes that spell the same bytes, and are at the same place
 pub one_list : (ts us : Trees) → FitsAll ts → FitsAll us → spelled_all ts ≡ spelled_all us → PlacedAll 0 ts → PlacedAll 0 us → ts ≡ us
 one_list ts us f g e h k = sym (same_all-from ts 0 h) ∙ one_spelling ts us f g e 0 ∙ same_all-from us 0 k

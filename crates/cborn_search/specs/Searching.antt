@@ -1,4 +1,4 @@
--- What a search of a whole input answers.
+-- What a search of a whole input gives.
 use Rattle.std.specs.Prelude.{ℕ, ◌≤◌, List, Option, None, Some}
 use Rattle.std.specs.List.{AllZip}
 use Rattle.cborn_model.specs.Meaning.{Means}
@@ -34,11 +34,11 @@ IsValidity limit input Valid = IsFirstFlawOf limit input None
 IsValidity limit input (Flaw place reason) = IsFirstFlawOf limit input (Some (place, reason))
 IsValidity limit input Malformed = IsWellformed limit input → ⊥
 
--- a text string in these nodes, or a chunk of one, stands at this place and is not UTF-8
+-- a text string in these nodes, or a chunk of one, is at this place and is not UTF-8
 abbrev pub HasBadText : Trees → ℕ → Type 0
 HasBadText nodes p = (q : Tree) × WithinAll q nodes × FlawAt q p NotUtf8
 
--- and none stands before it
+-- and none is before it
 pub record IsFirstBadText (nodes : Trees) (p : ℕ) : Type 0 where
   pub is : HasBadText nodes p
   pub lowest : (q : ℕ) → HasBadText nodes q → p ≤ q
@@ -53,7 +53,7 @@ pub record HaveFirstBadText (limit : ℕ) (input : List ℕ) (found : Option ℕ
   pub read : IsWellformed limit input
   pub first : (most : ℕ) (nodes : Trees) → Wellformed most nodes input → PlacedAll 0 nodes → FirstBadText nodes found
 
--- what a search for such texts answers: each text is UTF-8; or this is the first that isn't; or the bytes aren't well-formed under the limit
+-- what a search for such texts gives: each text is UTF-8; or this is the first that isn't; or the bytes aren't well-formed under the limit
 abbrev pub IsTextValidity : ℕ → List ℕ → TextValidity → Type 0
 IsTextValidity limit input texts.Valid = HaveFirstBadText limit input None
 IsTextValidity limit input (texts.NotUtf8 place) = HaveFirstBadText limit input (Some place)

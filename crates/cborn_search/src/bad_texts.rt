@@ -66,7 +66,7 @@ fn head_len(width: Width) -> u64
     }
 }
 
-/// How many integers of one byte each stand at the front, at most `most`.
+/// How many integers of one byte each are at the front, at most `most`.
 #[inline(always)]
 fn small_integers(most: u64, bytes: &[u8]) -> usize
     ensures within { (result ≤ length bytes.now) × (result ≤ most) }
@@ -84,17 +84,17 @@ fn small_integers(most: u64, bytes: &[u8]) -> usize
     at
 }
 
-/// Takes all items. Keeps how far it is, and the first text that isn't UTF-8.
+/// Accepts all items. Keeps how far it is, and the first text that isn't UTF-8.
 #[derive(Drop)]
 struct TextSearch {
-    /// How many bytes were taken.
+    /// How many bytes were passed.
     at: u64,
-    /// Where the first text, or chunk of one, stands that isn't UTF-8.
+    /// The offset of the first text, or chunk of one, that isn't UTF-8.
     first: Option<u64>,
 }
 
 impl TextSearch {
-    /// Goes on behind so many bytes.
+    /// Passes so many bytes.
     #[inline(always)]
     fn pass(&mut self, len: u64)
         ensures { IsPast self.old self.new len (λ p q. ⊥) }
@@ -102,7 +102,7 @@ impl TextSearch {
         self.at = self.at.wrapping_add(len);
     }
 
-    /// Goes on behind the break of an array or a map, if one ends it.
+    /// Passes the break of an array or a map, if one ends it.
     #[inline(always)]
     fn pass_break(&mut self, endless: bool)
         ensures { IsPast self.old self.new (break_len endless) (λ p q. ⊥) }
@@ -112,7 +112,7 @@ impl TextSearch {
         }
     }
 
-    /// Takes in that a text, or a chunk of one, begins here.
+    /// Notes that a text, or a chunk of one, begins here.
     #[inline(always)]
     fn note(&mut self, text: bool, content: &[u8])
         ensures { TextNoted text content.now self.old self.new }
@@ -122,7 +122,7 @@ impl TextSearch {
         }
     }
 
-    /// Takes in that a text which isn't UTF-8 begins here.
+    /// Notes that a text that isn't UTF-8 begins here.
     #[inline(never)]
     fn note_bad(&mut self)
         ensures { IsPast self.old self.new 0 (λ p q. q ≡ p) }

@@ -3,20 +3,19 @@
 use cborn_judge::InvalidReason;
 use std::alloc::AllocError;
 
-/// What was found of the item that was passed last: its first flaw, and whether it is a byte
-/// string.
+/// What was found of the item that was read last: its first flaw, and whether it is a byte string.
 #[derive(Clone, Copy)]
 pub(crate) struct Finding {
     pub flaw: Option<(u64, InvalidReason)>,
     pub is_string: bool,
 }
 
-/// What became of a search. Each case has at most one number, so that it comes back in registers.
+/// How a search ends. Each case has at most one number, so that it is returned in registers.
 #[derive(Clone, Copy)]
 pub(crate) enum Search {
     /// What was looked for was read; so many bytes follow it.
-    Behind(usize),
-    /// It doesn't stand there, or is nested too deep.
+    Found(usize),
+    /// It isn't there, or is nested too deep.
     Malformed,
     /// The error of a growth that was refused.
     Refused(AllocError),

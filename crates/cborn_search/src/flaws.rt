@@ -1,8 +1,7 @@
 //! The first flaw of an item, and of those inside it.
 //!
-//! A function that calls itself for each level answers a number of bytes, which comes back in
-//! registers, and writes what it found to one place that all share: so the frames of a deep nest
-//! stay small.
+//! A function that calls itself for each level returns a number of bytes, in registers, and writes
+//! what it found to one place that all share. So the frames of a deep nest stay small.
 
 ghost use Rattle.std.specs.Prelude.{◌≡◌, ◌≢◌, ◌≤◌, ◌-◌, ◌++◌, ◌⊎◌, ℕ, List, false, length, MatchResult};
 ghost use Rattle.cborn_model.specs.declared.heads.Width.{Width};
@@ -14,7 +13,7 @@ ghost use Rattle.cborn_search.specs.devices.Ending.{Ends, Lacks, AllRead, NodeSe
 ghost use Rattle.cborn_search.specs.devices.Marks.{KeyJoined, MapSeen};
 
 use crate::finding::{Finding, Search};
-use crate::keys::Taken;
+use crate::keys::Addition;
 use crate::leaves::{
     integer_len, is_bignum, search_long_bytes, search_long_text, search_text, string_at,
 };
@@ -49,12 +48,12 @@ pub(crate) fn search_node(
     let major = head.major_type();
     match head.argument {
         Argument::Given(_, n) => match major {
-            Major::Unsigned => Search::Behind(rest.len()),
-            Major::Negative => Search::Behind(rest.len()),
+            Major::Unsigned => Search::Found(rest.len()),
+            Major::Negative => Search::Found(rest.len()),
             Major::ByteString => match string_at(n, rest) {
                 Some((_, after)) => {
                     found.is_string = true;
-                    Search::Behind(after.len())
+                    Search::Found(after.len())
                 }
                 None => Search::Malformed,
             },
@@ -68,7 +67,7 @@ pub(crate) fn search_node(
                     search_tagged(maps, room, total, rest, found)
                 }
             }
-            Major::Other => Search::Behind(rest.len()),
+            Major::Other => Search::Found(rest.len()),
         },
         Argument::Endless => match major {
             Major::ByteString => search_long_bytes(total, rest, found),
@@ -80,7 +79,7 @@ pub(crate) fn search_node(
     }
 }
 
-/// Searches an array of `n` items, which stand at the front of `bytes`.
+/// Searches an array of `n` items, which are at the front of `bytes`.
 #[cycle(searched)]
 #[inline(never)]
 fn search_fixed_array(
@@ -104,13 +103,13 @@ fn search_fixed_array(
                 flaw,
                 is_string: false,
             };
-            Search::Behind(rest.len())
+            Search::Found(rest.len())
         }
         Err(search) => search,
     }
 }
 
-/// Searches an array of indefinite length, whose items stand at the front of `bytes`.
+/// Searches an array of indefinite length, whose items are at the front of `bytes`.
 #[cycle(searched)]
 #[inline(never)]
 fn search_endless_array(
@@ -144,13 +143,13 @@ fn search_endless_array(
                 flaw,
                 is_string: false,
             };
-            Search::Behind(after.len())
+            Search::Found(after.len())
         }
         Err(search) => search,
     }
 }
 
-/// Searches the items of an array up to the count `most`, or, if `may_end`, up to a break. Answers
+/// Searches the items of an array up to the count `most`, or, if `may_end`, up to a break. Gives
 /// what follows them, and their first flaw.
 #[cycle(searched)]
 #[inline(always)]
@@ -177,7 +176,7 @@ fn search_items<'a>(
             continue;
         }
         match search_node(maps, room, total, rest, found) {
-            Search::Behind(left) => {
+            Search::Found(left) => {
                 let Some(after) = last(rest, left) else {
                     return Err(Search::Malformed);
                 };
@@ -191,7 +190,7 @@ fn search_items<'a>(
     Ok((rest, first))
 }
 
-/// Searches a map of `n` pairs, which stand at the front of `bytes`.
+/// Searches a map of `n` pairs, which are at the front of `bytes`.
 #[cycle(searched)]
 #[inline(never)]
 fn search_fixed_map(
@@ -210,12 +209,12 @@ fn search_fixed_map(
         return Search::Malformed;
     }
     match search_pairs(maps, room - 1, total, n, false, bytes, found) {
-        Ok(rest) => Search::Behind(rest.len()),
+        Ok(rest) => Search::Found(rest.len()),
         Err(search) => search,
     }
 }
 
-/// Searches a map of indefinite length, whose pairs stand at the front of `bytes`.
+/// Searches a map of indefinite length, whose pairs are at the front of `bytes`.
 #[cycle(searched)]
 #[inline(never)]
 fn search_endless_map(
@@ -245,15 +244,15 @@ fn search_endless_map(
             let Some(after) = behind_break(rest) else {
                 return Search::Malformed;
             };
-            Search::Behind(after.len())
+            Search::Found(after.len())
         }
         Err(search) => search,
     }
 }
 
-/// Searches the pairs of a map up to the count `most`, or, if `may_end`, up to a break. Answers what
-/// follows them; the flaw is the first of the map that they are. What is known of the map is on the
-/// heap, out of the frames of a deep nest.
+/// Searches the pairs of a map up to the count `most`, or, if `may_end`, up to a break. Gives what
+/// follows them, and writes the first flaw of the map. What is known of the map is on the heap, not in
+/// the frames of a deep nest.
 #[cycle(searched)]
 #[inline(always)]
 fn search_pairs<'a>(
@@ -277,7 +276,7 @@ fn search_pairs<'a>(
     let mut count = 0;
     'pairs: while !is_done(count, most, may_end, rest) {
         let middle = match search_key(maps, &mut *map, room, total, bytes, rest, found) {
-            Search::Behind(left) => {
+            Search::Found(left) => {
                 let Some(after) = last(rest, left) else {
                     return Err(Search::Malformed);
                 };
@@ -286,7 +285,7 @@ fn search_pairs<'a>(
             other => return Err(other),
         };
         match search_value(maps, room, total, middle, found) {
-            Search::Behind(left) => {
+            Search::Found(left) => {
                 let Some(after) = last(middle, left) else {
                     return Err(Search::Malformed);
                 };
@@ -303,7 +302,7 @@ fn search_pairs<'a>(
 }
 
 /// Searches the key at the front of `bytes`, which `pairs` end with. It joins what is known of its
-/// map. One that is searched and has no flaw is taken in then.
+/// map. One that has to be searched is added afterwards, if it has no flaw.
 #[cycle(searched)]
 #[inline(always)]
 fn search_key(
@@ -317,22 +316,22 @@ fn search_key(
 ) -> Search
     requires room { room ≤ 1024 }
     requires within { length pairs.now ≤ total }
-    requires behind { (front : List ℕ) × (pairs.now ≡ front ++ bytes.now) }
+    requires suffix { (front : List ℕ) × (pairs.now ≡ front ++ bytes.now) }
     ensures { Ends (KeyJoined room total pairs.now bytes.now map.old map.new) (Only Never room bytes.now) result }
 {
-    match map.take(maps, room, total, pairs, bytes) {
-        Taken::Behind(left) => Search::Behind(left),
-        Taken::Not => match search_node(maps, room, total, bytes, found) {
-            Search::Behind(left) => {
+    match map.add(maps, room, total, pairs, bytes) {
+        Addition::Added(left) => Search::Found(left),
+        Addition::NotAdded => match search_node(maps, room, total, bytes, found) {
+            Search::Found(left) => {
                 if found.flaw.is_none() {
-                    return map.take_sound(maps, room, total, pairs, bytes);
+                    return map.add_sound(maps, room, total, pairs, bytes);
                 }
                 map.note(found.flaw);
-                Search::Behind(left)
+                Search::Found(left)
             }
             other => other,
         },
-        Taken::Refused(e) => Search::Refused(e),
+        Addition::Refused(e) => Search::Refused(e),
     }
 }
 
@@ -356,7 +355,7 @@ fn search_value(
             flaw: None,
             is_string: false,
         };
-        return Search::Behind(bytes.len() - len);
+        return Search::Found(bytes.len() - len);
     }
     search_node(maps, room, total, bytes, found)
 }
@@ -380,10 +379,10 @@ fn search_bignum(
         return Search::Malformed;
     }
     match search_node(maps, room - 1, total, bytes, found) {
-        Search::Behind(left) => {
+        Search::Found(left) => {
             if found.is_string {
                 found.is_string = false;
-                return Search::Behind(left);
+                return Search::Found(left);
             }
             let own = Some((place, InvalidReason::BadBignum));
             let flaw = earliest(own, found.flaw);
@@ -391,7 +390,7 @@ fn search_bignum(
                 flaw,
                 is_string: false,
             };
-            Search::Behind(left)
+            Search::Found(left)
         }
         other => other,
     }
@@ -415,9 +414,9 @@ fn search_tagged(
         return Search::Malformed;
     }
     match search_node(maps, room - 1, total, bytes, found) {
-        Search::Behind(left) => {
+        Search::Found(left) => {
             found.is_string = false;
-            Search::Behind(left)
+            Search::Found(left)
         }
         other => other,
     }

@@ -1,12 +1,12 @@
 //! The keys of a map.
 
-ghost use Rattle.std.specs.Prelude.{◌≡◌, ◌≤◌, ◌++◌, ℕ, List, [], length, take, drop, OnOk, MatchOption, IsPermutation};
+ghost use Rattle.std.specs.Prelude.{◌≡◌, ◌≤◌, ◌++◌, ℕ, List, [], length, take, drop, OnOk, IfSome, MatchOption, IsPermutation};
 ghost use Rattle.std.specs.Ordering.{is_lt};
 ghost use Rattle.std.specs.List.Sorted.{IsSortedBy};
 ghost use Rattle.cborn_model.specs.Tree.{entries};
 ghost use Rattle.cborn_judge.specs.shared.Judged.{RepeatFlaw};
 ghost use Rattle.cborn_search.specs.Flawed.{FindsTold, SeenKey, AreSeen};
-ghost use Rattle.cborn_search.specs.devices.Marks.{mark_bytes, mark_place, mark_order, number_at, AreMarked, IsPushed, IsWritten, Takes, InPlace, ComesAfter, TieAfter, TieFlaw};
+ghost use Rattle.cborn_search.specs.devices.Marks.{is_own, mark_end, mark_bytes, mark_place, mark_order, number_at, written_at, IsOwnMark, IsWrittenMark, AreMarked, IsPushed, IsKept, IsClosed, IsWritten, Adds, InPlace, ComesAfter, TieAfter, TieFlaw};
 ghost use Rattle.cborn_wire.specs.Parts.{Pair};
 ghost use Rattle.cborn_transcode.specs.Transcoding.{HoldsNoItem};
 
@@ -17,33 +17,92 @@ use std::alloc::{AllocError, AllocFailed, Global};
 use std::cmp::Ordering;
 use std::mem;
 
-/// Where the encoding of a key lies.
+/// The greatest number of 32 bits. In a mark it says that a number is somewhere else.
+const ELSEWHERE: usize = 0xffff_ffff;
+
+/// Where the encoding of a key lies: in the pairs of the map, or in what was written. 16 bytes.
 #[derive(Clone, Copy)]
 pub(crate) struct Mark {
-    /// A number that rises with the encoding, as a rule. Nothing but speed rests on it.
+    /// A number that rises with the encoding, as a rule. No answer depends on that: where it doesn't
+    /// rise, the keys are sorted by their encodings. Where `len` says so, the end of the encoding.
     hint: u64,
-    /// Where it begins in the pairs of the map; the greatest number where it isn't the key itself.
-    start: usize,
-    /// Its length in bytes; or, where it isn't the key itself, where it ends in what was written.
-    len: usize,
+    /// Where the encoding begins in the pairs; the greatest number where it was written.
+    start: u32,
+    /// The length of the encoding in bytes. Of one that was written, where it ends there; the
+    /// greatest number where `hint` is the end.
+    len: u32,
 }
 
-/// What became of a key before it was searched. Each case has at most one number, so that it comes
-/// back in registers.
+impl Mark {
+    /// Marks a key that is its own encoding, by where it begins in the pairs and its length in bytes.
+    /// None: one of the two has no room.
+    #[inline(always)]
+    fn own(hint: u64, start: usize, len: usize) -> Option<Mark>
+        ensures { IfSome result (IsOwnMark start len) }
+    {
+        if start >= ELSEWHERE || len >= ELSEWHERE {
+            return None;
+        }
+        Some(Mark {
+            hint,
+            start: start as u32,
+            len: len as u32,
+        })
+    }
+
+    /// Marks an encoding that was written, by where it ends there.
+    #[inline(always)]
+    fn written(hint: u64, end: usize) -> Mark
+        ensures { IsWrittenMark end result }
+    {
+        let (hint, len) = if end < ELSEWHERE {
+            (hint, end as u32)
+        } else {
+            (end as u64, u32::MAX)
+        };
+        Mark {
+            hint,
+            start: u32::MAX,
+            len,
+        }
+    }
+
+    /// Whether a key that is its own encoding is marked.
+    #[inline(always)]
+    fn is_own(&self) -> bool
+        ensures { result ≡ is_own self.now }
+    {
+        (self.start as usize) < ELSEWHERE
+    }
+
+    /// Where an encoding that was written ends.
+    #[inline(always)]
+    fn end(&self) -> usize
+        ensures { result ≡ mark_end self.now }
+    {
+        if (self.len as usize) < ELSEWHERE {
+            return self.len as usize;
+        }
+        self.hint as usize
+    }
+}
+
+/// What became of a key before it was searched. Each case has at most one number, so that it is
+/// returned in registers.
 #[derive(Clone, Copy)]
-pub(crate) enum Taken {
-    /// It means something, and is taken in; so many bytes follow it.
-    Behind(usize),
-    /// It isn't taken in: it wasn't tried, it has a flaw, or no key stands there.
-    Not,
+pub(crate) enum Addition {
+    /// It means something, and was added; so many bytes follow it.
+    Added(usize),
+    /// It wasn't added: it wasn't tried, it has a flaw, or no key is there.
+    NotAdded,
     /// The error of a growth that was refused.
     Refused(AllocError),
 }
 
 /// The deterministic encodings of the keys of a map that mean something. A key that is its own
-/// encoding stays in the pairs of the map, which are told at each call: the bytes from the first pair
-/// on to the end of the input. The encodings of the others are written, and behind each the place of
-/// its key and its length, in 8 bytes each.
+/// encoding stays in the pairs of the map, which are passed at each call: the bytes from the first
+/// pair to the end of the input. The encodings of the others are written. After each follow the
+/// place of its key and its length, in 8 bytes each.
 #[derive(Drop)]
 pub(crate) struct Keys {
     written: Vec<u8>,
@@ -74,12 +133,12 @@ impl Keys {
         self.marks.len()
     }
 
-    /// Takes in the key at the front of `bytes`, which `pairs` end with, the last of `total`, if it is
-    /// no deeper than `room` and means something. Where it isn't its own encoding, that is made in
-    /// `encoding`, whose room serves one key after another. Where it has none, `open` has the keys in
-    /// it that hold its flaw.
+    /// Adds the key at the front of `bytes`, which `pairs` end with, the last of `total`, if it is no
+    /// deeper than `room` and means something. Where it isn't its own encoding, that is made in
+    /// `encoding`, whose memory serves one key after another. Where it has none, `open` has the keys
+    /// in it that hold its flaw.
     #[inline(always)]
-    pub(crate) fn take(
+    pub(crate) fn add(
         &mut self,
         alloc: Global,
         open: &mut OpenKeys,
@@ -88,49 +147,87 @@ impl Keys {
         total: u64,
         pairs: &[u8],
         bytes: &[u8],
-    ) -> Taken
+    ) -> Addition
         requires room { room ≤ 1024 }
         requires within { length pairs.now ≤ total }
-        requires behind { (front : List ℕ) × (pairs.now ≡ front ++ bytes.now) }
-        ensures { Takes (HoldsNoItem room bytes.now) room total pairs.now bytes.now self.old self.new result }
+        requires suffix { (front : List ℕ) × (pairs.now ≡ front ++ bytes.now) }
+        ensures { Adds (HoldsNoItem room bytes.now) room total pairs.now bytes.now self.old self.new result }
     {
         if let Some((key, rest)) = split_item::<Bytewise>(room, bytes) {
-            return match self.push(hint(key), pairs.len() - bytes.len(), key.len()) {
-                Ok(()) => Taken::Behind(rest.len()),
-                Err(e) => Taken::Refused(e),
+            let place = total - bytes.len() as u64;
+            return match self.keep(place, pairs.len() - bytes.len(), key) {
+                Ok(()) => Addition::Added(rest.len()),
+                Err(e) => Addition::Refused(e),
             };
         }
         if let Err(e) = make_room(bytes.len(), encoding) {
-            return Taken::Refused(e);
+            return Addition::Refused(e);
         }
         let rest = match transcode_item::<Bytewise>(alloc, open, room, bytes, encoding) {
             Ok(Some(rest)) => rest,
-            Ok(None) => return Taken::Not,
-            Err(e) => return Taken::Refused(e),
+            Ok(None) => return Addition::NotAdded,
+            Err(e) => return Addition::Refused(e),
         };
         match self.write(total - bytes.len() as u64, encoding) {
-            Ok(()) => Taken::Behind(rest.len()),
-            Err(e) => Taken::Refused(e),
+            Ok(()) => Addition::Added(rest.len()),
+            Err(e) => Addition::Refused(e),
         }
     }
 
-    /// Marks the encoding of the key at `place`, and keeps it. A long one isn't copied, where none was
-    /// written before.
+    /// Keeps the key at `place`, which is its own encoding and begins at `start` in the pairs. It is
+    /// copied only where it is too far or too long for a mark.
+    ///
+    /// # Errors
+    /// Memory was refused.
+    #[inline(always)]
+    fn keep(&mut self, place: u64, start: usize, key: &[u8]) -> Result<(), AllocError>
+        ensures { OnOk result (IsKept place start key.now self.old self.new) }
+    {
+        match Mark::own(hint(key), start, key.len()) {
+            Some(mark) => self.push(mark),
+            None => self.copy(place, key),
+        }
+    }
+
+    /// Writes the encoding of the key at `place`. A long one isn't copied, where none was written
+    /// before.
     ///
     /// # Errors
     /// Memory was refused.
     fn write(&mut self, place: u64, encoding: &mut Vec<u8>) -> Result<(), AllocError>
         ensures { OnOk result (IsWritten place encoding.old.items self.old self.new) }
     {
+        if !self.written.is_empty() || encoding.len() < encoding.capacity() / 2 {
+            return self.copy(place, encoding);
+        }
         let hint = hint(encoding);
         let len = encoding.len() as u64;
-        if self.written.is_empty() && encoding.len() >= encoding.capacity() / 2 {
-            mem::swap(&mut self.written, encoding);
-        } else {
-            self.written.extend_from_slice(encoding)?;
-        }
+        mem::swap(&mut self.written, encoding);
+        self.mark_written(hint, place, len)
+    }
+
+    /// Writes the encoding of the key at `place`.
+    ///
+    /// # Errors
+    /// Memory was refused.
+    #[inline(never)]
+    fn copy(&mut self, place: u64, encoding: &[u8]) -> Result<(), AllocError>
+        ensures { OnOk result (IsWritten place encoding.now self.old self.new) }
+    {
+        self.written.extend_from_slice(encoding)?;
+        self.mark_written(hint(encoding), place, encoding.len() as u64)
+    }
+
+    /// Marks the `len` bytes that were written last: the encoding of the key at `place`. The place
+    /// and the length are written after them.
+    ///
+    /// # Errors
+    /// Memory was refused.
+    fn mark_written(&mut self, hint: u64, place: u64, len: u64) -> Result<(), AllocError>
+        ensures { OnOk result (IsClosed place len self.old self.new) }
+    {
         let end = self.written.len();
-        self.push(hint, usize::MAX, end)?;
+        self.push(Mark::written(hint, end))?;
         self.written.extend_from_slice(&place.to_be_bytes())?;
         self.written.extend_from_slice(&len.to_be_bytes())
     }
@@ -139,16 +236,16 @@ impl Keys {
     ///
     /// # Errors
     /// Memory was refused.
-    #[inline]
-    fn push(&mut self, hint: u64, start: usize, len: usize) -> Result<(), AllocError>
-        ensures { OnOk result (IsPushed start len self.old self.new) }
+    #[inline(always)]
+    fn push(&mut self, mark: Mark) -> Result<(), AllocError>
+        ensures { OnOk result (IsPushed mark self.old self.new) }
     {
-        self.marks.push(Mark { hint, start, len })?;
+        self.marks.push(mark)?;
         Ok(())
     }
 
-    /// The first key that is the same as an earlier one. The marks are sorted by their hints, and only
-    /// where these don't suit, by the encodings alone.
+    /// The first key that is the same as an earlier one. The marks are sorted by their hints. Only
+    /// where that gives no order they are sorted by the encodings alone.
     #[inline(never)]
     pub(crate) fn first_repeat(&mut self, total: u64, pairs: &[u8]) -> Option<(u64, InvalidReason)>
         requires { (ks : List SeenKey) × (end : ℕ) × AreMarked total pairs.now end ks self.old }
@@ -195,11 +292,25 @@ fn from(bytes: &[u8], start: usize) -> &[u8]
     rest
 }
 
-/// As many as `len` of the bytes from `start` on.
-fn part(bytes: &[u8], start: usize, len: usize) -> &[u8]
+/// As many as `len` of the bytes from `start` on. One comparison suffices where there are as many.
+#[inline(always)]
+fn part(bytes: &[u8], start: u32, len: u32) -> &[u8]
     ensures { result.now ≡ take len (drop start bytes.now) }
 {
-    let rest = from(bytes, start);
+    if start as usize + len as usize > bytes.len() {
+        return from(bytes, start as usize);
+    }
+    let (_, rest) = bytes.split_at(start as usize);
+    let (found, _) = rest.split_at(len as usize);
+    found
+}
+
+/// The encoding that ends at `end` of what was written.
+fn written_part(written: &[u8], end: usize) -> &[u8]
+    ensures { result.now ≡ written_at end written.now }
+{
+    let len = first_number(from(from(written, end), 8)) as usize;
+    let rest = from(written, end.saturating_sub(len));
     if len > rest.len() {
         return rest;
     }
@@ -211,21 +322,20 @@ fn part(bytes: &[u8], start: usize, len: usize) -> &[u8]
 fn bytes_of<'a>(pairs: &'a [u8], written: &'a [u8], mark: &Mark) -> &'a [u8]
     ensures { result.now ≡ mark_bytes pairs.now written.now mark.now }
 {
-    if mark.start < pairs.len() {
+    if mark.is_own() {
         return part(pairs, mark.start, mark.len);
     }
-    let len = first_number(from(from(written, mark.len), 8)) as usize;
-    part(written, mark.len.saturating_sub(len), len)
+    written_part(written, mark.end())
 }
 
 /// The place of the key that is marked.
 fn place_of(total: u64, pairs: &[u8], written: &[u8], mark: &Mark) -> u64
     ensures { result ≡ mark_place total pairs.now written.now mark.now }
 {
-    if mark.start < pairs.len() {
-        return total.saturating_sub((pairs.len() - mark.start) as u64);
+    if mark.is_own() {
+        return total.saturating_sub(pairs.len().saturating_sub(mark.start as usize) as u64);
     }
-    first_number(from(written, mark.len))
+    first_number(from(written, mark.end()))
 }
 
 /// The number in the first eight bytes, or 0 where there are fewer.
@@ -238,9 +348,9 @@ fn first_number(bytes: &[u8]) -> u64
     }
 }
 
-/// Arranges the marks by their bytes, and those of the same bytes by the places of the keys, where
-/// the hints suit. Where the last comes before the first they are turned round at first, since keys
-/// that fall then rise.
+/// Sorts the marks by their hints, those of the same hint by their bytes, and those of the same bytes
+/// by the places of the keys. Where the last comes before the first they are reversed first, since
+/// keys that fall then rise.
 fn sort(total: u64, pairs: &[u8], written: &[u8], marks: &mut Vec<Mark>)
     ensures { IsPermutation marks.old.items marks.new.items }
 {
@@ -261,7 +371,7 @@ fn is_falling(total: u64, pairs: &[u8], written: &[u8], marks: &[Mark]) -> bool 
     }
 }
 
-/// Arranges the marks by their bytes, and those of the same bytes by the places of the keys.
+/// Sorts the marks by their bytes, and those of the same bytes by the places of the keys.
 fn sort_by_bytes(total: u64, pairs: &[u8], written: &[u8], marks: &mut Vec<Mark>)
     ensures moved { IsPermutation marks.old.items marks.new.items }
     ensures sorted { IsSortedBy (λ x y. is_lt (mark_order total pairs.now written.now x y)) marks.new.items }
@@ -321,7 +431,7 @@ fn first_tie(
     Some(first)
 }
 
-/// The flaw of a key that has the bytes of the one before it. None: it doesn't come behind that.
+/// The flaw of a key that has the bytes of the one before it. None: it doesn't come after that.
 fn tie_with(
     total: u64,
     pairs: &[u8],

@@ -22,8 +22,8 @@ pub(crate) fn is_bignum(n: u64) -> bool
     n == 2 || n == 3
 }
 
-/// The length of the integer at the front, if one stands there. It is quicker than a call for each
-/// item where integers follow one another.
+/// The length in bytes of the integer at the front, if there is one. It is quicker than a call for
+/// each item where integers follow one another.
 #[inline(always)]
 pub(crate) fn integer_len(bytes: &[u8]) -> Option<usize>
     ensures len { IfSome result (λ len. len ≤ length bytes.now) }
@@ -45,8 +45,8 @@ pub(crate) fn integer_len(bytes: &[u8]) -> Option<usize>
     }
 }
 
-/// The content of a string of `n` bytes at the front, and what follows. None where so many don't
-/// stand there.
+/// The content of a string of `n` bytes at the front, and what follows. None where there are fewer
+/// bytes.
 #[inline]
 pub(crate) fn string_at(n: u64, bytes: &[u8]) -> Option<(&[u8], &[u8])>
     ensures { MatchOption result (length bytes.now < n) (λ r. StringRead n bytes.now r.0.now r.1.now) }
@@ -71,8 +71,8 @@ pub(crate) fn text_flaw(place: u64, bytes: &[u8]) -> Option<(u64, InvalidReason)
     }
 }
 
-/// Chunks up to a break: what follows them, and of a text their first flaw. None where one of them is
-/// none of the kind, or cut short.
+/// Chunks up to a break: what follows them, and of a text their first flaw. None where one of them
+/// isn't of the kind, or is cut short.
 pub(crate) fn search_chunks(
     text: bool,
     total: u64,
@@ -95,7 +95,7 @@ pub(crate) fn search_chunks(
     }
 }
 
-/// A chunk of a string of this kind: what follows it, and its flaw. None where none stands there.
+/// A chunk of a string of this kind: what follows it, and its flaw. None where there is none.
 fn search_chunk(
     text: bool,
     total: u64,
@@ -154,7 +154,7 @@ pub(crate) fn search_text(place: u64, n: u64, bytes: &[u8], found: &mut Finding)
         flaw,
         is_string: false,
     };
-    Search::Behind(after.len())
+    Search::Found(after.len())
 }
 
 /// Searches the chunks of a byte string at the front, up to its break.
@@ -170,7 +170,7 @@ pub(crate) fn search_long_bytes(total: u64, bytes: &[u8], found: &mut Finding) -
         flaw: None,
         is_string: true,
     };
-    Search::Behind(end.len())
+    Search::Found(end.len())
 }
 
 /// Searches the chunks of a text at the front, up to its break.
@@ -186,5 +186,5 @@ pub(crate) fn search_long_text(total: u64, bytes: &[u8], found: &mut Finding) ->
         flaw,
         is_string: false,
     };
-    Search::Behind(end.len())
+    Search::Found(end.len())
 }

@@ -1,17 +1,17 @@
-//! What a search for flaws knows of a map, and the maps that it is done with.
+//! What a search for flaws knows of a map, and the maps that it has finished.
 
 ghost use Rattle.std.specs.Prelude.{◌≡◌, ◌≤◌, ◌++◌, ℕ, List, None, [], false, length, IfOk, ⊤};
 ghost use Rattle.cborn_search.specs.Flawed.{IsEarliestTold, NodeAt, IsSound, SeenKey};
 ghost use Rattle.cborn_search.specs.devices.Ending.{Ends};
-ghost use Rattle.cborn_search.specs.devices.Marks.{AreMarked, Concludes, KeyTaken, Takes};
+ghost use Rattle.cborn_search.specs.devices.Marks.{AreMarked, Concludes, KeyAdded, Adds};
 
 use crate::finding::{Finding, Search};
-use crate::keys::{Keys, Taken};
+use crate::keys::{Addition, Keys};
 use cborn_judge::{InvalidReason, earliest};
 use cborn_transcode::OpenKeys;
 use std::alloc::{AllocError, AllocFailed, Global};
 
-/// A map of more keys gives its room back once it is done with.
+/// A map of more keys than this gives its memory back once it is finished.
 const MOST_KEPT: usize = 1000;
 
 /// The keys that mean something, and the first flaw of keys and values.
@@ -42,28 +42,28 @@ impl SearchedMap {
         self.first = None;
     }
 
-    /// Takes in the key at the front of `bytes`, which `pairs` end with, if it has no flaw. It isn't tried
-    /// where it is known to hold the flaw of a key around it: so
-    /// no byte is tried again at each level of a nest of keys.
+    /// Adds the key at the front of `bytes`, which `pairs` end with, if it has no flaw. It isn't tried
+    /// where it is known to hold the flaw of a key around it. So no byte is tried again at each level
+    /// of a nest of keys.
     #[inline(never)]
-    pub(crate) fn take(
+    pub(crate) fn add(
         &mut self,
         maps: &mut SpareMaps,
         room: u64,
         total: u64,
         pairs: &[u8],
         bytes: &[u8],
-    ) -> Taken
+    ) -> Addition
         requires room { room ≤ 1024 }
         requires within { length pairs.now ≤ total }
-        requires behind { (front : List ℕ) × (pairs.now ≡ front ++ bytes.now) }
-        ensures keys { Takes ⊤ room total pairs.now bytes.now self.old.keys self.new.keys result }
+        requires suffix { (front : List ℕ) × (pairs.now ≡ front ++ bytes.now) }
+        ensures keys { Adds ⊤ room total pairs.now bytes.now self.old.keys self.new.keys result }
         ensures first { self.new.first ≡ self.old.first }
     {
         if maps.flawed.has_key(bytes.len()) {
-            return Taken::Not;
+            return Addition::NotAdded;
         }
-        self.keys.take(
+        self.keys.add(
             maps.alloc,
             &mut maps.flawed,
             &mut maps.encoding,
@@ -74,9 +74,9 @@ impl SearchedMap {
         )
     }
 
-    /// Takes in the key at the front of `bytes`, which was searched and has no flaw.
+    /// Adds the key at the front of `bytes`, which `pairs` end with. It was searched and has no flaw.
     #[inline(never)]
-    pub(crate) fn take_sound(
+    pub(crate) fn add_sound(
         &mut self,
         maps: &mut SpareMaps,
         room: u64,
@@ -86,12 +86,12 @@ impl SearchedMap {
     ) -> Search
         requires room { room ≤ 1024 }
         requires within { length pairs.now ≤ total }
-        requires behind { (front : List ℕ) × (pairs.now ≡ front ++ bytes.now) }
+        requires suffix { (front : List ℕ) × (pairs.now ≡ front ++ bytes.now) }
         requires sound { (rest : List ℕ) × NodeAt IsSound room total bytes.now rest }
-        ensures keys { Ends (KeyTaken room total pairs.now bytes.now self.old.keys self.new.keys) ⊥ result }
+        ensures keys { Ends (KeyAdded room total pairs.now bytes.now self.old.keys self.new.keys) ⊥ result }
         ensures first { self.new.first ≡ self.old.first }
     {
-        match self.keys.take(
+        match self.keys.add(
             maps.alloc,
             &mut maps.flawed,
             &mut maps.encoding,
@@ -100,13 +100,13 @@ impl SearchedMap {
             pairs,
             bytes,
         ) {
-            Taken::Behind(left) => Search::Behind(left),
-            Taken::Not => unreachable!(),
-            Taken::Refused(e) => Search::Refused(e),
+            Addition::Added(left) => Search::Found(left),
+            Addition::NotAdded => unreachable!(),
+            Addition::Refused(e) => Search::Refused(e),
         }
     }
 
-    /// Takes in the flaw of a key or of a value, which has none as a rule.
+    /// Notes the flaw of a key or of a value. Most have none.
     #[inline(always)]
     pub(crate) fn note(&mut self, flaw: Option<(u64, InvalidReason)>)
         ensures keys { self.new.keys ≡ self.old.keys }
@@ -117,7 +117,7 @@ impl SearchedMap {
         }
     }
 
-    /// Tells the first flaw of the map whose pairs these are.
+    /// Finds the first flaw of the map that `pairs` begin with, of an input of `total` bytes.
     #[inline(never)]
     pub(crate) fn conclude(&mut self, total: u64, pairs: &[u8], found: &mut Finding)
         requires { (ks : List SeenKey) × (end : ℕ) × AreMarked total pairs.now end ks self.old.keys }
@@ -133,15 +133,14 @@ impl SearchedMap {
     }
 }
 
-/// The maps that a search is done with: those that come next take their room, since small maps are
-/// many.
+/// The maps that a search has finished. The next ones use their memory, since small maps are many.
 #[derive(Drop)]
 pub(crate) struct SpareMaps {
     alloc: Global,
     spare: Vec<Box<SearchedMap>>,
     /// Room for the encoding of a key.
     encoding: Vec<u8>,
-    /// Of a key that wasn't taken in, the keys inside it that hold its flaw.
+    /// Of a key that wasn't added, the keys inside it that hold its flaw.
     flawed: OpenKeys,
 }
 
@@ -176,7 +175,7 @@ impl SpareMaps {
         }
     }
 
-    /// Keeps a map for its room. Where memory is refused, it is dropped.
+    /// Keeps a map for its memory. Where a growth is refused, the map is dropped.
     #[inline(never)]
     pub(crate) fn put_back(&mut self, map: Box<SearchedMap>) {
         if map.keys.len() <= MOST_KEPT {

@@ -47,11 +47,11 @@ pub fn first_flaw(alloc: Global, limit: Limit, bytes: &[u8]) -> Result<Validity,
     };
     'items: while !rest.is_empty() {
         match search_node(&mut maps, room, total, rest, &mut found) {
-            Search::Behind(left) => {
-                let Some(behind) = last(rest, left) else {
+            Search::Found(left) => {
+                let Some(after) = last(rest, left) else {
                     return Ok(Validity::Malformed);
                 };
-                rest = behind;
+                rest = after;
             }
             Search::Malformed => return Ok(Validity::Malformed),
             Search::Refused(e) => return Err(e),

@@ -20,7 +20,7 @@ abbrev pub IsLeast : Option ℕ → (ℕ → Type 0) → Option ℕ → Type 0
 IsLeast known F None = (known ≡ None) × ((p : ℕ) → F p → ⊥)
 IsLeast known F (Some p) = ((known ≡ Some p) ⊎ F p) × ((q : ℕ) → (known ≡ Some q) ⊎ F q → p ≤ q)
 
--- n bytes were passed that began at some place, where bad texts stand as F says: unless the search came as far as numbers go
+-- n bytes were passed that began at some place, and F says where their bad texts are; nothing is said past the last number
 abbrev pub IsPast : TextSearch → TextSearch → ℕ → (ℕ → ℕ → Type 0) → Type 0
 IsPast a b n F = a.at + n < 2 ^ 64 → (b.at ≡ a.at + n) × IsLeast a.first (F a.at) b.first
 

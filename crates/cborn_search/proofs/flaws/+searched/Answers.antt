@@ -16,8 +16,8 @@ use Rattle.cborn_descent.proofs.Maps.{met, pairs_next, endless_map_all}
 use Rattle.cborn_descent.proofs.Wholes.{node_some}
 use Rattle.cborn_search.proofs.Marking.{none_marked}
 use Rattle.cborn_search.proofs.Ending.{ends_other, lacks_other, ends_lacking, ends_as, no_array, no_endless_array, no_map, no_endless_map}
-use Rattle.cborn_search.proofs.Keying.{some_told, sound_of, taken_joins, searched_joins, joined_from, joined_last}
-use Rattle.cborn_search.specs.declared.finding.Search.TheVariants.{Behind, Malformed}
+use Rattle.cborn_search.proofs.Keying.{some_told, sound_of, added_joins, searched_joins, joined_from, joined_last}
+use Rattle.cborn_search.specs.declared.finding.Search.TheVariants.{Found, Malformed}
 use Rattle.cborn_search.specs.declared.searched_maps.SearchedMap.{SearchedMap}
 use Rattle.cborn_search.specs.Flawed.{Told, IsEarliestTold, Searched, SearchedAll, PairsSeen}
 use Rattle.cborn_search.specs.devices.Marks.{AreMarked, MapSeen, KeyJoined}
@@ -41,7 +41,7 @@ search_node-returns-in-Negative t c =
 
 pub search_node-returns-in-Some : goal.search_node-returns-in-Some
 search_node-returns-in-Some t c =
-    seen_from c.args.room c.args.total None true (Behind (length c.in-Some.after.now)) (take_rest c.args.bytes.now c.in-Full.len) c.in-Full.ensures (sym c.major_type-major.ensures ∙ c.in-ByteString.is) c.in-Given.is c.requires.within
+    seen_from c.args.room c.args.total None true (Found (length c.in-Some.after.now)) (take_rest c.args.bytes.now c.in-Full.len) c.in-Full.ensures (sym c.major_type-major.ensures ∙ c.in-ByteString.is) c.in-Given.is c.requires.within
     (λ fits l p. (c.in-Some.after.now, refl, bytes_seen c.args.room c.args.total c.in-Given.field-0 c.in-Given.n _ _ c.in-Some.after.now fits c.in-Some.ensures))
 
 pub search_node-returns-in-None : goal.search_node-returns-in-None
@@ -122,11 +122,11 @@ search_items-items-preserved-in-Some t c =
 
 pub search_items-items-smaller : goal.search_items-items-smaller
 search_items-items-smaller t c =
-    node_some (node_last c.in-Behind.ensures c.in-Some-last.ensures.found)
+    node_some (node_last c.in-Found.ensures c.in-Some-last.ensures.found)
 
 pub search_items-items-preserved : goal.search_items-items-preserved
 search_items-items-preserved t c =
-    let y = node_last c.in-Behind.ensures c.in-Some-last.ensures.found in
+    let y = node_last c.in-Found.ensures c.in-Some-last.ensures.found in
     let some : SearchedAll c.args.room c.args.total (c.items.count + 1) c.args.bytes.now c.in-Some-last.after.now c.earliest-first.result =
     all_more c.args.room c.args.total c.items.count c.args.bytes.now c.items.rest.now c.in-Some-last.after.now c.items.first c.search_node.new.found.flaw c.earliest-first.result _ c.requires.within c.items.invariant.0 y c.earliest-first.ensures in
     let more : c.items.count ≢ c.args.most = c.items-test.ensures.0 in
@@ -135,7 +135,7 @@ search_items-items-preserved t c =
 pub search_items-returns-in_default-search_node : goal.search_items-returns-in_default-search_node
 search_items-returns-in_default-search_node t c =
     let more : c.items.count ≢ c.args.most = c.items-test.ensures.0 in
-    lacks_other _ c.search_node.result c.in_default-search_node.not-Behind (λ only. items_next Never c.args.room c.args.most c.items.count c.args.may_end c.args.bytes.now c.items.rest.now c.items.invariant.0 (omega (arith, c.items.invariant.1, more)) c.items-test.ensures.1 only) c.search_node.ensures
+    lacks_other _ c.search_node.result c.in_default-search_node.not-Found (λ only. items_next Never c.args.room c.args.most c.items.count c.args.may_end c.args.bytes.now c.items.rest.now c.items.invariant.0 (omega (arith, c.items.invariant.1, more)) c.items-test.ensures.1 only) c.search_node.ensures
 
 pub search_items-returns : goal.search_items-returns
 search_items-returns t c =
@@ -182,30 +182,30 @@ search_bignum-returns-then-room-eq0 t c w n d h l p =
 
 pub search_bignum-returns-then-found : goal.search_bignum-returns-then-found
 search_bignum-returns-then-found t c w n d h l p =
-    let s = c.in-Behind.ensures in
+    let s = c.in-Found.ensures in
     (s.0, s.1, bignum_seen c.args.room c.args.total c.args.place w n c.args.bytes.now s.0 c.search_node.new.found.flaw c.search_node.new.found.is_string (omega arith) h l s.2 c.if-found.true)
 
 pub search_bignum-returns-else-found : goal.search_bignum-returns-else-found
 search_bignum-returns-else-found t c w n d h l p =
-    let s = c.in-Behind.ensures in
+    let s = c.in-Found.ensures in
     (s.0, s.1, bad_bignum_seen c.args.room c.args.total c.args.place w n c.args.bytes.now s.0 c.search_node.new.found.flaw c.search_node.new.found.is_string c.earliest-flaw.result (omega arith) h l p s.2 d c.if-found.false c.earliest-flaw.ensures)
 
 pub search_bignum-returns-in_default : goal.search_bignum-returns-in_default
 search_bignum-returns-in_default t c w n d h l p =
-    ends_other _ _ c.search_node.result c.in_default.not-Behind (tag_fails Never c.args.room w n c.args.bytes.now never_rises h) c.search_node.ensures
+    ends_other _ _ c.search_node.result c.in_default.not-Found (tag_fails Never c.args.room w n c.args.bytes.now never_rises h) c.search_node.ensures
 
 pub search_tagged-returns-then-room-eq0 : goal.search_tagged-returns-then-room-eq0
 search_tagged-returns-then-room-eq0 t c w n a b h l =
     tag_deep Never c.args.room w n c.args.bytes.now c.if-room-eq0.true h
 
-pub search_tagged-returns-in-Behind : goal.search_tagged-returns-in-Behind
-search_tagged-returns-in-Behind t c w n a b h l =
-    let s = c.in-Behind.ensures in
+pub search_tagged-returns-in-Found : goal.search_tagged-returns-in-Found
+search_tagged-returns-in-Found t c w n a b h l =
+    let s = c.in-Found.ensures in
     (s.0, s.1, tagged_seen c.args.room c.args.total 0 w n c.args.bytes.now s.0 c.search_node.new.found.flaw c.search_node.new.found.is_string (omega arith) h l s.2 a b)
 
 pub search_tagged-returns-in_default : goal.search_tagged-returns-in_default
 search_tagged-returns-in_default t c w n a b h l =
-    ends_other _ _ c.search_node.result c.in_default.not-Behind (tag_fails Never c.args.room w n c.args.bytes.now never_rises h) c.search_node.ensures
+    ends_other _ _ c.search_node.result c.in_default.not-Found (tag_fails Never c.args.room w n c.args.bytes.now never_rises h) c.search_node.ensures
 
 pub search_fixed_map-returns-then-room-eq0 : goal.search_fixed_map-returns-then-room-eq0
 search_fixed_map-returns-then-room-eq0 t c w h l =
@@ -258,19 +258,19 @@ pub search_pairs-returns-in_default : goal.search_pairs-returns-in_default
 search_pairs-returns-in_default t c =
     let i = c.pairs.invariant in
     let more : c.pairs.count ≢ c.args.most = c.pairs-test.ensures.0 in
-    lacks_other _ c.search_key.result c.in_default.not-Behind (λ only. pairs_next Never c.args.room c.args.most c.pairs.count c.args.may_end c.args.bytes.now c.pairs.rest.now i.1 (omega (arith, i.3, more)) c.pairs-test.ensures.1 (key_fails Never c.args.room c.pairs.rest.now only)) c.search_key.ensures
+    lacks_other _ c.search_key.result c.in_default.not-Found (λ only. pairs_next Never c.args.room c.args.most c.pairs.count c.args.may_end c.args.bytes.now c.pairs.rest.now i.1 (omega (arith, i.3, more)) c.pairs-test.ensures.1 (key_fails Never c.args.room c.pairs.rest.now only)) c.search_key.ensures
 
 pub search_pairs-returns-in_default-search_value : goal.search_pairs-returns-in_default-search_value
 search_pairs-returns-in_default-search_value t c =
     let i = c.pairs.invariant in
     let more : c.pairs.count ≢ c.args.most = c.pairs-test.ensures.0 in
-    let j = joined_last c.args.room c.args.total c.args.bytes.now c.pairs.rest.now c.deref_mut.result.now c.search_key.new.map c.in-Behind.ensures c.in-Some.ensures.found in
-    lacks_other _ c.search_value.result c.in_default-search_value.not-Behind (λ only. pairs_next Never c.args.room c.args.most c.pairs.count c.args.may_end c.args.bytes.now c.pairs.rest.now i.1 (omega (arith, i.3, more)) c.pairs-test.ensures.1 (value_fails Never c.args.room c.pairs.rest.now c.in-Some.after.now j.key only)) c.search_value.ensures
+    let j = joined_last c.args.room c.args.total c.args.bytes.now c.pairs.rest.now c.deref_mut.result.now c.search_key.new.map c.in-Found.ensures c.in-Some.ensures.found in
+    lacks_other _ c.search_value.result c.in_default-search_value.not-Found (λ only. pairs_next Never c.args.room c.args.most c.pairs.count c.args.may_end c.args.bytes.now c.pairs.rest.now i.1 (omega (arith, i.3, more)) c.pairs-test.ensures.1 (value_fails Never c.args.room c.pairs.rest.now c.in-Some.after.now j.key only)) c.search_value.ensures
 
 pub search_pairs-pairs-smaller : goal.search_pairs-pairs-smaller
 search_pairs-pairs-smaller t c =
-    let j = joined_last c.args.room c.args.total c.args.bytes.now c.pairs.rest.now c.deref_mut.result.now c.search_key.new.map c.in-Behind.ensures c.in-Some.ensures.found in
-    let v = node_last c.in-Behind-search_value.ensures c.in-Some-last.ensures.found in
+    let j = joined_last c.args.room c.args.total c.args.bytes.now c.pairs.rest.now c.deref_mut.result.now c.search_key.new.map c.in-Found.ensures c.in-Some.ensures.found in
+    let v = node_last c.in-Found-search_value.ensures c.in-Some-last.ensures.found in
     omega (arith, node_some j.key, node_some v)
 
 pub search_pairs-pairs-preserved : goal.search_pairs-pairs-preserved
@@ -283,8 +283,8 @@ search_pairs-pairs-preserved t c =
     let old : SearchedMap = c.deref_mut.result.now in
     let joined : SearchedMap = c.search_key.new.map in
     let new : SearchedMap = c.note.new.self in
-    let j : KeyJoined c.args.room c.args.total c.args.bytes.now mid old joined half = joined_last c.args.room c.args.total c.args.bytes.now mid old joined c.in-Behind.ensures c.in-Some.ensures.found in
-    let v : Searched c.args.room c.args.total half rest val.flaw val.is_string = node_last c.in-Behind-search_value.ensures c.in-Some-last.ensures.found in
+    let j : KeyJoined c.args.room c.args.total c.args.bytes.now mid old joined half = joined_last c.args.room c.args.total c.args.bytes.now mid old joined c.in-Found.ensures c.in-Some.ensures.found in
+    let v : Searched c.args.room c.args.total half rest val.flaw val.is_string = node_last c.in-Found-search_value.ensures c.in-Some-last.ensures.found in
     let so_far : PairsSeen c.args.room c.args.total c.pairs.count c.args.bytes.now mid old.first i.0 = subst (λ (m : SearchedMap). PairsSeen c.args.room c.args.total c.pairs.count c.args.bytes.now mid m.first i.0) (sym c.deref_mut.ensures.value) i.1 in
     let marked : AreMarked c.args.total c.args.bytes.now (c.args.total - length mid) i.0 old.keys = subst (λ (m : SearchedMap). AreMarked c.args.total c.args.bytes.now (c.args.total - length mid) i.0 m.keys) (sym c.deref_mut.ensures.value) i.2 in
     let first : IsEarliestTold joined.first val.flaw new.first = subst (λ (m : SearchedMap). IsEarliestTold m.first val.flaw new.first) c.deref_mut-in-pairs.ensures.value c.note.ensures.first in
@@ -307,29 +307,29 @@ search_pairs-returns t c =
     let e = c.conclude.ensures.flaw in
     (c.pairs.count, map_of c.args.room c.args.total c.pairs.count c.args.bytes.now c.pairs.rest.now map.first e.0 c.conclude.new.found.flaw i.0 so_far (λ ns s. e.1 ns i.0 (c.args.total - length c.pairs.rest.now) marked s) e.2, c.conclude.ensures.kind, c.pairs-test.ensures)
 
-pub search_key-returns-in-Behind : goal.search_key-returns-in-Behind
-search_key-returns-in-Behind t c =
-    taken_joins c.args.room c.args.total c.args.pairs.now c.args.bytes.now c.args.map.now c.take.new.self c.in-Behind.ensures.keys c.in-Behind.ensures.first
+pub search_key-returns-in-Added : goal.search_key-returns-in-Added
+search_key-returns-in-Added t c =
+    added_joins c.args.room c.args.total c.args.pairs.now c.args.bytes.now c.args.map.now c.add.new.self c.in-Added.ensures.keys c.in-Added.ensures.first
 
-pub search_key-take_sound-requires-clause-sound : goal.search_key-take_sound-requires-clause-sound
-search_key-take_sound-requires-clause-sound t c =
-    sound_of c.args.room c.args.total c.args.bytes.now c.search_node.new.found.flaw c.search_node.new.found.is_string (search rules) c.in-Behind-search_node.ensures
+pub search_key-add_sound-requires-clause-sound : goal.search_key-add_sound-requires-clause-sound
+search_key-add_sound-requires-clause-sound t c =
+    sound_of c.args.room c.args.total c.args.bytes.now c.search_node.new.found.flaw c.search_node.new.found.is_string (search rules) c.in-Found.ensures
 
 pub search_key-returns-then-is_none : goal.search_key-returns-then-is_none
 search_key-returns-then-is_none t c =
-    ends_as c.take_sound.result
-    (λ left k. joined_from c.args.room c.args.total c.args.pairs.now c.args.bytes.now c.args.map.now c.take_sound.new.self c.take.new.self c.in-Not.ensures.keys.0 c.in-Not.ensures.first (taken_joins c.args.room c.args.total c.args.pairs.now c.args.bytes.now c.take.new.self c.take_sound.new.self k c.take_sound.ensures.first))
-    (λ n. absurd n) c.take_sound.ensures.keys
+    ends_as c.add_sound.result
+    (λ left k. joined_from c.args.room c.args.total c.args.pairs.now c.args.bytes.now c.args.map.now c.add_sound.new.self c.add.new.self c.in-NotAdded.ensures.keys.0 c.in-NotAdded.ensures.first (added_joins c.args.room c.args.total c.args.pairs.now c.args.bytes.now c.add.new.self c.add_sound.new.self k c.add_sound.ensures.first))
+    (λ n. absurd n) c.add_sound.ensures.keys
 
 pub search_key-returns-else-is_none : goal.search_key-returns-else-is_none
 search_key-returns-else-is_none t c =
     let found = c.search_node.new.found in
-    let searched = searched_joins c.args.room c.args.total c.args.pairs.now c.args.bytes.now c.take.new.self c.note.new.self found.is_string found.flaw c.in-Behind-search_node.ensures c.note.ensures.keys c.note.ensures.first (some_told found.flaw (search rules)) in
-    joined_from c.args.room c.args.total c.args.pairs.now c.args.bytes.now c.args.map.now c.note.new.self c.take.new.self c.in-Not.ensures.keys.0 c.in-Not.ensures.first searched
+    let searched = searched_joins c.args.room c.args.total c.args.pairs.now c.args.bytes.now c.add.new.self c.note.new.self found.is_string found.flaw c.in-Found.ensures c.note.ensures.keys c.note.ensures.first (some_told found.flaw (search rules)) in
+    joined_from c.args.room c.args.total c.args.pairs.now c.args.bytes.now c.args.map.now c.note.new.self c.add.new.self c.in-NotAdded.ensures.keys.0 c.in-NotAdded.ensures.first searched
 
 pub search_key-returns-in_default : goal.search_key-returns-in_default
 search_key-returns-in_default t c =
-    ends_other _ _ c.search_node.result c.in_default.not-Behind (λ only. only) c.search_node.ensures
+    ends_other _ _ c.search_node.result c.in_default.not-Found (λ only. only) c.search_node.ensures
 
 pub search_value-returns-in-Some : goal.search_value-returns-in-Some
 search_value-returns-in-Some t c =

@@ -11,15 +11,15 @@ pub items-init : goal.items-init
 items-init c = (0, none_judged c.get-room.result (length c.args.bytes.now) c.args.bytes.now, omega arith)
 
 pub items-smaller : goal.items-smaller
-items-smaller c = node_some (node_last c.in-Behind.ensures c.in-Some.ensures.found)
+items-smaller c = node_some (node_last c.in-Found.ensures c.in-Some.ensures.found)
 
 pub items-preserved : goal.items-preserved
 items-preserved c =
     let i = c.items.invariant in
     let total : ℕ = length c.args.bytes.now in
-    let x : Searched c.get-room.result total c.items.rest.now c.in-Some.behind.now c.search_node.new.found.flaw c.search_node.new.found.is_string = node_last c.in-Behind.ensures c.in-Some.ensures.found in (
+    let x : Searched c.get-room.result total c.items.rest.now c.in-Some.after.now c.search_node.new.found.flaw c.search_node.new.found.is_string = node_last c.in-Found.ensures c.in-Some.ensures.found in (
       i.0 + 1,
-      judged_more c.get-room.result total i.0 c.args.bytes.now c.items.rest.now c.in-Some.behind.now c.items.first c.search_node.new.found.flaw c.or-first.result c.search_node.new.found.is_string (omega arith) i.1 x c.or-first.ensures,
+      judged_more c.get-room.result total i.0 c.args.bytes.now c.items.rest.now c.in-Some.after.now c.items.first c.search_node.new.found.flaw c.or-first.result c.search_node.new.found.is_string (omega arith) i.1 x c.or-first.ensures,
       omega (arith, node_left x, i.2),
     )
 
