@@ -65,6 +65,7 @@ pub fn is_own_spelling(limit: Limit, in_kind: Kind, out_kind: Kind, input: &[u8]
 ///
 /// # Errors
 /// The fault of its content, `Show`, or `OutOfMemory`.
+#[inline(always)]
 pub fn show_input(
     alloc: Global,
     limit: Limit,
@@ -85,6 +86,7 @@ pub fn show_input(
 }
 
 /// What `show_input` answers of bytes.
+#[inline(always)]
 fn tell_bytes(
     alloc: Global,
     limit: Limit,
@@ -107,6 +109,7 @@ fn tell_bytes(
 /// # Errors
 /// The fault of bytes that aren't well-formed, also where memory was refused; `Show` where a text
 /// string isn't UTF-8; `OutOfMemory` where a growth of the text was refused.
+#[inline(always)]
 fn notate_bytes(
     alloc: Global,
     limit: Limit,

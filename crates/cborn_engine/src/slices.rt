@@ -62,6 +62,7 @@ pub fn normalise_slice<'a, O: KeyOrder>(
 /// # Errors
 /// `TooLong` where the input has more than 2^30 bytes. Else the fault of its content, as `show_all`
 /// gives it, at its offset in bytes from the start of the input, or `OutOfMemory`.
+#[inline(always)]
 pub fn show_slice<'a>(
     alloc: Global,
     limit: Limit,
@@ -90,6 +91,7 @@ pub fn show_slice<'a>(
 /// # Errors
 /// `TooLong` where there are more than 2^30 bytes. Else the fault of their content, as `check`
 /// gives it, at its offset from their start, or `OutOfMemory`.
+#[inline(always)]
 pub fn check_slice<O: KeyOrder>(
     alloc: Global,
     limit: Limit,
