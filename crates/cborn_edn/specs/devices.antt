@@ -4,8 +4,6 @@ pub mod Escaping
 pub mod Lexical
 pub mod Slips
 pub mod Levels
-pub mod Shapes
-pub mod Begun
 pub mod Put
 pub mod Parse
 pub mod Notates
@@ -18,3 +16,6 @@ pub mod Kept
 pub mod Shows
 pub mod Steps
 pub mod Reading
+pub mod Begun
+pub mod Started
+pub mod Counting

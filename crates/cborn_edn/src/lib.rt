@@ -44,9 +44,9 @@
 //! - `quick`, `quick_items` and `quick_ends` take what is common in place, with no token between. What
 //!   they leave is for `next_token` of the lexer and for `steps`.
 //!
-//! Of the bytes `placing` makes nodes, and puts places into them that `starts` finds in the text, by
-//! the shape of its open brackets (`shapes`). `showing` and `writing` show nodes, and `bad_texts`
-//! finds a text among them that isn't UTF-8.
+//! Of the bytes `placing` makes nodes, and puts places into them that `starts` finds in the text: it
+//! reads the text once more, token by token, and counts what begins with each. `showing` and
+//! `writing` show nodes, and `bad_texts` finds a text among them that isn't UTF-8.
 //!
 //! The proof goes by a machine of tokens that keeps trees (`specs/shared/Machine.antt`): what the
 //! reader keeps shows one of its states (`specs/devices/Shows.antt`), and each step is the
@@ -71,7 +71,6 @@ mod quick_ends;
 mod quick_items;
 mod readers;
 mod refusals;
-mod shapes;
 mod showing;
 mod slips;
 mod starts;

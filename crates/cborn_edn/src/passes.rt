@@ -47,7 +47,7 @@ pub fn read_text(
 
 impl Writer {
     /// Nothing yet, with room for so many bytes.
-    fn new(alloc: Global, room: usize) -> Result<Writer, AllocError>
+    pub(crate) fn new(alloc: Global, room: usize) -> Result<Writer, AllocError>
         ensures { IfOk result (λ w. Shows Here.FIRST w w.out.items start) }
     {
         Ok(Writer {

@@ -20,7 +20,8 @@ use std::alloc::{AllocError, Global};
 use std::mem;
 
 /// The nodes that spell `bytes`, with their places in the text, under that profile of the notation.
-/// The text has to notate nodes that spell them, none deeper than `limit`.
+/// The text has to notate nodes that spell them, none deeper than `limit`. The memory of the bytes is
+/// given up before the text is read again.
 ///
 /// # Errors
 /// Where memory was refused.
@@ -29,12 +30,13 @@ pub(crate) fn placed(
     limit: Limit,
     profile: Profile,
     text: &str,
-    bytes: &[u8],
+    bytes: Vec<u8>,
 ) -> Result<Vec<Spelled>, AllocError>
-    requires { IsSpelling profile limit text.now bytes.now }
+    requires { IsSpelling profile limit text.now bytes.items }
     ensures { IfOk result (λ items. Notates profile limit text.now (trees items.items)) }
 {
-    let mut items = read_wellformed(alloc, limit, bytes)?;
+    let mut items = read_wellformed(alloc, limit, &bytes)?;
+    drop(bytes);
     let places = all_starts(alloc, profile, text)?;
     put_spelled(&mut items, &places);
     Ok(items)

@@ -29,6 +29,6 @@ pub fn read_notation(
     ensures refused { IfErr result (IsNoNotation profile limit text.now) }
 {
     let bytes = read_text(alloc, limit, profile, text)?;
-    let items = placed(alloc, limit, profile, text, bytes.as_slice())?;
+    let items = placed(alloc, limit, profile, text, bytes)?;
     Ok(items)
 }

@@ -1,28 +1,41 @@
-//! Where a node or a chunk stands in a text, told without nodes.
+//! Where a node or a chunk begins in a text, found without nodes.
 //!
-//! A fault that is found in the bytes that a text spells is told by the number of the head at which
-//! it stands. Which tokens begin a node or a chunk depends on the shape of what is open (`shapes`),
-//! so heads are counted token by token. What stands in `<<..>>` becomes bytes, and counts as none.
+//! A flaw that is found in the bytes that a text spells is known by the number of the head at which
+//! it is. To find its place, the text is read once more. At each token, what the reader keeps says
+//! how many nodes and chunks begin there. Items in `<<..>>` become bytes, and count as none.
 
-ghost use Rattle.std.specs.Prelude.{◌≡◌, ℕ, suc, ◌+◌, ◌<◌, ◌^◌, ◌++◌, replicate, IfOk, OnOk, slice_get};
+ghost use Rattle.std.specs.Prelude.{◌≡◌, ◌<◌, ◌++◌, ℕ, Bool, List, replicate, IfOk, IfSome, OnOk, slice_get};
+ghost use Rattle.cborn_lex.specs.Kinds.{class_of};
 ghost use Rattle.cborn_model.specs.Tree.{Trees};
 ghost use Rattle.cborn_edn.specs.Grammar.{Notates};
 ghost use Rattle.cborn_edn.specs.Starts.{starts_all};
 ghost use Rattle.cborn_edn.specs.devices.Begun as pure;
+ghost use Rattle.cborn_edn.specs.devices.Counting.{Counts, CountsOn};
 
 use crate::numbers::is_small;
-use crate::shapes::{Shape, Stand};
-use cborn_lex::{Class, LexFault, Profile, token_from};
+use crate::passes::bounded_len;
+use crate::states::{Here, Stand, Writer};
+use crate::steps::take;
+use crate::tokens::read_token;
+use cborn_lex::{Kind, LexFault, Profile};
 use std::alloc::{AllocError, Global};
 
+/// How many nodes and chunks begin with a token, and where it begins: its offset in the text, in
+/// bytes.
+#[derive(Clone, Copy)]
+pub(crate) struct Begun {
+    pub(crate) place: u64,
+    pub(crate) count: u64,
+}
+
 /// The place of a node or a chunk in `text`, under that profile of the notation: of the one with
-/// `index` others before it, where each node comes before what stands in it. It is the offset of its
+/// `index` others before it, where each node comes before what it contains. It is the offset of its
 /// first token, in bytes from the start of the text. An integer outside 64 bits is two nodes at one
 /// place, a tag and the byte string under it (RFC 8949 section 3.4.3).
 ///
 /// The answer is that of the nodes that the text notates: `None` where these and their chunks are
-/// fewer. Of a text that notates nothing, nothing is said. Memory goes to one byte for each open
-/// bracket and to the token at hand.
+/// fewer. Of a text that notates nothing, nothing is said. Takes as much memory as
+/// [`read_text`](crate::read_text) does up to that place.
 ///
 /// # Errors
 /// A growth of the memory was refused.
@@ -34,35 +47,22 @@ pub fn start_at(
 ) -> Result<Option<u64>, AllocError>
     ensures { IfOk result (λ place. (limit : ℕ) (nodes : Trees) → Notates profile limit text.now nodes → slice_get (starts_all nodes) index ≡ place) }
 {
-    let mut shape = Shape::new(alloc);
-    let mut embedded = 0;
+    let mut writer = Writer::new(alloc, text.len())?;
+    let mut here = Here::FIRST;
     let mut left = index;
-    let mut at = 0;
     'tokens: loop {
-        let token = match token_from(alloc, profile, text, at) {
-            Ok(Some(token)) => token,
-            Ok(None) => return Ok(None),
-            Err(LexFault::Refused { .. }) => return Ok(None),
-            Err(LexFault::OutOfMemory) => return Err(AllocError),
-        };
-        let place = token.start;
-        at = token.stop;
-        let count = begun(embedded, shape.stand, &token.class);
-        embedded = embedded_after(embedded, &token.class);
-        let taken = shape.step(Profile::Two, &token.class)?;
-        drop(token);
-        if left < count {
-            return Ok(Some(place));
-        }
-        left -= count;
-        if !taken {
+        let Some(begun) = count_token(alloc, profile, text, &mut here, &mut writer)? else {
             return Ok(None);
+        };
+        if left < begun.count {
+            return Ok(Some(begun.place));
         }
+        left -= begun.count;
     }
 }
 
 /// The places of all nodes and chunks in `text`, under that profile of the notation, each node
-/// before what stands in it. Of a text that notates nothing, nothing is said.
+/// before what it contains. Of a text that notates nothing, nothing is said.
 pub(crate) fn all_starts(
     alloc: Global,
     profile: Profile,
@@ -71,25 +71,13 @@ pub(crate) fn all_starts(
     ensures { IfOk result (λ places. (limit : ℕ) (nodes : Trees) → Notates profile limit text.now nodes → places.items ≡ starts_all nodes) }
 {
     let mut places = Vec::new(alloc);
-    let mut shape = Shape::new(alloc);
-    let mut embedded = 0;
-    let mut at = 0;
+    let mut writer = Writer::new(alloc, text.len())?;
+    let mut here = Here::FIRST;
     'tokens: loop {
-        let token = match token_from(alloc, profile, text, at) {
-            Ok(Some(token)) => token,
-            Ok(None) => return Ok(places),
-            Err(LexFault::Refused { .. }) => return Ok(places),
-            Err(LexFault::OutOfMemory) => return Err(AllocError),
-        };
-        let count = begun(embedded, shape.stand, &token.class);
-        push_times(&mut places, token.start, count)?;
-        at = token.stop;
-        embedded = embedded_after(embedded, &token.class);
-        let taken = shape.step(Profile::Two, &token.class)?;
-        drop(token);
-        if !taken {
+        let Some(begun) = count_token(alloc, profile, text, &mut here, &mut writer)? else {
             return Ok(places);
-        }
+        };
+        push_times(&mut places, begun.place, begun.count)?;
     }
 }
 
@@ -103,49 +91,71 @@ fn push_times(places: &mut Vec<u64>, place: u64, times: u64) -> Result<(), Alloc
     Ok(())
 }
 
-/// How many nodes and chunks begin with a token of this class, inside so many open `<<`.
-fn begun(embedded: u64, stand: Stand, class: &Class) -> u64
-    ensures { result ≡ pure.begun embedded stand class.now }
+/// Reads one token, and counts what begins with it. `None` where no token is left, and where no text
+/// of the grammar goes on so: then nothing else begins.
+#[inline(always)]
+fn count_token(
+    alloc: Global,
+    profile: Profile,
+    text: &str,
+    here: &mut Here,
+    writer: &mut Writer,
+) -> Result<Option<Begun>, AllocError>
+    requires { (front : List ℕ) × Counts profile text.now here.old writer.old front }
+    ensures further { IfOk result (λ o. IfSome o (λ b. here.old.at < here.new.at)) }
+    ensures counted { IfOk result (λ o. (front : List ℕ) → Counts profile text.now here.old writer.old front → CountsOn profile text.now here.new writer.new front o) }
 {
-    if embedded > 0 {
+    let start = bounded_len(&writer.out);
+    let (at, stand) = (here.at, here.stand);
+    let mut number: u128 = 0;
+    let token = match read_token(
+        alloc,
+        profile,
+        text,
+        at,
+        stand,
+        &mut number,
+        &mut writer.out,
+    ) {
+        Ok(Some(token)) => token,
+        Ok(None) => return Ok(None),
+        Err(LexFault::Refused { .. }) => return Ok(None),
+        Err(LexFault::OutOfMemory) => return Err(AllocError),
+    };
+    let count = heads_begun(writer.around.is_empty(), stand, token.kind, number);
+    if !take(token, number, start, here, writer)? {
+        return Ok(None);
+    }
+    here.at = token.stop;
+    Ok(Some(Begun {
+        place: token.start as u64,
+        count,
+    }))
+}
+
+/// How many nodes and chunks begin with a token. None do inside a `<<`.
+#[inline(always)]
+fn heads_begun(outside: bool, stand: Stand, kind: Kind, number: u128) -> u64
+    ensures { (x : List ℕ) → result ≡ pure.begun outside stand (class_of kind number x) }
+{
+    if !outside {
         return 0;
     }
     match stand {
-        Stand::Wants | Stand::WantsMore => begun_item(class),
+        Stand::Wants | Stand::WantsMore => begun_item(kind, number),
         Stand::WantsChunk => 1,
         _ => 0,
     }
 }
 
-/// How many nodes begin with a token of this class where an item is wanted.
-fn begun_item(class: &Class) -> u64
-    ensures { result ≡ pure.begun_item class.now }
+/// How many nodes begin with a token where an item is wanted.
+#[inline(always)]
+fn begun_item(kind: Kind, number: u128) -> u64
+    ensures { (x : List ℕ) → result ≡ pure.begun_item (class_of kind number x) }
 {
-    match class {
-        Class::ArrayClose | Class::MapClose | Class::EmbedClose(_) => 0,
-        Class::Number {
-            negative,
-            magnitude,
-            ..
-        } => {
-            if is_small(*negative, *magnitude) {
-                1
-            } else {
-                2
-            }
-        }
+    match kind {
+        Kind::ArrayClose | Kind::MapClose | Kind::EmbedClose(_) => 0,
+        Kind::Number { negative, .. } => { if is_small(negative, number) { 1 } else { 2 } }
         _ => 1,
-    }
-}
-
-/// How many `<<` are open behind a token of this class.
-fn embedded_after(embedded: u64, class: &Class) -> u64
-    requires { suc embedded < 2 ^ 64 }
-    ensures { result ≡ pure.embedded_after embedded class.now }
-{
-    match class {
-        Class::EmbedOpen => embedded + 1,
-        Class::EmbedClose(_) => embedded.saturating_sub(1),
-        _ => embedded,
     }
 }

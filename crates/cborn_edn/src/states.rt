@@ -214,6 +214,7 @@ impl Model for Arounds {
 
 impl Arounds {
     ghost use Rattle.std.specs.Prelude.{◌≡◌, [], ◌∷◌, MatchOption, OnOk};
+    ghost use Rattle.cborn_edn.specs.devices.Begun.{is_outside};
 
     /// None are open.
     pub(crate) fn new(alloc: Global) -> Arounds
@@ -222,6 +223,14 @@ impl Arounds {
         Arounds {
             arounds: Vec::new(alloc),
         }
+    }
+
+    /// Whether none are open.
+    #[tactic(auto, using(crate::proofs::Reader::Opened::innermost))]
+    pub(crate) fn is_empty(&self) -> bool
+        ensures { result ≡ is_outside self.now }
+    {
+        self.arounds.is_empty()
     }
 
     /// One more, inside the others.

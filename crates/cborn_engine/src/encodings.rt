@@ -156,6 +156,6 @@ fn encode_text<O: KeyOrder>(
     }
     match transcode_after::<O>(alloc, limit, front, &bytes)? {
         Some(encodings) => Ok(encodings),
-        None => Err(flaw_of_text(alloc, limit, profile, input, &bytes)),
+        None => Err(flaw_of_text(alloc, limit, profile, input, bytes)),
     }
 }

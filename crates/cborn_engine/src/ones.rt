@@ -70,7 +70,7 @@ fn one_in_text(alloc: Global, limit: Limit, profile: Profile, input: &[u8]) -> R
     if end == bytes.len() {
         return Ok(());
     }
-    Err(second_in_text(alloc, limit, profile, input, &bytes, end))
+    Err(second_in_text(alloc, limit, profile, input, bytes, end))
 }
 
 /// Where in a text that spells these bytes its second node starts. The first ends in the bytes at
@@ -80,15 +80,15 @@ fn second_in_text(
     limit: Limit,
     profile: Profile,
     input: &[u8],
-    bytes: &[u8],
+    bytes: Vec<u8>,
     end: usize,
 ) -> OneFault
     requires short { length input.now ≤ most_bytes }
     requires text { IsUtf8 input.now }
-    requires spelled { IsSpelling profile limit input.now bytes.now }
-    requires within { end ≤ length bytes.now }
-    requires more { end ≢ length bytes.now }
-    requires first { EndsAt (take end bytes.now) (Item 1 ∷ []) }
+    requires spelled { IsSpelling profile limit input.now bytes.items }
+    requires within { end ≤ length bytes.items }
+    requires more { end ≢ length bytes.items }
+    requires first { EndsAt (take end bytes.items) (Item 1 ∷ []) }
     ensures { (result ≡ one.Engine fault.OutOfMemory) ⊎ IsNotOne (kind_of profile) limit input.now result }
 {
     let Ok(text) = text_of(input) else {

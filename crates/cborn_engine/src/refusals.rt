@@ -46,22 +46,22 @@ pub fn fault_or_refusal(limit: Limit, input: &[u8], refused: AllocError) -> Engi
 }
 
 /// Why a text has no answer that spells these bytes, which hold no items: their first flaw, or that
-/// memory was refused.
+/// memory was refused. Their memory is given up before the flaw's place is looked for in the text.
 pub fn flaw_of_text(
     alloc: Global,
     limit: Limit,
     profile: Profile,
     input: &[u8],
-    bytes: &[u8],
+    bytes: Vec<u8>,
 ) -> EngineFault
     requires short { length input.now ≤ most_bytes }
     requires text { IsUtf8 input.now }
-    requires spelled { IsSpelling profile limit input.now bytes.now }
-    requires none { HoldsNoItems limit bytes.now }
+    requires spelled { IsSpelling profile limit input.now bytes.items }
+    requires none { HoldsNoItems limit bytes.items }
     ensures refused { length input.now ≤ most_bytes → IsRefused (kind_of profile) limit most_bytes input.now result }
     ensures failures { (n : ℕ) → read_failures_at result n ≡ n }
 {
-    let (place, reason) = match first_flaw(alloc, limit, bytes) {
+    let (place, reason) = match first_flaw(alloc, limit, &bytes) {
         Ok(Validity::Flaw { place, reason }) => (place, reason),
         Ok(Validity::Valid) => unreachable!(),
         Ok(Validity::Malformed) => unreachable!(),

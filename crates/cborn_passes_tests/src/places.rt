@@ -35,7 +35,8 @@ const PLACES: [(&str, &[u8], u64, Option<u64>); 6] = [
 #[test]
 fn finds_places_in_texts(rt: HostRuntime) -> Result<(), Fail> {
     for (text, bytes, place, want) in PLACES {
-        let there = place_in_text(rt.alloc(), Profile::One, text, bytes, place)?;
+        let given = Vec::from_slice(rt.alloc(), bytes)?;
+        let there = place_in_text(rt.alloc(), Profile::One, text, given, place)?;
         assert_eq!(rt; there, want, "{text}");
     }
     Ok(())

@@ -21,8 +21,9 @@ use std::alloc::{AllocError, Global};
 /// are offsets in bytes from the start. An item that starts at `place` in the bytes starts at the
 /// answer in the text. `None` where no item and no chunk starts at `place` in the bytes.
 ///
-/// Goes through the bytes up to `place` and then through the text up to the answer. Of a text of
-/// 2^56 bytes or more, and of one that doesn't spell these bytes, nothing is said.
+/// Goes through the bytes up to `place`, gives up their memory, and then reads the text up to the
+/// answer, which takes as much memory again. Of a text of 2^56 bytes or more, and of one that doesn't
+/// spell these bytes, nothing is said.
 ///
 /// # Errors
 /// A growth of the memory was refused.
@@ -30,15 +31,16 @@ pub fn place_in_text(
     alloc: Global,
     profile: Profile,
     text: &str,
-    bytes: &[u8],
+    bytes: Vec<u8>,
     place: u64,
 ) -> Result<Option<u64>, AllocError>
-    ensures flaw { IfOk result (λ found. IfSome found (λ there. length text.now < 2 ^ 56 → (limit : ℕ) (nodes others : List Tree) (r : InvalidReason) → Notates profile limit text.now (trees nodes) → spelled_all (trees nodes) ≡ bytes.now → Wellformed limit (trees others) bytes.now → PlacedAll 0 (trees others) → IsRefusalOfAll others (Refused place r) → IsRefusalOfAll nodes (Refused there r))) }
-    ensures nodes { IfOk result (λ found. IfSome found (λ there. length text.now < 2 ^ 56 → (limit : ℕ) (nodes others : List Tree) → Notates profile limit text.now (trees nodes) → spelled_all (trees nodes) ≡ bytes.now → Wellformed limit (trees others) bytes.now → PlacedAll 0 (trees others) → AllZip (λ t u. place_of u ≡ place → place_of t ≡ there) nodes others)) }
-    ensures none { IfOk result (λ found. found ≡ None → length text.now < 2 ^ 56 → (limit : ℕ) (nodes others : List Tree) → Notates profile limit text.now (trees nodes) → spelled_all (trees nodes) ≡ bytes.now → Wellformed limit (trees others) bytes.now → PlacedAll 0 (trees others) → (i : ℕ) → slice_get (starts_all (trees others)) i ≡ Some place → ⊥) }
+    ensures flaw { IfOk result (λ found. IfSome found (λ there. length text.now < 2 ^ 56 → (limit : ℕ) (nodes others : List Tree) (r : InvalidReason) → Notates profile limit text.now (trees nodes) → spelled_all (trees nodes) ≡ bytes.items → Wellformed limit (trees others) bytes.items → PlacedAll 0 (trees others) → IsRefusalOfAll others (Refused place r) → IsRefusalOfAll nodes (Refused there r))) }
+    ensures nodes { IfOk result (λ found. IfSome found (λ there. length text.now < 2 ^ 56 → (limit : ℕ) (nodes others : List Tree) → Notates profile limit text.now (trees nodes) → spelled_all (trees nodes) ≡ bytes.items → Wellformed limit (trees others) bytes.items → PlacedAll 0 (trees others) → AllZip (λ t u. place_of u ≡ place → place_of t ≡ there) nodes others)) }
+    ensures none { IfOk result (λ found. found ≡ None → length text.now < 2 ^ 56 → (limit : ℕ) (nodes others : List Tree) → Notates profile limit text.now (trees nodes) → spelled_all (trees nodes) ≡ bytes.items → Wellformed limit (trees others) bytes.items → PlacedAll 0 (trees others) → (i : ℕ) → slice_get (starts_all (trees others)) i ≡ Some place → ⊥) }
 {
-    let Some(index) = index_at(bytes, place) else {
+    let Some(index) = index_at(&bytes, place) else {
         return Ok(None);
     };
+    drop(bytes);
     start_at(alloc, profile, text, index)
 }

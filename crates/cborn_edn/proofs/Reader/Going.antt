@@ -50,7 +50,7 @@ one_state : (u v : State) → Some u ≡ Some v → u ≡ v
 one_state u v e = cc
 
 -- what the machine holds after one more token
-held_more : (s u : State) (c : Class) (a : Span) → step_by s c a ≡ Some u → held u ≡ held s ++ (token a c ∷ [])
+pub held_more : (s u : State) (c : Class) (a : Span) → step_by s c a ≡ Some u → held u ≡ held s ++ (token a c ∷ [])
 held_more s u c a e = go (step_by s c a) (grows s c a) e
   where
     go : (o : Option State) → After o (Grows (held s) (max (deep s) (reach (open_levels s) c)) (commas_held s + comma_at s c) (token a c)) → o ≡ Some u → held u ≡ held s ++ (token a c ∷ [])

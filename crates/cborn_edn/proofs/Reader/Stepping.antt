@@ -24,7 +24,7 @@ use Rattle.cborn_edn.specs.Faults.{IsNoNotation}
 use Rattle.cborn_edn.specs.devices.Lexical.{lexical}
 use Rattle.cborn_edn.specs.devices.Levels.{reach}
 use Rattle.cborn_edn.proofs.Grammar.Machine.{in_row, in_key, in_value, in_tag, State, wants, has, builds, wants_chunk, wants_number, has_number}
-use Rattle.cborn_edn.proofs.Grammar.Held.{open_levels}
+use Rattle.cborn_edn.proofs.Grammar.Held.{held, open_levels}
 use Rattle.cborn_edn.specs.declared.states.Here.{Here}
 use Rattle.cborn_edn.specs.declared.states.Writer.{Writer}
 use Rattle.cborn_edn.specs.devices.Kept.{stand_of}
@@ -86,21 +86,7 @@ same_shown here w v out s k e = record {
   out = e.out;
 }
 
-module _ (p : Profile) (limit : ℕ) (text : List ℕ) (are : AreBytes text) (here : Here) (w : Writer) (r : IsReading p limit text here w) where
-  -- with nothing left of the text
-  pub last_read : (o : Option BareToken) (n : ℕ) (v : Writer) → SameButOut w v → WasRead p text here.at here.stand o n w.out.items v.out.items → o ≡ None → IsReading p limit text (record here { at = length text }) v
-  last_read o n v same read is = go (subst (λ (q : Option BareToken). WasRead p text here.at here.stand q n w.out.items v.out.items) is read)
-    where
-      go : WasRead p text here.at here.stand None n w.out.items v.out.items → IsReading p limit text (record here { at = length text }) v
-      go h =
-          let e = same_shown here w v w.out.items r.state same r.shows in
-          record {
-            inside = omega arith;
-            state = r.state;
-            reached = ends p limit text here.at r.state r.reached (through p h.0);
-            shows = record { stand = e.stand; level = e.level; count = e.count; frames = e.frames; around = e.around; string = e.string; chunks = e.chunks; simple = e.simple; slip = e.slip; out = h.1 ∙ e.out };
-          }
-
+module _ (p : Profile) (text : List ℕ) (are : AreBytes text) (here : Here) (w : Writer) where
   -- a token that was read
   pub record ReadToken (n : ℕ) (v : Writer) (t : BareToken) : Type 0 where
     pub content : List ℕ
@@ -127,21 +113,41 @@ module _ (p : Profile) (limit : ℕ) (text : List ℕ) (are : AreBytes text) (he
             written = written ∙ ap (λ (k : Class). w.out.items ++ appended_at here.stand k) same;
           }
 
-  module _ (n start : ℕ) (v : Writer) (t : BareToken) (k : ReadToken n v t) (same : SameButOut w v) (from : start ≡ length w.out.items) (small : start < 2 ^ 63) where
+  -- it is ready to be taken in the state that is shown
+  pub ready_at : (s : State) → Shows here w w.out.items s → AreModest (held s) → (n start : ℕ) (v : Writer) (t : BareToken) (k : ReadToken n v t) → SameButOut w v → start ≡ length w.out.items → start < 2 ^ 63
+      → Ready t.kind n start here v s w.out.items (class_of t.kind n k.content)
+  ready_at s shows modest n start v t k same from small = record {
+    content = k.content;
+    class = refl;
+    plain = k.plain;
+    shows = same_shown here w v w.out.items s same shows;
+    written = k.written ∙ ap (λ st. w.out.items ++ appended_at st (class_of t.kind n k.content)) shows.stand ∙ ap (λ l. w.out.items ++ l) (appended_as s (class_of t.kind n k.content));
+    from = from;
+    few = omega (arith, shown_few here w w.out.items s shows);
+    modest = modest;
+  }
+
+module _ (p : Profile) (limit : ℕ) (text : List ℕ) (are : AreBytes text) (here : Here) (w : Writer) (r : IsReading p limit text here w) where
+  -- with nothing left of the text
+  pub last_read : (o : Option BareToken) (n : ℕ) (v : Writer) → SameButOut w v → WasRead p text here.at here.stand o n w.out.items v.out.items → o ≡ None → IsReading p limit text (record here { at = length text }) v
+  last_read o n v same read is = go (subst (λ (q : Option BareToken). WasRead p text here.at here.stand q n w.out.items v.out.items) is read)
+    where
+      go : WasRead p text here.at here.stand None n w.out.items v.out.items → IsReading p limit text (record here { at = length text }) v
+      go h =
+          let e = same_shown here w v w.out.items r.state same r.shows in
+          record {
+            inside = omega arith;
+            state = r.state;
+            reached = ends p limit text here.at r.state r.reached (through p h.0);
+            shows = record { stand = e.stand; level = e.level; count = e.count; frames = e.frames; around = e.around; string = e.string; chunks = e.chunks; simple = e.simple; slip = e.slip; out = h.1 ∙ e.out };
+          }
+
+  module _ (n start : ℕ) (v : Writer) (t : BareToken) (k : ReadToken p text are here w n v t) (same : SameButOut w v) (from : start ≡ length w.out.items) (small : start < 2 ^ 63) where
     abbrev the_token : Token
     the_token = record { start = t.start; stop = t.stop; class = class_of t.kind n k.content }
 
     pub ready : Ready t.kind n start here v r.state w.out.items (class_of t.kind n k.content)
-    ready = record {
-      content = k.content;
-      class = refl;
-      plain = k.plain;
-      shows = same_shown here w v w.out.items r.state same r.shows;
-      written = k.written ∙ ap (λ st. w.out.items ++ appended_at st (class_of t.kind n k.content)) r.shows.stand ∙ ap (λ l. w.out.items ++ l) (appended_as r.state (class_of t.kind n k.content));
-      from = from;
-      few = omega (arith, shown_few here w w.out.items r.state r.shows);
-      modest = subst AreModest (sym r.reached.held) r.reached.modest;
-    }
+    ready = ready_at p text are here w r.state r.shows (subst AreModest (sym r.reached.held) r.reached.modest) n start v t k same from small
 
     pub further : here.at < t.stop
     further = omega (arith, few p text here.at t.stop (the_token ∷ []) k.between)

@@ -1,5 +1,5 @@
 -- What a tree says, also where it has a slip, starts where the tree's own starts are, and each token has at most one spot of it.
-use Rattle.std.proofs.Common.{◌≡◌, refl, sym, ap, ◌∙◌, subst, ℕ, List, [], ◌∷◌, ◌++◌, length, Bool, true, false, ◌&&◌, cond, append_assoc, append-nil, ◌⊎◌, inl, inr}
+use Rattle.std.proofs.Common.{◌≡◌, refl, sym, ap, ◌∙◌, subst, ℕ, List, [], ◌∷◌, ◌++◌, length, Bool, true, false, ◌&&◌, cond, replicate, append_assoc, append-nil, ◌⊎◌, inl, inr}
 use Rattle.cborn_model.specs.declared.heads.Width.{Width}
 use Rattle.cborn_model.specs.declared.nodes.Chunk.{Chunk}
 use Rattle.cborn_model.specs.Tree.{Tree, Uint, Nint, Bytes as ByteNode, Trees, no_item as no_node, more, Entries, no_entry, entry}
@@ -14,7 +14,7 @@ use Rattle.cborn_edn.specs.Says.{width, is_endless, bignum, number_node, Str, sa
 use Rattle.cborn_edn.specs.Starts.{starts_of_chunks, starts, starts_all, starts_entries, unless_bytes, spots, spots_all, spots_entries}
 use Rattle.cborn_edn.proofs.Short.Meant.{str_place}
 use Rattle.cborn_edn.proofs.Short.Said.{node, str, kind_in, chunks, chunks_before, nodes, nodes_before, nodes_in, entries, entries_before, entries_in, nodes_of_input}
-use Rattle.cborn_edn.proofs.Started.Walks.{copies, item_starts, strings_starts, strings_before_starts, row_starts, row_before_starts, content_starts, pairs_starts, pairs_before_starts, fields_starts, input_starts}
+use Rattle.cborn_edn.specs.devices.Started.{item_starts, strings_starts, strings_before_starts, row_starts, row_before_starts, content_starts, pairs_starts, pairs_before_starts, fields_starts, input_starts}
 
 -- places of some of the tokens, in their order
 abbrev pub Among : List ℕ → List Token → Type 0
@@ -60,7 +60,7 @@ number_placed at n v m = go (is_small n v)
     big : Tree
     big = bignum at.start n v
 
-    go : (b : Bool) → Placed (starts (cond b (integer at.start n v (width m (argument_of n v))) big)) (spots (cond b (integer at.start n v (width m (argument_of n v))) big)) (copies (cond b 1 2) at.start) (token at (Number n v m) ∷ [])
+    go : (b : Bool) → Placed (starts (cond b (integer at.start n v (width m (argument_of n v))) big)) (spots (cond b (integer at.start n v (width m (argument_of n v))) big)) (replicate (cond b 1 2) at.start) (token at (Number n v m) ∷ [])
     go true = integer_placed at.start n v (width m (argument_of n v)) (token at (Number n v m)) refl
     go false = record { starts = refl; spots = inr ([], refl, refl) }
 

@@ -1,25 +1,11 @@
--- A device of the proofs: how many nodes and chunks begin with a token, and how many `<<` are open. No definition cites it.
-use Rattle.std.specs.Prelude.{ℕ, suc, ◌-◌, List, [], ◌∷◌, Bool, nat_lt, if◌then◌else◌}
+-- A device of the proofs: how many nodes and chunks begin with a token. No definition cites it.
+use Rattle.std.specs.Prelude.{ℕ, List, [], ◌∷◌, Bool, true, false, if◌then◌else◌}
 use Rattle.cborn_lex.specs.declared.classes.Class.{Class}
-use Rattle.cborn_lex.specs.declared.classes.Class.TheVariants.{ArrayClose, MapClose, EmbedOpen, EmbedClose, Number}
-use Rattle.cborn_edn.specs.declared.shapes.Level.{Level}
-use Rattle.cborn_edn.specs.declared.shapes.Level.TheVariants.{Embedded, EmbeddedInChunk}
-use Rattle.cborn_edn.specs.declared.shapes.Stand.{Stand}
-use Rattle.cborn_edn.specs.declared.shapes.Stand.TheVariants.{Wants, WantsMore, WantsChunk}
+use Rattle.cborn_lex.specs.declared.classes.Class.TheVariants.{ArrayClose, MapClose, EmbedClose, Number}
+use Rattle.cborn_edn.specs.declared.states.Around.{Around}
+use Rattle.cborn_edn.specs.declared.states.Stand.{Stand}
+use Rattle.cborn_edn.specs.declared.states.Stand.TheVariants.{Wants, WantsMore, WantsChunk}
 use Rattle.cborn_edn.specs.shared.Syntax.{is_small}
-
--- how many of the open brackets are `<<`
-abbrev pub embeddings : List Level → ℕ
-embeddings [] = 0
-embeddings (Embedded ∷ ls) = suc (embeddings ls)
-embeddings (EmbeddedInChunk ∷ ls) = suc (embeddings ls)
-embeddings (_ ∷ ls) = embeddings ls
-
--- and behind a token of this class
-abbrev pub embedded_after : ℕ → Class → ℕ
-embedded_after n EmbedOpen = suc n
-embedded_after n (EmbedClose m) = n - 1
-embedded_after n _ = n
 
 -- an integer outside 64 bits is a tag and a string
 abbrev pub heads_of_number : Bool → ℕ → ℕ
@@ -39,6 +25,10 @@ begun_at WantsMore c = begun_item c
 begun_at WantsChunk c = 1
 begun_at _ c = 0
 
--- inside n open `<<`
-abbrev pub begun : ℕ → Stand → Class → ℕ
-begun n s c = if nat_lt 0 n then 0 else begun_at s c
+-- whether no `<<` is open
+abbrev pub is_outside : List Around → Bool
+is_outside [] = true
+is_outside (a ∷ l) = false
+
+abbrev pub begun : Bool → Stand → Class → ℕ
+begun outside s c = if outside then begun_at s c else 0

@@ -1,0 +1,94 @@
+-- One token that is read: what it begins is counted, or nothing else begins.
+use Rattle.std.proofs.Common.{◌≡◌, refl, sym, ap, ◌∙◌, subst, ℕ, ◌^◌, ◌<◌, List, [], ◌∷◌, ◌++◌, length, replicate, Bool, true, false, Option, None, arith}
+use Rattle.cborn_model.specs.Bytes.{AreBytes}
+use Rattle.cborn_model.specs.Tree.{Trees}
+use Rattle.cborn_lex.specs.Bad.{HasNoTokenFrom}
+use Rattle.cborn_lex.specs.Kinds.{class_of}
+use Rattle.cborn_lex.specs.Lex.{IsStopFrom}
+use Rattle.cborn_lex.specs.declared.classes.BareToken.{BareToken}
+use Rattle.cborn_lex.specs.declared.classes.Class.{Class}
+use Rattle.cborn_lex.specs.declared.classes.Profile.{Profile}
+use Rattle.cborn_lex.specs.declared.classes.Token.{Token}
+use Rattle.cborn_lex.specs.declared.faults.LexFault.{LexFault}
+use Rattle.cborn_lex.specs.declared.faults.LexFault.TheVariants.{Refused}
+use Rattle.cborn_lex.specs.declared.faults.LexReason.{LexReason}
+use Rattle.cborn_lex.proofs.GoodTexts.{through, stop_from}
+use Rattle.cborn_lex.proofs.WholeTexts.Progress.{inside, few, joins}
+use Rattle.cborn_edn.specs.Grammar.{Notates}
+use Rattle.cborn_edn.specs.Starts.{starts_all}
+use Rattle.cborn_edn.specs.shared.Syntax.{Span}
+use Rattle.cborn_edn.specs.declared.states.Here.{Here}
+use Rattle.cborn_edn.specs.declared.states.Writer.{Writer}
+use Rattle.cborn_edn.specs.devices.Begun.{is_outside, begun}
+use Rattle.cborn_edn.specs.devices.Counting.{Counts}
+use Rattle.cborn_edn.specs.devices.Kept.{arounds_of, stack_in}
+use Rattle.cborn_edn.specs.devices.Modest.{AreModest}
+use Rattle.cborn_edn.specs.devices.Reading.{WasRead}
+use Rattle.cborn_edn.specs.devices.Started.{started}
+use Rattle.cborn_edn.specs.devices.Steps.{Ready, Taken, Takes}
+use Rattle.cborn_edn.proofs.Grammar.Held.{held, After}
+use Rattle.cborn_edn.proofs.Grammar.Machine.{State}
+use Rattle.cborn_edn.proofs.Grammar.OneTree.{leads_on}
+use Rattle.cborn_edn.proofs.Reader.Going.{held_more}
+use Rattle.cborn_edn.proofs.Reader.Modest.{modest_both}
+use Rattle.cborn_edn.proofs.Reader.Stepping.{SameButOut, ReadToken, ready_at}
+use Rattle.cborn_edn.proofs.Started.Begins.{Grown, adds}
+use Rattle.cborn_edn.proofs.Started.Counting.{none_left, no_stop, not_taken}
+
+module _ (p : Profile) (text : List ℕ) (here : Here) (w : Writer) (front : List ℕ) (r : Counts p text here w front) where
+  -- with nothing left of the text
+  pub none_read : (o : Option BareToken) (n : ℕ) (out : List ℕ) → WasRead p text here.at here.stand o n w.out.items out → o ≡ None → (limit : ℕ) (nodes : Trees) → Notates p limit text nodes → front ≡ starts_all nodes
+  none_read o n out read is = go (subst (λ (q : Option BareToken). WasRead p text here.at here.stand q n w.out.items out) is read)
+    where
+      go : WasRead p text here.at here.stand None n w.out.items out → (limit : ℕ) (nodes : Trees) → Notates p limit text nodes → front ≡ starts_all nodes
+      go h = none_left p text here w front r (through p h.0)
+
+  -- with no token there
+  pub none_there : (e : LexFault) (q : ℕ) (why : LexReason) → HasNoTokenFrom p text here.at e → e ≡ Refused q why → (limit : ℕ) (nodes : Trees) → Notates p limit text nodes → front ≡ starts_all nodes
+  none_there e q why h is = no_stop p text here w front r q why (subst (IsStopFrom p text here.at) is (stop_from p text here.at e h))
+
+  module _ (are : AreBytes text) (n start : ℕ) (v : Writer) (t : BareToken) (k : ReadToken p text are here w n v t) (same : SameButOut w v) (from : start ≡ length w.out.items) (small : start < 2 ^ 63) where
+    abbrev c : Class
+    c = class_of t.kind n k.content
+
+    abbrev place : Span
+    place = record { start = t.start; stop = t.stop }
+
+    abbrev the_token : Token
+    the_token = record { start = t.start; stop = t.stop; class = c }
+
+    pub ready : Ready t.kind n start here v r.state w.out.items c
+    ready = ready_at p text are here w r.state r.shows r.modest n start v t k same from small
+
+    pub further : here.at < t.stop
+    further = omega (arith, few p text here.at t.stop (the_token ∷ []) k.between)
+
+    module _ (next : Here) (left : Writer) (ok : Bool) (taken : (s : State) → Takes t.kind n start t.start here v next left ok s) where
+      took : Taken ok r.state c place next left
+      took = taken r.state w.out.items c place refl ready
+
+      -- the grammar has no such token there
+      pub nothing_after : ok ≡ false → (limit : ℕ) (nodes : Trees) → Notates p limit text nodes → front ≡ starts_all nodes
+      nothing_after e = not_taken p text here w front r the_token k.between (subst (λ (q : Bool). Taken q r.state c place next left) e took)
+
+      -- it was taken, and what it begins is counted
+      pub counted_on : ok ≡ true → (count : ℕ) → ((x : List ℕ) → count ≡ begun (is_outside v.around) here.stand (class_of t.kind n x)) → Counts p text (record next { at = t.stop }) left (front ++ replicate count t.start)
+      counted_on e count b = go (subst (λ (q : Bool). Taken q r.state c place next left) e took)
+        where
+          own : count ≡ begun (is_outside w.around) here.stand c
+          own = b k.content ∙ ap (λ l. begun (is_outside l) here.stand c) same.around
+
+          go : Taken true r.state c place next left → Counts p text (record next { at = t.stop }) left (front ++ replicate count t.start)
+          go (u, is, e) =
+              let grown : Grown r.state c t.start u = subst (λ (o : Option State). After o (Grown r.state c t.start)) is (adds r.state c place) in
+              let shown = own ∙ ap (λ l. begun (is_outside l) here.stand c) r.shows.around ∙ ap (λ st. begun (is_outside (arounds_of (stack_in r.state))) st c) r.shows.stand in
+              record {
+                inside = (inside p text here.at t.stop (the_token ∷ []) r.inside k.between).1;
+                state = u;
+                tokens = r.tokens ++ (the_token ∷ []);
+                between = joins p text 0 here.at t.stop r.tokens (the_token ∷ []) r.between k.between;
+                runs = leads_on r.tokens the_token r.state u r.runs is;
+                modest = subst AreModest (sym (held_more r.state u c place is)) (modest_both (held r.state) (the_token ∷ []) r.modest k.modest);
+                begun = grown ∙ ap (λ m. started r.state ++ replicate m t.start) (sym shown) ∙ ap (λ l. l ++ replicate count t.start) r.begun;
+                shows = record { stand = e.stand; level = e.level; count = e.count; frames = e.frames; around = e.around; string = e.string; chunks = e.chunks; simple = e.simple; slip = e.slip; out = e.out };
+              }
