@@ -87,15 +87,6 @@ chunk_noted same kind j s start old mid new e b h i =
     let one : Notes old mid (unless (same_kind kind s.kind) s.place MixedChunks) = subst (λ (x : Joint). Notes old mid (unless (same_kind kind x.kind) x.place MixedChunks)) e (subst (λ x. Notes old mid (unless x j.place MixedChunks)) b h) in
     both_noted old mid new (unless (same_kind kind s.kind) s.place MixedChunks) (string_slips false s) one i
 
--- with one more piece
-pub joined_known : (a b : Bool) → a ≡ true → (a && b) ≡ b
-joined_known true b e = refl
-joined_known false b e = let bad : false ≡ true = e in cc
-
-pub joined_unknown : (a b : Bool) → a ≡ false → (a && b) ≡ false
-joined_unknown true b e = let bad : true ≡ false = e in cc
-joined_unknown false b e = refl
-
 -- what stands after the byte at start
 pub content_cut : (base x out content : List ℕ) (start : ℕ) → start ≡ length base → out ≡ cut (base ++ (0 ∷ x)) → content ≡ drop (start + 1) out → content ≡ cut x
 content_cut base x out content start s e f = f ∙ ap (drop (start + 1)) e ∙ drop_seam base x 0 start s

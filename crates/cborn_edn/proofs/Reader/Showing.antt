@@ -9,8 +9,8 @@ use Rattle.cborn_edn.specs.declared.strings.StringKind.{StringKind}
 use Rattle.cborn_edn.specs.declared.strings.StringKind.TheVariants.{Bytes as OfBytes, Text as OfText}
 use Rattle.cborn_edn.specs.Says.{is_nil}
 use Rattle.cborn_edn.specs.devices.Slips.{first_slip}
-use Rattle.cborn_edn.specs.shared.Syntax.{Span, Pieces, no_item, no_pair}
-use Rattle.cborn_edn.proofs.Grammar.Machine.{Stack, in_row, in_key, in_array, Home, as_item, as_chunk, State, builds}
+use Rattle.cborn_edn.specs.shared.Syntax.{Span, no_item, no_pair}
+use Rattle.cborn_edn.proofs.Grammar.Machine.{Stack, in_row, in_key, in_array, Home, as_item, as_chunk, State}
 use Rattle.cborn_edn.proofs.Grammar.Takes.{at_home}
 use Rattle.cborn_edn.proofs.Short.Said.{str_of, faults_of_piece}
 use Rattle.cborn_edn.specs.declared.states.Here.{Here}
@@ -76,9 +76,6 @@ pub record Fresh (here : Here) (writer : Writer) (h : Home) (out : List ℕ) : T
 pub fresh : (here : Here) (writer : Writer) (h : Home) (out : List ℕ) → Shows here writer out (at_home h None) → Fresh here writer h out
 fresh here writer (as_item st) out e = record { home = record { level = e.level; count = e.count; frames = e.frames; around = e.around; chunks = e.chunks }; string = e.string; slip = e.slip; laid = e.out }
 fresh here writer (as_chunk st s b) out e = record { home = record { level = e.level; count = e.count; frames = e.frames; around = e.around; chunks = e.chunks }; string = e.string; slip = e.slip; laid = e.out }
-
-pub at_builds : (here : Here) (writer : Writer) (h : Home) (ps : Pieces) (out : List ℕ) → Shows here writer out (builds h ps) → AtHome here writer h
-at_builds here writer h ps out e = record { level = e.level; count = e.count; frames = e.frames; around = e.around; chunks = e.chunks }
 
 pub piece_bytes : (k : StringKind) (a : Span) (q : Bool) (x : List ℕ) (m : Mark) → (str_of (piece_of k a q x m)).bytes ≡ x
 piece_bytes OfBytes a q x m = refl

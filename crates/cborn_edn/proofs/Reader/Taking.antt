@@ -204,10 +204,6 @@ module _ (p : Profile) (limit : ℕ) (text : List ℕ) (here : Here) (w : Writer
       not_more (inl h) e = let bad : stands.Has ≡ stands.WantsMore = sym h ∙ e in cc
       not_more (inr h) e = let bad : stands.Wants ≡ stands.WantsMore = sym h ∙ e in cc
 
-  -- nothing was taken
-  pub left_alone : (next : Here) (left : Writer) → next ≡ here → left ≡ w → IsReading p limit text next left
-  left_alone next left e f = subst (λ (v : Writer). IsReading p limit text next v) (sym f) (subst (λ (h : Here). IsReading p limit text h w) (sym e) r)
-
   modest_of : (h : Home) (ps : Pieces) → builds h ps ≡ r.state → AreModest (tokens_of_pieces ps)
   modest_of h ps e = modest_right (held_home h) (tokens_of_pieces ps) (subst (λ (v : State). AreModest (held v)) (sym e) (subst AreModest (sym r.reached.held) r.reached.modest))
 

@@ -1,6 +1,5 @@
 -- One token by its kind.
-use Rattle.std.proofs.Common.{◌≡◌, refl, sym, ap, ◌∙◌, subst, ℕ, ◌<◌, List, [], ◌∷◌, ◌++◌, length, Bool, true, false, append-nil, arith, ◌⊎◌, inl, inr}
-use Rattle.std.proofs.lemmas.List.{length-append}
+use Rattle.std.proofs.Common.{◌≡◌, refl, sym, ap, ◌∙◌, subst, ℕ, ◌<◌, List, [], ◌++◌, length, Bool, true, false, append-nil, arith, ◌⊎◌, inl, inr}
 use Rattle.cborn_lex.specs.declared.classes.Kind.{Kind}
 use Rattle.cborn_lex.specs.declared.classes.Kind.TheVariants as kinds
 use Rattle.cborn_lex.specs.declared.classes.Mark.{Mark}
@@ -39,24 +38,6 @@ module _ (kind like : Kind) (number start place : ℕ) (here next : Here) (write
   turn f c x a p e shows =
       let same : c ≡ class_of like number x = e ∙ ap (λ (k : Kind). class_of k number x) is in
       taken_as ok s c (class_of like number x) a next left same (f x a p shows)
-
--- of any kind
-pub from_turns : (kind : Kind) (number start place : ℕ) (here next : Here) (writer left : Writer) (ok : Bool) (s : State) → ((c : Class) → appended s c ≡ []) → Turns kind number place here writer next left ok s → Takes kind number start place here writer next left ok s
-from_turns kind number start place here next writer left ok s none h base c a p r =
-    h c r.content a p r.class (subst (λ l. Shows here writer l s) (sym (r.written ∙ ap (λ l. base ++ l) (none c) ∙ append-nil base)) r.shows)
-
--- what is shown where nothing was appended
-pub shown_now : (kind : Kind) (number start : ℕ) (here : Here) (writer : Writer) (s : State) (base : List ℕ) (c : Class) → ((c : Class) → appended s c ≡ []) → Ready kind number start here writer s base c → Shows here writer writer.out.items s
-shown_now kind number start here writer s base c none r = subst (λ l. Shows here writer l s) (sym (r.written ∙ ap (λ l. base ++ l) (none c) ∙ append-nil base)) r.shows
-
-pub shown_bare : (kind like : Kind) (number start : ℕ) (here : Here) (writer : Writer) (s : State) (base : List ℕ) (c : Class) → kind ≡ like → ((x : List ℕ) → appended s (class_of like number x) ≡ []) → Ready kind number start here writer s base c → Shows here writer writer.out.items s
-shown_bare kind like number start here writer s base c is none r =
-    let same : c ≡ class_of like number r.content = r.class ∙ ap (λ (k : Kind). class_of k number r.content) is in
-    subst (λ l. Shows here writer l s) (sym (r.written ∙ ap (λ (k : Class). base ++ appended s k) same ∙ ap (λ l. base ++ l) (none r.content) ∙ append-nil base)) r.shows
-
--- a byte stands where the string begins
-pub place_inside : (out base x : List ℕ) (start : ℕ) → start ≡ length base → out ≡ base ++ (0 ∷ x) → start < length out
-place_inside out base x start s e = omega (arith, s, ap length e, length-append base (0 ∷ x))
 
 -- the state by what stands
 data Wanting (st : Stack) : Type 0 where

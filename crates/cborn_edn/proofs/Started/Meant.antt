@@ -25,9 +25,6 @@ none_among : (ts : List Token) → Among [] ts
 none_among [] = refl
 none_among (t ∷ ts) = inl (none_among ts)
 
-with_first : (t : Token) (xs : List ℕ) (ts : List Token) → Among xs ts → Among (t.start ∷ xs) (t ∷ ts)
-with_first t xs ts h = inr (xs, refl, h)
-
 both_among : (xs ys : List ℕ) (ts us : List Token) → Among xs ts → Among ys us → Among (xs ++ ys) (ts ++ us)
 both_among xs ys [] us h k = subst (λ (w : List ℕ). Among (w ++ ys) us) (sym h) k
 both_among xs ys (t ∷ ts) us (inl h) k = inl (both_among xs ys ts us h k)
