@@ -6,5 +6,6 @@ pub mod Shown
 pub mod Plain
 pub mod ReadingBack
 pub mod Starts
+pub mod Shortened
 pub mod shared
 pub mod devices

@@ -10,6 +10,7 @@ pub mod Notates
 pub mod Counted
 pub mod Ahead
 pub mod Modest
+pub mod Written
 pub mod Laid
 pub mod Noted
 pub mod Kept

@@ -11,12 +11,11 @@ ghost use Rattle.cborn_edn.specs.declared.states.Writer.{Writer as Writing};
 ghost use Rattle.cborn_edn.specs.declared.states.Stand.TheVariants.{Has};
 ghost use Rattle.cborn_edn.specs.devices.Kept.{joint};
 ghost use Rattle.cborn_edn.specs.devices.Slips.{Notes};
-ghost use Rattle.cborn_model.specs.Heads.{argument, head};
-ghost use Rattle.cborn_model.specs.Spelled.{ending};
-ghost use Rattle.cborn_edn.specs.Says.{Str, joined, piece_slips, size, size_slips};
-ghost use Rattle.cborn_edn.specs.devices.Laid.{cut, place_of};
+ghost use Rattle.cborn_edn.specs.Says.{Str, joined, piece_slips, size_slips};
+ghost use Rattle.cborn_edn.specs.devices.Shows.{Same, Sized};
+ghost use Rattle.cborn_edn.specs.devices.Written.{heads_in, written_mark};
 
-use crate::heads::set_head;
+use crate::heads::{set_head, set_shortest_head};
 use crate::numbers::width_for;
 use crate::slips::{earlier, is_none, note_width};
 use crate::states::{Frame, Here, Joint, Level, Stand, Writer};
@@ -26,26 +25,58 @@ use cborn_lex::Mark;
 use cborn_model::{BREAK, Major};
 use std::alloc::AllocError;
 
-/// Writes the head of an array or a map of `count` entries in the place of the byte at `start`, or
-/// its break after the entries, and notes what is wrong with its indicator, which stands at `place`.
+/// Notes what is wrong with the indicator of an array or a map of `count` entries.
 #[inline(always)]
-fn set_size(
+fn note_size(frame: Frame, count: u64, slip: &mut Option<Slip>)
+    ensures { Notes slip.old slip.new (size_slips frame.place frame.mark count) }
+{
+    if !is_endless(frame.mark) {
+        note_width(frame.mark, count, frame.place, slip);
+    }
+}
+
+/// Writes the head of an array or a map of `count` entries in the place of the byte at the start of
+/// `frame`, or its break after the entries, and notes what is wrong with its indicator.
+#[inline(always)]
+fn set_size(major: Major, frame: Frame, count: u64, writer: &mut Writer) -> Result<(), AllocError>
+    requires { frame.start < length writer.old.out.items }
+    ensures added { OnOk result (Sized major (written_mark (heads_in writer.old.heads writer.old.around) frame.mark) frame.start count writer.old.out.items writer.new.out.items) }
+    ensures noted { OnOk result (Notes writer.old.slip writer.new.slip (size_slips frame.place frame.mark count)) }
+    ensures rest { OnOk result (Same writer.old writer.new) }
+{
+    match frame.mark {
+        Mark::Absent => set_shortest_head(major, count, frame.start, &mut writer.out),
+        _ => set_marked_size(major, frame, count, writer),
+    }
+}
+
+/// Writes the head or the break of an array or a map with an indicator, and notes what is wrong with
+/// that, as `set_size` does.
+#[inline(always)]
+fn set_marked_size(
     major: Major,
     frame: Frame,
     count: u64,
-    out: &mut Vec<u8>,
-    slip: &mut Option<Slip>,
+    writer: &mut Writer,
 ) -> Result<(), AllocError>
-    requires { frame.start < length out.old.items }
-    ensures added { OnOk result ((base x : List ℕ) → frame.start ≡ length base → out.old.items ≡ cut (base ++ (place_of major frame.mark ++ x)) → out.new.items ≡ cut (base ++ (head major (argument (size frame.mark count) count) ++ x ++ ending (size frame.mark count)))) }
-    ensures noted { OnOk result (Notes slip.old slip.new (size_slips frame.place frame.mark count)) }
+    requires { frame.start < length writer.old.out.items }
+    ensures added { OnOk result (Sized major (written_mark (heads_in writer.old.heads writer.old.around) frame.mark) frame.start count writer.old.out.items writer.new.out.items) }
+    ensures noted { OnOk result (Notes writer.old.slip writer.new.slip (size_slips frame.place frame.mark count)) }
+    ensures rest { OnOk result (Same writer.old writer.new) }
 {
-    if is_endless(frame.mark) {
-        out.push(BREAK)?;
+    note_size(frame, count, &mut writer.slip);
+    let mark = writer.written(frame.mark);
+    if is_endless(mark) {
+        writer.out.push(BREAK)?;
         return Ok(());
     }
-    note_width(frame.mark, count, frame.place, slip);
-    set_head(major, width_for(frame.mark, count), count, frame.start, out)
+    set_head(
+        major,
+        width_for(mark, count),
+        count,
+        frame.start,
+        &mut writer.out,
+    )
 }
 
 /// How many entries stand in the innermost bracket, where it ends.
@@ -81,17 +112,12 @@ fn shut(here: &mut Here, writer: &mut Writer) -> Frame
 pub(crate) fn close_array(here: &mut Here, writer: &mut Writer) -> Result<(), AllocError>
     requires small { here.old.count < 2 ^ 63 }
     requires open { (st : Stack) × (s : Place) × (m : Indicator) × (c : Content) × Shows here.old writer.old writer.old.out.items (content_state (in_array st s m) c) }
-    ensures { OnOk result ((st : Stack) (s a : Place) (m : Indicator) (c : Content) → Leads here.old writer.old here.new writer.new (content_state (in_array st s m) c) (has st (array s m c a))) }
+    ensures shows { OnOk result ((st : Stack) (s a : Place) (m : Indicator) (c : Content) → Leads here.old writer.old here.new writer.new (content_state (in_array st s m) c) (has st (array s m c a))) }
+    ensures heads { OnOk result (writer.new.heads ≡ writer.old.heads) }
 {
     let count = all_entries(here);
     let frame = shut(here, writer);
-    set_size(
-        Major::Array,
-        frame,
-        count,
-        &mut writer.out,
-        &mut writer.slip,
-    )
+    set_size(Major::Array, frame, count, writer)
 }
 
 /// A map ends.
@@ -99,18 +125,20 @@ pub(crate) fn close_array(here: &mut Here, writer: &mut Writer) -> Result<(), Al
 pub(crate) fn close_map(here: &mut Here, writer: &mut Writer) -> Result<(), AllocError>
     requires small { here.old.count < 2 ^ 63 }
     requires open { (st : Stack) × (s : Place) × (m : Indicator) × (f : Fields) × Shows here.old writer.old writer.old.out.items (fields_state st s m f) }
-    ensures { OnOk result ((st : Stack) (s a : Place) (m : Indicator) (f : Fields) → Leads here.old writer.old here.new writer.new (fields_state st s m f) (has st (map s m f a))) }
+    ensures shows { OnOk result ((st : Stack) (s a : Place) (m : Indicator) (f : Fields) → Leads here.old writer.old here.new writer.new (fields_state st s m f) (has st (map s m f a))) }
+    ensures heads { OnOk result (writer.new.heads ≡ writer.old.heads) }
 {
     let count = all_entries(here);
     let frame = shut(here, writer);
-    set_size(Major::Map, frame, count, &mut writer.out, &mut writer.slip)
+    set_size(Major::Map, frame, count, writer)
 }
 
 /// A tag ends.
 #[inline(always)]
 pub(crate) fn close_tag(here: &mut Here, writer: &mut Writer)
     requires { 0 < length writer.old.frames }
-    ensures { (st : Stack) (s a : Place) (n : ℕ) (m : Indicator) (i : Item) → Leads here.old writer.old here.new writer.new (has (in_tag st s n m) i) (has st (tag s n m i a)) }
+    ensures shows { (st : Stack) (s a : Place) (n : ℕ) (m : Indicator) (i : Item) → Leads here.old writer.old here.new writer.new (has (in_tag st s n m) i) (has st (tag s n m i a)) }
+    ensures heads { writer.new.heads ≡ writer.old.heads }
 {
     shut(here, writer);
 }
@@ -120,7 +148,8 @@ pub(crate) fn close_tag(here: &mut Here, writer: &mut Writer)
 pub(crate) fn close_embedded(mark: Mark, place: usize, here: &mut Here, writer: &mut Writer)
     requires frames { 0 < length writer.old.frames }
     requires around { 0 < length writer.old.around }
-    ensures { (h : Home) (o : Option Joined) (s a : Place) (c : Content) → place ≡ a.start → Leads here.old writer.old here.new writer.new (content_state (in_embed h o s) c) (builds h (with_piece o (embedded s c a mark))) }
+    ensures shows { (h : Home) (o : Option Joined) (s a : Place) (c : Content) → place ≡ a.start → Leads here.old writer.old here.new writer.new (content_state (in_embed h o s) c) (builds h (with_piece o (embedded s c a mark))) }
+    ensures heads { writer.new.heads ≡ writer.old.heads }
 {
     let frame = shut(here, writer);
     let Some(around) = writer.around.shut() else {

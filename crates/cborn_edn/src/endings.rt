@@ -1,6 +1,6 @@
 //! What may end where the reader stands: by the innermost bracket.
 
-ghost use Rattle.std.specs.Prelude.{◌≡◌, ◌<◌, ◌^◌, false, IfOk};
+ghost use Rattle.std.specs.Prelude.{◌≡◌, ◌<◌, ◌^◌, false, IfOk, OnOk};
 ghost use Rattle.cborn_lex.specs.declared.classes.Class.TheVariants.{ArrayClose, MapClose, EmbedClose, ParenClose, Comma, Colon};
 ghost use Rattle.cborn_edn.specs.shared.Syntax.{Span as Place, Item};
 ghost use Rattle.cborn_edn.specs.shared.Machine.{Stack, State, has};
@@ -89,6 +89,7 @@ pub(crate) fn end_array(here: &mut Here, writer: &mut Writer) -> Result<bool, Al
     requires shows { (s : State) × MayEnd s × Shows here.old writer.old writer.old.out.items s }
     ensures taken { IfOk result (λ ok. (s : State) (a : Place) → MayEnd s → Shows here.old writer.old writer.old.out.items s → Taken ok s ArrayClose a here.new writer.new) }
     ensures kept { IfOk result (λ ok. ok ≡ false → (here.new ≡ here.old) × (writer.new ≡ writer.old)) }
+    ensures heads { OnOk result (writer.new.heads ≡ writer.old.heads) }
 {
     if !is_array(here.level) {
         return Ok(false);
@@ -104,6 +105,7 @@ pub(crate) fn end_map(here: &mut Here, writer: &mut Writer) -> Result<bool, Allo
     requires shows { (s : State) × MayEnd s × Shows here.old writer.old writer.old.out.items s }
     ensures taken { IfOk result (λ ok. (s : State) (a : Place) → MayEnd s → Shows here.old writer.old writer.old.out.items s → Taken ok s MapClose a here.new writer.new) }
     ensures kept { IfOk result (λ ok. ok ≡ false → (here.new ≡ here.old) × (writer.new ≡ writer.old)) }
+    ensures heads { OnOk result (writer.new.heads ≡ writer.old.heads) }
 {
     if !ends_map(here.stand, here.level) {
         return Ok(false);
@@ -118,6 +120,7 @@ pub(crate) fn end_embedded(mark: Mark, place: usize, here: &mut Here, writer: &m
     requires { (s : State) × MayEnd s × Shows here.old writer.old writer.old.out.items s }
     ensures taken { (s : State) (a : Place) → place ≡ a.start → MayEnd s → Shows here.old writer.old writer.old.out.items s → Taken result s (EmbedClose mark) a here.new writer.new }
     ensures kept { result ≡ false → (here.new ≡ here.old) × (writer.new ≡ writer.old) }
+    ensures heads { writer.new.heads ≡ writer.old.heads }
 {
     if !is_embedded(here.level) {
         return false;
@@ -132,6 +135,7 @@ pub(crate) fn end_tag(here: &mut Here, writer: &mut Writer) -> bool
     requires { (st : Stack) × (i : Item) × Shows here.old writer.old writer.old.out.items (has st i) }
     ensures taken { (st : Stack) (i : Item) (a : Place) → Shows here.old writer.old writer.old.out.items (has st i) → Taken result (has st i) ParenClose a here.new writer.new }
     ensures kept { result ≡ false → (here.new ≡ here.old) × (writer.new ≡ writer.old) }
+    ensures heads { writer.new.heads ≡ writer.old.heads }
 {
     if !is_tag(here.level) {
         return false;

@@ -10,8 +10,10 @@
 //! ```
 //!
 //! [`read_text`] gives the bytes, or the one fault of the text: of a token, of syntax, or of
-//! meaning. [`read_notation`] gives the nodes, each with its place in the text, and [`start_at`] the
-//! place of one node or chunk by its number. [`show`] gives nodes in the fixed notation.
+//! meaning. [`read_shortest`] gives them with each head in its shortest form, for those who need no
+//! more than what the nodes mean. [`read_notation`] gives the nodes, each with its place in the text,
+//! and [`start_at`] the place of one node or chunk by its number. [`show`] gives nodes in the fixed
+//! notation.
 //!
 //! # The definitions
 //!
@@ -26,7 +28,8 @@
 //!
 //! What opens is written as a byte in the place of a head, and what stands in it after that byte.
 //! When it ends its head is known, and is put in the place of the byte: an array's by its count, a
-//! string's by its length. A meaning error doesn't stop the reader: it writes on, each number
+//! string's by its length. A head outside of `<<..>>` is as wide as its indicator asks for, or the
+//! shortest; what stands in `<<..>>` is the content of a string. A meaning error doesn't stop the reader: it writes on, each number
 //! cut to a byte, and keeps the first, so that a later syntax error is still found, which comes
 //! before all of meaning.
 //!
@@ -83,7 +86,7 @@ mod words;
 mod writing;
 
 pub use faults::{EdnFault, EdnReason, ShowFault};
-pub use passes::read_text;
+pub use passes::{read_shortest, read_text};
 pub use readers::read_notation;
 pub use showing::show;
 pub use slips::Slip;

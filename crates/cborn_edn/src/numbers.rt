@@ -66,23 +66,32 @@ pub(crate) fn is_small(negative: bool, magnitude: u128) -> bool
     argument_of(negative, magnitude) < OUTSIDE
 }
 
+/// Notes what is wrong with the indicator of an integer: `magnitude`, or `-magnitude`.
+#[inline(always)]
+fn note_number(negative: bool, magnitude: u128, mark: Mark, place: usize, slip: &mut Option<Slip>)
+    ensures { Notes slip.old slip.new (says.number_slips place negative magnitude mark) }
+{
+    let argument = argument_of(negative, magnitude);
+    if argument >= OUTSIDE {
+        note_unless(is_absent(mark), place, EdnReason::IndicatorNotAllowed, slip);
+    } else {
+        note_width(mark, argument as u64, place, slip);
+    }
+}
+
 /// Appends an integer: `magnitude`, or `-magnitude`.
 #[inline(always)]
-pub(crate) fn push_number(
+fn push_number(
     negative: bool,
     magnitude: u128,
     mark: Mark,
-    place: usize,
     out: &mut Vec<u8>,
-    slip: &mut Option<Slip>,
 ) -> Result<(), AllocError>
-    ensures added { OnOk result (out.new.items ≡ out.old.items ++ cut (spelled (says.number_node place negative magnitude mark))) }
-    ensures noted { OnOk result (Notes slip.old slip.new (says.number_slips place negative magnitude mark)) }
+    ensures { OnOk result ((place : ℕ) → out.new.items ≡ out.old.items ++ cut (spelled (says.number_node place negative magnitude mark))) }
 {
     let below = is_below(negative, magnitude);
     let argument = argument_of(negative, magnitude);
     if argument >= OUTSIDE {
-        note_unless(is_absent(mark), place, EdnReason::IndicatorNotAllowed, slip);
         return push_bignum(below, argument, out);
     }
     let n = argument as u64;
@@ -91,7 +100,6 @@ pub(crate) fn push_number(
     } else {
         Major::Unsigned
     };
-    note_width(mark, n, place, slip);
     push_head(major, width_for(mark, n), n, out)
 }
 
@@ -135,23 +143,26 @@ pub(crate) fn is_absent(mark: Mark) -> bool
     matches!(mark, Mark::Absent)
 }
 
+/// Notes what is wrong with the number of a tag, and with its indicator.
+#[inline(always)]
+pub(crate) fn note_tag(number: u128, mark: Mark, place: usize, slip: &mut Option<Slip>)
+    ensures { Notes slip.old slip.new (says.tag_slips place mark number) }
+{
+    if number < OUTSIDE {
+        note_width(mark, number as u64, place, slip);
+    } else {
+        note(place, EdnReason::TagTooLarge, slip);
+    }
+}
+
 /// Appends a tag's head. Of a number outside 64 bits its low bits are written.
-pub(crate) fn push_tag(
-    number: u128,
-    mark: Mark,
-    place: usize,
-    out: &mut Vec<u8>,
-    slip: &mut Option<Slip>,
-) -> Result<(), AllocError>
-    ensures added { OnOk result (out.new.items ≡ out.old.items ++ cut (head Tag (Given (says.width mark number) number))) }
-    ensures noted { OnOk result (Notes slip.old slip.new (says.tag_slips place mark number)) }
+pub(crate) fn push_tag(number: u128, mark: Mark, out: &mut Vec<u8>) -> Result<(), AllocError>
+    ensures { OnOk result (out.new.items ≡ out.old.items ++ cut (head Tag (Given (says.width mark number) number))) }
 {
     if number < OUTSIDE {
         let n = number as u64;
-        note_width(mark, n, place, slip);
         return push_head(Major::Tag, width_for(mark, n), n, out);
     }
-    note(place, EdnReason::TagTooLarge, slip);
     let width = match mark {
         Mark::Wide(width) => width,
         _ => Width::Eight,
@@ -207,23 +218,20 @@ pub(crate) fn put_number(
     here: &mut Here,
     writer: &mut Writer,
 ) -> Result<(), AllocError>
-    ensures { OnOk result ((st : Stack) (a : Place) → place ≡ a.start → Leads here.old writer.old here.new writer.new (wants st) (has st (number a negative magnitude mark))) }
+    ensures shows { OnOk result ((st : Stack) (a : Place) → place ≡ a.start → Leads here.old writer.old here.new writer.new (wants st) (has st (number a negative magnitude mark))) }
+    ensures heads { OnOk result (writer.new.heads ≡ writer.old.heads) }
 {
     here.stand = Stand::Has;
-    push_number(
-        negative,
-        magnitude,
-        mark,
-        place,
-        &mut writer.out,
-        &mut writer.slip,
-    )
+    note_number(negative, magnitude, mark, place, &mut writer.slip);
+    let mark = writer.written(mark);
+    push_number(negative, magnitude, mark, &mut writer.out)
 }
 
 /// A word for the simple value `n`, as an item.
 #[inline(always)]
 pub(crate) fn put_word(n: u8, here: &mut Here, writer: &mut Writer) -> Result<(), AllocError>
-    ensures { OnOk result ((st : Stack) (a : Place) → Leads here.old writer.old here.new writer.new (wants st) (has st (word a n))) }
+    ensures shows { OnOk result ((st : Stack) (a : Place) → Leads here.old writer.old here.new writer.new (wants st) (has st (word a n))) }
+    ensures heads { OnOk result (writer.new.heads ≡ writer.old.heads) }
 {
     here.stand = Stand::Has;
     let n = n as u64;
@@ -240,7 +248,8 @@ pub(crate) fn put_simple(
     here: &mut Here,
     writer: &mut Writer,
 ) -> Result<(), AllocError>
-    ensures { OnOk result ((st : Stack) (s a : Place) → place ≡ a.start → Leads here.old writer.old here.new writer.new (wants_number st s) (has_number st s a negative magnitude mark)) }
+    ensures shows { OnOk result ((st : Stack) (s a : Place) → place ≡ a.start → Leads here.old writer.old here.new writer.new (wants_number st s) (has_number st s a negative magnitude mark)) }
+    ensures heads { OnOk result (writer.new.heads ≡ writer.old.heads) }
 {
     here.stand = Stand::HasNumber;
     push_simple(

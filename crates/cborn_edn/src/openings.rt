@@ -8,7 +8,7 @@ ghost use Rattle.cborn_edn.specs.declared.states.Stand.TheVariants.{Wants};
 ghost use Rattle.cborn_edn.specs.devices.Laid.{place_of};
 ghost use Rattle.cborn_edn.specs.devices.Shows.{Shows, Leads};
 
-use crate::numbers::push_tag;
+use crate::numbers::{note_tag, push_tag};
 use crate::states::{Around, Chunks, Frame, Here, Level, Stand, Writer};
 use cborn_lex::Mark;
 use cborn_model::Major;
@@ -22,7 +22,8 @@ pub(crate) fn open_array(
     here: &mut Here,
     writer: &mut Writer,
 ) -> Result<(), AllocError>
-    ensures { OnOk result ((st : Stack) (a : Place) → place ≡ a.start → Leads here.old writer.old here.new writer.new (wants st) (wants (in_row (in_array st a mark) no_item))) }
+    ensures shows { OnOk result ((st : Stack) (a : Place) → place ≡ a.start → Leads here.old writer.old here.new writer.new (wants st) (wants (in_row (in_array st a mark) no_item))) }
+    ensures heads { OnOk result (writer.new.heads ≡ writer.old.heads) }
 {
     let start = writer.out.len();
     push_place(Major::Array, mark, &mut writer.out)?;
@@ -37,7 +38,8 @@ pub(crate) fn open_map(
     here: &mut Here,
     writer: &mut Writer,
 ) -> Result<(), AllocError>
-    ensures { OnOk result ((st : Stack) (a : Place) → place ≡ a.start → Leads here.old writer.old here.new writer.new (wants st) (wants (in_key st a mark no_pair))) }
+    ensures shows { OnOk result ((st : Stack) (a : Place) → place ≡ a.start → Leads here.old writer.old here.new writer.new (wants st) (wants (in_key st a mark no_pair))) }
+    ensures heads { OnOk result (writer.new.heads ≡ writer.old.heads) }
 {
     let start = writer.out.len();
     push_place(Major::Map, mark, &mut writer.out)?;
@@ -66,9 +68,12 @@ pub(crate) fn open_tag(
     here: &mut Here,
     writer: &mut Writer,
 ) -> Result<(), AllocError>
-    ensures { OnOk result ((st : Stack) (a : Place) → place ≡ a.start → Leads here.old writer.old here.new writer.new (wants st) (wants (in_tag st a number mark))) }
+    ensures shows { OnOk result ((st : Stack) (a : Place) → place ≡ a.start → Leads here.old writer.old here.new writer.new (wants st) (wants (in_tag st a number mark))) }
+    ensures heads { OnOk result (writer.new.heads ≡ writer.old.heads) }
 {
-    push_tag(number, mark, place, &mut writer.out, &mut writer.slip)?;
+    note_tag(number, mark, place, &mut writer.slip);
+    let mark = writer.written(mark);
+    push_tag(number, mark, &mut writer.out)?;
     open_frame(Level::Tag, Mark::Absent, 0, 0, here, writer)
 }
 
@@ -83,6 +88,7 @@ pub(crate) fn open_embedded(
 ) -> Result<(), AllocError>
     ensures begins { OnOk result ((h : Home) (a : Place) (base : List ℕ) → place ≡ a.start → start ≡ length base → writer.old.out.items ≡ base ++ (0 ∷ []) → Shows here.old writer.old base (at_home h None) → Shows here.new writer.new writer.new.out.items (wants (in_row (in_embed h None a) no_item))) }
     ensures goes_on { OnOk result ((h : Home) (ps : Joined) (a : Place) → place ≡ a.start → Shows here.old writer.old writer.old.out.items (builds h ps) → Shows here.new writer.new writer.new.out.items (wants (in_row (in_embed h (Some ps) a) no_item))) }
+    ensures heads { OnOk result (writer.new.heads ≡ writer.old.heads) }
 {
     let start = match writer.string {
         Some(string) => string.start,
@@ -103,7 +109,8 @@ pub(crate) fn open_embedded(
 /// A string in chunks opens.
 #[inline(always)]
 pub(crate) fn open_chunks(here: &mut Here, writer: &mut Writer) -> Result<(), AllocError>
-    ensures { OnOk result ((st : Stack) (a : Place) → Leads here.old writer.old here.new writer.new (wants st) (wants_chunk st a no_string)) }
+    ensures shows { OnOk result ((st : Stack) (a : Place) → Leads here.old writer.old here.new writer.new (wants st) (wants_chunk st a no_string)) }
+    ensures heads { OnOk result (writer.new.heads ≡ writer.old.heads) }
 {
     let start = writer.out.len();
     writer.out.push(0)?;
@@ -114,7 +121,8 @@ pub(crate) fn open_chunks(here: &mut Here, writer: &mut Writer) -> Result<(), Al
 
 /// A simple value opens at `place`.
 pub(crate) fn open_simple(place: usize, here: &mut Here, writer: &mut Writer)
-    ensures { (st : Stack) (a : Place) → place ≡ a.start → Leads here.old writer.old here.new writer.new (wants st) (wants_number st a) }
+    ensures shows { (st : Stack) (a : Place) → place ≡ a.start → Leads here.old writer.old here.new writer.new (wants st) (wants_number st a) }
+    ensures heads { writer.new.heads ≡ writer.old.heads }
 {
     writer.simple = place;
     here.stand = Stand::WantsNumber;

@@ -3,7 +3,8 @@
 ghost use Rattle.std.specs.Prelude.{◌≡◌, ◌≤◌, ◌<◌, ◌^◌, length, IfOk, IfErr, OnOk};
 ghost use Rattle.cborn_edn.specs.Faults.{IsNoNotation};
 ghost use Rattle.cborn_edn.specs.shared.Machine.{State, start};
-ghost use Rattle.cborn_edn.specs.Spelling.{IsSpelling};
+ghost use Rattle.cborn_edn.specs.Spelling.{IsSpelling, IsShortSpelling};
+ghost use Rattle.cborn_edn.specs.devices.Written.{IsSpellingAs};
 ghost use Rattle.cborn_edn.specs.devices.Reading as pure;
 ghost use Rattle.cborn_edn.specs.devices.Reading.{IsReading, Judged, Last, AtEnd};
 ghost use Rattle.cborn_edn.specs.devices.Modest.{AreModest};
@@ -14,7 +15,7 @@ ghost use Rattle.cborn_edn.specs.devices.Shows.{Shows};
 use crate::endings::has_chunks;
 use crate::quick::take_common;
 use crate::refusals::{first_fault, refused};
-use crate::states::{Arounds, Chunks, Frames, Here, Level, Stand, Writer};
+use crate::states::{Arounds, Chunks, Frames, Heads, Here, Level, Stand, Writer};
 use crate::steps::take;
 use crate::strings::end_item;
 use crate::tokens::{is_spare, reach_of, read_token};
@@ -40,17 +41,55 @@ pub fn read_text(
     ensures spelled { IfOk result (λ bytes. IsSpelling profile limit text.now bytes.items) }
     ensures refused { IfErr result (IsNoNotation profile limit text.now) }
 {
-    let mut writer = Writer::new(alloc, text.len())?;
+    read_as(alloc, limit, profile, text, Heads::AsWritten)
+}
+
+/// The bytes that the nodes spell which `text` notates under that profile of the notation, none of
+/// them deeper than `limit`, after each head was made the shortest of its argument (RFC 8949 section
+/// 4.2.1). An indefinite length stays indefinite, and the content of a string stays what it is. The
+/// text is looked at once.
+///
+/// # Errors
+/// Those of [`read_text`](crate::read_text): indicators are judged as they are written.
+pub fn read_shortest(
+    alloc: Global,
+    limit: Limit,
+    profile: Profile,
+    text: &str,
+) -> Result<Vec<u8>, EdnFault>
+    ensures spelled { IfOk result (λ bytes. IsShortSpelling profile limit text.now bytes.items) }
+    ensures refused { IfErr result (IsNoNotation profile limit text.now) }
+{
+    read_as(alloc, limit, profile, text, Heads::Shortest)
+}
+
+/// The bytes that a text spells, with its heads written so.
+///
+/// # Errors
+/// Those of `read_text`.
+fn read_as(
+    alloc: Global,
+    limit: Limit,
+    profile: Profile,
+    text: &str,
+    heads: Heads,
+) -> Result<Vec<u8>, EdnFault>
+    ensures spelled { IfOk result (λ bytes. IsSpellingAs heads profile limit text.now bytes.items) }
+    ensures refused { IfErr result (IsNoNotation profile limit text.now) }
+{
+    let mut writer = Writer::new(alloc, text.len(), heads)?;
     let here = read_tokens(alloc, limit, profile, text, &mut writer)?;
     finish(limit, profile, text, here, writer)
 }
 
 impl Writer {
     /// Nothing yet, with room for so many bytes.
-    pub(crate) fn new(alloc: Global, room: usize) -> Result<Writer, AllocError>
-        ensures { IfOk result (λ w. Shows Here.FIRST w w.out.items start) }
+    pub(crate) fn new(alloc: Global, room: usize, heads: Heads) -> Result<Writer, AllocError>
+        ensures shows { IfOk result (λ w. Shows Here.FIRST w w.out.items start) }
+        ensures heads { IfOk result (λ w. w.heads ≡ heads) }
     {
         Ok(Writer {
+            heads,
             out: Vec::with_capacity(alloc, room)?,
             frames: Frames::new(alloc),
             around: Arounds::new(alloc),
@@ -74,6 +113,7 @@ fn read_tokens(
     ensures read { IfOk result (λ here. IsReading profile limit text.now here writer.new) }
     ensures whole { IfOk result (λ here. here.at ≡ length text.now) }
     ensures refused { IfErr result (IsNoNotation profile limit text.now) }
+    ensures heads { OnOk result (writer.new.heads ≡ writer.old.heads) }
 {
     let mut here = Here::FIRST;
     'tokens: while here.at < text.len() {
@@ -100,6 +140,7 @@ fn step(
     ensures read { OnOk result (IsReading profile limit text.now here.new writer.new) }
     ensures further { OnOk result (here.old.at < here.new.at) }
     ensures refused { IfErr result (IsNoNotation profile limit text.now) }
+    ensures heads { OnOk result (writer.new.heads ≡ writer.old.heads) }
 {
     let start = bounded_len(&writer.out);
     let (at, stand) = (here.at, here.stand);
@@ -165,7 +206,7 @@ fn finish(
 ) -> Result<Vec<u8>, EdnFault>
     requires reading { IsReading profile limit text.now here writer }
     requires whole { here.at ≡ length text.now }
-    ensures spelled { IfOk result (λ bytes. IsSpelling profile limit text.now bytes.items) }
+    ensures spelled { IfOk result (λ bytes. IsSpellingAs writer.heads profile limit text.now bytes.items) }
     ensures refused { IfErr result (IsNoNotation profile limit text.now) }
 {
     if !may_end(here.stand, here.level, writer.chunks) {
@@ -198,7 +239,8 @@ fn may_end(stand: Stand, level: Option<Level>, chunks: Option<Chunks>) -> bool
 /// Ends the last string, where the text ends with one.
 fn end_last(here: Here, writer: &mut Writer) -> Result<(), AllocError>
     requires { (s : State) × (t : Input) × Last s t × Shows here writer.old writer.old.out.items s }
-    ensures { OnOk result ((s : State) (t : Input) → Last s t → AreModest (held s) → Shows here writer.old writer.old.out.items s → AtEnd t writer.new) }
+    ensures shows { OnOk result ((s : State) (t : Input) → Last s t → AreModest (held s) → Shows here writer.old writer.old.out.items s → AtEnd t writer.new) }
+    ensures heads { OnOk result (writer.new.heads ≡ writer.old.heads) }
 {
     let mut here = here;
     if ends_string(here.stand) {

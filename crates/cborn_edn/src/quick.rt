@@ -35,6 +35,7 @@ pub(crate) fn take_common(
     ensures read { OnOk result (IsReading profile limit text.now here.new writer.new) }
     ensures on { OnOk result (here.old.at ≤ here.new.at) }
     ensures further { IfOk result (λ ok. ok ≡ true → here.old.at < here.new.at) }
+    ensures heads { OnOk result (writer.new.heads ≡ writer.old.heads) }
 {
     match here.stand {
         Stand::Wants | Stand::WantsMore => take_item(limit, profile, text, here, writer),
@@ -61,6 +62,7 @@ fn take_item(
     ensures read { OnOk result (IsReading profile limit text.now here.new writer.new) }
     ensures on { OnOk result (here.old.at ≤ here.new.at) }
     ensures further { IfOk result (λ ok. ok ≡ true → here.old.at < here.new.at) }
+    ensures heads { OnOk result (writer.new.heads ≡ writer.old.heads) }
 {
     let taken = take_first(limit, profile, text, here, writer)?;
     if taken && has_item(here.stand) && here.at < text.len() {
@@ -92,6 +94,7 @@ fn take_first(
     ensures read { OnOk result (IsReading profile limit text.now here.new writer.new) }
     ensures on { OnOk result (here.old.at ≤ here.new.at) }
     ensures further { IfOk result (λ ok. ok ≡ true → here.old.at < here.new.at) }
+    ensures heads { OnOk result (writer.new.heads ≡ writer.old.heads) }
 {
     match text.as_bytes()[here.at] {
         b'0'..=b'9' => take_integer(limit, profile, text, here, writer),
@@ -122,6 +125,7 @@ fn take_row(
     ensures read { OnOk result (IsReading profile limit text.now here.new writer.new) }
     ensures on { OnOk result (here.old.at ≤ here.new.at) }
     ensures further { IfOk result (λ ok. ok ≡ true → here.old.at < here.new.at) }
+    ensures heads { OnOk result (writer.new.heads ≡ writer.old.heads) }
 {
     if !stands_at(b']', text.as_bytes(), here.at + 1) {
         return take_array(limit, profile, text, here, writer);
@@ -149,6 +153,7 @@ fn take_pairs(
     ensures read { OnOk result (IsReading profile limit text.now here.new writer.new) }
     ensures on { OnOk result (here.old.at ≤ here.new.at) }
     ensures further { IfOk result (λ ok. ok ≡ true → here.old.at < here.new.at) }
+    ensures heads { OnOk result (writer.new.heads ≡ writer.old.heads) }
 {
     if !stands_at(b'}', text.as_bytes(), here.at + 1) {
         return take_map(limit, profile, text, here, writer);
@@ -209,6 +214,7 @@ pub(crate) fn take_gap(
     ensures read { OnOk result (IsReading profile limit text.now here.new writer.new) }
     ensures on { OnOk result (here.old.at ≤ here.new.at) }
     ensures further { IfOk result (λ ok. ok ≡ true → here.old.at < here.new.at) }
+    ensures heads { OnOk result (writer.new.heads ≡ writer.old.heads) }
 {
     let bytes = text.as_bytes();
     if !begins_gap(bytes[here.at]) {
@@ -242,6 +248,7 @@ fn take_simple_number(
     ensures read { OnOk result (IsReading profile limit text.now here.new writer.new) }
     ensures on { OnOk result (here.old.at ≤ here.new.at) }
     ensures further { IfOk result (λ ok. ok ≡ true → here.old.at < here.new.at) }
+    ensures heads { OnOk result (writer.new.heads ≡ writer.old.heads) }
 {
     let Some(found) = integer_at(text.as_bytes(), here.at) else {
         return Ok(false);
@@ -273,6 +280,7 @@ fn take_simple_end(
     ensures read { OnOk result (IsReading profile limit text.now here.new writer.new) }
     ensures on { OnOk result (here.old.at ≤ here.new.at) }
     ensures further { IfOk result (λ ok. ok ≡ true → here.old.at < here.new.at) }
+    ensures heads { OnOk result (writer.new.heads ≡ writer.old.heads) }
 {
     let bytes = text.as_bytes();
     if bytes[here.at] != b')' {

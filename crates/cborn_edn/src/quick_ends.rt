@@ -32,6 +32,7 @@ pub(crate) fn take_after(
     ensures read { OnOk result (IsReading profile limit text.now here.new writer.new) }
     ensures on { OnOk result (here.old.at ≤ here.new.at) }
     ensures further { IfOk result (λ ok. ok ≡ true → here.old.at < here.new.at) }
+    ensures heads { OnOk result (writer.new.heads ≡ writer.old.heads) }
 {
     match text.as_bytes()[here.at] {
         b',' => take_comma(limit, profile, text, here, writer),
@@ -60,6 +61,7 @@ fn take_comma(
     ensures read { OnOk result (IsReading profile limit text.now here.new writer.new) }
     ensures on { OnOk result (here.old.at ≤ here.new.at) }
     ensures further { IfOk result (λ ok. ok ≡ true → here.old.at < here.new.at) }
+    ensures heads { OnOk result (writer.new.heads ≡ writer.old.heads) }
 {
     let _written = bounded_len(&writer.out);
     let at = here.at;
@@ -87,6 +89,7 @@ fn take_colon(
     ensures read { OnOk result (IsReading profile limit text.now here.new writer.new) }
     ensures on { OnOk result (here.old.at ≤ here.new.at) }
     ensures further { IfOk result (λ ok. ok ≡ true → here.old.at < here.new.at) }
+    ensures heads { OnOk result (writer.new.heads ≡ writer.old.heads) }
 {
     let at = here.at;
     let taken = end_key(here, writer);
@@ -113,6 +116,7 @@ pub(crate) fn take_array_end(
     ensures read { OnOk result (IsReading profile limit text.now here.new writer.new) }
     ensures on { OnOk result (here.old.at ≤ here.new.at) }
     ensures further { IfOk result (λ ok. ok ≡ true → here.old.at < here.new.at) }
+    ensures heads { OnOk result (writer.new.heads ≡ writer.old.heads) }
 {
     let _written = bounded_len(&writer.out);
     let at = here.at;
@@ -139,6 +143,7 @@ pub(crate) fn take_map_end(
     ensures read { OnOk result (IsReading profile limit text.now here.new writer.new) }
     ensures on { OnOk result (here.old.at ≤ here.new.at) }
     ensures further { IfOk result (λ ok. ok ≡ true → here.old.at < here.new.at) }
+    ensures heads { OnOk result (writer.new.heads ≡ writer.old.heads) }
 {
     let _written = bounded_len(&writer.out);
     let at = here.at;
@@ -165,6 +170,7 @@ fn take_tag_end(
     ensures read { OnOk result (IsReading profile limit text.now here.new writer.new) }
     ensures on { OnOk result (here.old.at ≤ here.new.at) }
     ensures further { IfOk result (λ ok. ok ≡ true → here.old.at < here.new.at) }
+    ensures heads { OnOk result (writer.new.heads ≡ writer.old.heads) }
 {
     let at = here.at;
     let taken = end_tag(here, writer);
@@ -190,6 +196,7 @@ fn take_embed_end(
     ensures read { OnOk result (IsReading profile limit text.now here.new writer.new) }
     ensures on { OnOk result (here.old.at ≤ here.new.at) }
     ensures further { IfOk result (λ ok. ok ≡ true → here.old.at < here.new.at) }
+    ensures heads { OnOk result (writer.new.heads ≡ writer.old.heads) }
 {
     let Some((mark, stop)) = embed_end_at(text.as_bytes(), here.at) else {
         return Ok(false);
@@ -216,6 +223,7 @@ pub(crate) fn take_after_pieces(
     ensures read { OnOk result (IsReading profile limit text.now here.new writer.new) }
     ensures on { OnOk result (here.old.at ≤ here.new.at) }
     ensures further { IfOk result (λ ok. ok ≡ true → here.old.at < here.new.at) }
+    ensures heads { OnOk result (writer.new.heads ≡ writer.old.heads) }
 {
     if !ends_string(text.as_bytes()[here.at]) {
         return Ok(false);
@@ -245,6 +253,7 @@ fn take_after_chunk(
     ensures read { OnOk result (IsReading profile limit text.now here.new writer.new) }
     ensures on { OnOk result (here.old.at ≤ here.new.at) }
     ensures further { IfOk result (λ ok. ok ≡ true → here.old.at < here.new.at) }
+    ensures heads { OnOk result (writer.new.heads ≡ writer.old.heads) }
 {
     match text.as_bytes()[here.at] {
         b',' => take_chunk_comma(limit, profile, text, here, writer),
@@ -270,6 +279,7 @@ fn take_chunk_comma(
     ensures read { OnOk result (IsReading profile limit text.now here.new writer.new) }
     ensures on { OnOk result (here.old.at ≤ here.new.at) }
     ensures further { IfOk result (λ ok. ok ≡ true → here.old.at < here.new.at) }
+    ensures heads { OnOk result (writer.new.heads ≡ writer.old.heads) }
 {
     let at = here.at;
     end_chunk(here, writer)?;
@@ -294,6 +304,7 @@ fn take_chunks_end(
     ensures read { OnOk result (IsReading profile limit text.now here.new writer.new) }
     ensures on { OnOk result (here.old.at ≤ here.new.at) }
     ensures further { IfOk result (λ ok. ok ≡ true → here.old.at < here.new.at) }
+    ensures heads { OnOk result (writer.new.heads ≡ writer.old.heads) }
 {
     let at = here.at;
     end_chunk(here, writer)?;

@@ -32,6 +32,7 @@ pub(crate) fn take_integer(
     ensures read { OnOk result (IsReading profile limit text.now here.new writer.new) }
     ensures on { OnOk result (here.old.at ≤ here.new.at) }
     ensures further { IfOk result (λ ok. ok ≡ true → here.old.at < here.new.at) }
+    ensures heads { OnOk result (writer.new.heads ≡ writer.old.heads) }
 {
     let Some(found) = integer_at(text.as_bytes(), here.at) else {
         return Ok(false);
@@ -65,6 +66,7 @@ fn take_tag(
     ensures read { OnOk result (IsReading profile limit text.now here.new writer.new) }
     ensures on { OnOk result (here.old.at ≤ here.new.at) }
     ensures further { IfOk result (λ ok. ok ≡ true → here.old.at < here.new.at) }
+    ensures heads { OnOk result (writer.new.heads ≡ writer.old.heads) }
 {
     if writer.frames.count() >= limit.get() {
         return Ok(false);
@@ -91,6 +93,7 @@ pub(crate) fn take_negative(
     ensures read { OnOk result (IsReading profile limit text.now here.new writer.new) }
     ensures on { OnOk result (here.old.at ≤ here.new.at) }
     ensures further { IfOk result (λ ok. ok ≡ true → here.old.at < here.new.at) }
+    ensures heads { OnOk result (writer.new.heads ≡ writer.old.heads) }
 {
     let Some((n, stop)) = negative_at(text.as_bytes(), here.at) else {
         return Ok(false);
@@ -118,6 +121,7 @@ pub(crate) fn take_word(
     ensures read { OnOk result (IsReading profile limit text.now here.new writer.new) }
     ensures on { OnOk result (here.old.at ≤ here.new.at) }
     ensures further { IfOk result (λ ok. ok ≡ true → here.old.at < here.new.at) }
+    ensures heads { OnOk result (writer.new.heads ≡ writer.old.heads) }
 {
     let Some((n, stop)) = word_at(text.as_bytes(), here.at) else {
         return Ok(false);
@@ -143,6 +147,7 @@ pub(crate) fn take_text(
     ensures read { OnOk result (IsReading profile limit text.now here.new writer.new) }
     ensures on { OnOk result (here.old.at ≤ here.new.at) }
     ensures further { IfOk result (λ ok. ok ≡ true → here.old.at < here.new.at) }
+    ensures heads { OnOk result (writer.new.heads ≡ writer.old.heads) }
 {
     let Some(stop) = push_text(profile, text.as_bytes(), here.at, &mut writer.out) else {
         return Ok(false);
@@ -168,6 +173,7 @@ pub(crate) fn take_array(
     ensures read { OnOk result (IsReading profile limit text.now here.new writer.new) }
     ensures on { OnOk result (here.old.at ≤ here.new.at) }
     ensures further { IfOk result (λ ok. ok ≡ true → here.old.at < here.new.at) }
+    ensures heads { OnOk result (writer.new.heads ≡ writer.old.heads) }
 {
     let Some((mark, stop)) = opening_at(text.as_bytes(), here.at) else {
         return Ok(false);
@@ -196,6 +202,7 @@ pub(crate) fn take_map(
     ensures read { OnOk result (IsReading profile limit text.now here.new writer.new) }
     ensures on { OnOk result (here.old.at ≤ here.new.at) }
     ensures further { IfOk result (λ ok. ok ≡ true → here.old.at < here.new.at) }
+    ensures heads { OnOk result (writer.new.heads ≡ writer.old.heads) }
 {
     let Some((mark, stop)) = opening_at(text.as_bytes(), here.at) else {
         return Ok(false);
@@ -224,6 +231,7 @@ pub(crate) fn take_embedded(
     ensures read { OnOk result (IsReading profile limit text.now here.new writer.new) }
     ensures on { OnOk result (here.old.at ≤ here.new.at) }
     ensures further { IfOk result (λ ok. ok ≡ true → here.old.at < here.new.at) }
+    ensures heads { OnOk result (writer.new.heads ≡ writer.old.heads) }
 {
     if !embeds_at(text.as_bytes(), here.at) || writer.frames.count() >= limit.get() {
         return Ok(false);
@@ -252,6 +260,7 @@ pub(crate) fn take_chunked(
     ensures read { OnOk result (IsReading profile limit text.now here.new writer.new) }
     ensures on { OnOk result (here.old.at ≤ here.new.at) }
     ensures further { IfOk result (λ ok. ok ≡ true → here.old.at < here.new.at) }
+    ensures heads { OnOk result (writer.new.heads ≡ writer.old.heads) }
 {
     if !opens_chunks_at(text.as_bytes(), here.at) {
         return Ok(false);

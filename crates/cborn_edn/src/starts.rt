@@ -2,7 +2,8 @@
 //!
 //! A flaw that is found in the bytes that a text spells is known by the number of the head at which
 //! it is. To find its place, the text is read once more. At each token, what the reader keeps says
-//! how many nodes and chunks begin there. Items in `<<..>>` become bytes, and count as none.
+//! how many nodes and chunks begin there. Items in `<<..>>` become bytes, and count as none. Nobody
+//! sees the bytes that are written on the way, so their heads are the shortest.
 
 ghost use Rattle.std.specs.Prelude.{◌≡◌, ◌<◌, ◌++◌, ℕ, Bool, List, replicate, IfOk, IfSome, OnOk, slice_get};
 ghost use Rattle.cborn_lex.specs.Kinds.{class_of};
@@ -14,7 +15,7 @@ ghost use Rattle.cborn_edn.specs.devices.Counting.{Counts, CountsOn};
 
 use crate::numbers::is_small;
 use crate::passes::bounded_len;
-use crate::states::{Here, Stand, Writer};
+use crate::states::{Heads, Here, Stand, Writer};
 use crate::steps::take;
 use crate::tokens::read_token;
 use cborn_lex::{Kind, LexFault, Profile};
@@ -47,7 +48,7 @@ pub fn start_at(
 ) -> Result<Option<u64>, AllocError>
     ensures { IfOk result (λ place. (limit : ℕ) (nodes : Trees) → Notates profile limit text.now nodes → slice_get (starts_all nodes) index ≡ place) }
 {
-    let mut writer = Writer::new(alloc, text.len())?;
+    let mut writer = Writer::new(alloc, text.len(), Heads::Shortest)?;
     let mut here = Here::FIRST;
     let mut left = index;
     'tokens: loop {
@@ -71,7 +72,7 @@ pub(crate) fn all_starts(
     ensures { IfOk result (λ places. (limit : ℕ) (nodes : Trees) → Notates profile limit text.now nodes → places.items ≡ starts_all nodes) }
 {
     let mut places = Vec::new(alloc);
-    let mut writer = Writer::new(alloc, text.len())?;
+    let mut writer = Writer::new(alloc, text.len(), Heads::Shortest)?;
     let mut here = Here::FIRST;
     'tokens: loop {
         let Some(begun) = count_token(alloc, profile, text, &mut here, &mut writer)? else {

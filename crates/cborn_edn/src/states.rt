@@ -128,9 +128,19 @@ pub(crate) struct Around {
     pub(crate) slip: Option<Slip>,
 }
 
+/// How heads are written outside of `<<..>>`, which holds the content of a string.
+#[derive(Clone, Copy, PartialEq, Eq)]
+pub(crate) enum Heads {
+    /// As wide as their indicators ask for.
+    AsWritten,
+    /// In their shortest form.
+    Shortest,
+}
+
 /// What is written, and what is open. A string, or chunks, are there only while they are read.
 #[derive(Drop)]
 pub(crate) struct Writer {
+    pub(crate) heads: Heads,
     pub(crate) out: Vec<u8>,
     pub(crate) frames: Frames,
     pub(crate) around: Arounds,
@@ -140,6 +150,33 @@ pub(crate) struct Writer {
     pub(crate) simple: usize,
     /// The first meaning error since the innermost `<<`.
     pub(crate) slip: Option<Slip>,
+}
+
+impl Writer {
+    ghost use Rattle.std.specs.Prelude.{◌≡◌};
+    ghost use Rattle.cborn_edn.specs.devices.Written.{heads_in, written_mark};
+
+    /// The indicator that gives a head its width here.
+    #[inline(always)]
+    pub(crate) fn written(&self, mark: Mark) -> Mark
+        ensures { result ≡ written_mark (heads_in self.now.heads self.now.around) mark }
+    {
+        match mark {
+            Mark::Wide(_) => self.written_wide(mark),
+            _ => mark,
+        }
+    }
+
+    /// The indicator that gives a head its width here, where it may be a width.
+    #[inline(never)]
+    fn written_wide(&self, mark: Mark) -> Mark
+        ensures { result ≡ written_mark (heads_in self.now.heads self.now.around) mark }
+    {
+        match (mark, self.heads) {
+            (Mark::Wide(_), Heads::Shortest) if self.around.is_empty() => Mark::Absent,
+            _ => mark,
+        }
+    }
 }
 
 /// The open brackets. Contracts see the innermost first.
@@ -214,7 +251,7 @@ impl Model for Arounds {
 
 impl Arounds {
     ghost use Rattle.std.specs.Prelude.{◌≡◌, [], ◌∷◌, MatchOption, OnOk};
-    ghost use Rattle.cborn_edn.specs.devices.Begun.{is_outside};
+    ghost use Rattle.cborn_edn.specs.Says.{is_nil};
 
     /// None are open.
     pub(crate) fn new(alloc: Global) -> Arounds
@@ -228,7 +265,7 @@ impl Arounds {
     /// Whether none are open.
     #[tactic(auto, using(crate::proofs::Reader::Opened::innermost))]
     pub(crate) fn is_empty(&self) -> bool
-        ensures { result ≡ is_outside self.now }
+        ensures { result ≡ is_nil self.now }
     {
         self.arounds.is_empty()
     }

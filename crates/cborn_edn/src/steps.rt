@@ -1,6 +1,6 @@
 //! One token, as the grammar has it where the reader stands.
 
-ghost use Rattle.std.specs.Prelude.{◌≡◌, ℕ, ◌<◌, ◌^◌, Bool, IfOk};
+ghost use Rattle.std.specs.Prelude.{◌≡◌, ℕ, ◌<◌, ◌^◌, Bool, IfOk, OnOk};
 ghost use Rattle.cborn_edn.specs.shared.Syntax.{Span as Place, Item, Pieces as Joined, StringsBefore, tokens_of_pieces};
 ghost use Rattle.cborn_edn.specs.shared.Machine.{Stack, Home, as_chunk, State, wants, has, builds, wants_chunk, wants_number, has_number};
 ghost use Rattle.cborn_lex.specs.declared.classes.Mark.{Mark as Indicator};
@@ -28,7 +28,8 @@ pub(crate) fn take(
     writer: &mut Writer,
 ) -> Result<bool, AllocError>
     requires { (s : State) × IsReady token.kind number start here.old writer.old s }
-    ensures { IfOk result (λ ok. (s : State) → Takes token.kind number start token.start here.old writer.old here.new writer.new ok s) }
+    ensures shows { IfOk result (λ ok. (s : State) → Takes token.kind number start token.start here.old writer.old here.new writer.new ok s) }
+    ensures heads { OnOk result (writer.new.heads ≡ writer.old.heads) }
 {
     match here.stand {
         Stand::Wants => begin(token, number, start, here, writer),
@@ -50,7 +51,8 @@ fn begin(
     writer: &mut Writer,
 ) -> Result<bool, AllocError>
     requires { (st : Stack) × IsReady token.kind number start here.old writer.old (wants st) }
-    ensures { IfOk result (λ ok. (st : Stack) → Takes token.kind number start token.start here.old writer.old here.new writer.new ok (wants st)) }
+    ensures shows { IfOk result (λ ok. (st : Stack) → Takes token.kind number start token.start here.old writer.old here.new writer.new ok (wants st)) }
+    ensures heads { OnOk result (writer.new.heads ≡ writer.old.heads) }
 {
     let place = token.start;
     match token.kind {
@@ -112,7 +114,8 @@ fn after(
 ) -> Result<bool, AllocError>
     requires few { here.old.count < 2 ^ 63 }
     requires shows { (st : Stack) × (i : Item) × Shows here.old writer.old writer.old.out.items (has st i) }
-    ensures { IfOk result (λ ok. (st : Stack) (i : Item) → Turns token.kind number token.start here.old writer.old here.new writer.new ok (has st i)) }
+    ensures shows { IfOk result (λ ok. (st : Stack) (i : Item) → Turns token.kind number token.start here.old writer.old here.new writer.new ok (has st i)) }
+    ensures heads { OnOk result (writer.new.heads ≡ writer.old.heads) }
 {
     match token.kind {
         Kind::ArrayClose => end_array(here, writer),
@@ -134,7 +137,8 @@ fn more(
     writer: &mut Writer,
 ) -> Result<bool, AllocError>
     requires { (h : Home) × (ps : Joined) × IsReady token.kind number start here.old writer.old (builds h ps) }
-    ensures { IfOk result (λ ok. (h : Home) (ps : Joined) → Takes token.kind number start token.start here.old writer.old here.new writer.new ok (builds h ps)) }
+    ensures shows { IfOk result (λ ok. (h : Home) (ps : Joined) → Takes token.kind number start token.start here.old writer.old here.new writer.new ok (builds h ps)) }
+    ensures heads { OnOk result (writer.new.heads ≡ writer.old.heads) }
 {
     if !is_piece(token.kind) {
         return after_pieces(token, number, here, writer);
@@ -176,7 +180,8 @@ fn after_pieces(
 ) -> Result<bool, AllocError>
     requires few { here.old.count < 2 ^ 63 }
     requires shows { (h : Home) × (ps : Joined) × AreModest (tokens_of_pieces ps) × Shows here.old writer.old writer.old.out.items (builds h ps) }
-    ensures { IfOk result (λ ok. (h : Home) (ps : Joined) → AreModest (tokens_of_pieces ps) → EndsAt token.kind number token.start here.old writer.old here.new writer.new ok h ps) }
+    ensures shows { IfOk result (λ ok. (h : Home) (ps : Joined) → AreModest (tokens_of_pieces ps) → EndsAt token.kind number token.start here.old writer.old here.new writer.new ok h ps) }
+    ensures heads { OnOk result (writer.new.heads ≡ writer.old.heads) }
 {
     if has_chunks(writer.chunks) {
         return after_chunk(token, number, here, writer);
@@ -193,7 +198,8 @@ fn after_chunk(
     writer: &mut Writer,
 ) -> Result<bool, AllocError>
     requires { (st : Stack) × (s : Place) × (b : StringsBefore) × (ps : Joined) × AreModest (tokens_of_pieces ps) × Shows here.old writer.old writer.old.out.items (builds (as_chunk st s b) ps) }
-    ensures { IfOk result (λ ok. (st : Stack) (s : Place) (b : StringsBefore) (ps : Joined) → AreModest (tokens_of_pieces ps) → EndsAt token.kind number token.start here.old writer.old here.new writer.new ok (as_chunk st s b) ps) }
+    ensures shows { IfOk result (λ ok. (st : Stack) (s : Place) (b : StringsBefore) (ps : Joined) → AreModest (tokens_of_pieces ps) → EndsAt token.kind number token.start here.old writer.old here.new writer.new ok (as_chunk st s b) ps) }
+    ensures heads { OnOk result (writer.new.heads ≡ writer.old.heads) }
 {
     match token.kind {
         Kind::Comma => {
@@ -218,7 +224,8 @@ fn begin_chunk(
     writer: &mut Writer,
 ) -> Result<bool, AllocError>
     requires { (st : Stack) × (s : Place) × (b : StringsBefore) × IsReady token.kind number start here.old writer.old (wants_chunk st s b) }
-    ensures { IfOk result (λ ok. (st : Stack) (s : Place) (b : StringsBefore) → Takes token.kind number start token.start here.old writer.old here.new writer.new ok (wants_chunk st s b)) }
+    ensures shows { IfOk result (λ ok. (st : Stack) (s : Place) (b : StringsBefore) → Takes token.kind number start token.start here.old writer.old here.new writer.new ok (wants_chunk st s b)) }
+    ensures heads { OnOk result (writer.new.heads ≡ writer.old.heads) }
 {
     let place = token.start;
     match token.kind {
@@ -245,7 +252,8 @@ fn begin_number(
     here: &mut Here,
     writer: &mut Writer,
 ) -> Result<bool, AllocError>
-    ensures { IfOk result (λ ok. (st : Stack) (s : Place) → Turns token.kind number token.start here.old writer.old here.new writer.new ok (wants_number st s)) }
+    ensures shows { IfOk result (λ ok. (st : Stack) (s : Place) → Turns token.kind number token.start here.old writer.old here.new writer.new ok (wants_number st s)) }
+    ensures heads { OnOk result (writer.new.heads ≡ writer.old.heads) }
 {
     match token.kind {
         Kind::Number { negative, mark } => {

@@ -137,26 +137,31 @@ fn is_good(kind: StringKind, content: &[u8]) -> bool
 }
 
 /// Writes the head of a string with a length in the place of the byte before it.
-fn set_length(major: Major, string: Joint, out: &mut Vec<u8>) -> Result<(), AllocError>
-    requires { string.start < length out.old.items }
-    ensures { OnOk result ((s : says.Str) (base : List ℕ) → string ≡ joint (length base) s → out.old.items ≡ cut (base ++ (0 ∷ s.bytes)) → out.new.items ≡ cut (base ++ spells.string major (says.width s.mark (length s.bytes)) s.bytes)) }
+fn set_length(major: Major, mark: Mark, start: usize, out: &mut Vec<u8>) -> Result<(), AllocError>
+    requires { start < length out.old.items }
+    ensures { OnOk result ((x base : List ℕ) → start ≡ length base → out.old.items ≡ cut (base ++ (0 ∷ x)) → out.new.items ≡ cut (base ++ spells.string major (says.width mark (length x)) x)) }
 {
-    let size = (out.len() - string.start - 1) as u64;
-    set_head(major, width_for(string.mark, size), size, string.start, out)
+    let size = (out.len() - start - 1) as u64;
+    set_head(major, width_for(mark, size), size, start, out)
 }
 
-/// Writes the head of a whole string, and notes what is wrong with it.
-fn close_string(string: Joint, out: &mut Vec<u8>, slip: &mut Option<Slip>) -> Result<(), AllocError>
+/// Writes the head of a whole string, whose width `mark` gives, and notes what is wrong with it.
+fn close_string(
+    string: Joint,
+    mark: Mark,
+    out: &mut Vec<u8>,
+    slip: &mut Option<Slip>,
+) -> Result<(), AllocError>
     requires { string.start < length out.old.items }
-    ensures added { OnOk result ((s : says.Str) (base : List ℕ) → string ≡ joint (length base) s → out.old.items ≡ cut (base ++ (0 ∷ s.bytes)) → out.new.items ≡ cut (base ++ spells.spelled (says.said_string s))) }
+    ensures added { OnOk result ((s : says.Str) (base : List ℕ) → string ≡ joint (length base) s → out.old.items ≡ cut (base ++ (0 ∷ s.bytes)) → out.new.items ≡ cut (base ++ spells.spelled (says.said_string (record s { mark = mark })))) }
     ensures noted { OnOk result ((s : says.Str) (base : List ℕ) → string ≡ joint (length base) s → out.old.items ≡ cut (base ++ (0 ∷ s.bytes)) → (s.known ≡ true → AreBytes s.bytes) → Notes slip.old slip.new (says.string_slips s.lone s)) }
 {
     note_string(string.lone, string, &out[string.start + 1..], slip);
-    if string.lone && is_endless(string.mark) {
+    if string.lone && is_endless(mark) {
         out.truncate(string.start);
         return out.extend_from_slice(&[major_of(string.kind).endless_head(), BREAK]);
     }
-    set_length(major_of(string.kind), string, out)
+    set_length(major_of(string.kind), mark, string.start, out)
 }
 
 /// Whether a piece of `size` bytes is a lone `''` or `""`.
@@ -179,7 +184,8 @@ pub(crate) fn begin_string(
     writer: &mut Writer,
 )
     requires { start < length writer.old.out.items }
-    ensures { (h : Home) (a : Place) (x base : List ℕ) → place ≡ a.start → start ≡ length base → writer.old.out.items ≡ base ++ (0 ∷ x) → AreBytes x → (kind ≡ OfText → quoted ≡ true) → Shows here.old writer.old base (at_home h None) → Shows here.new writer.new writer.new.out.items (builds h (piece (piece_of kind a quoted x mark))) }
+    ensures shows { (h : Home) (a : Place) (x base : List ℕ) → place ≡ a.start → start ≡ length base → writer.old.out.items ≡ base ++ (0 ∷ x) → AreBytes x → (kind ≡ OfText → quoted ≡ true) → Shows here.old writer.old base (at_home h None) → Shows here.new writer.new writer.new.out.items (builds h (piece (piece_of kind a quoted x mark))) }
+    ensures heads { writer.new.heads ≡ writer.old.heads }
 {
     writer.string = Some(Joint {
         kind,
@@ -196,7 +202,8 @@ pub(crate) fn begin_string(
 /// One more piece of a string.
 pub(crate) fn join(kind: StringKind, place: usize, mark: Mark, writer: &mut Writer)
     requires { IsSome writer.old.string }
-    ensures { (here : Standing) (h : Home) (ps : Joined) (a : Place) (q : Bool) (x base : List ℕ) → place ≡ a.start → writer.old.out.items ≡ base ++ x → AreBytes x → Shows here writer.old base (builds h ps) → Shows here writer.new writer.new.out.items (builds h (also ps (piece_of kind a q x mark))) }
+    ensures shows { (here : Standing) (h : Home) (ps : Joined) (a : Place) (q : Bool) (x base : List ℕ) → place ≡ a.start → writer.old.out.items ≡ base ++ x → AreBytes x → Shows here writer.old base (builds h ps) → Shows here writer.new writer.new.out.items (builds h (also ps (piece_of kind a q x mark))) }
+    ensures heads { writer.new.heads ≡ writer.old.heads }
 {
     let Some(string) = writer.string else {
         unreachable!();
@@ -214,21 +221,24 @@ pub(crate) fn join(kind: StringKind, place: usize, mark: Mark, writer: &mut Writ
 #[inline(always)]
 pub(crate) fn end_item(here: &mut Here, writer: &mut Writer) -> Result<(), AllocError>
     requires { (st : Stack) × (ps : Joined) × Shows here.old writer.old writer.old.out.items (builds (as_item st) ps) }
-    ensures { OnOk result ((st : Stack) (ps : Joined) → AreModest (tokens_of_pieces ps) → Leads here.old writer.old here.new writer.new (builds (as_item st) ps) (has st (string ps))) }
+    ensures shows { OnOk result ((st : Stack) (ps : Joined) → AreModest (tokens_of_pieces ps) → Leads here.old writer.old here.new writer.new (builds (as_item st) ps) (has st (string ps))) }
+    ensures heads { OnOk result (writer.new.heads ≡ writer.old.heads) }
 {
     let Some(joint) = writer.string else {
         unreachable!();
     };
     writer.string = None;
     here.stand = Stand::Has;
-    close_string(joint, &mut writer.out, &mut writer.slip)
+    let mark = writer.written(joint.mark);
+    close_string(joint, mark, &mut writer.out, &mut writer.slip)
 }
 
 /// The string ends, as a chunk.
 #[inline(always)]
 pub(crate) fn end_chunk(here: &mut Here, writer: &mut Writer) -> Result<(), AllocError>
     requires { (st : Stack) × (s : Place) × (b : StringsBefore) × (ps : Joined) × Shows here.old writer.old writer.old.out.items (builds (as_chunk st s b) ps) }
-    ensures { OnOk result ((st : Stack) (s a : Place) (b : StringsBefore) (ps : Joined) → AreModest (tokens_of_pieces ps) → Leads here.old writer.old here.new writer.new (builds (as_chunk st s b) ps) (wants_chunk st s (after_strings (strings b ps) a))) }
+    ensures shows { OnOk result ((st : Stack) (s a : Place) (b : StringsBefore) (ps : Joined) → AreModest (tokens_of_pieces ps) → Leads here.old writer.old here.new writer.new (builds (as_chunk st s b) ps) (wants_chunk st s (after_strings (strings b ps) a))) }
+    ensures heads { OnOk result (writer.new.heads ≡ writer.old.heads) }
 {
     let Some(joint) = writer.string else {
         unreachable!();
@@ -243,7 +253,8 @@ pub(crate) fn end_chunk(here: &mut Here, writer: &mut Writer) -> Result<(), Allo
         kind: Some(kind),
     });
     here.stand = Stand::WantsChunk;
-    close_chunk(kind, joint, &mut writer.out, &mut writer.slip)
+    let mark = writer.written(joint.mark);
+    close_chunk(kind, joint, mark, &mut writer.out, &mut writer.slip)
 }
 
 /// The kind of the first chunk, which `next` is where there is none before it.
@@ -257,15 +268,17 @@ fn kind_or(first: Option<StringKind>, next: StringKind) -> StringKind
     }
 }
 
-/// Writes the head of a chunk, and notes what is wrong with it; `kind` is that of the first chunk.
+/// Writes the head of a chunk, whose width `mark` gives, and notes what is wrong with it; `kind` is
+/// that of the first chunk.
 fn close_chunk(
     kind: StringKind,
     string: Joint,
+    mark: Mark,
     out: &mut Vec<u8>,
     slip: &mut Option<Slip>,
 ) -> Result<(), AllocError>
     requires { string.start < length out.old.items }
-    ensures added { OnOk result ((s : says.Str) (base : List ℕ) → string ≡ joint (length base) s → out.old.items ≡ cut (base ++ (0 ∷ s.bytes)) → out.new.items ≡ cut (base ++ spells.chunk_bytes (major_of kind) (says.chunk s))) }
+    ensures added { OnOk result ((s : says.Str) (base : List ℕ) → string ≡ joint (length base) s → out.old.items ≡ cut (base ++ (0 ∷ s.bytes)) → out.new.items ≡ cut (base ++ spells.chunk_bytes (major_of kind) (says.chunk (record s { mark = mark })))) }
     ensures noted { OnOk result ((s : says.Str) (base : List ℕ) → string ≡ joint (length base) s → out.old.items ≡ cut (base ++ (0 ∷ s.bytes)) → (s.known ≡ true → AreBytes s.bytes) → Notes slip.old slip.new (says.chunk_slips kind s)) }
 {
     note_unless(
@@ -275,14 +288,15 @@ fn close_chunk(
         slip,
     );
     note_string(false, string, &out[string.start + 1..], slip);
-    set_length(major_of(kind), string, out)
+    set_length(major_of(kind), mark, string.start, out)
 }
 
 /// The chunks end, of which there is one at least.
 #[inline(always)]
 pub(crate) fn end_chunks(here: &mut Here, writer: &mut Writer) -> Result<(), AllocError>
     requires { (st : Stack) × (s : Place) × (a : Place) × (ss : Strings) × Shows here.old writer.old writer.old.out.items (wants_chunk st s (after_strings ss a)) }
-    ensures { OnOk result ((st : Stack) (s a e : Place) (ss : Strings) → Leads here.old writer.old here.new writer.new (wants_chunk st s (after_strings ss a)) (has st (chunked s ss e))) }
+    ensures shows { OnOk result ((st : Stack) (s a e : Place) (ss : Strings) → Leads here.old writer.old here.new writer.new (wants_chunk st s (after_strings ss a)) (has st (chunked s ss e))) }
+    ensures heads { OnOk result (writer.new.heads ≡ writer.old.heads) }
 {
     let Some(chunks) = writer.chunks else {
         unreachable!();

@@ -16,7 +16,7 @@ use crate::faults::EngineFault;
 use crate::inputs::MOST;
 use crate::kinds::{Kind, profile_of};
 use crate::refusals::{fault_of_bytes, fault_or_refusal, flaw_of_text};
-use crate::texts::bytes_of_text;
+use crate::texts::short_bytes_of_text;
 use cborn_judge::Invalid;
 use cborn_lex::Profile;
 use cborn_model::{KeyOrder, Limit};
@@ -149,7 +149,7 @@ fn encode_text<O: KeyOrder>(
     ensures answers { length input.now ≤ most_bytes → EncodeAnswers O.order (kind_of profile) limit most_bytes input.now result }
     ensures failures { (n : ℕ) → read_failures result n ≡ n }
 {
-    let bytes = bytes_of_text(alloc, limit, profile, input)?;
+    let bytes = short_bytes_of_text(alloc, limit, profile, input)?;
     let front = deterministic_front::<O>(limit, &bytes);
     if front == bytes.len() {
         return Ok(bytes);

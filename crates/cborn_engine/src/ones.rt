@@ -3,7 +3,7 @@ ghost use Rattle.std.specs.Prelude.{◌≡◌, ◌≢◌, ◌≤◌, ◌⊎◌, 
 ghost use Rattle.cborn_model.specs.Tree.{Tree};
 ghost use Rattle.cborn_paths.specs.Paths.{EndsAt};
 ghost use Rattle.cborn_paths.specs.declared.paths.Step.TheVariants.{Item};
-ghost use Rattle.cborn_edn.specs.Spelling.{IsSpelling};
+ghost use Rattle.cborn_edn.specs.Spelling.{IsShortSpelling};
 ghost use Rattle.cborn_engine.specs.declared.faults.EngineFault.TheVariants as fault;
 ghost use Rattle.cborn_engine.specs.declared.kinds.Kind.TheVariants as kinds;
 ghost use Rattle.cborn_engine.specs.declared.one_faults.OneFault.TheVariants as one;
@@ -14,7 +14,7 @@ ghost use Rattle.cborn_engine.specs.Reading.{most_bytes};
 
 use crate::kinds::{Kind, profile_of};
 use crate::one_faults::OneFault;
-use crate::texts::{bytes_of_text, text_of};
+use crate::texts::{short_bytes_of_text, text_of};
 use cborn_lex::Profile;
 use cborn_model::Limit;
 use cborn_paths::first_end;
@@ -61,7 +61,7 @@ fn one_in_text(alloc: Global, limit: Limit, profile: Profile, input: &[u8]) -> R
     ensures one { OnOk result (SpellsOne (kind_of profile) limit input.now) }
     ensures refused { IfErr result (λ why. (why ≡ one.Engine fault.OutOfMemory) ⊎ IsNotOne (kind_of profile) limit input.now why) }
 {
-    let bytes = bytes_of_text(alloc, limit, profile, input)?;
+    let bytes = short_bytes_of_text(alloc, limit, profile, input)?;
     let most = limit.get();
     prove!(most <= 1024);
     let Some(end) = first_end(alloc, &bytes)? else {
@@ -85,7 +85,7 @@ fn second_in_text(
 ) -> OneFault
     requires short { length input.now ≤ most_bytes }
     requires text { IsUtf8 input.now }
-    requires spelled { IsSpelling profile limit input.now bytes.items }
+    requires spelled { IsShortSpelling profile limit input.now bytes.items }
     requires within { end ≤ length bytes.items }
     requires more { end ≢ length bytes.items }
     requires first { EndsAt (take end bytes.items) (Item 1 ∷ []) }

@@ -5,7 +5,7 @@
 ghost use Rattle.std.specs.Prelude.{◌≡◌, ◌≤◌, ◌⊎◌, ℕ, length, IfErr, IsUtf8};
 ghost use Rattle.cborn_engine.specs.declared.faults.EngineFault.TheVariants as fault;
 ghost use Rattle.cborn_wire.specs.Faults.{IsWellformed};
-ghost use Rattle.cborn_edn.specs.Spelling.{IsSpelling};
+ghost use Rattle.cborn_edn.specs.Spelling.{IsShortSpelling};
 ghost use Rattle.cborn_transcode.specs.Transcoding.{HoldsNoItems};
 ghost use Rattle.cborn_engine.specs.devices.Malformed.{IsWireFault};
 ghost use Rattle.cborn_engine.specs.devices.Counting.{read_failures, read_failures_at};
@@ -56,7 +56,7 @@ pub fn flaw_of_text(
 ) -> EngineFault
     requires short { length input.now ≤ most_bytes }
     requires text { IsUtf8 input.now }
-    requires spelled { IsSpelling profile limit input.now bytes.items }
+    requires spelled { IsShortSpelling profile limit input.now bytes.items }
     requires none { HoldsNoItems limit bytes.items }
     ensures refused { length input.now ≤ most_bytes → IsRefused (kind_of profile) limit most_bytes input.now result }
     ensures failures { (n : ℕ) → read_failures_at result n ≡ n }

@@ -2,7 +2,9 @@
 //! are what their nodes spell, once it is known that they are well-formed. Else they become
 //! notation by a pass that keeps no tree; where they have none, the reason is looked for, without a
 //! tree too. A text becomes bytes first, by such a pass.
-ghost use Rattle.std.specs.Prelude.{◌≡◌, ◌≢◌, ◌≤◌, ◌+◌, ℕ, length, Err, IsTrue, IsFalse};
+ghost use Rattle.std.specs.Prelude.{◌≡◌, ◌≢◌, ◌≤◌, ◌+◌, ℕ, List, length, Err, IsTrue, IsFalse, IsUtf8};
+ghost use Rattle.cborn_lex.specs.declared.classes.Profile.{Profile as ProfileSpec};
+ghost use Rattle.cborn_edn.specs.Spelling.{IsSpelling};
 ghost use Rattle.cborn_wire.specs.declared.faults.WireReason.{WireReason};
 ghost use Rattle.cborn_wire.specs.Faults.{Fault, IsWellformed};
 ghost use Rattle.cborn_show.specs.Passed.{HasNoNotation};
@@ -48,7 +50,30 @@ pub fn read_shown<R: Source>(
     if is_own_spelling(limit, in_kind, out_kind, &input) {
         return Ok(input);
     }
-    show_input(alloc, limit, in_kind, out_kind, &input)
+    show_read(alloc, limit, in_kind, out_kind, input)
+}
+
+/// The items of an input as they are spelled, as `show_input` answers. The input is let go as soon as
+/// it isn't needed.
+///
+/// # Errors
+/// Those of `show_input`.
+fn show_read(
+    alloc: Global,
+    limit: Limit,
+    in_kind: Kind,
+    out_kind: Kind,
+    input: Vec<u8>,
+) -> Result<Vec<u8>, EngineFault>
+    requires short { length input.items ≤ most_bytes }
+    requires malformed { in_kind ≡ kinds.Wire → out_kind ≡ kinds.Wire → IsWellformed limit input.items → ⊥ }
+    ensures answers { length input.items ≤ most_bytes → TellAnswers in_kind out_kind limit most_bytes input.items result }
+    ensures failures { (n : ℕ) → read_failures result n ≡ n }
+{
+    match profile_of(in_kind) {
+        None => tell_bytes(alloc, limit, out_kind, &input),
+        Some(profile) => tell_read_text(alloc, limit, profile, out_kind, input),
+    }
 }
 
 /// Whether an input is well-formed bytes that are to stay bytes. Where it isn't, and is of bytes
@@ -146,7 +171,7 @@ fn why_unshown(limit: Limit, out_kind: Kind, input: &[u8]) -> EngineFault
 }
 
 /// What `show_input` answers of a text: it is spelled, and these bytes are told. Where it spells
-/// none, it is refused. The text strings that it notates are UTF-8, so that they have a notation.
+/// none, it is refused.
 fn tell_text(
     alloc: Global,
     limit: Limit,
@@ -159,6 +184,38 @@ fn tell_text(
     ensures failures { (n : ℕ) → read_failures result n ≡ n }
 {
     let bytes = bytes_of_text(alloc, limit, profile, input)?;
+    tell_spelling(alloc, limit, out_kind, bytes)
+}
+
+/// What `show_input` answers of a text, which is let go once its bytes are there.
+fn tell_read_text(
+    alloc: Global,
+    limit: Limit,
+    profile: Profile,
+    out_kind: Kind,
+    input: Vec<u8>,
+) -> Result<Vec<u8>, EngineFault>
+    requires { length input.items ≤ most_bytes }
+    ensures answers { length input.items ≤ most_bytes → TellAnswers (kind_of profile) out_kind limit most_bytes input.items result }
+    ensures failures { (n : ℕ) → read_failures result n ≡ n }
+{
+    let bytes = bytes_of_text(alloc, limit, profile, &input)?;
+    drop(input);
+    tell_spelling(alloc, limit, out_kind, bytes)
+}
+
+/// The bytes that a text spells, in a form of this kind. The text strings that it notates are UTF-8,
+/// so that they have a notation.
+fn tell_spelling(
+    alloc: Global,
+    limit: Limit,
+    out_kind: Kind,
+    bytes: Vec<u8>,
+) -> Result<Vec<u8>, EngineFault>
+    requires { (profile : ProfileSpec) × (text : List ℕ) × (length text ≤ most_bytes) × IsUtf8 text × IsSpelling profile limit text bytes.items }
+    ensures answers { (profile : ProfileSpec) (text : List ℕ) → length text ≤ most_bytes → IsUtf8 text → IsSpelling profile limit text bytes.items → TellAnswers (kind_of profile) out_kind limit most_bytes text result }
+    ensures failures { (n : ℕ) → read_failures result n ≡ n }
+{
     match out_kind {
         Kind::Wire => Ok(bytes),
         Kind::Notation | Kind::Notation2 => match show_bytes(alloc, limit, &bytes)? {

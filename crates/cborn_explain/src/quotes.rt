@@ -159,7 +159,11 @@ pub(crate) fn push_hex(out: &mut String, bytes: &[u8], most: usize) -> Result<()
 ///
 /// # Errors
 /// `AllocError` where memory for `out` is refused.
-pub(crate) fn push_bytes_around(out: &mut String, bytes: &[u8], place: usize) -> Result<(), AllocError> {
+pub(crate) fn push_bytes_around(
+    out: &mut String,
+    bytes: &[u8],
+    place: usize,
+) -> Result<(), AllocError> {
     let from = place.saturating_sub(BYTES_BEFORE);
     let window = bytes.get(from..).unwrap_or(&[]);
     if from > 0 {
@@ -251,7 +255,11 @@ pub(crate) fn line_and_column(text: &[u8], place: usize) -> (u64, u64) {
 ///
 /// # Errors
 /// `AllocError` where memory for `out` is refused.
-pub(crate) fn push_line_around(out: &mut String, text: &[u8], place: usize) -> Result<usize, AllocError> {
+pub(crate) fn push_line_around(
+    out: &mut String,
+    text: &[u8],
+    place: usize,
+) -> Result<usize, AllocError> {
     let before = text.get(..place).unwrap_or(text);
     let after = text.get(place..).unwrap_or(&[]);
     let from = start_of_piece(before);

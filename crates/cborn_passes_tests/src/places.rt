@@ -6,8 +6,9 @@ use cborn_lex::Profile;
 use cborn_places::place_in_text;
 use std::test::Fail;
 
-/// Texts, the bytes that they spell, an offset in these bytes, and the offset in the text.
-const PLACES: [(&str, &[u8], u64, Option<u64>); 6] = [
+/// Texts, the bytes that they spell, an offset in these bytes, and the offset in the text. The bytes
+/// of the last two have shorter heads than the text writes.
+const PLACES: [(&str, &[u8], u64, Option<u64>); 8] = [
     ("{1: 2, 1: 3}", b"\xa2\x01\x02\x01\x03", 3, Some(7)),
     (
         "/a/ [1, {\"a\": h'00', \"a\" : 1}]",
@@ -29,6 +30,18 @@ const PLACES: [(&str, &[u8], u64, Option<u64>); 6] = [
         Some(19),
     ),
     ("24, 2(0)", b"\x18\x18\xc2\x00", 1, None),
+    (
+        "[_3 1_1, (_ 'a'_0, 'b'_2), 2_1(0)]",
+        b"\x83\x01\x5f\x41a\x41b\xff\xc2\x00",
+        8,
+        Some(27),
+    ),
+    (
+        "{_1 24_2: <<1_1>>_0, 24: 1}",
+        b"\xa2\x18\x18\x43\x19\x00\x01\x18\x18\x01",
+        7,
+        Some(21),
+    ),
 ];
 
 /// Catches a walk that miscounts after an embedded item, a bignum or chunks.

@@ -1,5 +1,6 @@
 -- The end of a text: its bytes, or why it has none.
 use Rattle.std.proofs.Common.{◌≡◌, refl, sym, ap, ◌∙◌, subst, ℕ, List, [], length, Bool, true, false, Option, Some, None, inr}
+use Rattle.cborn_model.specs.Tree.{Trees}
 use Rattle.cborn_model.specs.Spelled.{spelled_all}
 use Rattle.cborn_lex.specs.Lex.{Lex}
 use Rattle.cborn_lex.specs.declared.classes.Profile.{Profile}
@@ -9,7 +10,7 @@ use Rattle.cborn_edn.specs.devices.Modest.{AreModest}
 use Rattle.cborn_edn.specs.declared.slips.Slip.{Slip}
 use Rattle.cborn_edn.specs.declared.faults.EdnReason.TheVariants.{UnexpectedEnd}
 use Rattle.cborn_edn.specs.declared.faults.EdnFault.TheVariants.{Refused}
-use Rattle.cborn_edn.specs.Grammar.{IsText}
+use Rattle.cborn_edn.specs.Grammar.{IsText, Notates}
 use Rattle.cborn_edn.specs.Faults.{IsNoNotation}
 use Rattle.cborn_edn.specs.shared.Syntax.{Item, Pieces, string, RowBefore, no_item, after_row, no_pair, after_pairs, row, Input, nothing, items}
 use Rattle.cborn_edn.proofs.Grammar.Machine.{in_row, in_key, in_value, in_tag, at_top, in_array, in_embed, as_item, as_chunk, State, wants, has, builds, wants_chunk, wants_number, has_number, start}
@@ -18,9 +19,13 @@ use Rattle.cborn_edn.proofs.Grammar.Parser.{at_end, parse, Meets, parses}
 use Rattle.cborn_edn.proofs.Meaning.Earliest.{Tells, tells}
 use Rattle.cborn_edn.proofs.Short.Said.{node, nodes_before, nodes_of_input, faults_of_input}
 use Rattle.cborn_edn.proofs.Short.Jammed.{not_had, text_of}
-use Rattle.cborn_edn.specs.Spelling.{IsSpelling}
+use Rattle.cborn_edn.specs.devices.Written.{IsSpellingAs, nodes_as}
+use Rattle.cborn_edn.proofs.Reader.Written.{same_nodes, short_nodes}
+use Rattle.cborn_edn.proofs.Reader.ShortHeads.{written_bytes}
 use Rattle.cborn_edn.specs.declared.states.Here.{Here}
 use Rattle.cborn_edn.specs.declared.states.Writer.{Writer}
+use Rattle.cborn_edn.specs.declared.states.Heads.{Heads}
+use Rattle.cborn_edn.specs.declared.states.Heads.TheVariants.{AsWritten, Shortest}
 use Rattle.cborn_edn.specs.devices.Slips.{is_none}
 use Rattle.cborn_edn.specs.devices.Laid.{cut}
 use Rattle.cborn_edn.specs.devices.Kept.{stand_of, stack_in, level_of, chunks_in}
@@ -28,7 +33,7 @@ use Rattle.cborn_edn.specs.devices.Shows.{Shows}
 use Rattle.cborn_edn.specs.devices.Reading.{may_end, ends_string, Last, empty, item, pieces, AtEnd, Reached}
 use Rattle.cborn_edn.proofs.Reader.Laying.{cut_bytes}
 use Rattle.cborn_edn.proofs.Reader.Slipping.{none_first}
-use Rattle.cborn_edn.proofs.Reader.Rows.{spelled_snoc}
+use Rattle.cborn_edn.proofs.Reader.Rows.{written_snoc}
 use Rattle.cborn_edn.proofs.Reader.Modest.{nil_is, input_bytes}
 
 -- whether the text may end
@@ -36,42 +41,42 @@ pub data Ends (s : State) (b : Bool) : Type 0 where
   some : (t : Input) → b ≡ true → finish s ≡ Some t → Last s t → Ends s b
   none : b ≡ false → finish s ≡ None → Ends s b
 
-pub ends : (s : State) → Ends s (may_end (stand_of s) (level_of (stack_in s)) (chunks_in s))
-ends (wants (in_row at_top no_item)) = some nothing refl refl empty
-ends (wants (in_row at_top (after_row r c))) = none refl refl
-ends (has (in_row at_top b) i) = some (items (row b i)) refl refl (item b i)
-ends (builds (as_item (in_row at_top b)) ps) = some (items (row b (string ps))) refl refl (pieces b ps)
-ends (builds (as_chunk (in_row at_top b) s d) ps) = none refl refl
-ends (wants (in_row (in_array st s m) no_item)) = none refl refl
-ends (wants (in_row (in_array st s m) (after_row r c))) = none refl refl
-ends (wants (in_row (in_embed h o s) no_item)) = none refl refl
-ends (wants (in_row (in_embed h o s) (after_row r c))) = none refl refl
-ends (wants (in_key st s m no_pair)) = none refl refl
-ends (wants (in_key st s m (after_pairs q c))) = none refl refl
-ends (wants (in_value st s m b k c)) = none refl refl
-ends (wants (in_tag st s n m)) = none refl refl
-ends (has (in_row (in_array st s m) b) i) = none refl refl
-ends (builds (as_item (in_row (in_array st s m) b)) ps) = none refl refl
-ends (builds (as_chunk (in_row (in_array st s m) b) z d) ps) = none refl refl
-ends (has (in_row (in_embed h o s) b) i) = none refl refl
-ends (builds (as_item (in_row (in_embed h o s) b)) ps) = none refl refl
-ends (builds (as_chunk (in_row (in_embed h o s) b) z d) ps) = none refl refl
-ends (has (in_key st s m b) i) = none refl refl
-ends (builds (as_item (in_key st s m b)) ps) = none refl refl
-ends (builds (as_chunk (in_key st s m b) z d) ps) = none refl refl
-ends (has (in_value st s m b k c) i) = none refl refl
-ends (builds (as_item (in_value st s m b k c)) ps) = none refl refl
-ends (builds (as_chunk (in_value st s m b k c) z d) ps) = none refl refl
-ends (has (in_tag st s n m) i) = none refl refl
-ends (builds (as_item (in_tag st s n m)) ps) = none refl refl
-ends (builds (as_chunk (in_tag st s n m) z d) ps) = none refl refl
-ends (wants_chunk st s b) = none refl refl
-ends (wants_number st s) = none refl refl
-ends (has_number st s b n v m) = none refl refl
+pub ends : (k : Heads) (s : State) → Ends s (may_end (stand_of s) (level_of (stack_in s)) (chunks_in k s))
+ends k (wants (in_row at_top no_item)) = some nothing refl refl empty
+ends k (wants (in_row at_top (after_row r c))) = none refl refl
+ends k (has (in_row at_top b) i) = some (items (row b i)) refl refl (item b i)
+ends k (builds (as_item (in_row at_top b)) ps) = some (items (row b (string ps))) refl refl (pieces b ps)
+ends k (builds (as_chunk (in_row at_top b) s d) ps) = none refl refl
+ends k (wants (in_row (in_array st s m) no_item)) = none refl refl
+ends k (wants (in_row (in_array st s m) (after_row r c))) = none refl refl
+ends k (wants (in_row (in_embed h o s) no_item)) = none refl refl
+ends k (wants (in_row (in_embed h o s) (after_row r c))) = none refl refl
+ends k (wants (in_key st s m no_pair)) = none refl refl
+ends k (wants (in_key st s m (after_pairs q c))) = none refl refl
+ends k (wants (in_value st s m b i c)) = none refl refl
+ends k (wants (in_tag st s n m)) = none refl refl
+ends k (has (in_row (in_array st s m) b) i) = none refl refl
+ends k (builds (as_item (in_row (in_array st s m) b)) ps) = none refl refl
+ends k (builds (as_chunk (in_row (in_array st s m) b) z d) ps) = none refl refl
+ends k (has (in_row (in_embed h o s) b) i) = none refl refl
+ends k (builds (as_item (in_row (in_embed h o s) b)) ps) = none refl refl
+ends k (builds (as_chunk (in_row (in_embed h o s) b) z d) ps) = none refl refl
+ends k (has (in_key st s m b) i) = none refl refl
+ends k (builds (as_item (in_key st s m b)) ps) = none refl refl
+ends k (builds (as_chunk (in_key st s m b) z d) ps) = none refl refl
+ends k (has (in_value st s m b j c) i) = none refl refl
+ends k (builds (as_item (in_value st s m b i c)) ps) = none refl refl
+ends k (builds (as_chunk (in_value st s m b i c) z d) ps) = none refl refl
+ends k (has (in_tag st s n m) i) = none refl refl
+ends k (builds (as_item (in_tag st s n m)) ps) = none refl refl
+ends k (builds (as_chunk (in_tag st s n m) z d) ps) = none refl refl
+ends k (wants_chunk st s b) = none refl refl
+ends k (wants_number st s) = none refl refl
+ends k (has_number st s b n v m) = none refl refl
 
 -- what is kept at the end
 pub item_end : (here : Here) (w : Writer) (b : RowBefore) (i : Item) → Shows here w w.out.items (has (in_row at_top b) i) → AtEnd (items (row b i)) w
-item_end here w b i e = record { laid = e.out ∙ ap cut (sym (spelled_snoc (nodes_before b) (node i))); slip = e.slip }
+item_end here w b i e = record { laid = e.out ∙ ap cut (sym (written_snoc w.heads (nodes_before b) (node i))); slip = e.slip }
 
 pub bare_end : (here : Here) (w : Writer) (s : State) (t : Input) → Last s t → ends_string here.stand ≡ false → Shows here w w.out.items s → AtEnd t w
 bare_end here w s t empty n e = record { laid = e.out; slip = e.slip }
@@ -88,6 +93,11 @@ pub string_end : (s : State) (t : Input) → Last s t → ends_string (stand_of 
 string_end s t empty n = absurd (let bad : false ≡ true = n in cc)
 string_end s t (item b i) n = absurd (let bad : false ≡ true = n in cc)
 string_end s t (pieces b ps) n = record { b = b; ps = ps; is = refl; tree = refl }
+
+-- nodes that a text notates, and what they spell with their heads written so
+spelled_as : {p : Profile} {limit : ℕ} {text : List ℕ} (k : Heads) (ts : Trees) (bytes : List ℕ) → Notates p limit text ts → spelled_all (nodes_as k ts) ≡ bytes → IsSpellingAs k p limit text bytes
+spelled_as AsWritten ts bytes n e = record { nodes = ts; notated = n; spells = ap spelled_all (sym (same_nodes ts)) ∙ e }
+spelled_as Shortest ts bytes n e = record { nodes = ts; notated = n; spells = ap spelled_all (sym (short_nodes ts)) ∙ e }
 
 module _ (p : Profile) (limit : ℕ) (text : List ℕ) (s : State) (r : Reached p limit text (length text) s) where
   lex : Lex p text r.tokens
@@ -108,22 +118,18 @@ module _ (p : Profile) (limit : ℕ) (text : List ℕ) (s : State) (r : Reached 
   slipped t w slip e k h =
       inr (r.tokens, nodes_of_input t, faults_of_input t, has_tokens p text r.tokens lex, is_text t e, subst (Tells (faults_of_input t)) (sym k.slip ∙ h) (tells (faults_of_input t)))
 
-  pub spelled_text : (t : Input) (w : Writer) → finish s ≡ Some t → AtEnd t w → w.slip ≡ None → IsSpelling p limit text w.out.items
+  pub spelled_text : (t : Input) (w : Writer) → finish s ≡ Some t → AtEnd t w → w.slip ≡ None → IsSpellingAs w.heads p limit text w.out.items
   spelled_text t w e k h =
       let none : faults_of_input t ≡ [] = nil_is (faults_of_input t) (sym (none_first (faults_of_input t)) ∙ ap is_none (sym k.slip ∙ h)) in
       let m = met (Some t) e in
-      let are = input_bytes t (subst AreModest (sym m.0.is) r.modest) none in
-      record {
-        nodes = nodes_of_input t;
-        notated = (r.tokens, has_tokens p text r.tokens lex, subst (IsText p limit r.tokens (nodes_of_input t)) none (is_text t e));
-        spells = sym (k.laid ∙ cut_bytes (spelled_all (nodes_of_input t)) are);
-      }
+      let are = written_bytes w.heads (nodes_of_input t) (input_bytes t (subst AreModest (sym m.0.is) r.modest) none) in
+      spelled_as w.heads (nodes_of_input t) w.out.items (r.tokens, has_tokens p text r.tokens lex, subst (IsText p limit r.tokens (nodes_of_input t)) none (is_text t e)) (sym (k.laid ∙ cut_bytes (spelled_all (nodes_as w.heads (nodes_of_input t))) are))
 
-pub may_end_at : (s : State) → may_end (stand_of s) (level_of (stack_in s)) (chunks_in s) ≡ true → (t : Input) × (finish s ≡ Some t) × Last s t
-may_end_at s e = elim (ends s) [ some t b f l ↦ (t, f, l) | none b f ↦ absurd (let bad : false ≡ true = sym b ∙ e in cc) ]
+pub may_end_at : (k : Heads) (s : State) → may_end (stand_of s) (level_of (stack_in s)) (chunks_in k s) ≡ true → (t : Input) × (finish s ≡ Some t) × Last s t
+may_end_at k s e = elim (ends k s) [ some t b f l ↦ (t, f, l) | none b f ↦ absurd (let bad : false ≡ true = sym b ∙ e in cc) ]
 
-pub no_end_at : (s : State) → may_end (stand_of s) (level_of (stack_in s)) (chunks_in s) ≡ false → finish s ≡ None
-no_end_at s e = elim (ends s) [ some t b f l ↦ absurd (let bad : true ≡ false = sym b ∙ e in cc) | none b f ↦ f ]
+pub no_end_at : (k : Heads) (s : State) → may_end (stand_of s) (level_of (stack_in s)) (chunks_in k s) ≡ false → finish s ≡ None
+no_end_at k s e = elim (ends k s) [ some t b f l ↦ absurd (let bad : true ≡ false = sym b ∙ e in cc) | none b f ↦ f ]
 
-pub same_end : (here : Here) (w : Writer) (out : List ℕ) (s : State) → Shows here w out s → may_end (stand_of s) (level_of (stack_in s)) (chunks_in s) ≡ may_end here.stand here.level w.chunks
+pub same_end : (here : Here) (w : Writer) (out : List ℕ) (s : State) → Shows here w out s → may_end (stand_of s) (level_of (stack_in s)) (chunks_in w.heads s) ≡ may_end here.stand here.level w.chunks
 same_end here w out s e = sym (λ i. may_end (e.stand i) (e.level i) (e.chunks i))

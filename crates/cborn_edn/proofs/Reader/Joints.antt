@@ -28,15 +28,14 @@ use Rattle.cborn_edn.proofs.Reader.Laying.{cut_bytes, laid_set, content_length}
 use Rattle.cborn_edn.proofs.Reader.Slipping.{none_noted, both_noted}
 
 -- the head of a string with a length in the place of the byte before it
-pub length_set : (major : Major) (j : Joint) (s : Str) (base old new : List ℕ) (w : Width) (size : ℕ) → j ≡ joint (length base) s → old ≡ cut (base ++ (0 ∷ s.bytes)) → size ≡ length old - j.start - 1 → w ≡ width j.mark size
-    → new ≡ take j.start old ++ (cut (head_bytes (code major) w size) ++ drop (j.start + 1) old) → new ≡ cut (base ++ string major (width s.mark (length s.bytes)) s.bytes)
-length_set major j s base old new w size e f g h k =
-    let from : j.start ≡ length base = ap (λ (x : Joint). x.start) e in
-    let n : size ≡ length s.bytes = g ∙ content_length base s.bytes old 0 j.start from f in
-    let v : w ≡ width s.mark (length s.bytes) = h ∙ ap (λ (x : Joint). width x.mark size) e ∙ ap (width s.mark) n in
-    laid_set base s.bytes (head_bytes (code major) w size) old new 0 j.start from f k
-    ∙ ap (λ x. cut (base ++ (head_bytes (code major) x size ++ s.bytes))) v
-    ∙ ap (λ x. cut (base ++ (head_bytes (code major) (width s.mark (length s.bytes)) x ++ s.bytes))) n
+pub length_set : (major : Major) (m : Mark) (start : ℕ) (b base old new : List ℕ) (w : Width) (size : ℕ) → start ≡ length base → old ≡ cut (base ++ (0 ∷ b)) → size ≡ length old - start - 1 → w ≡ width m size
+    → new ≡ take start old ++ (cut (head_bytes (code major) w size) ++ drop (start + 1) old) → new ≡ cut (base ++ string major (width m (length b)) b)
+length_set major m start b base old new w size from f g h k =
+    let n : size ≡ length b = g ∙ content_length base b old 0 start from f in
+    let v : w ≡ width m (length b) = h ∙ ap (width m) n in
+    laid_set base b (head_bytes (code major) w size) old new 0 start from f k
+    ∙ ap (λ x. cut (base ++ (head_bytes (code major) x size ++ b))) v
+    ∙ ap (λ x. cut (base ++ (head_bytes (code major) (width m (length b)) x ++ b))) n
 
 pub string_noted : (may_end good : Bool) (j : Joint) (s : Str) (start : ℕ) (content : List ℕ) (old mid new : Option Slip) → j ≡ joint start s → content ≡ cut s.bytes → (s.known ≡ true → AreBytes s.bytes)
     → Notes old mid (mark_slips may_end s) → j.known ≡ true → good ≡ is_good j.kind content → Notes mid new (unless good j.place TextNotUtf8) → Notes old new (string_slips may_end s)

@@ -55,7 +55,7 @@ no_right : {A : Type 0} (x y : List A) → x ++ y ≡ [] → y ≡ []
 no_right [] y e = e
 no_right (a ∷ x) y e = absurd (let bad : a ∷ (x ++ y) ≡ [] = e in cc)
 
-least_bytes : (k : Major) (n : ℕ) → AreBytes (head k (Given (least n) n))
+pub least_bytes : (k : Major) (n : ℕ) → AreBytes (head k (Given (least n) n))
 least_bytes k n = go (ltb n (2 ^ 64)) refl
   where
     wide : 2 ^ 64 ≤ n → least n ≡ Eight

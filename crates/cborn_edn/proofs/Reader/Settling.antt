@@ -1,5 +1,5 @@
 -- A string that no other piece follows is an item.
-use Rattle.std.proofs.Common.{◌≡◌, refl, sym, ap, ◌∙◌, ℕ, List, [], ◌∷◌, ◌++◌, length, Bool, true, cond, leb, Option, Some, None, append-nil}
+use Rattle.std.proofs.Common.{◌≡◌, refl, sym, ap, ◌∙◌, subst, ℕ, List, [], ◌∷◌, ◌++◌, length, Bool, true, cond, leb, Option, Some, None, append-nil}
 use Rattle.std.proofs.lemmas.Str.{is_utf8-from_IsUtf8}
 use Rattle.std.specs.Str.{IsUtf8}
 use Rattle.cborn_model.specs.Bytes.{AreBytes}
@@ -21,6 +21,8 @@ use Rattle.cborn_edn.proofs.Short.Said.{node, faults}
 use Rattle.cborn_edn.specs.devices.Ahead.{NoPieceAt}
 use Rattle.cborn_edn.specs.declared.states.Here.{Here}
 use Rattle.cborn_edn.specs.declared.states.Writer.{Writer}
+use Rattle.cborn_edn.specs.declared.states.Heads.{Heads}
+use Rattle.cborn_edn.specs.declared.states.Heads.TheVariants.{AsWritten, Shortest}
 use Rattle.cborn_edn.specs.declared.states.Stand.TheVariants.{Has}
 use Rattle.cborn_edn.specs.devices.Laid.{cut, laid_stack}
 use Rattle.cborn_edn.specs.devices.Noted.{noted_stack}
@@ -30,6 +32,8 @@ use Rattle.cborn_edn.proofs.Reader.Going.{after_token}
 use Rattle.cborn_edn.proofs.Reader.Laying.{laid_bytes}
 use Rattle.cborn_edn.proofs.Reader.Modest.{item_bytes}
 use Rattle.cborn_edn.proofs.Reader.NextPieces.{is_single, string_ends, next_single}
+use Rattle.cborn_edn.specs.devices.Written.{heads_at, node_as}
+use Rattle.cborn_edn.proofs.Reader.Showing.{with_heads}
 use Rattle.cborn_edn.proofs.Reader.Stepping.{SameButOut}
 
 checked_same : (p : Profile) (limit : ℕ) (s v : State) (t : Token) (o : Option State) → comma_at s t.class ≡ comma_at v t.class → checked p limit s t o ≡ checked p limit v t o
@@ -65,9 +69,11 @@ settled p limit source at st ps none r = record {
 abbrev pub text_item : Span → List ℕ → Item
 text_item a x = string (piece (text a x Absent))
 
-text_spelled : (a : Span) (x : List ℕ) → spelled (node (text_item a x)) ≡ head_bytes 3 (least (length x)) (length x) ++ x
-text_spelled a [] = refl
-text_spelled a (b ∷ x) = refl
+text_spelled : (k : Heads) (a : Span) (x : List ℕ) → spelled (node_as k (node (text_item a x))) ≡ head_bytes 3 (least (length x)) (length x) ++ x
+text_spelled AsWritten a [] = refl
+text_spelled AsWritten a (b ∷ x) = refl
+text_spelled Shortest a [] = refl
+text_spelled Shortest a (b ∷ x) = refl
 
 text_faults : (a : Span) (x : List ℕ) → IsUtf8 x → faults (text_item a x) ≡ []
 text_faults a x u = ap (λ b. unless b a.start TextNotUtf8) (is_utf8-from_IsUtf8 x u)
@@ -77,8 +83,9 @@ pub text_shown : (here : Here) (w left : Writer) (st : Stack) (a : Span) (x : Li
     → Shows (record here { stand = Has }) left left.out.items (has st (text_item a x))
 text_shown here w left st a x are u same new e =
     let none = text_faults a x u in
-    let bytes : AreBytes (spelled (node (text_item a x))) = item_bytes (text_item a x) (are, tt) none in
-    record {
+    let k = heads_at w.heads st in
+    let bytes : AreBytes (spelled (node_as k (node (text_item a x)))) = subst AreBytes (text_spelled AsWritten a x ∙ sym (text_spelled k a x)) (item_bytes (text_item a x) (are, tt) none) in
+    with_heads (record here { stand = Has }) left w.heads left.out.items (has st (text_item a x)) same.heads (record {
       stand = refl;
       level = e.level;
       count = e.count;
@@ -88,5 +95,5 @@ text_shown here w left st a x are u same new e =
       chunks = same.chunks ∙ e.chunks;
       simple = tt;
       slip = same.slip ∙ e.slip ∙ ap first_slip (sym (append-nil (noted_stack st))) ∙ ap (λ y. first_slip (noted_stack st ++ y)) (sym none);
-      out = laid_bytes (laid_stack st) (spelled (node (text_item a x))) w.out.items left.out.items e.out bytes (new ∙ ap (λ y. w.out.items ++ y) (sym (text_spelled a x)));
-    }
+      out = laid_bytes (laid_stack w.heads st) (spelled (node_as k (node (text_item a x)))) w.out.items left.out.items e.out bytes (new ∙ ap (λ y. w.out.items ++ y) (sym (text_spelled k a x)));
+    })

@@ -33,6 +33,7 @@ use Rattle.cborn_edn.specs.devices.Steps.{appended, Ready, Taken, Takes}
 use Rattle.cborn_edn.specs.devices.Reading.{appended_at, WasRead, is_spare, IsReading, Judged}
 use Rattle.cborn_edn.proofs.Reader.Going.{goes_on, ends, unexpected, too_deep, never_taken, not_spare, spare}
 use Rattle.cborn_edn.proofs.Reader.Counts.{shown_few, frames_levels}
+use Rattle.cborn_edn.proofs.Reader.Showing.{with_heads}
 
 recontent : (k : Kind) (n : ℕ) (x : List ℕ) → class_of k n x ≡ class_of k n (content_of (class_of k n x))
 recontent (kinds.Text m) n x = refl
@@ -65,6 +66,7 @@ appended_as (has_number st s b n v m) c = refl
 
 -- nothing but the output changes
 pub record SameButOut (w v : Writer) : Type 0 where
+  pub heads : v.heads ≡ w.heads
   pub frames : v.frames ≡ w.frames
   pub around : v.around ≡ w.around
   pub string : v.string ≡ w.string
@@ -73,7 +75,7 @@ pub record SameButOut (w v : Writer) : Type 0 where
   pub slip : v.slip ≡ w.slip
 
 pub same_shown : (here : Here) (w v : Writer) (out : List ℕ) (s : State) → SameButOut w v → Shows here w out s → Shows here v out s
-same_shown here w v out s k e = record {
+same_shown here w v out s k e = with_heads here v w.heads out s k.heads (record {
   stand = e.stand;
   level = e.level;
   count = e.count;
@@ -84,7 +86,7 @@ same_shown here w v out s k e = record {
   simple = subst (λ n. IsOpenAt n s) (sym k.simple) e.simple;
   slip = k.slip ∙ e.slip;
   out = e.out;
-}
+})
 
 module _ (p : Profile) (text : List ℕ) (are : AreBytes text) (here : Here) (w : Writer) where
   -- a token that was read
@@ -156,7 +158,7 @@ module _ (p : Profile) (limit : ℕ) (text : List ℕ) (are : AreBytes text) (he
     stop_inside = (inside p text here.at t.stop (the_token ∷ []) r.inside k.between).1
 
     depth_is : (deep : ℕ) → ((x : List ℕ) → deep ≡ reach (length v.frames) (class_of t.kind n x)) → deep ≡ reach (open_levels r.state) (class_of t.kind n k.content)
-    depth_is deep d = d k.content ∙ ap (λ l. reach l (class_of t.kind n k.content)) (ap length (same.frames ∙ r.shows.frames) ∙ frames_levels r.state)
+    depth_is deep d = d k.content ∙ ap (λ l. reach l (class_of t.kind n k.content)) (ap length (same.frames ∙ r.shows.frames) ∙ frames_levels w.heads r.state)
 
     module _ (next : Here) (left : Writer) (ok bad : Bool) (deep : ℕ) (taken : (s : State) → Takes t.kind n start t.start here v next left ok s) (b : bad ≡ is_spare p here.stand t.kind) (d : (x : List ℕ) → deep ≡ reach (length v.frames) (class_of t.kind n x)) where
       took : Taken ok r.state (class_of t.kind n k.content) (record { start = t.start; stop = t.stop }) next left

@@ -129,7 +129,7 @@ module _ (p : Profile) (limit : ℕ) (text : List ℕ) (here : Here) (w : Writer
 
         go : (st : Stack) × (wants st ≡ r.state) → IsReading p limit text (record next { at = stop }) left
         go (st, e) =
-            let depth : length w.frames ≡ open_levels (wants st) = ap length (shown_as (wants st) e).frames ∙ frames_levels (wants st) in
+            let depth : length w.frames ≡ open_levels (wants st) = ap length (shown_as (wants st) e).frames ∙ frames_levels w.heads (wants st) in
             taken_from (wants st) (v st) e (is st) (leads st (shown_as (wants st) e)) (ap (forbids p) (bare st) ∙ free_none p) (subst (λ l. reach l c ≤ limit) depth low)
 
     -- LAW: where an item or a bracket stands, and what ends it
@@ -156,7 +156,7 @@ module _ (p : Profile) (limit : ℕ) (text : List ℕ) (here : Here) (w : Writer
       where
         go : (st : Stack) × (s : Span) × (wants_number st s ≡ r.state) → IsReading p limit text (record next { at = stop }) left
         go (st, s, k) =
-            let depth : length w.frames ≡ open_levels (wants_number st s) = ap length (shown_as (wants_number st s) k).frames ∙ frames_levels (wants_number st s) in
+            let depth : length w.frames ≡ open_levels (wants_number st s) = ap length (shown_as (wants_number st s) k).frames ∙ frames_levels w.heads (wants_number st s) in
             taken_from (wants_number st s) (v st s) k (is st s) (leads st s (shown_as (wants_number st s) k)) (free_none p) (subst (λ l. reach l c ≤ limit) depth low)
 
 -- LAW: a text string and what follows it aren't empty
@@ -221,7 +221,7 @@ module _ (p : Profile) (limit : ℕ) (text : List ℕ) (here : Here) (w : Writer
       go : (h : Home) × (ps : Pieces) × (builds h ps ≡ r.state) → Pieced
       go (h, ps, e) =
           let shown = subst (λ (v : State). Shows here w w.out.items v) (sym e) r.shows in
-          let k = item_home h (ap has_chunks (sym shown.chunks) ∙ none) in
+          let k = item_home w.heads h (ap has_chunks (sym shown.chunks) ∙ none) in
           let is = ap (λ (x : Home). builds x ps) k.1 ∙ e in
           record { st = k.0; ps = ps; is = is; modest = modest_of h ps e; shows = subst (λ (v : State). Shows here w w.out.items v) (sym is) r.shows }
 
@@ -241,7 +241,7 @@ module _ (p : Profile) (limit : ℕ) (text : List ℕ) (here : Here) (w : Writer
       go : (h : Home) × (ps : Pieces) × (builds h ps ≡ r.state) → Chunked
       go (h, ps, e) =
           let shown = subst (λ (v : State). Shows here w w.out.items v) (sym e) r.shows in
-          let k = chunk_home h (ap has_chunks (sym shown.chunks) ∙ some) in
+          let k = chunk_home w.heads h (ap has_chunks (sym shown.chunks) ∙ some) in
           let is = ap (λ (x : Home). builds x ps) k.is ∙ e in
           record { st = k.st; at = k.at; b = k.b; ps = ps; is = is; modest = modest_of h ps e; shows = subst (λ (v : State). Shows here w w.out.items v) (sym is) r.shows }
 

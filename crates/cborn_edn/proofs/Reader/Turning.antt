@@ -12,6 +12,7 @@ use Rattle.cborn_edn.specs.shared.Syntax.{Span, Item, Pieces, StringsBefore, str
 use Rattle.cborn_edn.proofs.Grammar.Machine.{Stack, in_row, in_key, in_value, in_tag, Home, as_item, as_chunk, State, wants, has, builds, wants_chunk, wants_number, has_number, step_by}
 use Rattle.cborn_edn.specs.declared.states.Here.{Here}
 use Rattle.cborn_edn.specs.declared.states.Writer.{Writer}
+use Rattle.cborn_edn.specs.declared.states.Heads.{Heads}
 use Rattle.cborn_edn.specs.declared.states.Stand.TheVariants as stands
 use Rattle.cborn_edn.specs.declared.states.Stand.{Stand}
 use Rattle.cborn_edn.specs.devices.Kept.{wanting, stand_of, chunks_of}
@@ -131,9 +132,9 @@ is_has_number (wants_chunk st s b) e = apart stands.WantsChunk stands.HasNumber 
 is_has_number (wants_number st s) e = apart stands.WantsNumber stands.HasNumber e (λ f. omega arith)
 
 -- a string that stands in no chunks
-pub item_home : (h : Home) → has_chunks (chunks_of h) ≡ false → (st : Stack) × (as_item st ≡ h)
-item_home (as_item st) e = (st, refl)
-item_home (as_chunk st s b) e = absurd (let bad : true ≡ false = e in cc)
+pub item_home : (k : Heads) (h : Home) → has_chunks (chunks_of k h) ≡ false → (st : Stack) × (as_item st ≡ h)
+item_home k (as_item st) e = (st, refl)
+item_home k (as_chunk st s b) e = absurd (let bad : true ≡ false = e in cc)
 
 pub record InChunk (h : Home) : Type 0 where
   pub st : Stack
@@ -141,9 +142,9 @@ pub record InChunk (h : Home) : Type 0 where
   pub b : StringsBefore
   pub is : as_chunk st at b ≡ h
 
-pub chunk_home : (h : Home) → has_chunks (chunks_of h) ≡ true → InChunk h
-chunk_home (as_chunk st s b) e = record { st = st; at = s; b = b; is = refl }
-chunk_home (as_item st) e = absurd (let bad : false ≡ true = e in cc)
+pub chunk_home : (k : Heads) (h : Home) → has_chunks (chunks_of k h) ≡ true → InChunk h
+chunk_home k (as_chunk st s b) e = record { st = st; at = s; b = b; is = refl }
+chunk_home k (as_item st) e = absurd (let bad : false ≡ true = e in cc)
 
 pub not_text : {A : Type 0} → OfBytes ≡ OfText → A
 not_text e = absurd (let bad : OfBytes ≡ OfText = e in cc)

@@ -6,8 +6,8 @@ use Rattle.cborn_lex.specs.declared.classes.Class.TheVariants.{ArrayOpen, MapOpe
 use Rattle.cborn_lex.specs.declared.classes.Token.{Token}
 use Rattle.cborn_edn.specs.shared.Syntax.{Span, span, Item, string, Pieces, StringsBefore, no_item, after_row, no_pair, after_pairs, row, Content, loose, tight, Input, nothing, items}
 use Rattle.cborn_edn.specs.shared.Meaning.{place}
-use Rattle.cborn_edn.specs.devices.Kept.{wanting, stand_of, stack_in, arounds_of}
-use Rattle.cborn_edn.specs.devices.Begun.{begun_item, begun_at, is_outside, begun}
+use Rattle.cborn_edn.specs.devices.Kept.{wanting, stand_of, stack_in}
+use Rattle.cborn_edn.specs.devices.Begun.{begun_item, begun_at, begun}
 use Rattle.cborn_edn.specs.devices.Started.{item_starts, strings_before_starts, row_before_starts, content_starts, pairs_before_starts, input_starts, counted, outside, outside_nest, outside_home, started_stack, started_nest, started_home, started}
 use Rattle.cborn_edn.proofs.Grammar.Machine.{Stack, in_row, in_key, in_value, in_tag, Nest, at_top, in_array, in_embed, Home, as_item, as_chunk, State, wants, has, builds, wants_chunk, wants_number, has_number, ends, ends_loose, begin, after, after_string, more_string, begin_chunk, begin_number, after_number, step_by, step, run, run-none}
 use Rattle.cborn_edn.proofs.Grammar.Held.{After}
@@ -118,7 +118,7 @@ own false k p = refl
 
 -- the starts of a state after one more token
 abbrev pub Grown : State → Class → ℕ → State → Type 0
-Grown s c p u = started u ≡ started s ++ replicate (begun (is_outside (arounds_of (stack_in s))) (stand_of s) c) p
+Grown s c p u = started u ≡ started s ++ replicate (begun (outside (stack_in s)) (stand_of s) c) p
 
 -- a token that begins nothing
 none_own : (b : Bool) (x : List ℕ) (p : ℕ) → x ≡ x ++ replicate (cond b 0 0) p
@@ -129,7 +129,7 @@ pub adds : (s : State) (c : Class) (a : Span) → After (step_by s c a) (Grown s
 adds (wants st) c a =
     adds_as (begin st c a) _ _ (ap (λ l. started_stack st ++ l) (own (outside st) (begun_item c) a.start ∙ ap (λ k. replicate (cond (outside st) k 0) a.start) (sym (wanted st c)))) (begin_adds st c a)
 adds (has st i) c a = adds_as (after st i c a) _ _ (none_own (outside st) (started (has st i)) a.start) (after_adds st i c a)
-adds (builds h ps) c a = adds_as (more_string h ps c a) _ _ (none_own (is_outside (arounds_of (stack_in (builds h ps)))) (started (builds h ps)) a.start) (more_adds h ps c a)
+adds (builds h ps) c a = adds_as (more_string h ps c a) _ _ (none_own (outside (stack_in (builds h ps))) (started (builds h ps)) a.start) (more_adds h ps c a)
 adds (wants_chunk st s b) c a = adds_as (begin_chunk st s b c a) _ _ (ap (λ l. started (wants_chunk st s b) ++ l) (own (outside st) 1 a.start)) (chunk_adds st s b c a)
 adds (wants_number st s) c a = adds_as (begin_number st s c a) _ _ (none_own (outside st) (started (wants_number st s)) a.start) (number_adds st s c a)
 adds (has_number st s b n v m) c a = adds_as (after_number st s b n v m c a) _ _ (none_own (outside st) (started (has_number st s b n v m)) a.start) (closed_adds st s b n v m c a)
@@ -146,7 +146,7 @@ starts_go_on [] s u e = ([], ap started (sym (one_state s u e)) ∙ sym (append-
 starts_go_on (t ∷ ts) s u e = go (step s t) (adds s t.class (span t)) e (λ v. starts_go_on ts v u)
   where
     own_starts : List ℕ
-    own_starts = replicate (begun (is_outside (arounds_of (stack_in s))) (stand_of s) t.class) t.start
+    own_starts = replicate (begun (outside (stack_in s)) (stand_of s) t.class) t.start
 
     go : (o : Option State) → After o (Grown s t.class t.start) → run ts o ≡ Some u → ((v : State) → run ts (Some v) ≡ Some u → (rest : List ℕ) × (started u ≡ started v ++ rest)) → (rest : List ℕ) × (started u ≡ started s ++ rest)
     go None g f next = no_some (sym (run-none ts) ∙ f)

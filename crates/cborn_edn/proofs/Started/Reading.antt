@@ -15,16 +15,19 @@ use Rattle.cborn_lex.specs.declared.faults.LexReason.{LexReason}
 use Rattle.cborn_lex.proofs.GoodTexts.{through, stop_from}
 use Rattle.cborn_lex.proofs.WholeTexts.Progress.{inside, few, joins}
 use Rattle.cborn_edn.specs.Grammar.{Notates}
+use Rattle.cborn_edn.specs.Says.{is_nil}
 use Rattle.cborn_edn.specs.Starts.{starts_all}
 use Rattle.cborn_edn.specs.shared.Syntax.{Span}
+use Rattle.cborn_edn.specs.shared.Machine.{Stack, in_row, in_key, in_value, in_tag, Nest, at_top, in_array, in_embed}
 use Rattle.cborn_edn.specs.declared.states.Here.{Here}
 use Rattle.cborn_edn.specs.declared.states.Writer.{Writer}
-use Rattle.cborn_edn.specs.devices.Begun.{is_outside, begun}
+use Rattle.cborn_edn.specs.devices.Begun.{begun}
 use Rattle.cborn_edn.specs.devices.Counting.{Counts}
-use Rattle.cborn_edn.specs.devices.Kept.{arounds_of, stack_in}
+use Rattle.cborn_edn.specs.devices.Kept.{arounds_of, arounds_nest, stack_in}
 use Rattle.cborn_edn.specs.devices.Modest.{AreModest}
 use Rattle.cborn_edn.specs.devices.Reading.{WasRead}
-use Rattle.cborn_edn.specs.devices.Started.{started}
+use Rattle.cborn_edn.specs.declared.states.Heads.{Heads}
+use Rattle.cborn_edn.specs.devices.Started.{outside, outside_nest, started}
 use Rattle.cborn_edn.specs.devices.Steps.{Ready, Taken, Takes}
 use Rattle.cborn_edn.proofs.Grammar.Held.{held, After}
 use Rattle.cborn_edn.proofs.Grammar.Machine.{State}
@@ -34,6 +37,19 @@ use Rattle.cborn_edn.proofs.Reader.Modest.{modest_both}
 use Rattle.cborn_edn.proofs.Reader.Stepping.{SameButOut, ReadToken, ready_at}
 use Rattle.cborn_edn.proofs.Started.Begins.{Grown, adds}
 use Rattle.cborn_edn.proofs.Started.Counting.{none_left, no_stop, not_taken}
+
+-- nothing is kept around a `<<` where none is open
+mutual
+  outside_is : (k : Heads) (st : Stack) → is_nil (arounds_of k st) ≡ outside st
+  outside_is k (in_row n b) = outside_nest_is k n
+  outside_is k (in_key st s m b) = outside_is k st
+  outside_is k (in_value st s m b i c) = outside_is k st
+  outside_is k (in_tag st s n m) = outside_is k st
+
+  outside_nest_is : (k : Heads) (n : Nest) → is_nil (arounds_nest k n) ≡ outside_nest n
+  outside_nest_is k at_top = refl
+  outside_nest_is k (in_array st s m) = outside_is k st
+  outside_nest_is k (in_embed h o s) = refl
 
 module _ (p : Profile) (text : List ℕ) (here : Here) (w : Writer) (front : List ℕ) (r : Counts p text here w front) where
   -- with nothing left of the text
@@ -72,16 +88,16 @@ module _ (p : Profile) (text : List ℕ) (here : Here) (w : Writer) (front : Lis
       nothing_after e = not_taken p text here w front r the_token k.between (subst (λ (q : Bool). Taken q r.state c place next left) e took)
 
       -- it was taken, and what it begins is counted
-      pub counted_on : ok ≡ true → (count : ℕ) → ((x : List ℕ) → count ≡ begun (is_outside v.around) here.stand (class_of t.kind n x)) → Counts p text (record next { at = t.stop }) left (front ++ replicate count t.start)
+      pub counted_on : ok ≡ true → (count : ℕ) → ((x : List ℕ) → count ≡ begun (is_nil v.around) here.stand (class_of t.kind n x)) → Counts p text (record next { at = t.stop }) left (front ++ replicate count t.start)
       counted_on e count b = go (subst (λ (q : Bool). Taken q r.state c place next left) e took)
         where
-          own : count ≡ begun (is_outside w.around) here.stand c
-          own = b k.content ∙ ap (λ l. begun (is_outside l) here.stand c) same.around
+          own : count ≡ begun (is_nil w.around) here.stand c
+          own = b k.content ∙ ap (λ l. begun (is_nil l) here.stand c) same.around
 
           go : Taken true r.state c place next left → Counts p text (record next { at = t.stop }) left (front ++ replicate count t.start)
           go (u, is, e) =
               let grown : Grown r.state c t.start u = subst (λ (o : Option State). After o (Grown r.state c t.start)) is (adds r.state c place) in
-              let shown = own ∙ ap (λ l. begun (is_outside l) here.stand c) r.shows.around ∙ ap (λ st. begun (is_outside (arounds_of (stack_in r.state))) st c) r.shows.stand in
+              let shown = own ∙ ap (λ l. begun (is_nil l) here.stand c) r.shows.around ∙ ap (λ b. begun b here.stand c) (outside_is w.heads (stack_in r.state)) ∙ ap (λ st. begun (outside (stack_in r.state)) st c) r.shows.stand in
               record {
                 inside = (inside p text here.at t.stop (the_token ∷ []) r.inside k.between).1;
                 state = u;

@@ -1,8 +1,7 @@
 -- A device of the proofs: how many nodes and chunks begin with a token. No definition cites it.
-use Rattle.std.specs.Prelude.{ℕ, List, [], ◌∷◌, Bool, true, false, if◌then◌else◌}
+use Rattle.std.specs.Prelude.{ℕ, Bool, if◌then◌else◌}
 use Rattle.cborn_lex.specs.declared.classes.Class.{Class}
 use Rattle.cborn_lex.specs.declared.classes.Class.TheVariants.{ArrayClose, MapClose, EmbedClose, Number}
-use Rattle.cborn_edn.specs.declared.states.Around.{Around}
 use Rattle.cborn_edn.specs.declared.states.Stand.{Stand}
 use Rattle.cborn_edn.specs.declared.states.Stand.TheVariants.{Wants, WantsMore, WantsChunk}
 use Rattle.cborn_edn.specs.shared.Syntax.{is_small}
@@ -24,11 +23,6 @@ begun_at Wants c = begun_item c
 begun_at WantsMore c = begun_item c
 begun_at WantsChunk c = 1
 begun_at _ c = 0
-
--- whether no `<<` is open
-abbrev pub is_outside : List Around → Bool
-is_outside [] = true
-is_outside (a ∷ l) = false
 
 abbrev pub begun : Bool → Stand → Class → ℕ
 begun outside s c = if outside then begun_at s c else 0

@@ -19,6 +19,7 @@ use Rattle.cborn_edn.specs.shared.Machine.{in_row, at_top, as_item, State, has, 
 use Rattle.cborn_edn.specs.declared.states.Level.{Level}
 use Rattle.cborn_edn.specs.declared.states.Chunks.{Chunks}
 use Rattle.cborn_edn.specs.devices.Laid.{cut}
+use Rattle.cborn_edn.specs.devices.Written.{nodes_as}
 use Rattle.cborn_edn.specs.shared.Machine.{held}
 use Rattle.cborn_edn.specs.shared.Machine.{parse}
 use Rattle.cborn_edn.specs.declared.faults.EdnReason.{EdnReason}
@@ -102,5 +103,5 @@ pub data Last : State → Input → Type 0 where
 
 -- what is kept at the end of a text with this tree
 pub record AtEnd (t : Input) (writer : Writer) : Type 0 where
-  pub laid : writer.out.items ≡ cut (spelled_all (nodes_of_input t))
+  pub laid : writer.out.items ≡ cut (spelled_all (nodes_as writer.heads (nodes_of_input t)))
   pub slip : writer.slip ≡ first_slip (faults_of_input t)

@@ -1,5 +1,8 @@
 -- A device of the proofs: what the reader keeps shows a state of the machine of tokens. No definition cites it.
-use Rattle.std.specs.Prelude.{◌≡◌, ℕ, ◌+◌, List, Bool}
+use Rattle.std.specs.Prelude.{◌≡◌, ℕ, ◌+◌, List, ◌++◌, length, Bool}
+use Rattle.cborn_model.specs.declared.heads.Major.{Major}
+use Rattle.cborn_model.specs.Heads.{head, argument}
+use Rattle.cborn_model.specs.Spelled.{ending}
 use Rattle.cborn_lex.specs.declared.classes.Mark.{Mark}
 use Rattle.cborn_edn.specs.declared.strings.StringKind.{StringKind}
 use Rattle.cborn_edn.specs.declared.strings.StringKind.TheVariants.{Bytes as OfBytes, Text as OfText}
@@ -10,7 +13,8 @@ use Rattle.cborn_edn.specs.declared.states.Stand.{Stand}
 use Rattle.cborn_edn.specs.declared.states.Stand.TheVariants.{Has}
 use Rattle.cborn_edn.specs.declared.states.Here.{Here}
 use Rattle.cborn_edn.specs.declared.states.Writer.{Writer}
-use Rattle.cborn_edn.specs.devices.Laid.{cut, laid}
+use Rattle.cborn_edn.specs.Says.{size}
+use Rattle.cborn_edn.specs.devices.Laid.{cut, place_of, laid}
 use Rattle.cborn_edn.specs.devices.Noted.{noted}
 use Rattle.cborn_edn.specs.devices.Kept.{stand_of, stack_in, level_of, count_of, frames_of, arounds_of, string_in, chunks_in}
 
@@ -24,13 +28,13 @@ pub record Shows (here : Here) (writer : Writer) (written : List ℕ) (s : State
   pub stand : here.stand ≡ stand_of s
   pub level : here.level ≡ level_of (stack_in s)
   pub count : here.count ≡ count_of (stack_in s)
-  pub frames : writer.frames ≡ frames_of (stack_in s)
-  pub around : writer.around ≡ arounds_of (stack_in s)
-  pub string : writer.string ≡ string_in s
-  pub chunks : writer.chunks ≡ chunks_in s
+  pub frames : writer.frames ≡ frames_of writer.heads (stack_in s)
+  pub around : writer.around ≡ arounds_of writer.heads (stack_in s)
+  pub string : writer.string ≡ string_in writer.heads s
+  pub chunks : writer.chunks ≡ chunks_in writer.heads s
   pub simple : IsOpenAt writer.simple s
   pub slip : writer.slip ≡ first_slip (noted s)
-  pub out : written ≡ cut (laid s)
+  pub out : written ≡ cut (laid writer.heads s)
 
 -- what was shown becomes another state
 abbrev pub Leads : Here → Writer → Here → Writer → State → State → Type 0
@@ -55,3 +59,15 @@ fields_state st s m (tight_fields (pairs b k c v)) = has (in_value st s m b k c)
 abbrev pub entries_at : Stand → ℕ → ℕ
 entries_at Has n = n + 1
 entries_at _ n = n
+
+-- nothing of what is open changes: only the output and the first slip
+pub record Same (writer left : Writer) : Type 0 where
+  pub heads : left.heads ≡ writer.heads
+  pub frames : left.frames ≡ writer.frames
+  pub around : left.around ≡ writer.around
+  pub string : left.string ≡ writer.string
+  pub chunks : left.chunks ≡ writer.chunks
+
+-- what the head of n entries under an indicator, in the place of the byte at start, makes of the output
+abbrev pub Sized : Major → Mark → ℕ → ℕ → List ℕ → List ℕ → Type 0
+Sized major m start n old new = (base x : List ℕ) → start ≡ length base → old ≡ cut (base ++ (place_of major m ++ x)) → new ≡ cut (base ++ (head major (argument (size m n) n) ++ x ++ ending (size m n)))

@@ -3,8 +3,7 @@ use Rattle.std.specs.Prelude.{ℕ, List, [], ◌∷◌, ◌++◌, Bool, true, fa
 use Rattle.cborn_edn.specs.shared.Syntax.{Span, Item, number, word, tag, simple, string, chunked, array, map, Pieces, Strings, strings, StringsBefore, no_string, after_strings, Row, row, RowBefore, no_item, after_row, Content, loose, tight, Pairs, pairs, PairsBefore, no_pair, after_pairs, Fields, loose_fields, tight_fields, Input, nothing, items}
 use Rattle.cborn_edn.specs.shared.Meaning.{place}
 use Rattle.cborn_edn.specs.shared.Machine.{Stack, in_row, in_key, in_value, in_tag, Nest, at_top, in_array, in_embed, Home, as_item, as_chunk, State, wants, has, builds, wants_chunk, wants_number, has_number}
-use Rattle.cborn_edn.specs.devices.Kept.{arounds_of, arounds_nest, arounds_home}
-use Rattle.cborn_edn.specs.devices.Begun.{heads_of_number, is_outside}
+use Rattle.cborn_edn.specs.devices.Begun.{heads_of_number}
 
 -- The starts of a tree.
 abbrev mutual
@@ -62,14 +61,21 @@ place_before None s = s.start
 place_before (Some ps) s = place ps
 
 -- whether no `<<` is open there
-abbrev pub outside : Stack → Bool
-outside st = is_outside (arounds_of st)
+abbrev mutual
+  pub outside : Stack → Bool
+  outside (in_row n b) = outside_nest n
+  outside (in_key st s m b) = outside st
+  outside (in_value st s m b k c) = outside st
+  outside (in_tag st s n m) = outside st
 
-abbrev pub outside_nest : Nest → Bool
-outside_nest n = is_outside (arounds_nest n)
+  pub outside_nest : Nest → Bool
+  outside_nest at_top = true
+  outside_nest (in_array st s m) = outside st
+  outside_nest (in_embed h o s) = false
 
 abbrev pub outside_home : Home → Bool
-outside_home h = is_outside (arounds_home h)
+outside_home (as_item st) = outside st
+outside_home (as_chunk st s b) = outside st
 
 -- The starts of what is open or complete.
 abbrev mutual

@@ -1,9 +1,9 @@
 -- A text is refused for the first flaw of the bytes that it spells, at its place in the text.
 use Rattle.std.proofs.Common.{◌≡◌, ◌≤◌, ◌<◌, ◌^◌, ℕ, List, length, Some, arith}
-use Rattle.cborn_engine.proofs.Answers.Listed.{nodes_of, notated_of, spells_of}
+use Rattle.cborn_engine.proofs.Answers.Listed.{TextRead, twins_read}
 use Rattle.std.specs.Prelude.{IsUtf8, slice_get}
 use Rattle.cborn_model.specs.Placed.{PlacedAll}
-use Rattle.cborn_model.specs.Spelled.{Wellformed, spelled_all}
+use Rattle.cborn_model.specs.Spelled.{Wellformed}
 use Rattle.cborn_model.specs.Tree.{Tree, trees}
 use Rattle.cborn_lex.specs.declared.classes.Profile.{Profile}
 use Rattle.cborn_lex.specs.declared.classes.Profile.TheVariants as profile
@@ -12,12 +12,13 @@ use Rattle.cborn_wire.specs.Faults.{IsWellformed}
 use Rattle.cborn_edn.specs.Grammar.{Notates}
 use Rattle.cborn_edn.specs.Starts.{starts_all}
 use Rattle.cborn_places.proofs.Carrying.Spots.{flaw_starts}
+use Rattle.cborn_places.proofs.Shortening.Twins.{twins_well}
 use Rattle.cborn_edn.proofs.Short.Facts.{notated_fits}
 use Rattle.cborn_judge.specs.Flaws.{IsRefusalOfAll}
 use Rattle.cborn_judge.specs.declared.faults.Invalid.TheVariants as invalid
 use Rattle.cborn_judge.specs.declared.faults.InvalidReason.{InvalidReason}
 use Rattle.cborn_search.specs.Searching.{IsFirstFlawOf}
-use Rattle.cborn_edn.specs.Spelling.{IsSpelling}
+use Rattle.cborn_edn.specs.Spelling.{MaySpell}
 use Rattle.cborn_engine.specs.declared.faults.EngineFault.TheVariants as fault
 use Rattle.cborn_engine.specs.devices.Encoding.{kind_of}
 use Rattle.cborn_engine.specs.Reading.{most_bytes}
@@ -26,31 +27,32 @@ use Rattle.cborn_engine.specs.Refusing.{IsRefused}
 -- a refusal of nodes that are elsewhere, at this place, is one of the nodes of the text, at that place
 abbrev pub IsCarried : Profile → List ℕ → List ℕ → ℕ → ℕ → Type 0
 IsCarried p text bytes place there =
-    length text < 2 ^ 56 → (limit : ℕ) (nodes others : List Tree) (r : InvalidReason) → Notates p limit text (trees nodes) → spelled_all (trees nodes) ≡ bytes
+    length text < 2 ^ 56 → (limit : ℕ) (nodes others : List Tree) (r : InvalidReason) → Notates p limit text (trees nodes) → MaySpell (trees nodes) bytes
     → Wellformed limit (trees others) bytes → PlacedAll 0 (trees others) → IsRefusalOfAll others (invalid.Refused place r) → IsRefusalOfAll nodes (invalid.Refused there r)
 
 -- of whatever nodes of the text, and of whatever nodes that the bytes spell, none is at this place, and no chunk
 abbrev pub HasNoStart : Profile → List ℕ → List ℕ → ℕ → Type 0
 HasNoStart p text bytes place =
-    length text < 2 ^ 56 → (limit : ℕ) (nodes others : List Tree) → Notates p limit text (trees nodes) → spelled_all (trees nodes) ≡ bytes → Wellformed limit (trees others) bytes → PlacedAll 0 (trees others)
+    length text < 2 ^ 56 → (limit : ℕ) (nodes others : List Tree) → Notates p limit text (trees nodes) → MaySpell (trees nodes) bytes → Wellformed limit (trees others) bytes → PlacedAll 0 (trees others)
     → (i : ℕ) → slice_get (starts_all (trees others)) i ≡ Some place → ⊥
 
 -- a flaw has a place
-pub flaw_placed : (p : Profile) (limit : ℕ) (text bytes : List ℕ) → length text ≤ most_bytes → IsSpelling p limit text bytes → (place : ℕ) (r : InvalidReason) → IsFirstFlawOf limit bytes (Some (place, r)) → HasNoStart p text bytes place → ⊥
+pub flaw_placed : (p : Profile) (limit : ℕ) (text bytes : List ℕ) → length text ≤ most_bytes → TextRead p limit text bytes → (place : ℕ) (r : InvalidReason) → IsFirstFlawOf limit bytes (Some (place, r)) → HasNoStart p text bytes place → ⊥
 flaw_placed p limit text bytes l s place r f none =
     let at = flaw_starts f.nodes place r f.verdict in
-    none (omega (arith, l)) limit (nodes_of s) f.nodes (notated_of s) (spells_of s) f.read f.placed at.0 at.1
+    none (omega (arith, l)) limit s.nodes f.nodes s.notated s.spells f.read f.placed at.0 at.1
 
-pub flawed : (p : Profile) (limit : ℕ) (text bytes : List ℕ) → IsUtf8 text → IsSpelling p limit text bytes
+pub flawed : (p : Profile) (limit : ℕ) (text bytes : List ℕ) → IsUtf8 text → TextRead p limit text bytes
     → (place there : ℕ) (r : InvalidReason) → IsFirstFlawOf limit bytes (Some (place, r)) → IsCarried p text bytes place there
     → length text ≤ most_bytes → IsRefused (kind_of p) limit most_bytes text (fault.Invalid (invalid.Refused there r))
 flawed profile.One limit text bytes u s place there r f carried l =
-    (l, record { nodes = (nodes_of s); spelled = (u, (notated_of s)); flaw = carried (omega (arith, l)) limit (nodes_of s) f.nodes r (notated_of s) (spells_of s) f.read f.placed f.verdict })
+    (l, record { nodes = s.nodes; spelled = (u, s.notated); flaw = carried (omega (arith, l)) limit s.nodes f.nodes r s.notated s.spells f.read f.placed f.verdict })
 flawed profile.Two limit text bytes u s place there r f carried l =
-    (l, record { nodes = (nodes_of s); spelled = (u, (notated_of s)); flaw = carried (omega (arith, l)) limit (nodes_of s) f.nodes r (notated_of s) (spells_of s) f.read f.placed f.verdict })
+    (l, record { nodes = s.nodes; spelled = (u, s.notated); flaw = carried (omega (arith, l)) limit s.nodes f.nodes r s.notated s.spells f.read f.placed f.verdict })
 
 -- the bytes that a text spells are well-formed
-pub spells_well : (p : Profile) (limit : ℕ) (text bytes : List ℕ) → IsUtf8 text → IsSpelling p limit text bytes → length text ≤ most_bytes → IsWellformed limit bytes
+pub spells_well : (p : Profile) (limit : ℕ) (text bytes : List ℕ) → IsUtf8 text → TextRead p limit text bytes → length text ≤ most_bytes → IsWellformed limit bytes
 spells_well p limit text bytes u s l =
-    let f = notated_fits p limit text (trees (nodes_of s)) (utf8_bytes text u) (omega (arith, l)) (notated_of s) in
-    (trees (nodes_of s), record { spells = spells_of s; fit = f.0; shallow = f.1 })
+    let f = notated_fits p limit text (trees s.nodes) (utf8_bytes text u) (omega (arith, l)) s.notated in
+    let t = twins_read s in
+    (trees t.twins, twins_well limit t f.0 f.1)

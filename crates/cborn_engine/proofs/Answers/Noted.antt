@@ -1,6 +1,6 @@
 -- A text that a pass takes holds what the bytes mean that it notates, and is shown as they are.
 use Rattle.std.proofs.Common.{◌≡◌, ◌≤◌, ◌⊎◌, inl, inr, ℕ, List, length, sym, subst, ◌∙◌, Ordering, arith}
-use Rattle.cborn_engine.proofs.Answers.Listed.{nodes_of, notated_of, spells_of}
+use Rattle.cborn_engine.proofs.Answers.Listed.{nodes_of, notated_of, spells_of, TextRead, twins_read}
 use Rattle.std.specs.Prelude.{IsUtf8}
 use Rattle.cborn_model.specs.Tree.{Tree, trees}
 use Rattle.cborn_model.specs.Spelled.{FitsAll}
@@ -29,21 +29,26 @@ pub spells : (p : Profile) (limit : ℕ) (text : List ℕ) (nodes : List Tree) �
 spells profile.One limit text nodes h = h
 spells profile.Two limit text nodes h = h
 
+-- it holds what the bytes mean
+pub encoded : (p : Profile) (limit : ℕ) (text bytes : List ℕ) → IsUtf8 text → TextRead p limit text bytes → (order : List ℕ → List ℕ → Ordering) (answer : List ℕ) → IsTranscoded order limit bytes answer → length text ≤ most_bytes → IsEncoded order (kind_of p) limit text answer
+encoded p limit text bytes u s order answer n l =
+    let t = twins_read s in
+    let fit = t.fit (notated_fits p limit text (trees s.nodes) (utf8_bytes text u) (omega (arith, l)) s.notated).0 in
+    let same = same_nodes (trees n.nodes) (trees t.twins) n.read.fit fit (n.read.spells ∙ sym t.spells) in
+    let meant = t.meaning (values_of n.items) (same_meaning (trees n.nodes) (trees t.twins) same (values_of n.items) (all_mean n.nodes n.items n.meant)) in
+    record {
+      items = n.items;
+      held = record { nodes = s.nodes; spelled = spells p limit text s.nodes (u, s.notated); meant = zip_mean s.nodes n.items meant };
+      encoded = n.encoded;
+    }
+
+-- of a text whose heads are spelled as they are written
 module _ (p : Profile) (limit : ℕ) (text bytes : List ℕ) (u : IsUtf8 text) (s : IsSpelling p limit text bytes) where
   notated : Spells (kind_of p) limit text (nodes_of s)
   notated = spells p limit text (nodes_of s) (u, (notated_of s))
 
   fits : length text ≤ most_bytes → FitsAll (trees (nodes_of s))
   fits l = (notated_fits p limit text (trees (nodes_of s)) (utf8_bytes text u) (omega (arith, l)) (notated_of s)).0
-
-  pub encoded : (order : List ℕ → List ℕ → Ordering) (answer : List ℕ) → IsTranscoded order limit bytes answer → length text ≤ most_bytes → IsEncoded order (kind_of p) limit text answer
-  encoded order answer n l =
-      let same = same_nodes (trees n.nodes) (trees (nodes_of s)) n.read.fit (fits l) (n.read.spells ∙ sym (spells_of s)) in
-      record {
-        items = n.items;
-        held = record { nodes = (nodes_of s); spelled = notated; meant = zip_mean (nodes_of s) n.items (same_meaning (trees n.nodes) (trees (nodes_of s)) same (values_of n.items) (all_mean n.nodes n.items n.meant)) };
-        encoded = n.encoded;
-      }
 
   -- their bytes are written
   pub as_bytes : (out : Kind) → out ≡ kind.Wire → IsShown (kind_of p) out limit text bytes

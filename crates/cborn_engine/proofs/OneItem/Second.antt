@@ -1,6 +1,6 @@
 -- Where the second item of an input starts: where the first ends.
-use Rattle.std.proofs.Common.{◌≡◌, ◌≢◌, refl, sym, ap, ◌∙◌, subst, ℕ, suc, ◌+◌, ◌<◌, ◌≤◌, List, [], ◌∷◌, ◌++◌, length, take, drop, arith, append-nil, length-append}
-use Rattle.cborn_engine.proofs.Answers.Listed.{nodes_of, notated_of, spells_of}
+use Rattle.std.proofs.Common.{◌≡◌, ◌≢◌, refl, sym, ap, ◌∙◌, subst, ℕ, ◌+◌, ◌≤◌, List, [], ◌∷◌, ◌++◌, length, take, drop, arith, append-nil, length-append}
+use Rattle.cborn_engine.proofs.Answers.Listed.{TextRead, twins_read}
 use Rattle.std.proofs.lemmas.List.{take-append-drop, length-take-le}
 use Rattle.std.specs.Prelude.{IsUtf8, Some, slice_get}
 use Rattle.std.specs.List.{AllZip}
@@ -12,14 +12,14 @@ use Rattle.cborn_wire.specs.Slots.{Begun, beginnings}
 use Rattle.cborn_wire.proofs.Spelled.AsPlaced.{spelled_all-from, depth_all-from, fits_all-from, placed_all-from}
 use Rattle.cborn_wire.proofs.Spelled.TreeLists.{tree_list, trees-tree_list}
 use Rattle.cborn_judge.proofs.Meaning.Meanings.{some_bytes}
+use Rattle.cborn_places.proofs.Shortening.Twins.{twins_well}
 use Rattle.cborn_wire.proofs.Parts.Openings.{one_front}
 use Rattle.cborn_lex.specs.declared.classes.Profile.{Profile}
 use Rattle.cborn_lex.specs.declared.classes.Profile.TheVariants as profile
 use Rattle.cborn_edn.specs.Grammar.{Notates}
 use Rattle.cborn_edn.specs.Starts.{starts, starts_all}
 use Rattle.cborn_engine.proofs.Answers.Flawed.{HasNoStart}
-use Rattle.cborn_edn.specs.Spelling.{IsSpelling}
-use Rattle.cborn_paths.specs.declared.paths.Step.{Step}
+use Rattle.cborn_edn.specs.Spelling.{MaySpell}
 use Rattle.cborn_paths.specs.declared.paths.Step.TheVariants.{Item}
 use Rattle.cborn_paths.specs.Paths.{EndsAt, steps, step_in}
 use Rattle.cborn_engine.specs.declared.kinds.Kind.TheVariants as kind
@@ -167,46 +167,69 @@ notated_there : (p : Profile) (limit : ℕ) (x : List ℕ) (ns : List Tree) → 
 notated_there profile.One limit x ns h = h
 notated_there profile.Two limit x ns h = h
 
-module _ (p : Profile) (limit : ℕ) (text bytes : List ℕ) (short : length text ≤ most_bytes) (utf8 : IsUtf8 text) (s : IsSpelling p limit text bytes) where
-  is_notation : IsNotation p limit text (nodes_of s)
-  is_notation = (utf8, (notated_of s))
+-- lists of one length
+none_as : (ts us : List Tree) → length ts ≡ length us → ts ≡ [] → us ≡ []
+none_as ts [] l e = refl
+none_as ts (u ∷ us) l e = absurd (omega (arith, l, ap length e))
 
-  pub spelled_well : Wellformed limit (trees (nodes_of s)) bytes
-  spelled_well = let f = fits p limit text (nodes_of s) is_notation short in record { spells = (spells_of s); fit = f.0; shallow = f.1 }
+one_as : (ts us : List Tree) (t : Tree) → length ts ≡ length us → ts ≡ t ∷ [] → (u : Tree) × (us ≡ u ∷ [])
+one_as ts [] t l e = absurd (omega (arith, l, ap length e))
+one_as ts (u ∷ []) t l e = (u, refl)
+one_as ts (u ∷ v ∷ us) t l e = absurd (omega (arith, l, ap length e))
 
-  pub none_in_text : trees (nodes_of s) ≡ no_item → Spells (kind_of p) limit text []
-  none_in_text e = subst (Spells (kind_of p) limit text) (no_nodes (nodes_of s) e) (notated p limit text (nodes_of s) is_notation)
+more_as : (ts us : List Tree) (t v : Tree) (vs : List Tree) → length ts ≡ length us → ts ≡ t ∷ v ∷ vs → (u : Tree) × (w : Tree) × (ws : List Tree) × (us ≡ u ∷ w ∷ ws)
+more_as ts [] t v vs l e = absurd (omega (arith, l, ap length e))
+more_as ts (u ∷ []) t v vs l e = absurd (omega (arith, l, ap length e))
+more_as ts (u ∷ w ∷ ws) t v vs l e = (u, w, ws, refl)
+
+module _ (p : Profile) (limit : ℕ) (text bytes : List ℕ) (short : length text ≤ most_bytes) (utf8 : IsUtf8 text) (s : TextRead p limit text bytes) where
+  is_notation : IsNotation p limit text s.nodes
+  is_notation = (utf8, s.notated)
+
+  pub spelled_well : Wellformed limit (trees (twins_read s).twins) bytes
+  spelled_well = let f = fits p limit text s.nodes is_notation short in twins_well limit (twins_read s) f.0 f.1
+
+  pub none_in_text : trees (twins_read s).twins ≡ no_item → Spells (kind_of p) limit text []
+  none_in_text e =
+      let t = twins_read s in
+      subst (Spells (kind_of p) limit text) (none_as t.twins s.nodes t.long (no_nodes t.twins e)) (notated p limit text s.nodes is_notation)
 
   pub one_in_text : (end : ℕ) → end ≤ length bytes → EndsAt (take end bytes) (Item 1 ∷ []) → end ≡ length bytes → SpellsOne (kind_of p) limit text
-  one_in_text end l e at = let a = alone limit bytes (nodes_of s) end spelled_well l e at in (a.0, subst (Spells (kind_of p) limit text) a.1 (notated p limit text (nodes_of s) is_notation))
+  one_in_text end l e at =
+      let t = twins_read s in
+      let a = alone limit bytes t.twins end spelled_well l e at in
+      let one = one_as t.twins s.nodes a.0 t.long a.1 in
+      (one.0, subst (Spells (kind_of p) limit text) one.1 (notated p limit text s.nodes is_notation))
 
   pub second_in_text : (end there : ℕ) → end ≤ length bytes → EndsAt (take end bytes) (Item 1 ∷ []) → end ≢ length bytes
-      → ((limit : ℕ) (nodes others : List Tree) → Notates p limit text (trees nodes) → spelled_all (trees nodes) ≡ bytes → Wellformed limit (trees others) bytes → PlacedAll 0 (trees others) → AllZip (λ t u. place u ≡ end → place t ≡ there) nodes others)
+      → ((limit : ℕ) (nodes others : List Tree) → Notates p limit text (trees nodes) → MaySpell (trees nodes) bytes → Wellformed limit (trees others) bytes → PlacedAll 0 (trees others) → AllZip (λ t u. place u ≡ end → place t ≡ there) nodes others)
       → SecondStarts (kind_of p) limit text there
   second_in_text end there l e at zip =
-      let m = in_places limit (nodes_of s) bytes spelled_well in
-      let ours = follows limit bytes (nodes_of s) end spelled_well l e at in
+      let t = twins_read s in
+      let m = in_places limit t.twins bytes spelled_well in
+      let twin = follows limit bytes t.twins end spelled_well l e at in
+      let (first, second, rest, are) = more_as t.twins s.nodes twin.first twin.second twin.others t.long twin.are in
       let theirs = follows limit bytes m.0 end m.1.0 l e at in
       let placed : PlacedAll 0 (trees (theirs.first ∷ theirs.second ∷ theirs.others)) = subst (λ (ts : List Tree). PlacedAll 0 (trees ts)) theirs.are m.1.1 in
       let at_end : place theirs.second ≡ end = omega (arith, placed_there theirs.second _ placed.1.0, theirs.long) in
-      let both = zip limit (nodes_of s) m.0 (notated_of s) (spells_of s) m.1.0 m.1.1 in
-      let zipped : AllZip (λ t u. place u ≡ end → place t ≡ there) (ours.first ∷ ours.second ∷ ours.others) (theirs.first ∷ theirs.second ∷ theirs.others)
-      = subst (λ (us : List Tree). AllZip (λ t u. place u ≡ end → place t ≡ there) us (theirs.first ∷ theirs.second ∷ theirs.others)) ours.are
-      (subst (λ (us : List Tree). AllZip (λ t u. place u ≡ end → place t ≡ there) (nodes_of s) us) theirs.are both) in
+      let both = zip limit s.nodes m.0 s.notated s.spells m.1.0 m.1.1 in
+      let zipped : AllZip (λ t u. place u ≡ end → place t ≡ there) (first ∷ second ∷ rest) (theirs.first ∷ theirs.second ∷ theirs.others)
+      = subst (λ (us : List Tree). AllZip (λ t u. place u ≡ end → place t ≡ there) us (theirs.first ∷ theirs.second ∷ theirs.others)) are
+      (subst (λ (us : List Tree). AllZip (λ t u. place u ≡ end → place t ≡ there) s.nodes us) theirs.are both) in
       record {
-        first = ours.first;
-        second = ours.second;
-        rest = ours.others;
-        spelled = subst (SpellsInPlace (kind_of p) limit text) ours.are (notated_there p limit text (nodes_of s) is_notation);
+        first = first;
+        second = second;
+        rest = rest;
+        spelled = subst (SpellsInPlace (kind_of p) limit text) are (notated_there p limit text s.nodes is_notation);
         here = zipped.1.0 at_end;
       }
 
   -- and the second has a place
   pub second_placed : (end : ℕ) → end ≤ length bytes → EndsAt (take end bytes) (Item 1 ∷ []) → end ≢ length bytes → HasNoStart p text bytes end → ⊥
   second_placed end l e at none =
-      let m = in_places limit (nodes_of s) bytes spelled_well in
+      let m = in_places limit (twins_read s).twins bytes spelled_well in
       let theirs = follows limit bytes m.0 end m.1.0 l e at in
       let placed : PlacedAll 0 (trees (theirs.first ∷ theirs.second ∷ theirs.others)) = subst (λ (ts : List Tree). PlacedAll 0 (trees ts)) theirs.are m.1.1 in
       let at_end : place theirs.second ≡ end = omega (arith, placed_there theirs.second _ placed.1.0, theirs.long) in
-      none (omega (arith, short)) limit (nodes_of s) m.0 (notated_of s) (spells_of s) m.1.0 m.1.1 (length (starts theirs.first))
+      none (omega (arith, short)) limit s.nodes m.0 s.notated s.spells m.1.0 m.1.1 (length (starts theirs.first))
       (ap (λ (ts : List Tree). slice_get (starts_all (trees ts)) (length (starts theirs.first))) theirs.are ∙ second_start theirs.first theirs.second theirs.others ∙ ap Some at_end)

@@ -17,6 +17,7 @@ use Rattle.cborn_lex.specs.declared.classes.Profile.{Profile}
 use Rattle.cborn_edn.specs.Grammar.{Notates}
 use Rattle.cborn_edn.proofs.Short.Facts.{notated_fits}
 use Rattle.cborn_edn.proofs.Started.Rises.{spots_rise}
+use Rattle.cborn_edn.specs.Spelling.{MaySpell}
 use Rattle.cborn_edn.specs.Starts.{starts_all, spots, spots_all, IsRising}
 use Rattle.cborn_judge.specs.Flaws.{flaw_rank, Flaw, IsFirstFlaw, IsRefusalOfAll}
 use Rattle.cborn_judge.specs.declared.faults.Invalid.TheVariants.{Refused}
@@ -26,6 +27,7 @@ use Rattle.cborn_places.proofs.Carrying.Moved.{moved, moved_all, moved-trees, pl
 use Rattle.cborn_places.proofs.Carrying.Matching.{starts_all-from, all_back}
 use Rattle.cborn_places.proofs.Carrying.FlawsMoved.{means_moved, flaw_moved, flaw_back}
 use Rattle.cborn_places.proofs.Carrying.Spots.{starts_rise, spots_all_part, flaw_spot}
+use Rattle.cborn_places.proofs.Shortening.Twins.{twins_of}
 
 -- there are as many starts in the text as in the bytes
 as_many : (limit : ℕ) (bytes : List ℕ) (nodes others : List Tree) → FitsAll (trees nodes) → spelled_all (trees nodes) ≡ bytes → Wellformed limit (trees others) bytes → PlacedAll 0 (trees others)
@@ -90,21 +92,23 @@ places_moved f off place (u ∷ us) e = (λ here. place-moved f u ∙ ap f here 
 pub flaw_told : (profile : Profile) (text bytes : List ℕ) (index offset place : ℕ) → AreBytes text → length text < 2 ^ 56
     → ((limit : ℕ) (nodes : Trees) → Wellformed limit nodes bytes → PlacedAll 0 nodes → slice_get (starts_all nodes) index ≡ Some offset)
     → ((limit : ℕ) (nodes : Trees) → Notates profile limit text nodes → slice_get (starts_all nodes) index ≡ Some place)
-    → (limit : ℕ) (nodes others : List Tree) (r : InvalidReason) → Notates profile limit text (trees nodes) → spelled_all (trees nodes) ≡ bytes → Wellformed limit (trees others) bytes → PlacedAll 0 (trees others) → IsRefusalOfAll others (Refused offset r) → IsRefusalOfAll nodes (Refused place r)
+    → (limit : ℕ) (nodes others : List Tree) (r : InvalidReason) → Notates profile limit text (trees nodes) → MaySpell (trees nodes) bytes → Wellformed limit (trees others) bytes → PlacedAll 0 (trees others) → IsRefusalOfAll others (Refused offset r) → IsRefusalOfAll nodes (Refused place r)
 flaw_told profile text bytes index offset place are_bytes short at there limit nodes others r notated spells whole placed =
-    let fit = (notated_fits profile limit text (trees nodes) are_bytes short notated).0 in
-    let rise = spots_rise profile limit text (trees nodes) notated in
-    flaw_carried limit bytes nodes others fit spells whole placed rise index offset place r (at limit (trees others) whole placed) (there limit (trees nodes) notated)
+    let t = twins_of nodes bytes spells in
+    let fit = t.fit (notated_fits profile limit text (trees nodes) are_bytes short notated).0 in
+    let rise = subst IsRising (sym t.spots) (spots_rise profile limit text (trees nodes) notated) in
+    λ refused. t.refusals (Refused place r) (flaw_carried limit bytes t.twins others fit t.spells whole placed rise index offset place r (at limit (trees others) whole placed) (ap (λ (xs : List ℕ). slice_get xs index) t.starts ∙ there limit (trees nodes) notated) refused)
 
 -- And nodes that are at the one start are at the other.
 pub place_told : (profile : Profile) (text bytes : List ℕ) (index offset place : ℕ) → AreBytes text → length text < 2 ^ 56
     → ((limit : ℕ) (nodes : Trees) → Wellformed limit nodes bytes → PlacedAll 0 nodes → slice_get (starts_all nodes) index ≡ Some offset)
     → ((limit : ℕ) (nodes : Trees) → Notates profile limit text nodes → slice_get (starts_all nodes) index ≡ Some place)
-    → (limit : ℕ) (nodes others : List Tree) → Notates profile limit text (trees nodes) → spelled_all (trees nodes) ≡ bytes → Wellformed limit (trees others) bytes → PlacedAll 0 (trees others) → AllZip (λ t u. place_of u ≡ offset → place_of t ≡ place) nodes others
+    → (limit : ℕ) (nodes others : List Tree) → Notates profile limit text (trees nodes) → MaySpell (trees nodes) bytes → Wellformed limit (trees others) bytes → PlacedAll 0 (trees others) → AllZip (λ t u. place_of u ≡ offset → place_of t ≡ place) nodes others
 place_told profile text bytes index offset place are_bytes short at there limit nodes others notated spells whole placed =
-    let fit = (notated_fits profile limit text (trees nodes) are_bytes short notated).0 in
-    let (f, moves, gone, told) = moves_to limit bytes nodes others fit spells whole placed index offset place (at limit (trees others) whole placed) (there limit (trees nodes) notated) in
-    subst (λ (ts : List Tree). AllZip (λ t u. place_of u ≡ offset → place_of t ≡ place) ts others) moves (places_moved f offset place others told)
+    let t = twins_of nodes bytes spells in
+    let fit = t.fit (notated_fits profile limit text (trees nodes) are_bytes short notated).0 in
+    let (f, moves, gone, told) = moves_to limit bytes t.twins others fit t.spells whole placed index offset place (at limit (trees others) whole placed) (ap (λ (xs : List ℕ). slice_get xs index) t.starts ∙ there limit (trees nodes) notated) in
+    t.places offset place others (subst (λ (ts : List Tree). AllZip (λ t u. place_of u ≡ offset → place_of t ≡ place) ts others) moves (places_moved f offset place others told))
 
 -- Where one of both has a start of that number, the other has one.
 within : (xs : List ℕ) (i p : ℕ) → slice_get xs i ≡ Some p → i < length xs
@@ -120,13 +124,14 @@ beyond (x ∷ xs) (suc i) e = let l = beyond xs i e in omega (arith, l)
 pub start_told : (profile : Profile) (text bytes : List ℕ) (index offset : ℕ) → AreBytes text → length text < 2 ^ 56
     → ((limit : ℕ) (nodes : Trees) → Wellformed limit nodes bytes → PlacedAll 0 nodes → slice_get (starts_all nodes) index ≡ Some offset)
     → ((limit : ℕ) (nodes : Trees) → Notates profile limit text nodes → slice_get (starts_all nodes) index ≡ None)
-    → (limit : ℕ) (nodes others : List Tree) → Notates profile limit text (trees nodes) → spelled_all (trees nodes) ≡ bytes → Wellformed limit (trees others) bytes → PlacedAll 0 (trees others) → ⊥
+    → (limit : ℕ) (nodes others : List Tree) → Notates profile limit text (trees nodes) → MaySpell (trees nodes) bytes → Wellformed limit (trees others) bytes → PlacedAll 0 (trees others) → ⊥
 start_told profile text bytes index offset are_bytes short at none limit nodes others notated spells whole placed =
-    let fit = (notated_fits profile limit text (trees nodes) are_bytes short notated).0 in
-    let (same, long) = as_many limit bytes nodes others fit spells whole placed in
+    let t = twins_of nodes bytes spells in
+    let fit = t.fit (notated_fits profile limit text (trees nodes) are_bytes short notated).0 in
+    let (same, long) = as_many limit bytes t.twins others fit t.spells whole placed in
     let there : index < length (starts_all (trees others)) = within (starts_all (trees others)) index offset (at limit (trees others) whole placed) in
     let here : length (starts_all (trees nodes)) ≤ index = beyond (starts_all (trees nodes)) index (none limit (trees nodes) notated) in
-    omega (arith, there, here, long)
+    omega (arith, there, here, long, ap length t.starts)
 
 -- ---- what was found, if memory wasn't refused
 

@@ -1,9 +1,7 @@
-use Rattle.std.proofs.Common.{refl}
-use Rattle.cborn_edn.proofs.Reader.Results.{both_ok}
-use Rattle.cborn_edn.proofs.Reader.Closed.{closed_map}
+use Rattle.cborn_edn.proofs.Reader.Closed.{three_ok, closed_map}
 use Rattle.cborn_edn.proofs.closings.close_map.Goals as goal
 
-pub returns : goal.returns
-returns c = both_ok c.set_size.result (λ added noted st s a m k e.
-    closed_map c.args.here.now c.shut-frame.new.here c.args.writer.now c.shut-frame.new.writer _ c.shut-frame.result c.all_entries-count.result st s a m k e c.shut-frame.ensures.top c.all_entries-count.ensures (record { frames = refl; around = refl; string = refl; chunks = refl }) added noted)
-    c.set_size.ensures.added c.set_size.ensures.noted
+pub returns-clause-shows : goal.returns-clause-shows
+returns-clause-shows c = three_ok c.set_size.result (λ sized noted same st s a m k e.
+    closed_map c.args.here.now c.shut-frame.new.here c.args.writer.now c.shut-frame.new.writer c.set_size.new.writer c.shut-frame.result c.all_entries-count.result st s a m k e c.shut-frame.ensures.top c.all_entries-count.ensures same sized noted)
+    c.set_size.ensures.added c.set_size.ensures.noted c.set_size.ensures.rest

@@ -20,4 +20,4 @@ returns-then-not-is_array-clause-taken c = λ s a x e. no_array s a x (ap is_arr
 pub returns-clause-taken : goal.returns-clause-taken
 returns-clause-taken c = λ s a x e.
     let k = array_at s x (ap is_array (sym e.level) ∙ sym c.is_array.ensures ∙ c.if-not-is_array.false) in
-    (has k.st (array k.at k.m k.c a), subst (λ (t : State). step_by t ArrayClose a ≡ Some (has k.st (array k.at k.m k.c a))) k.is (array_step k.st k.at a k.m k.c), c.in_ok-close_array.ensures k.st k.at a k.m k.c (subst (λ (t : State). Shows c.args.here.now c.args.writer.now c.args.writer.now.out.items t) (sym k.is) e))
+    (has k.st (array k.at k.m k.c a), subst (λ (t : State). step_by t ArrayClose a ≡ Some (has k.st (array k.at k.m k.c a))) k.is (array_step k.st k.at a k.m k.c), c.in_ok-close_array.ensures.shows k.st k.at a k.m k.c (subst (λ (t : State). Shows c.args.here.now c.args.writer.now c.args.writer.now.out.items t) (sym k.is) e))

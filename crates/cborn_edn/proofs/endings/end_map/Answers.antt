@@ -21,4 +21,4 @@ returns-then-not-ends_map-clause-taken c = λ s a x e. no_map s a x (ap (ends_ma
 pub returns-clause-taken : goal.returns-clause-taken
 returns-clause-taken c = λ s a x e.
     let k = map_at s x (ap (ends_map (stand_of s)) (sym e.level) ∙ ap (λ y. ends_map y c.args.here.now.level) (sym e.stand) ∙ sym c.ends_map.ensures ∙ c.if-not-ends_map.false) in
-    (has k.st (map k.at k.m k.f a), subst (λ (t : State). step_by t MapClose a ≡ Some (has k.st (map k.at k.m k.f a))) k.is (map_step k.st k.at a k.m k.f), c.in_ok-close_map.ensures k.st k.at a k.m k.f (subst (λ (t : State). Shows c.args.here.now c.args.writer.now c.args.writer.now.out.items t) (sym k.is) e))
+    (has k.st (map k.at k.m k.f a), subst (λ (t : State). step_by t MapClose a ≡ Some (has k.st (map k.at k.m k.f a))) k.is (map_step k.st k.at a k.m k.f), c.in_ok-close_map.ensures.shows k.st k.at a k.m k.f (subst (λ (t : State). Shows c.args.here.now c.args.writer.now c.args.writer.now.out.items t) (sym k.is) e))

@@ -14,4 +14,4 @@ pub returns-clause-taken : goal.returns-clause-taken
 returns-clause-taken c = λ st i a e.
     let k = tag_at st (ap is_tag (sym e.level) ∙ sym c.is_tag.ensures ∙ c.if-not-is_tag.false) in
     let u = has k.around (tag k.at k.n k.m i a) in
-    (u, subst (λ (t : Stack). step_by (has t i) ParenClose a ≡ Some u) k.is refl, c.close_tag.ensures k.around k.at a k.n k.m i (subst (λ (t : Stack). Shows c.args.here.now c.args.writer.now c.args.writer.now.out.items (has t i)) (sym k.is) e))
+    (u, subst (λ (t : Stack). step_by (has t i) ParenClose a ≡ Some u) k.is refl, c.close_tag.ensures.shows k.around k.at a k.n k.m i (subst (λ (t : Stack). Shows c.args.here.now c.args.writer.now c.args.writer.now.out.items (has t i)) (sym k.is) e))

@@ -1,18 +1,15 @@
 use Rattle.std.proofs.Common.{refl, ◌∙◌, ap, ◌++◌, ◌∷◌}
-use Rattle.cborn_model.specs.Heads.{Given, head}
-use Rattle.cborn_model.specs.declared.heads.Major.TheVariants.{Tag}
 use Rattle.cborn_lex.specs.declared.classes.Mark.TheVariants.{Absent}
-use Rattle.cborn_edn.specs.Says.{width, tag_slips}
+use Rattle.cborn_edn.specs.Says.{tag_slips}
 use Rattle.cborn_edn.specs.devices.Slips.{first_slip}
 use Rattle.cborn_edn.proofs.Reader.Results.{both_ok}
-use Rattle.cborn_edn.proofs.Reader.Laying.{laid_more}
 use Rattle.cborn_edn.proofs.Reader.Showing.{moved}
-use Rattle.cborn_edn.specs.devices.Laid.{laid_stack}
+use Rattle.cborn_edn.proofs.Reader.Put.{tag_laid}
 use Rattle.cborn_edn.specs.devices.Noted.{noted_stack}
 use Rattle.cborn_edn.proofs.openings.open_tag.Goals as goal
 
-pub returns : goal.returns
-returns c = both_ok c.open_frame.result (λ f g st a p e. moved _ _ _ _ _ f g (record {
+pub returns-clause-shows : goal.returns-clause-shows
+returns-clause-shows c = both_ok c.open_frame.result (λ f g st a p e. moved _ _ _ _ _ f g (record {
   stand = refl;
   level = refl;
   count = refl;
@@ -21,6 +18,6 @@ returns c = both_ok c.open_frame.result (λ f g st a p e. moved _ _ _ _ _ f g (r
   string = e.string;
   chunks = e.chunks;
   simple = tt;
-  slip = c.in_ok-push_tag.ensures.noted (noted_stack st) e.slip ∙ ap (λ q. first_slip (noted_stack st ++ tag_slips q c.args.mark c.args.number)) p;
-  out = laid_more (laid_stack st) (head Tag (Given (width c.args.mark c.args.number) c.args.number)) c.args.writer.now.out.items c.push_tag.new.out.items e.out c.in_ok-push_tag.ensures.added;
+  slip = c.note_tag.ensures (noted_stack st) e.slip ∙ ap (λ q. first_slip (noted_stack st ++ tag_slips q c.args.mark c.args.number)) p;
+  out = tag_laid c.args.writer.now st a c.args.number c.args.mark c.written-mark.result c.push_tag.new.out.items e c.written-mark.ensures c.in_ok-push_tag.ensures;
 })) c.open_frame.ensures.here c.open_frame.ensures.writer

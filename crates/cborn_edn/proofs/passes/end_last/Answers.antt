@@ -16,12 +16,12 @@ end_item-requires c =
     let k = string_end c.requires.0 c.requires.1 c.requires.2 (ap ends_string (sym e.stand) ∙ sym c.ends_string.ensures ∙ c.if-ends_string.true) in
     (in_row at_top k.b, k.ps, subst (λ (u : State). Shows c.args.here c.args.writer.now c.args.writer.now.out.items u) (sym k.is) e)
 
-pub returns-then-ends_string : goal.returns-then-ends_string
-returns-then-ends_string c = on_ok c.end_item.result (λ h s t last m e.
+pub returns-then-ends_string-clause-shows : goal.returns-then-ends_string-clause-shows
+returns-then-ends_string-clause-shows c = on_ok c.end_item.result (λ h s t last m e.
     let k = string_end s t last (ap ends_string (sym e.stand) ∙ sym c.ends_string.ensures ∙ c.if-ends_string.true) in
     subst (λ (u : Input). AtEnd u c.end_item.new.writer) k.tree
     (item_end c.end_item.new.here c.end_item.new.writer k.b (string k.ps)
-    (h (in_row at_top k.b) k.ps (modest_right (held_home (as_item (in_row at_top k.b))) (tokens_of_pieces k.ps) (subst (λ (u : State). AreModest (held u)) (sym k.is) m)) (subst (λ (u : State). Shows c.args.here c.args.writer.now c.args.writer.now.out.items u) (sym k.is) e)))) c.end_item.ensures
+    (h (in_row at_top k.b) k.ps (modest_right (held_home (as_item (in_row at_top k.b))) (tokens_of_pieces k.ps) (subst (λ (u : State). AreModest (held u)) (sym k.is) m)) (subst (λ (u : State). Shows c.args.here c.args.writer.now c.args.writer.now.out.items u) (sym k.is) e)))) c.end_item.ensures.shows
 
-pub returns : goal.returns
-returns c = λ s t last m e. bare_end c.args.here c.args.writer.now s t last (sym c.ends_string.ensures ∙ c.if-ends_string.false) e
+pub returns-clause-shows : goal.returns-clause-shows
+returns-clause-shows c = λ s t last m e. bare_end c.args.here c.args.writer.now s t last (sym c.ends_string.ensures ∙ c.if-ends_string.false) e

@@ -4,7 +4,7 @@ use Rattle.cborn_edn.proofs.Started.Found.{on_with, shorter, none_found, found, 
 use Rattle.cborn_edn.proofs.starts.start_at.Goals as goal
 
 pub tokens-init : goal.tokens-init
-tokens-init c = record { front = _; counts = counts_begin c.args.profile c.args.text.now _ c.in_ok-writer.writer refl c.in_ok-writer.ensures; total = omega arith }
+tokens-init c = record { front = _; counts = counts_begin c.args.profile c.args.text.now _ c.in_ok-writer.writer refl c.in_ok-writer.ensures.shows; total = omega arith }
 
 pub returns-in_default : goal.returns-in_default
 returns-in_default c =

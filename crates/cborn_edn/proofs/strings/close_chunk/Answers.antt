@@ -1,9 +1,15 @@
-use Rattle.std.proofs.Common.{ap, ◌∙◌, length, drop, ◌+◌}
+use Rattle.std.proofs.Common.{ap, ◌∙◌, length, drop, ◌+◌, ◌++◌}
 use Rattle.std.proofs.lemmas.List.{take_rest}
+use Rattle.cborn_model.specs.Spelled.{string}
+use Rattle.cborn_edn.specs.Says.{width}
 use Rattle.cborn_edn.specs.declared.states.Joint.{Joint}
-use Rattle.cborn_edn.proofs.Reader.Results.{always_ok}
+use Rattle.cborn_edn.specs.devices.Laid.{cut}
+use Rattle.cborn_edn.proofs.Reader.Results.{on_ok, always_ok}
 use Rattle.cborn_edn.proofs.Reader.Joints.{chunk_noted, content_cut}
 use Rattle.cborn_edn.proofs.strings.close_chunk.Goals as goal
+
+pub returns-clause-added : goal.returns-clause-added
+returns-clause-added c = on_ok c.set_length.result (λ h s base e f. h s.bytes base (ap (λ (x : Joint). x.start) e) f ∙ ap (λ k. cut (base ++ string k (width c.args.mark (length s.bytes)) s.bytes)) c.major_of.ensures) c.set_length.ensures
 
 pub returns-clause-noted : goal.returns-clause-noted
 returns-clause-noted c = always_ok c.set_length.result (λ s base e f known.

@@ -5,6 +5,7 @@ use Rattle.cborn_transcode.proofs.Outcomes.{of_some}
 use Rattle.cborn_engine.specs.Reading.{most_bytes}
 use Rattle.cborn_engine.specs.devices.Encoding.{EncodeAnswers, kind_of}
 use Rattle.cborn_engine.proofs.Answers.Told.{told}
+use Rattle.cborn_engine.proofs.Answers.Listed.{with_shortest}
 use Rattle.cborn_engine.proofs.Answers.Noted.{encoded}
 use Rattle.cborn_engine.proofs.encodings.encode_text.Goals as goal
 
@@ -19,7 +20,7 @@ returns-then-front-len-clause-answers g c within =
     let front = c.deterministic_front-front in
     let all : front.result ≡ length c.deref.result.now = search rules in (
       within,
-      encoded c.args.profile c.args.limit c.args.input.now read.bytes.items read.ensures.spelled.0 read.ensures.spelled.1 order read.bytes.items
+      encoded c.args.profile c.args.limit c.args.input.now read.bytes.items read.ensures.spelled.0 (with_shortest read.ensures.spelled.1) order read.bytes.items
           (subst (λ (x : List ℕ). IsTranscoded order c.args.limit x x) c.deref.ensures.value (whole_front order c.args.limit front.result c.deref.result.now all front.ensures.front.1)) within,
     )
 
@@ -40,6 +41,6 @@ returns-in-Some-clause-answers g c within =
     let read = c.in_ok-bytes in
     let answer = c.in-Some.encodings.items in (
       within,
-      encoded c.args.profile c.args.limit c.args.input.now read.bytes.items read.ensures.spelled.0 read.ensures.spelled.1 order answer
+      encoded c.args.profile c.args.limit c.args.input.now read.bytes.items read.ensures.spelled.0 (with_shortest read.ensures.spelled.1) order answer
           (subst (λ (x : List ℕ). IsTranscoded order c.args.limit x answer) c.deref-2.ensures.value (of_some _ _ c.in_ok-encodings.field-0 c.in-Some.encodings c.in-Some.is c.in_ok-encodings.ensures)) within,
     )

@@ -1,5 +1,5 @@
 use Rattle.std.specs.Prelude.{IfErr, ◌⊎◌}
-use Rattle.cborn_engine.proofs.Answers.Listed.{nodes_of}
+use Rattle.cborn_engine.proofs.Answers.Listed.{with_shortest, twins_read}
 use Rattle.std.proofs.Common.{◌≡◌, ◌≤◌, List, [], ◌∷◌, ℕ, length, take, inl, inr, refl, sym, ap, subst, arith}
 use Rattle.cborn_model.specs.Tree.{trees}
 use Rattle.cborn_model.specs.Spelled.{Wellformed}
@@ -18,11 +18,11 @@ use Rattle.cborn_engine.proofs.ones.one_in_text.Goals as goal
 pub returns-in_default-clause-refused : goal.returns-in_default-clause-refused
 returns-in_default-clause-refused c =
     let read = c.in_ok-bytes in
-    let s = read.ensures.spelled.1 in
+    let s = with_shortest read.ensures.spelled.1 in
     let low : c.args.limit ≤ 1024 = omega (arith, c.get-most.ensures.value, c.get-most.ensures.most) in
     let well = spelled_well c.args.profile c.args.limit c.args.input.now read.bytes.items c.requires.short read.ensures.spelled.0 s in
-    let here : Wellformed c.args.limit (trees (nodes_of s)) c.deref.result.now = subst (λ (x : List ℕ). Wellformed c.args.limit (trees (nodes_of s)) x) (sym c.deref.ensures.value) well in
-    inr (none_in_text c.args.profile c.args.limit c.args.input.now read.bytes.items c.requires.short read.ensures.spelled.0 s (c.in_ok-end.ensures.none c.in_default.is c.args.limit (trees (nodes_of s)) low here), refl)
+    let here : Wellformed c.args.limit (trees (twins_read s).twins) c.deref.result.now = subst (λ (x : List ℕ). Wellformed c.args.limit (trees (twins_read s).twins) x) (sym c.deref.ensures.value) well in
+    inr (none_in_text c.args.profile c.args.limit c.args.input.now read.bytes.items c.requires.short read.ensures.spelled.0 s (c.in_ok-end.ensures.none c.in_default.is c.args.limit (trees (twins_read s).twins) low here), refl)
 
 pub returns-then-end-len-clause-one : goal.returns-then-end-len-clause-one
 returns-then-end-len-clause-one c =
@@ -31,7 +31,7 @@ returns-then-end-len-clause-one c =
     let items = read.bytes.items in
     let there : (c.in-Some.end ≤ length items) × EndsAt (take c.in-Some.end items) (Item 1 ∷ []) = subst (λ (x : List ℕ). (c.in-Some.end ≤ length x) × EndsAt (take c.in-Some.end x) (Item 1 ∷ [])) c.deref.ensures.value at in
     let all : c.in-Some.end ≡ length items = omega (arith, c.if-end-len.true, c.len.ensures, c.deref.ensures.len, ap length c.deref.ensures.value) in
-    one_in_text c.args.profile c.args.limit c.args.input.now items c.requires.short read.ensures.spelled.0 read.ensures.spelled.1 c.in-Some.end there.0 there.1 all
+    one_in_text c.args.profile c.args.limit c.args.input.now items c.requires.short read.ensures.spelled.0 (with_shortest read.ensures.spelled.1) c.in-Some.end there.0 there.1 all
 
 pub returns-in_err-bytes-clause-refused : goal.returns-in_err-bytes-clause-refused
 returns-in_err-bytes-clause-refused c =

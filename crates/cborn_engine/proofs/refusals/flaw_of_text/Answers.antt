@@ -2,6 +2,7 @@ use Rattle.std.proofs.Common.{ℕ, List, Option, subst}
 use Rattle.std.specs.Prelude.{IfSome}
 use Rattle.cborn_search.specs.Searching.{IsValidity}
 use Rattle.cborn_transcode.proofs.Nothings.{some_items}
+use Rattle.cborn_engine.proofs.Answers.Listed.{with_shortest}
 use Rattle.cborn_engine.proofs.Answers.Flawed.{IsCarried, HasNoStart, flawed, flaw_placed, spells_well}
 use Rattle.cborn_engine.proofs.refusals.flaw_of_text.Goals as goal
 
@@ -13,11 +14,11 @@ unreachable-requires c =
 pub unreachable-requires-in-Ok-Malformed : goal.unreachable-requires-in-Ok-Malformed
 unreachable-requires-in-Ok-Malformed c =
     subst (IsValidity c.args.limit c.args.bytes.items) c.in-Ok-Malformed.field-0-is (subst (λ (x : List ℕ). IsValidity c.args.limit x c.in-Ok-Malformed.field-0) c.deref.ensures.value c.in-Ok-Malformed.ensures)
-    (spells_well c.args.profile c.args.limit c.args.input.now c.args.bytes.items c.requires.text c.requires.spelled c.requires.short)
+    (spells_well c.args.profile c.args.limit c.args.input.now c.args.bytes.items c.requires.text (with_shortest c.requires.spelled) c.requires.short)
 
 pub unreachable-requires-in-Ok-None : goal.unreachable-requires-in-Ok-None
 unreachable-requires-in-Ok-None c =
-    flaw_placed c.args.profile c.args.limit c.args.input.now c.args.bytes.items c.requires.short c.requires.spelled c.in-Ok-Flaw.place c.in-Ok-Flaw.reason
+    flaw_placed c.args.profile c.args.limit c.args.input.now c.args.bytes.items c.requires.short (with_shortest c.requires.spelled) c.in-Ok-Flaw.place c.in-Ok-Flaw.reason
     (subst (IsValidity c.args.limit c.args.bytes.items) c.in-Ok-Flaw.field-0-is (subst (λ (x : List ℕ). IsValidity c.args.limit x c.in-Ok-Flaw.field-0) c.deref.ensures.value c.in-Ok-Flaw.ensures))
     (subst (λ (x : List ℕ). HasNoStart c.args.profile x c.args.bytes.items c.in-Ok-Flaw.place) c.in-Ok.ensures.text.0 (c.in-Ok-None.ensures.none c.in-Ok-None.field-0-is))
 
@@ -26,6 +27,6 @@ returns-in-Ok-Some-clause-refused c =
     let input = c.args.input.now in
     let told : IsCarried c.args.profile c.in-Ok.text.now c.args.bytes.items c.in-Ok-Flaw.place c.in-Ok-Some.place
     = subst (λ (o : Option ℕ). IfSome o (IsCarried c.args.profile c.in-Ok.text.now c.args.bytes.items c.in-Ok-Flaw.place)) c.in-Ok-Some.field-0-is c.in-Ok-Some.ensures.flaw in
-    flawed c.args.profile c.args.limit input c.args.bytes.items c.requires.text c.requires.spelled c.in-Ok-Flaw.place c.in-Ok-Some.place c.in-Ok-Flaw.reason
+    flawed c.args.profile c.args.limit input c.args.bytes.items c.requires.text (with_shortest c.requires.spelled) c.in-Ok-Flaw.place c.in-Ok-Some.place c.in-Ok-Flaw.reason
     (subst (IsValidity c.args.limit c.args.bytes.items) c.in-Ok-Flaw.field-0-is (subst (λ (x : List ℕ). IsValidity c.args.limit x c.in-Ok-Flaw.field-0) c.deref.ensures.value c.in-Ok-Flaw.ensures))
     (subst (λ (x : List ℕ). IsCarried c.args.profile x c.args.bytes.items c.in-Ok-Flaw.place c.in-Ok-Some.place) c.in-Ok.ensures.text.0 told)

@@ -1,4 +1,4 @@
-use Rattle.std.proofs.Common.{◌≡◌, ◌∙◌, ℕ, List, Ok, sym, subst}
+use Rattle.std.proofs.Common.{ℕ, List, Ok, refl, subst}
 use Rattle.cborn_wire.specs.Faults.{IsWellformed}
 use Rattle.cborn_engine.proofs.Answers.Malformed.{no_reading}
 use Rattle.cborn_engine.specs.devices.Reading.{Reads}
@@ -22,9 +22,8 @@ returns-then-is_own_spelling-clause-tells g c =
 
 pub returns-clause-tells : goal.returns-clause-tells
 returns-clause-tells g c =
-    read_whole (TellAnswers c.args.in_kind c.args.out_kind c.args.limit most_bytes) most_bytes _ (g.R.Source.remaining c.read_bytes.new.reader) c.in_ok-input.input c.deref-2.result.now c.in_ok-input.ensures.collects c.deref-2.ensures.value c.show_input.result c.show_input.ensures.answers
+    read_whole (TellAnswers c.args.in_kind c.args.out_kind c.args.limit most_bytes) most_bytes _ (g.R.Source.remaining c.read_bytes.new.reader) c.in_ok-input.input c.in_ok-input.input.items c.in_ok-input.ensures.collects refl c.show_read.result c.show_read.ensures.answers
 
-pub show_input-requires-clause-malformed : goal.show_input-requires-clause-malformed
-show_input-requires-clause-malformed g c e f =
-    let same : c.deref.result.now ≡ c.deref-2.result.now = c.deref.ensures.value ∙ sym c.deref-2.ensures.value in
-    subst (λ (x : List ℕ). IsWellformed c.args.limit x → ⊥) same (no_reading c.args.limit c.deref.result.now (c.is_own_spelling.ensures.malformed c.if-is_own_spelling.false e f))
+pub show_read-requires-clause-malformed : goal.show_read-requires-clause-malformed
+show_read-requires-clause-malformed g c e f =
+    subst (λ (x : List ℕ). IsWellformed c.args.limit x → ⊥) c.deref.ensures.value (no_reading c.args.limit c.deref.result.now (c.is_own_spelling.ensures.malformed c.if-is_own_spelling.false e f))

@@ -2,9 +2,10 @@ use Rattle.std.proofs.Common.{◌≡◌, sym, subst, ◌<◌, ◌^◌, ℕ, List
 use Rattle.std.specs.Prelude.{Option, slice_get}
 use Rattle.std.specs.List.{AllZip}
 use Rattle.cborn_model.specs.Placed.{PlacedAll}
-use Rattle.cborn_model.specs.Spelled.{Wellformed, spelled_all}
+use Rattle.cborn_model.specs.Spelled.{Wellformed}
 use Rattle.cborn_model.specs.Tree.{Tree, Trees, trees, place as place_of}
 use Rattle.cborn_edn.specs.Grammar.{Notates}
+use Rattle.cborn_edn.specs.Spelling.{MaySpell}
 use Rattle.cborn_edn.specs.Starts.{starts_all}
 use Rattle.cborn_judge.specs.declared.faults.Invalid.TheVariants.{Refused}
 use Rattle.cborn_judge.specs.declared.faults.InvalidReason.{InvalidReason}
@@ -25,7 +26,7 @@ returns-clause-flaw c =
     let text = c.args.text.now in
     let bytes = c.args.bytes.items in
     some_ok (λ (o : Option ℕ). (limit : ℕ) (nodes : Trees) → Notates c.args.profile limit text nodes → slice_get (starts_all nodes) c.in-Some.index ≡ o)
-    (λ there. length text < 2 ^ 56 → (limit : ℕ) (nodes others : List Tree) (r : InvalidReason) → Notates c.args.profile limit text (trees nodes) → spelled_all (trees nodes) ≡ bytes → Wellformed limit (trees others) bytes → PlacedAll 0 (trees others) → IsRefusalOfAll others (Refused c.args.place r) → IsRefusalOfAll nodes (Refused there r))
+    (λ there. length text < 2 ^ 56 → (limit : ℕ) (nodes others : List Tree) (r : InvalidReason) → Notates c.args.profile limit text (trees nodes) → MaySpell (trees nodes) bytes → Wellformed limit (trees others) bytes → PlacedAll 0 (trees others) → IsRefusalOfAll others (Refused c.args.place r) → IsRefusalOfAll nodes (Refused there r))
     c.start_at.result c.start_at.ensures
     (λ there told short. flaw_told c.args.profile text bytes c.in-Some.index c.args.place there (utf8_bytes text c.utf8.text) short (subst (IsIndexIn c.in-Some.index c.args.place) c.deref.ensures.value c.in-Some.ensures.some) told)
 
@@ -34,7 +35,7 @@ returns-clause-nodes c =
     let text = c.args.text.now in
     let bytes = c.args.bytes.items in
     some_ok (λ (o : Option ℕ). (limit : ℕ) (nodes : Trees) → Notates c.args.profile limit text nodes → slice_get (starts_all nodes) c.in-Some.index ≡ o)
-    (λ there. length text < 2 ^ 56 → (limit : ℕ) (nodes others : List Tree) → Notates c.args.profile limit text (trees nodes) → spelled_all (trees nodes) ≡ bytes → Wellformed limit (trees others) bytes → PlacedAll 0 (trees others) → AllZip (λ t u. place_of u ≡ c.args.place → place_of t ≡ there) nodes others)
+    (λ there. length text < 2 ^ 56 → (limit : ℕ) (nodes others : List Tree) → Notates c.args.profile limit text (trees nodes) → MaySpell (trees nodes) bytes → Wellformed limit (trees others) bytes → PlacedAll 0 (trees others) → AllZip (λ t u. place_of u ≡ c.args.place → place_of t ≡ there) nodes others)
     c.start_at.result c.start_at.ensures
     (λ there told short. place_told c.args.profile text bytes c.in-Some.index c.args.place there (utf8_bytes text c.utf8.text) short (subst (IsIndexIn c.in-Some.index c.args.place) c.deref.ensures.value c.in-Some.ensures.some) told)
 
@@ -43,6 +44,6 @@ returns-clause-none c =
     let text = c.args.text.now in
     let bytes = c.args.bytes.items in
     none_ok (λ (o : Option ℕ). (limit : ℕ) (nodes : Trees) → Notates c.args.profile limit text nodes → slice_get (starts_all nodes) c.in-Some.index ≡ o)
-    (length text < 2 ^ 56 → (limit : ℕ) (nodes others : List Tree) → Notates c.args.profile limit text (trees nodes) → spelled_all (trees nodes) ≡ bytes → Wellformed limit (trees others) bytes → PlacedAll 0 (trees others) → (i : ℕ) → slice_get (starts_all (trees others)) i ≡ Some c.args.place → ⊥)
+    (length text < 2 ^ 56 → (limit : ℕ) (nodes others : List Tree) → Notates c.args.profile limit text (trees nodes) → MaySpell (trees nodes) bytes → Wellformed limit (trees others) bytes → PlacedAll 0 (trees others) → (i : ℕ) → slice_get (starts_all (trees others)) i ≡ Some c.args.place → ⊥)
     c.start_at.result c.start_at.ensures
     (λ none short limit nodes others notated spells whole placed i e. start_told c.args.profile text bytes c.in-Some.index c.args.place (utf8_bytes text c.utf8.text) short (subst (IsIndexIn c.in-Some.index c.args.place) c.deref.ensures.value c.in-Some.ensures.some) none limit nodes others notated spells whole placed)

@@ -1,0 +1,29 @@
+use Rattle.std.proofs.Common.{◌≤◌, ℕ, List, length, subst}
+use Rattle.std.specs.Prelude.{IfErr}
+use Rattle.cborn_engine.specs.devices.Encoding.{kind_of}
+use Rattle.cborn_engine.specs.Loading.{IsNoFlaw}
+use Rattle.cborn_engine.specs.Refusing.{IsRefused}
+use Rattle.cborn_engine.proofs.Answers.Told.{told}
+use Rattle.cborn_engine.proofs.Answers.Untold.{untold}
+use Rattle.cborn_edn.specs.Spelling.{IsShortSpelling}
+use Rattle.cborn_engine.proofs.texts.short_bytes_of_text.Goals as goal
+
+pub returns-in_err-text-clause-refused : goal.returns-in_err-text-clause-refused
+returns-in_err-text-clause-refused c =
+    let input = c.args.input.now in
+    told (λ r. IfErr r (λ why. (most : ℕ) → length input ≤ most → IsRefused (kind_of c.args.profile) c.args.limit most input why × IsNoFlaw why)) _ _ c.from_residual.ensures.1
+    (c.in_err-text.ensures.refused c.args.profile c.args.limit)
+
+pub returns-in_err-read_shortest-clause-refused : goal.returns-in_err-read_shortest-clause-refused
+returns-in_err-read_shortest-clause-refused c =
+    let input = c.args.input.now in
+    let text = c.in_ok-text in
+    let why = c.in_err-read_shortest in
+    told (λ r. IfErr r (λ why. (most : ℕ) → length input ≤ most → IsRefused (kind_of c.args.profile) c.args.limit most input why × IsNoFlaw why)) _ _ c.from_residual-in_err-read_shortest.ensures.1
+    (λ most l. untold c.args.profile c.args.limit most input text.text.now why.field-0.0 text.ensures.text.0 text.ensures.text.1 why.ensures.refused l)
+
+pub returns-clause-spelled : goal.returns-clause-spelled
+returns-clause-spelled c =
+    let text = c.in_ok-text in
+    let read = c.in_ok-read_shortest in
+    (text.ensures.text.1, subst (λ (x : List ℕ). IsShortSpelling c.args.profile c.args.limit x read.field-0.items) text.ensures.text.0 read.ensures.spelled)
