@@ -5,14 +5,16 @@
 //! how many nodes and chunks begin there. Items in `<<..>>` become bytes, and count as none. Nobody
 //! sees the bytes that are written on the way, so their heads are the shortest.
 
-ghost use Rattle.std.specs.Prelude.{◌≡◌, ◌<◌, ◌++◌, ℕ, Bool, List, replicate, IfOk, IfSome, OnOk, slice_get};
+ghost use Rattle.std.specs.Prelude.{◌≡◌, ◌<◌, ◌≤◌, ◌++◌, ℕ, Bool, true, List, length, replicate, IfOk, IfSome, OnOk, slice_get, slice_index};
 ghost use Rattle.cborn_lex.specs.Kinds.{class_of};
 ghost use Rattle.cborn_model.specs.Tree.{Trees};
 ghost use Rattle.cborn_edn.specs.Grammar.{Notates};
 ghost use Rattle.cborn_edn.specs.Starts.{starts_all};
+ghost use Rattle.cborn_edn.specs.declared.states.Stand.TheVariants as stands;
 ghost use Rattle.cborn_edn.specs.devices.Begun as pure;
 ghost use Rattle.cborn_edn.specs.devices.Counting.{Counts, CountsOn};
 
+use crate::endings::{end_entry, end_key};
 use crate::numbers::is_small;
 use crate::passes::bounded_len;
 use crate::states::{Heads, Here, Stand, Writer};
@@ -92,10 +94,28 @@ fn push_times(places: &mut Vec<u64>, place: u64, times: u64) -> Result<(), Alloc
     Ok(())
 }
 
+/// Reads one token, after the comma or the colon before it, and counts what begins with it. `None`
+/// where no token is left, and where no text of the grammar goes on so: then nothing else begins.
+#[inline(always)]
+fn count_token(
+    alloc: Global,
+    profile: Profile,
+    text: &str,
+    here: &mut Here,
+    writer: &mut Writer,
+) -> Result<Option<Begun>, AllocError>
+    requires { (front : List ℕ) × Counts profile text.now here.old writer.old front }
+    ensures further { IfOk result (λ o. IfSome o (λ b. here.old.at < here.new.at)) }
+    ensures counted { IfOk result (λ o. (front : List ℕ) → Counts profile text.now here.old writer.old front → CountsOn profile text.now here.new writer.new front o) }
+{
+    skip_separator(profile, text, here, writer);
+    count_next(alloc, profile, text, here, writer)
+}
+
 /// Reads one token, and counts what begins with it. `None` where no token is left, and where no text
 /// of the grammar goes on so: then nothing else begins.
 #[inline(always)]
-fn count_token(
+fn count_next(
     alloc: Global,
     profile: Profile,
     text: &str,
@@ -132,6 +152,64 @@ fn count_token(
         place: token.start as u64,
         count,
     }))
+}
+
+/// Takes the comma or the colon that comes next after an item, if one does. Nothing begins with it.
+#[inline(always)]
+fn skip_separator(profile: Profile, text: &str, here: &mut Here, writer: &Writer)
+    requires { (front : List ℕ) × Counts profile text.now here.old writer.now front }
+    ensures on { here.old.at ≤ here.new.at }
+    ensures counted { (front : List ℕ) → Counts profile text.now here.old writer.now front → Counts profile text.now here.new writer.now front }
+{
+    if !has_item(here.stand) || here.at >= text.len() {
+        return;
+    }
+    match text.as_bytes()[here.at] {
+        b',' => skip_comma(profile, text, here, writer),
+        b':' => skip_colon(profile, text, here, writer),
+        _ => {}
+    }
+}
+
+/// Whether an item is right before.
+#[inline(always)]
+fn has_item(stand: Stand) -> bool
+    ensures { result ≡ true → stand ≡ stands.Has }
+{
+    matches!(stand, Stand::Has)
+}
+
+/// Takes a comma after an item, where the grammar has one.
+#[inline(always)]
+fn skip_comma(profile: Profile, text: &str, here: &mut Here, writer: &Writer)
+    requires counts { (front : List ℕ) × Counts profile text.now here.old writer.now front }
+    requires inside { here.old.at < length text.now }
+    requires has { here.old.stand ≡ stands.Has }
+    requires comma { slice_index text.now here.old.at ≡ 44 }
+    ensures on { here.old.at ≤ here.new.at }
+    ensures counted { (front : List ℕ) → Counts profile text.now here.old writer.now front → Counts profile text.now here.new writer.now front }
+{
+    let _written = bounded_len(&writer.out);
+    let at = here.at;
+    if end_entry(here, writer) {
+        here.at = at + 1;
+    }
+}
+
+/// Takes a colon after an item, where the grammar has one.
+#[inline(always)]
+fn skip_colon(profile: Profile, text: &str, here: &mut Here, writer: &Writer)
+    requires counts { (front : List ℕ) × Counts profile text.now here.old writer.now front }
+    requires inside { here.old.at < length text.now }
+    requires has { here.old.stand ≡ stands.Has }
+    requires colon { slice_index text.now here.old.at ≡ 58 }
+    ensures on { here.old.at ≤ here.new.at }
+    ensures counted { (front : List ℕ) → Counts profile text.now here.old writer.now front → Counts profile text.now here.new writer.now front }
+{
+    let at = here.at;
+    if end_key(here, writer) {
+        here.at = at + 1;
+    }
 }
 
 /// How many nodes and chunks begin with a token. None do inside a `<<`.

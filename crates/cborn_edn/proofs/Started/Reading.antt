@@ -1,10 +1,10 @@
 -- One token that is read: what it begins is counted, or nothing else begins.
-use Rattle.std.proofs.Common.{◌≡◌, refl, sym, ap, ◌∙◌, subst, ℕ, ◌^◌, ◌<◌, List, [], ◌∷◌, ◌++◌, length, replicate, Bool, true, false, Option, None, arith}
+use Rattle.std.proofs.Common.{◌≡◌, refl, sym, ap, ◌∙◌, subst, ℕ, ◌+◌, ◌^◌, ◌<◌, List, [], ◌∷◌, ◌++◌, length, replicate, Bool, true, false, Option, Some, None, append-nil, arith}
 use Rattle.cborn_model.specs.Bytes.{AreBytes}
 use Rattle.cborn_model.specs.Tree.{Trees}
 use Rattle.cborn_lex.specs.Bad.{HasNoTokenFrom}
 use Rattle.cborn_lex.specs.Kinds.{class_of}
-use Rattle.cborn_lex.specs.Lex.{IsStopFrom}
+use Rattle.cborn_lex.specs.Lex.{Between, IsStopFrom}
 use Rattle.cborn_lex.specs.declared.classes.BareToken.{BareToken}
 use Rattle.cborn_lex.specs.declared.classes.Class.{Class}
 use Rattle.cborn_lex.specs.declared.classes.Profile.{Profile}
@@ -14,27 +14,33 @@ use Rattle.cborn_lex.specs.declared.faults.LexFault.TheVariants.{Refused}
 use Rattle.cborn_lex.specs.declared.faults.LexReason.{LexReason}
 use Rattle.cborn_lex.proofs.GoodTexts.{through, stop_from}
 use Rattle.cborn_lex.proofs.WholeTexts.Progress.{inside, few, joins}
+use Rattle.cborn_lex.proofs.WholeTexts.Weights.{between_modest}
 use Rattle.cborn_edn.specs.Grammar.{Notates}
 use Rattle.cborn_edn.specs.Says.{is_nil}
 use Rattle.cborn_edn.specs.Starts.{starts_all}
-use Rattle.cborn_edn.specs.shared.Syntax.{Span}
+use Rattle.cborn_edn.specs.shared.Syntax.{Span, Item}
 use Rattle.cborn_edn.specs.shared.Machine.{Stack, in_row, in_key, in_value, in_tag, Nest, at_top, in_array, in_embed}
 use Rattle.cborn_edn.specs.declared.states.Here.{Here}
 use Rattle.cborn_edn.specs.declared.states.Writer.{Writer}
+use Rattle.cborn_edn.specs.declared.states.Stand.TheVariants as stands
+use Rattle.cborn_edn.specs.devices.Ahead.{IsTokenAt}
 use Rattle.cborn_edn.specs.devices.Begun.{begun}
 use Rattle.cborn_edn.specs.devices.Counting.{Counts}
-use Rattle.cborn_edn.specs.devices.Kept.{arounds_of, arounds_nest, stack_in}
+use Rattle.cborn_edn.specs.devices.Kept.{arounds_of, arounds_nest, stack_in, stand_of}
 use Rattle.cborn_edn.specs.devices.Modest.{AreModest}
 use Rattle.cborn_edn.specs.devices.Reading.{WasRead}
+use Rattle.cborn_edn.specs.devices.Shows.{Shows}
 use Rattle.cborn_edn.specs.declared.states.Heads.{Heads}
 use Rattle.cborn_edn.specs.devices.Started.{outside, outside_nest, started}
 use Rattle.cborn_edn.specs.devices.Steps.{Ready, Taken, Takes}
 use Rattle.cborn_edn.proofs.Grammar.Held.{held, After}
-use Rattle.cborn_edn.proofs.Grammar.Machine.{State}
+use Rattle.cborn_edn.proofs.Grammar.Machine.{State, has, step_by}
 use Rattle.cborn_edn.proofs.Grammar.OneTree.{leads_on}
+use Rattle.cborn_edn.proofs.Reader.Counts.{shown_few}
 use Rattle.cborn_edn.proofs.Reader.Going.{held_more}
 use Rattle.cborn_edn.proofs.Reader.Modest.{modest_both}
-use Rattle.cborn_edn.proofs.Reader.Stepping.{SameButOut, ReadToken, ready_at}
+use Rattle.cborn_edn.proofs.Reader.Stepping.{modest_here, SameButOut, ReadToken, ready_at}
+use Rattle.cborn_edn.proofs.Reader.Turning.{is_has}
 use Rattle.cborn_edn.proofs.Started.Begins.{Grown, adds}
 use Rattle.cborn_edn.proofs.Started.Counting.{none_left, no_stop, not_taken}
 
@@ -50,6 +56,11 @@ mutual
   outside_nest_is k at_top = refl
   outside_nest_is k (in_array st s m) = outside_is k st
   outside_nest_is k (in_embed h o s) = refl
+
+-- nothing begins after an item
+begins_none : (b : Bool) (c : Class) → begun b stands.Has c ≡ 0
+begins_none true c = refl
+begins_none false c = refl
 
 module _ (p : Profile) (text : List ℕ) (here : Here) (w : Writer) (front : List ℕ) (r : Counts p text here w front) where
   -- with nothing left of the text
@@ -108,3 +119,39 @@ module _ (p : Profile) (text : List ℕ) (here : Here) (w : Writer) (front : Lis
                 begun = grown ∙ ap (λ m. started r.state ++ replicate m t.start) (sym shown) ∙ ap (λ l. l ++ replicate count t.start) r.begun;
                 shows = record { stand = e.stand; level = e.level; count = e.count; frames = e.frames; around = e.around; string = e.string; chunks = e.chunks; simple = e.simple; slip = e.slip; out = e.out };
               }
+
+  pub few_counted : length w.out.items < 2 ^ 63 → here.count < 2 ^ 63
+  few_counted small = omega (arith, small, shown_few here w w.out.items r.state r.shows)
+
+  -- a token of one character after an item begins nothing
+  module _ (are : AreBytes text) (c : Class) (tok : IsTokenAt p text here.at (here.at + 1) c) (next : Here) where
+    pub after_counted : here.stand ≡ stands.Has → (ok : Bool) → ok ≡ true → ((st : Stack) (i : Item) (a : Span) → Shows here w w.out.items (has st i) → Taken ok (has st i) c a next w) → Counts p text (record next { at = here.at + 1 }) w front
+    after_counted h ok e f = go (is_has r.state (sym r.shows.stand ∙ h))
+      where
+        place : Span
+        place = record { start = here.at; stop = here.at + 1 }
+
+        the_token : Token
+        the_token = record { start = here.at; stop = here.at + 1; class = c }
+
+        on : (u : State) → step_by r.state c place ≡ Some u → Shows next w w.out.items u → stand_of r.state ≡ stands.Has → Counts p text (record next { at = here.at + 1 }) w front
+        on u is shows stood =
+            let between : Between p text here.at (here.at + 1) (the_token ∷ []) = through p tok in
+            let there = between_modest p text here.at (here.at + 1) (the_token ∷ []) are between in
+            let modest : AreModest (the_token ∷ []) = (modest_here c there.0, tt) in
+            let grown : Grown r.state c here.at u = subst (λ (o : Option State). After o (Grown r.state c here.at)) is (adds r.state c place) in
+            record {
+              inside = (inside p text here.at (here.at + 1) (the_token ∷ []) r.inside between).1;
+              state = u;
+              tokens = r.tokens ++ (the_token ∷ []);
+              between = joins p text 0 here.at (here.at + 1) r.tokens (the_token ∷ []) r.between between;
+              runs = leads_on r.tokens the_token r.state u r.runs is;
+              modest = subst AreModest (sym (held_more r.state u c place is)) (modest_both (held r.state) (the_token ∷ []) r.modest modest);
+              begun = grown ∙ ap (λ st. started r.state ++ replicate (begun (outside (stack_in r.state)) st c) here.at) stood ∙ ap (λ m. started r.state ++ replicate m here.at) (begins_none (outside (stack_in r.state)) c) ∙ append-nil (started r.state) ∙ r.begun;
+              shows = record { stand = shows.stand; level = shows.level; count = shows.count; frames = shows.frames; around = shows.around; string = shows.string; chunks = shows.chunks; simple = shows.simple; slip = shows.slip; out = shows.out };
+            }
+
+        go : (st : Stack) × (i : Item) × (has st i ≡ r.state) → Counts p text (record next { at = here.at + 1 }) w front
+        go (st, i, k) =
+            let took : Taken true (has st i) c place next w = subst (λ b. Taken b (has st i) c place next w) e (f st i place (subst (Shows here w w.out.items) (sym k) r.shows)) in
+            on took.0 (subst (λ (v : State). step_by v c place ≡ Some took.0) k took.1) took.2 (sym r.shows.stand ∙ h)

@@ -4,7 +4,7 @@ use Rattle.cborn_lex.proofs.WholeTexts.Weights.{utf8_bytes}
 use Rattle.cborn_edn.specs.devices.Begun.{begun}
 use Rattle.cborn_edn.proofs.Reader.Stepping.{token_read}
 use Rattle.cborn_edn.proofs.Started.Reading.{none_read, none_there, ready, further, nothing_after, counted_on}
-use Rattle.cborn_edn.proofs.starts.count_token.Goals as goal
+use Rattle.cborn_edn.proofs.starts.count_next.Goals as goal
 
 pub returns-in-Ok-None-clause-counted : goal.returns-in-Ok-None-clause-counted
 returns-in-Ok-None-clause-counted c front r = none_read c.args.profile c.args.text.now c.args.here.now c.args.writer.now front r c.in-Ok-None.field-0 c.read_token.new.number c.read_token.new.out.items c.in-Ok-None.ensures.found c.in-Ok-None.field-0-is
