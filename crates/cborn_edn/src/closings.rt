@@ -51,8 +51,8 @@ fn set_size(major: Major, frame: Frame, count: u64, writer: &mut Writer) -> Resu
 }
 
 /// Writes the head or the break of an array or a map with an indicator, and notes what is wrong with
-/// that, as `set_size` does.
-#[inline(always)]
+/// that, as `set_size` does. Out of line, since few arrays and maps have one.
+#[inline(never)]
 fn set_marked_size(
     major: Major,
     frame: Frame,

@@ -72,7 +72,7 @@ pub(crate) fn set_shortest_head(
         write_at(start, &[major.initial_byte(n as u8)], out);
         return Ok(());
     }
-    set_head(major, shortest(n), n, start, out)
+    set_wide_head(major, shortest(n), n, start, out)
 }
 
 /// Puts the head of the major type with an argument `n` of this width, each number cut to a byte, in
