@@ -136,11 +136,9 @@ static void give_back(input *it)
         PyBuffer_Release(&it->lent);
 }
 
-/* Whether an argument is a member of an enum, or its number, or isn't given. Sets *number, if it is given. */
+/* Whether an argument is a member of an enum, or its number. Sets *number. */
 static int is_member(PyObject *value, PyObject *of, const char *name, const char *members, long end, uint32_t *number)
 {
-    if (value == NULL)
-        return 1;
     if ((PyObject *)Py_TYPE(value) != of && !PyLong_CheckExact(value)) {
         PyErr_Format(PyExc_TypeError, "%s must be one of %s, not %R", name, members, value);
         return 0;
@@ -155,14 +153,20 @@ static int is_member(PyObject *value, PyObject *of, const char *name, const char
     return 1;
 }
 
+/* Whether an argument is a format, or isn't given; then the number stays as it is. */
 static int is_kind(PyObject *module, PyObject *value, const char *name, uint32_t *number)
 {
+    if (value == NULL)
+        return 1;
     classes *known = PyModule_GetState(module);
     return is_member(value, known->kind, name, "Kind.WIRE, Kind.NOTATION and Kind.NOTATION_2", 3, number);
 }
 
+/* Whether an argument is an order of keys, or isn't given; then the number stays as it is. */
 static int is_order(PyObject *module, PyObject *value, uint32_t *number)
 {
+    if (value == NULL)
+        return 1;
     classes *known = PyModule_GetState(module);
     return is_member(value, known->order, "order", "Order.BYTEWISE and Order.LENGTH_FIRST", 2, number);
 }
